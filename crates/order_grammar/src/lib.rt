@@ -1,0 +1,26 @@
+//! Lines of order sheets: a line is read as an order exactly where it has no fault, and an order is
+//! printed in its one spelling.
+//!
+//! A line's words are parted by spaces and end before the first `#`; letters of either case are
+//! equal. The forms of lines stand in one table; a line spells the order of the row that its words
+//! fit. Nothing here takes memory but `print_line`, for its answer.
+//!
+//! Reading order: `name`, `fault`, `words` (a line and its words), `order` (orders and their
+//! parts), `class` (the texts of each class of words), `form` (the table), `read`, `print`.
+#![tactic(auto)]
+
+mod class;
+mod fault;
+mod form;
+mod name;
+mod order;
+mod print;
+mod read;
+mod words;
+
+pub use fault::Fault;
+pub use name::{NAME_MOST, Name};
+pub use order::Order;
+pub use print::{print_line, print_name, print_round};
+pub use read::{LINE_MOST, Line, read_line};
+pub use words::{Span, Token, WORDS_MOST, Words, first_word, has_word};

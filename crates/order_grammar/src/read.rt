@@ -1,0 +1,32 @@
+use crate::fault::Fault;
+use crate::form::order_of_words;
+use crate::order::Order;
+use crate::words::{Words, before_comment};
+
+/// The most bytes of a line, without its LF and a CR before that.
+pub const LINE_MOST: usize = 1024;
+
+/// A line that was read: its order, and its words as they are written.
+#[derive(Debug, Drop)]
+pub struct Line<'a> {
+    pub order: Order,
+    pub words: Words<'a>,
+}
+
+/// Reads a line, without its LF and a CR before that. A line without words is the order `Blank`.
+pub fn read_line(line: &[u8]) -> Result<Line<'_>, Fault> {
+    if line.len() > LINE_MOST {
+        return Err(Fault::TooLong);
+    }
+    if !before_comment(line).iter().all(|byte| is_printable(*byte)) {
+        return Err(Fault::StrayByte);
+    }
+    let words = Words::of(line);
+    let order = order_of_words(words.as_slice())?;
+    Ok(Line { order, words })
+}
+
+/// Whether a byte may stand before a comment.
+fn is_printable(byte: u8) -> bool {
+    (0x20..=0x7E).contains(&byte)
+}

@@ -1,0 +1,15 @@
+//! The opening: players buy the private companies in order of their price.
+//!
+//! In a turn a player buys the cheapest unsold private at its price, or passes. The round is over
+//! when all privates are sold, or when all seats have passed in succession; then SV falls by 5 if it
+//! is unsold, and at 0 goes to the holder of priority for nothing, or else each sold private pays.
+//!
+//! Reading order: `judge` (the rules that an order may break), `turn`, `opening`.
+#![tactic(auto)]
+
+mod judgement;
+mod opening;
+mod turn;
+
+pub use judgement::judge;
+pub use opening::play_opening;

@@ -1,0 +1,36 @@
+use itoa::Integer;
+use std::alloc::AllocError;
+
+/// Adds a text at the left of a column, filled up with spaces. A wider text is printed whole.
+pub(crate) fn push_left(
+    out: &mut Vec<u8>,
+    text: &[u8],
+    width: usize,
+) -> Result<(), AllocError> {
+    out.extend_from_slice(text)?;
+    push_spaces(out, width.saturating_sub(text.len()))
+}
+
+/// Adds a number at the right of a column. A wider number is printed whole.
+pub(crate) fn push_right<I: Integer>(
+    out: &mut Vec<u8>,
+    number: I,
+    width: usize,
+) -> Result<(), AllocError> {
+    let mut buffer = itoa::Buffer::new();
+    let digits = buffer.format(number).as_bytes();
+    push_spaces(out, width.saturating_sub(digits.len()))?;
+    out.extend_from_slice(digits)
+}
+
+/// Adds a number as it is.
+pub(crate) fn push_number<I: Integer>(out: &mut Vec<u8>, number: I) -> Result<(), AllocError> {
+    push_right(out, number, 0)
+}
+
+fn push_spaces(out: &mut Vec<u8>, count: usize) -> Result<(), AllocError> {
+    for _ in 0..count {
+        out.push(b' ')?;
+    }
+    Ok(())
+}

@@ -1,0 +1,10 @@
+use tables::Round;
+
+/// What comes after a round.
+#[derive(Clone, Copy, Debug, PartialEq, Eq)]
+pub enum Next {
+    /// This round.
+    Round(Round),
+    /// Nothing: the game is over.
+    Ended,
+}

@@ -1,0 +1,47 @@
+use std::alloc::{AllocError, AllocFailed};
+use thiserror::Error;
+
+/// Why a file is refused as a whole: the first of F3, F1, F2, F4 that applies, or F5.
+#[derive(Clone, Copy, Debug, PartialEq, Eq, Drop, Error)]
+pub enum FileFault {
+    /// F1: the first line that is not blank is not `GAME 1830 1`.
+    #[error("F1")]
+    Header,
+    /// F2: the next line that is not blank does not name 3 to 6 different players.
+    #[error("F2")]
+    Players,
+    /// F3: the file has over 4,194,304 bytes.
+    #[error("F3")]
+    TooLong,
+    /// F4: the file has over 4,096 good SHEET lines.
+    #[error("F4")]
+    TooManySheets,
+    /// F5: memory was refused.
+    #[error("F5")]
+    Memory,
+}
+
+impl FileFault {
+    /// The code that a report prints.
+    pub fn code(self) -> &'static str {
+        match self {
+            FileFault::Header => "F1",
+            FileFault::Players => "F2",
+            FileFault::TooLong => "F3",
+            FileFault::TooManySheets => "F4",
+            FileFault::Memory => "F5",
+        }
+    }
+}
+
+impl From<AllocError> for FileFault {
+    fn from(_error: AllocError) -> FileFault {
+        FileFault::Memory
+    }
+}
+
+impl<T: Drop> From<AllocFailed<T>> for FileFault {
+    fn from(_error: AllocFailed<T>) -> FileFault {
+        FileFault::Memory
+    }
+}

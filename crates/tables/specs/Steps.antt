@@ -1,0 +1,14 @@
+-- What is repeated until it is over: the turns of a round, the rounds of a game.
+use Rattle.std.specs.Prelude.{◌≡◌, ℕ, zero, suc, ◌<◌, Bool, true, false, IsTrue}
+
+-- where n steps lead
+abbrev pub iterate : {A : Type 0} → (A → A) → ℕ → A → A
+iterate step zero a = a
+iterate step (suc n) a = step (iterate step n a)
+
+-- From a, the steps lead to z: after some number of steps it is over, and after fewer it is not.
+pub record Ends {A : Type 0} (step : A → A) (over : A → Bool) (a z : A) : Type 0 where
+  pub steps : ℕ
+  pub reached : iterate step steps a ≡ z
+  pub over_then : over z ≡ true
+  pub not_before : (k : ℕ) → k < steps → over (iterate step k a) ≡ false

@@ -1,0 +1,16 @@
+//! The tables of 1830 as it is played here: seats, companies, private companies, rounds and money.
+//!
+//! Each call answers its entry of a table and takes no memory. `specs/` also holds the few general
+//! words that several crates share: a step that is repeated until it is over, and the first rule
+//! of a table that is broken.
+//!
+//! Reading order: `roster` (companies and privates), `seat` (players and their money), `round`.
+#![tactic(auto)]
+
+mod roster;
+mod round;
+mod seat;
+
+pub use roster::{Company, Private, face, revenue};
+pub use round::Round;
+pub use seat::{Amount, Money, PLAYERS_LEAST, PLAYERS_MOST, Seat, bank_start, start_money};

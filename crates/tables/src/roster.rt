@@ -1,0 +1,102 @@
+ghost use Rattle.std.specs.Prelude.{◌≡◌, codes};
+ghost use Rattle.tables.specs.Roster.{code_of_private, face_of, revenue_of};
+
+use crate::seat::Amount;
+
+/// A share company, in roster order.
+#[derive(Clone, Copy, Debug, PartialEq, Eq, Hash)]
+pub enum Company {
+    Pennsylvania,
+    NewYorkCentral,
+    CanadianPacific,
+    BaltimoreOhio,
+    ChesapeakeOhio,
+    Erie,
+    NewHaven,
+    BostonMaine,
+}
+
+impl Company {
+    /// The eight companies, in roster order.
+    pub const ALL: [Company; 8] = [
+        Company::Pennsylvania,
+        Company::NewYorkCentral,
+        Company::CanadianPacific,
+        Company::BaltimoreOhio,
+        Company::ChesapeakeOhio,
+        Company::Erie,
+        Company::NewHaven,
+        Company::BostonMaine,
+    ];
+}
+
+/// A private company, in roster order, which is also the order of their faces.
+#[derive(Clone, Copy, Debug, PartialEq, Eq, Hash)]
+pub enum Private {
+    /// SV, the Schuylkill Valley.
+    SchuylkillValley,
+    /// CS, the Champlain & St. Lawrence.
+    ChamplainStLawrence,
+    /// DH, the Delaware & Hudson.
+    DelawareHudson,
+    /// MH, the Mohawk & Hudson.
+    MohawkHudson,
+    /// CA, the Camden & Amboy.
+    CamdenAmboy,
+    /// BOP, the Baltimore & Ohio private.
+    BaltimoreOhio,
+}
+
+impl Private {
+    /// The six privates, in roster order.
+    pub const ALL: [Private; 6] = [
+        Private::SchuylkillValley,
+        Private::ChamplainStLawrence,
+        Private::DelawareHudson,
+        Private::MohawkHudson,
+        Private::CamdenAmboy,
+        Private::BaltimoreOhio,
+    ];
+
+    /// The code that order sheets and reports use, in upper case.
+    pub fn code(self) -> &'static str
+        ensures { result.now ≡ code_of_private self }
+    {
+        match self {
+            Private::SchuylkillValley => "SV",
+            Private::ChamplainStLawrence => "CS",
+            Private::DelawareHudson => "DH",
+            Private::MohawkHudson => "MH",
+            Private::CamdenAmboy => "CA",
+            Private::BaltimoreOhio => "BOP",
+        }
+    }
+}
+
+/// The face value of a private, which is its price in the opening unless it has fallen.
+pub fn face(private: Private) -> Amount
+    ensures { result ≡ face_of private }
+{
+    match private {
+        Private::SchuylkillValley => 20,
+        Private::ChamplainStLawrence => 40,
+        Private::DelawareHudson => 70,
+        Private::MohawkHudson => 110,
+        Private::CamdenAmboy => 160,
+        Private::BaltimoreOhio => 220,
+    }
+}
+
+/// What the bank pays the owner of a private, once in a round that pays.
+pub fn revenue(private: Private) -> Amount
+    ensures { result ≡ revenue_of private }
+{
+    match private {
+        Private::SchuylkillValley => 5,
+        Private::ChamplainStLawrence => 10,
+        Private::DelawareHudson => 15,
+        Private::MohawkHudson => 20,
+        Private::CamdenAmboy => 25,
+        Private::BaltimoreOhio => 30,
+    }
+}

@@ -1,0 +1,46 @@
+use sheets::FileFault;
+use std::alloc::AllocError;
+use thiserror::Error;
+
+/// Why the umpire stopped before its report was written whole.
+#[derive(Clone, Copy, Debug, PartialEq, Eq, Drop, Error)]
+pub enum Fault {
+    /// A read failed.
+    #[error("the order file could not be read")]
+    Read,
+    /// A write failed, or took nothing.
+    #[error("the report could not be written")]
+    Write,
+    /// Memory was refused.
+    #[error("memory ran out")]
+    Memory,
+    /// The order file is refused as a whole, and the line that says so is written.
+    #[error("the order file is refused: {0}")]
+    File(FileFault),
+}
+
+impl From<AllocError> for Fault {
+    fn from(_error: AllocError) -> Fault {
+        Fault::Memory
+    }
+}
+
+/// The exit status of the program: 0 for a report, 2 for a refused file, 4 where reading, writing or
+/// memory failed.
+pub fn status(outcome: &Result<(), Fault>) -> u8 {
+    match outcome {
+        Ok(()) => 0,
+        Err(Fault::File(_)) => 2,
+        Err(Fault::Read | Fault::Write | Fault::Memory) => 4,
+    }
+}
+
+/// The word for a fault on standard error; empty for a refused file, of which the report speaks.
+pub fn word(fault: &Fault) -> &'static str {
+    match fault {
+        Fault::Read => "Read",
+        Fault::Write => "Write",
+        Fault::Memory => "Memory",
+        Fault::File(_) => "",
+    }
+}

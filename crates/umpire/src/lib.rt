@@ -1,0 +1,15 @@
+//! The umpire: bytes of an order file in, bytes of its report out.
+//!
+//! Reading order: `watched` (readers and writers that remember a failure), `fault`, `read`,
+//! `write`, `run`.
+#![tactic(auto)]
+
+mod fault;
+mod input;
+mod output;
+mod program;
+mod watched;
+
+pub use fault::{Fault, status, word};
+pub use program::run;
+pub use watched::Watched;
