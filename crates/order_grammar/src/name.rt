@@ -1,3 +1,9 @@
+ghost use Rattle.std.specs.Prelude.{◌≡◌, [], Some, None, if◌then◌else◌};
+ghost use Rattle.order_grammar.specs.Name.{is_name};
+ghost use Rattle.order_grammar.specs.Words.{raised};
+
+use std::marker::Model;
+
 /// The most letters and digits of a player's name.
 pub const NAME_MOST: usize = 8;
 
@@ -5,12 +11,32 @@ pub const NAME_MOST: usize = 8;
 #[derive(Clone, Copy, Debug, PartialEq, Eq, Hash)]
 pub struct Name {
     letters: [u8; NAME_MOST],
-    length: usize,
+    count: usize,
+}
+
+/// To a contract a name is its text.
+impl Model for Name {
+    ghost use Rattle.std.specs.Prelude.{◌≡◌, ℕ, ◌-◌, ◌≤◌, List, ◌++◌, length, take, drop, replicate};
+
+    ghost Value = { List ℕ };
+
+    ghost view = { λ n. take n.count n.letters };
+
+    ghost invariant = { λ n. (n.count ≤ 8) × (length n.letters ≡ 8) × (drop n.count n.letters ≡ replicate (8 - n.count) 0) };
+
+    ghost inverse = { λ text. record { letters = text ++ replicate (8 - length text) 0; count = length text } };
+
+    ghost use Rattle.order_grammar.specs.Name.{padded_again};
+    ghost use Rattle.std.proofs.Common.{ap};
+
+    ghost inverse_ok = { λ a h. ap (λ (p : List ℕ × ℕ). record { letters = p.0; count = p.1 }) (padded_again a.letters a.count h.0 h.1 h.2) };
 }
 
 impl Name {
     /// The name that a word spells, in either case; `None` where it spells none.
-    pub fn from_word(word: &[u8]) -> Option<Name> {
+    pub fn from_word(word: &[u8]) -> Option<Name>
+        ensures { result ≡ (if is_name (raised word.now) then Some (raised word.now) else None) }
+    {
         if word.is_empty() || word.len() > NAME_MOST || !word[0].is_ascii_alphabetic() {
             return None;
         }
@@ -23,22 +49,26 @@ impl Name {
         }
         Some(Name {
             letters,
-            length: word.len(),
+            count: word.len(),
         })
     }
 
     /// Its letters and digits, in upper case.
-    pub fn text(&self) -> &[u8] {
+    pub fn text(&self) -> &[u8]
+        ensures { result.now ≡ self.now }
+    {
         let letters = &self.letters;
-        &letters[..self.length.min(NAME_MOST)]
+        &letters[..self.count]
     }
 }
 
 impl Default for Name {
+    ghost is_default = { λ name. name ≡ [] };
+
     fn default() -> Name {
         Name {
             letters: [0; NAME_MOST],
-            length: 0,
+            count: 0,
         }
     }
 }

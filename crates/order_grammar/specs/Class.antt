@@ -1,0 +1,72 @@
+-- The classes of words: which texts may stand at a place of a form, and what each says. A word that
+-- would be such a text if numbers had no greatest value is too large.
+use Rattle.std.specs.Prelude.{ℕ, ◌+◌, ◌*◌, ◌-◌, ◌==◌, Bool, true, false, ◌&&◌, not, nat_le, if◌then◌else◌, List, [], ◌∷◌, codes, Option, Some, None, fold}
+use Rattle.std.specs.List.{list_all}
+use Rattle.tables.specs.declared.roster.Private as private
+use Rattle.tables.specs.declared.roster.Private.TheVariants as privates
+use Rattle.tables.specs.declared.round.Round.TheVariants.{Opening}
+use Rattle.tables.specs.Roster.{code_of_private}
+use Rattle.order_grammar.specs.Name.{is_name, is_digit}
+use Rattle.order_grammar.specs.declared.class.Class.{Class}
+use Rattle.order_grammar.specs.declared.class.Class.TheVariants as class
+use Rattle.order_grammar.specs.declared.class.Reading.{Reading}
+use Rattle.order_grammar.specs.declared.class.Reading.TheVariants.{Value, TooLarge, Wrong}
+use Rattle.order_grammar.specs.declared.order.Value.TheVariants as value
+
+-- two words are the same
+abbrev pub same_word : List ℕ → List ℕ → Bool
+same_word [] [] = true
+same_word (a ∷ as_) (b ∷ bs) = a == b && same_word as_ bs
+same_word [] (b ∷ bs) = false
+same_word (a ∷ as_) [] = false
+
+-- one digit or more
+abbrev pub are_digits : List ℕ → Bool
+are_digits [] = false
+are_digits (digit ∷ digits) = list_all is_digit (digit ∷ digits)
+
+-- the value of digits
+abbrev pub value_of_digits : List ℕ → ℕ
+value_of_digits digits = fold (λ value digit. value * 10 + (digit - 48)) 0 digits
+
+-- digits, with leading zeros allowed, of a value up to 99,999
+abbrev pub number_reading : List ℕ → Reading
+number_reading word =
+    if are_digits word
+    then (if nat_le (value_of_digits word) 99999 then Value (value.Number (value_of_digits word)) else TooLarge)
+    else Wrong
+
+-- the number of a round: digits without leading zeros
+abbrev pub round_number_reading : List ℕ → Reading
+round_number_reading [] = Wrong
+round_number_reading (digit ∷ digits) =
+    if not (digit == 48) && list_all is_digit (digit ∷ digits)
+    then
+      (if nat_le (value_of_digits (digit ∷ digits)) 99999
+      then Value (value.Round (Opening (value_of_digits (digit ∷ digits))))
+      else TooLarge)
+    else Wrong
+
+-- PR and the number of an opening round
+abbrev pub round_reading : List ℕ → Reading
+round_reading (p ∷ r ∷ digits) = if p == 80 && r == 82 then round_number_reading digits else Wrong
+round_reading (p ∷ []) = Wrong
+round_reading [] = Wrong
+
+-- the first of these privates whose code it is
+abbrev pub private_among : List private.Private → List ℕ → Reading
+private_among [] word = Wrong
+private_among (private ∷ others) word =
+    if same_word word (code_of_private private) then Value (value.Private private) else private_among others word
+
+-- the privates that are bought by their code alone
+abbrev pub bought_alone : List private.Private
+bought_alone =
+    privates.SchuylkillValley ∷ privates.ChamplainStLawrence ∷ privates.DelawareHudson ∷ privates.MohawkHudson ∷ []
+
+-- what a word, letters raised, is as a text of a class
+abbrev pub class_reading : Class → List ℕ → Reading
+class_reading class.Number word = number_reading word
+class_reading class.Name word = if is_name word then Value (value.Name word) else Wrong
+class_reading class.Round word = round_reading word
+class_reading class.Private word = private_among bought_alone word

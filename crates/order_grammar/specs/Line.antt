@@ -1,0 +1,16 @@
+-- What a line is by itself: the order that it spells, or the first fault that it has: too long, a
+-- byte before the comment that is not printable, and then what its words are.
+use Rattle.std.specs.Prelude.{ℕ, nat_lt, if◌then◌else◌, List, length, Result, Ok, Err}
+use Rattle.std.specs.List.{list_all}
+use Rattle.order_grammar.specs.Form.{words_reading}
+use Rattle.order_grammar.specs.Words.{words_of, before_comment, is_printable}
+use Rattle.order_grammar.specs.declared.fault.Fault.{Fault}
+use Rattle.order_grammar.specs.declared.fault.Fault.TheVariants.{TooLong, StrayByte}
+use Rattle.order_grammar.specs.declared.order.Order.{Order}
+
+-- the order of a line, or its first fault
+abbrev pub reading_of : List ℕ → Result Order Fault
+reading_of line =
+    if nat_lt 1024 (length line)
+    then Err TooLong
+    else (if list_all is_printable (before_comment line) then words_reading (words_of line) else Err StrayByte)

@@ -1,0 +1,28 @@
+-- A player's name is a letter, then up to seven letters or digits; letters are raised. To a contract
+-- a name is its text.
+use Rattle.std.specs.Prelude.{◌≡◌, ℕ, ◌-◌, ◌≤◌, Bool, true, false, ◌&&◌, ◌||◌, nat_le, List, [], ◌∷◌, ◌++◌, length, take, drop, replicate, refl}
+use Rattle.std.proofs.Common.{arith}
+use Rattle.std.proofs.lemmas.Grind.{common_steps}
+use Rattle.std.specs.List.{list_all}
+
+-- a capital letter, a digit
+abbrev pub is_capital : ℕ → Bool
+is_capital byte = nat_le 65 byte && nat_le byte 90
+
+abbrev pub is_digit : ℕ → Bool
+is_digit byte = nat_le 48 byte && nat_le byte 57
+
+abbrev pub is_letter_or_digit : ℕ → Bool
+is_letter_or_digit byte = is_capital byte || is_digit byte
+
+-- a word, letters raised, that is a name
+abbrev pub is_name : List ℕ → Bool
+is_name [] = false
+is_name (first ∷ rest) = is_capital first && (nat_le (length rest) 7 && list_all is_letter_or_digit rest)
+
+-- what is cut to its length and filled up again is as it was
+pub padded_again : (letters : List ℕ) (count : ℕ) → count ≤ 8 → length letters ≡ 8 → drop count letters ≡ replicate (8 - count) 0 → (take count letters ++ replicate (8 - length (take count letters)) 0, length (take count letters)) ≡ (letters, count)
+padded_again letters count short whole blank =
+    let here : length (take count letters) ≡ count = grind (arith, common_steps) in
+    let joined : take count letters ++ drop count letters ≡ letters = grind (arith, common_steps) in
+    rw (here, ← blank, joined) refl
