@@ -166,15 +166,24 @@ impl<'a> Sheets<'a> {
 
     /// Whose sheet for which round a SHEET line begins, or why it begins none.
     fn sheet_begun(&self, line: &[u8]) -> Result<SheetKey, Fault> {
-        match read_line(line)?.order {
-            Order::Sheet { name, round } => match self.players.get_index_of(&name) {
-                Some(index) if index < PLAYERS_MOST => Ok(SheetKey {
-                    seat: Seat(index as u8),
-                    round,
+        let read = read_line(line)?;
+        match &read.order {
+            Order::Sheet { name, round } => match self.seat_of(name) {
+                Some(seat) => Ok(SheetKey {
+                    seat,
+                    round: *round,
                 }),
-                _ => Err(Fault::UnknownPlayer),
+                None => Err(Fault::UnknownPlayer),
             },
             _ => Err(Fault::OutOfPlace),
+        }
+    }
+
+    /// The seat of a player.
+    fn seat_of(&self, name: &Name) -> Option<Seat> {
+        match self.players.get_index_of(name) {
+            Some(index) if index < PLAYERS_MOST => Some(Seat(index as u8)),
+            _ => None,
         }
     }
 }

@@ -1,0 +1,33 @@
+-- The lines of a text: the pieces between LFs. A CR before an LF is dropped, a last line without LF
+-- counts. A line without words is blank, unless it is too long, and counts nowhere.
+use Rattle.std.specs.Prelude.{ℕ, ◌==◌, Bool, ◌&&◌, not, nat_le, if◌then◌else◌, List, [], ◌∷◌, ◌++◌, length, filter}
+use Rattle.order_grammar.specs.Words.{words_of, has_words}
+
+-- a line that ended in LF, without a CR at its end
+abbrev pub without_return : List ℕ → List ℕ
+without_return [] = []
+without_return (byte ∷ []) = if byte == 13 then [] else byte ∷ []
+without_return (byte ∷ next ∷ bytes) = byte ∷ without_return (next ∷ bytes)
+
+-- a last line, if it has any bytes
+abbrev pub last_line : List ℕ → List (List ℕ)
+last_line [] = []
+last_line (byte ∷ bytes) = (byte ∷ bytes) ∷ []
+
+-- the lines of a text, of whose first line these bytes have come
+abbrev pub lines_from : List ℕ → List ℕ → List (List ℕ)
+lines_from line [] = last_line line
+lines_from line (byte ∷ bytes) =
+    if byte == 10 then without_return line ∷ lines_from [] bytes else lines_from (line ++ byte ∷ []) bytes
+
+-- the lines of a text
+abbrev pub lines_of : List ℕ → List (List ℕ)
+lines_of text = lines_from [] text
+
+-- a line that counts nowhere
+abbrev pub is_blank : List ℕ → Bool
+is_blank line = nat_le (length line) 1024 && not (has_words (words_of line))
+
+-- the lines that count
+abbrev pub written_lines : List ℕ → List (List ℕ)
+written_lines text = filter (λ line. not (is_blank line)) (lines_of text)
