@@ -1,0 +1,3 @@
+pub mod Event
+pub mod LookBack
+pub mod Sound
