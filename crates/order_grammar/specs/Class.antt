@@ -1,24 +1,19 @@
 -- The classes of words: which texts may stand at a place of a form, and what each says. A word that
 -- would be such a text if numbers had no greatest value is too large.
-use Rattle.std.specs.Prelude.{ℕ, ◌+◌, ◌*◌, ◌-◌, ◌==◌, Bool, true, false, ◌&&◌, not, nat_le, if◌then◌else◌, List, [], ◌∷◌, codes, Option, Some, None, fold}
+use Rattle.std.specs.Prelude.{ℕ, ◌+◌, ◌*◌, ◌-◌, ◌==◌, Bool, true, false, nat_le, if◌then◌else◌, List, [], ◌∷◌, codes, take, drop, fold, min, Option, Some, None}
 use Rattle.std.specs.List.{list_all}
 use Rattle.tables.specs.declared.roster.Private as private
 use Rattle.tables.specs.declared.roster.Private.TheVariants as privates
 use Rattle.tables.specs.declared.round.Round.TheVariants.{Opening}
 use Rattle.tables.specs.Roster.{code_of_private}
 use Rattle.order_grammar.specs.Name.{is_name, is_digit}
+use Rattle.order_grammar.specs.Words.{same_word}
 use Rattle.order_grammar.specs.declared.class.Class.{Class}
 use Rattle.order_grammar.specs.declared.class.Class.TheVariants as class
 use Rattle.order_grammar.specs.declared.class.Reading.{Reading}
 use Rattle.order_grammar.specs.declared.class.Reading.TheVariants.{Value, TooLarge, Wrong}
 use Rattle.order_grammar.specs.declared.order.Value.TheVariants as value
-
--- two words are the same
-abbrev pub same_word : List ℕ → List ℕ → Bool
-same_word [] [] = true
-same_word (a ∷ as_) (b ∷ bs) = a == b && same_word as_ bs
-same_word [] (b ∷ bs) = false
-same_word (a ∷ as_) [] = false
+use Rattle.order_grammar.specs.declared.order.Value as values
 
 -- one digit or more
 abbrev pub are_digits : List ℕ → Bool
@@ -29,29 +24,30 @@ are_digits (digit ∷ digits) = list_all is_digit (digit ∷ digits)
 abbrev pub value_of_digits : List ℕ → ℕ
 value_of_digits digits = fold (λ value digit. value * 10 + (digit - 48)) 0 digits
 
--- digits, with leading zeros allowed, of a value up to 99,999
-abbrev pub number_reading : List ℕ → Reading
-number_reading word =
-    if are_digits word
-    then (if nat_le (value_of_digits word) 99999 then Value (value.Number (value_of_digits word)) else TooLarge)
+-- the value of digits, or 100,000 where it is over 99,999; nothing for other words
+abbrev pub capped_value : List ℕ → Option ℕ
+capped_value word = if are_digits word then Some (min (value_of_digits word) 100000) else None
+
+-- digits of a value up to 99,999, which stands for a value of some kind
+abbrev pub digits_reading : (ℕ → values.Value) → List ℕ → Reading
+digits_reading stands_for digits =
+    if are_digits digits
+    then (if nat_le (value_of_digits digits) 99999 then Value (stands_for (value_of_digits digits)) else TooLarge)
     else Wrong
 
--- the number of a round: digits without leading zeros
+-- digits, with leading zeros allowed
+abbrev pub number_reading : List ℕ → Reading
+number_reading word = digits_reading value.Number word
+
+-- the number of an opening round: digits without leading zeros
 abbrev pub round_number_reading : List ℕ → Reading
 round_number_reading [] = Wrong
 round_number_reading (digit ∷ digits) =
-    if not (digit == 48) && list_all is_digit (digit ∷ digits)
-    then
-      (if nat_le (value_of_digits (digit ∷ digits)) 99999
-      then Value (value.Round (Opening (value_of_digits (digit ∷ digits))))
-      else TooLarge)
-    else Wrong
+    if digit == 48 then Wrong else digits_reading (λ number. value.Round (Opening number)) (digit ∷ digits)
 
 -- PR and the number of an opening round
 abbrev pub round_reading : List ℕ → Reading
-round_reading (p ∷ r ∷ digits) = if p == 80 && r == 82 then round_number_reading digits else Wrong
-round_reading (p ∷ []) = Wrong
-round_reading [] = Wrong
+round_reading word = if same_word (take 2 word) (codes "PR") then round_number_reading (drop 2 word) else Wrong
 
 -- the first of these privates whose code it is
 abbrev pub private_among : List private.Private → List ℕ → Reading

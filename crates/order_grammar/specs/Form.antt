@@ -1,7 +1,8 @@
 -- The table of forms, and what the words of a line are by it: the order that they spell, or why they
 -- spell none.
-use Rattle.std.specs.Prelude.{ℕ, List, [], ◌∷◌, codes, Option, Some, None, Result, Ok, Err, if◌then◌else◌}
-use Rattle.order_grammar.specs.Class.{class_reading, same_word}
+use Rattle.std.specs.Prelude.{ℕ, List, [], ◌∷◌, codes, Option, Some, None, Result, Ok, Err, nat_lt, nat_le, Bool, length, fold, if◌then◌else◌}
+use Rattle.order_grammar.specs.Class.{class_reading}
+use Rattle.order_grammar.specs.Words.{same_word}
 use Rattle.order_grammar.specs.Order.{order_from}
 use Rattle.order_grammar.specs.declared.class.Class.{Class}
 use Rattle.order_grammar.specs.declared.class.Class.TheVariants as class
@@ -37,6 +38,10 @@ forms =
     ∷ row kind.BuyPrivate (codes "BUY") (class.Private ∷ [])
     ∷ []
 
+-- a row has at most six classes
+abbrev pub is_short : Row → Bool
+is_short row = nat_le (length row.classes) 6
+
 -- the value of a word in front of the values of the later words; a word that is no text of its class
 -- spoils all, a number that is too large all but that
 abbrev pub with_value : Reading → Result (List Value) Fault → Result (List Value) Fault
@@ -63,18 +68,21 @@ abbrev pub row_reading : Row → List ℕ → List (List ℕ) → Result Order F
 row_reading row first rest =
     if same_word first row.first then order_of_values row.order (values_reading row.classes rest) else Err UnknownWord
 
--- the one that comes nearer to an order
-abbrev pub nearer : Result Order Fault → Result Order Fault → Result Order Fault
-nearer (Ok order) other = Ok order
-nearer (Err fault) (Ok order) = Ok order
-nearer (Err NumberTooLarge) (Err other) = Err NumberTooLarge
-nearer (Err WrongWords) (Err UnknownWord) = Err WrongWords
-nearer (Err fault) (Err other) = Err other
+-- how near to an order it is
+abbrev pub nearness : Result Order Fault → ℕ
+nearness (Ok order) = 3
+nearness (Err NumberTooLarge) = 2
+nearness (Err WrongWords) = 1
+nearness (Err other) = 0
 
--- what they are by some rows
+-- the one that is nearer to an order; the first of two that are as near
+abbrev pub nearer : Result Order Fault → Result Order Fault → Result Order Fault
+nearer first second = if nat_lt (nearness first) (nearness second) then second else first
+
+-- what a first word and the words after it are by some rows: what is nearest to an order
 abbrev pub rows_reading : List Row → List ℕ → List (List ℕ) → Result Order Fault
-rows_reading [] first rest = Err UnknownWord
-rows_reading (row ∷ rows) first rest = nearer (row_reading row first rest) (rows_reading rows first rest)
+rows_reading rows first rest =
+    fold (λ (nearest : Result Order Fault) (row : Row). nearer nearest (row_reading row first rest)) (Err UnknownWord) rows
 
 -- the order that the words of a line spell, or why they spell none
 abbrev pub words_reading : List (List ℕ) → Result Order Fault

@@ -4,3 +4,8 @@ pub mod Class
 pub mod Order
 pub mod Form
 pub mod Line
+pub mod Token
+pub mod Row
+pub mod Print
+pub mod Fault
+pub mod Spells

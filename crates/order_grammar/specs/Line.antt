@@ -7,6 +7,7 @@ use Rattle.order_grammar.specs.Words.{words_of, before_comment, is_printable}
 use Rattle.order_grammar.specs.declared.fault.Fault.{Fault}
 use Rattle.order_grammar.specs.declared.fault.Fault.TheVariants.{TooLong, StrayByte}
 use Rattle.order_grammar.specs.declared.order.Order.{Order}
+use Rattle.order_grammar.specs.declared.read.Line.{Line}
 
 -- the order of a line, or its first fault
 abbrev pub reading_of : List ℕ → Result Order Fault
@@ -14,3 +15,8 @@ reading_of line =
     if nat_lt 1024 (length line)
     then Err TooLong
     else (if list_all is_printable (before_comment line) then words_reading (words_of line) else Err StrayByte)
+
+-- the order of a line that was read, without its words
+abbrev pub order_of : Result Line Fault → Result Order Fault
+order_of (Ok line) = Ok line.order
+order_of (Err fault) = Err fault

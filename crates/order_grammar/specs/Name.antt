@@ -21,7 +21,7 @@ is_name [] = false
 is_name (first ∷ rest) = is_capital first && (nat_le (length rest) 7 && list_all is_letter_or_digit rest)
 
 -- what is cut to its length and filled up again is as it was
-pub padded_again : (letters : List ℕ) (count : ℕ) → count ≤ 8 → length letters ≡ 8 → drop count letters ≡ replicate (8 - count) 0 → (take count letters ++ replicate (8 - length (take count letters)) 0, length (take count letters)) ≡ (letters, count)
+pub padded_again : (letters : List ℕ) (count : ℕ) → count ≤ 8 → length letters ≡ 8 → drop count letters ≡ replicate (8 - count) 0 → ◌≡◌ {A = List ℕ × ℕ} (take count letters ++ replicate (8 - length (take count letters)) 0, length (take count letters)) (letters, count)
 padded_again letters count short whole blank =
     let here : length (take count letters) ≡ count = grind (arith, common_steps) in
     let joined : take count letters ++ drop count letters ≡ letters = grind (arith, common_steps) in

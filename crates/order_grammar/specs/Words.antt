@@ -1,12 +1,16 @@
 -- The words of a line are the longest runs of bytes other than space before its first `#`, letters
 -- raised.
-use Rattle.std.specs.Prelude.{ℕ, ◌==◌, Bool, true, false, ◌&&◌, nat_le, if◌then◌else◌, List, [], ◌∷◌, ◌++◌, map}
+use Rattle.std.specs.Prelude.{ℕ, ◌==◌, Bool, true, false, ◌&&◌, nat_le, ◌<◌, ◌≤◌, ◌≡◌, length, slice_range, if◌then◌else◌, List, [], ◌∷◌, ◌++◌, map}
 use Rattle.std.specs.Char.{to_ascii_uppercase}
+
+-- the part of a text before the first byte that is this one; all of it where there is none
+abbrev pub before : ℕ → List ℕ → List ℕ
+before stop [] = []
+before stop (byte ∷ bytes) = if byte == stop then [] else byte ∷ before stop bytes
 
 -- the part of a line before its first `#`
 abbrev pub before_comment : List ℕ → List ℕ
-before_comment [] = []
-before_comment (byte ∷ bytes) = if byte == 35 then [] else byte ∷ before_comment bytes
+before_comment line = before 35 line
 
 -- a word in front of others, if it has any bytes
 abbrev pub with_word : List ℕ → List (List ℕ) → List (List ℕ)
@@ -44,3 +48,28 @@ is_printable byte = nat_le 32 byte && nat_le byte 126
 abbrev pub has_words : List (List ℕ) → Bool
 has_words [] = false
 has_words (word ∷ words) = true
+
+-- two words are the same
+abbrev pub same_word : List ℕ → List ℕ → Bool
+same_word [] [] = true
+same_word (a ∷ as_) (b ∷ bs) = a == b && same_word as_ bs
+same_word [] (b ∷ bs) = false
+same_word (a ∷ as_) [] = false
+
+-- a word as it is written, and where it stands in its line: from start, up to and without end
+pub record Placed : Type 0 where
+  pub text : List ℕ
+  pub start : ℕ
+  pub end : ℕ
+
+-- each word is what the line has at its place, and begins no sooner than the one before it ends; the first no sooner than from
+abbrev pub StandFrom : ℕ → List ℕ → List Placed → Type 0
+StandFrom from line [] = Unit {0}
+StandFrom from line (word ∷ words) =
+    (from ≤ word.start) × (word.start < word.end) × (word.end ≤ length line)
+    × (word.text ≡ slice_range line word.start word.end) × StandFrom word.end line words
+
+-- these are the words of a line, each at its place
+pub record AreWordsOf (line : List ℕ) (words : List Placed) : Type 0 where
+  pub texts : map (λ word. raised word.text) words ≡ words_of line
+  pub places : StandFrom 0 line words

@@ -1,5 +1,12 @@
+ghost use Rattle.std.specs.Prelude.{◌≡◌};
+ghost use Rattle.order_grammar.specs.Class.{
+    bought_alone, capped_value, class_reading, number_reading, private_among, round_number_reading, round_reading,
+};
+ghost use Rattle.order_grammar.specs.Words.{raised};
+
 use crate::name::Name;
 use crate::order::Value;
+use crate::words::is_word;
 use tables::{Private, Round};
 
 /// The greatest number that a line may name.
@@ -31,7 +38,9 @@ pub(crate) enum Reading {
 
 impl Class {
     /// What a word is as a text of this class.
-    pub(crate) fn read(self, word: &[u8]) -> Reading {
+    pub(crate) fn read(self, word: &[u8]) -> Reading
+        ensures { result ≡ class_reading self (raised word.now) }
+    {
         match self {
             Class::Number => read_number(word),
             Class::Name => match Name::from_word(word) {
@@ -39,16 +48,15 @@ impl Class {
                 None => Reading::Wrong,
             },
             Class::Round => read_round(word),
-            Class::Private => match private_from_word(word) {
-                Some(private) => Reading::Value(Value::Private(private)),
-                None => Reading::Wrong,
-            },
+            Class::Private => read_private(word),
         }
     }
 }
 
 /// The value of a word of digits, or `NUMBER_MOST + 1` where it is over that; `None` for other words.
-fn digits_value(word: &[u8]) -> Option<u32> {
+fn digits_value(word: &[u8]) -> Option<u32>
+    ensures { result ≡ capped_value word.now }
+{
     if word.is_empty() {
         return None;
     }
@@ -62,7 +70,9 @@ fn digits_value(word: &[u8]) -> Option<u32> {
     Some(value)
 }
 
-fn read_number(word: &[u8]) -> Reading {
+fn read_number(word: &[u8]) -> Reading
+    ensures { result ≡ number_reading (raised word.now) }
+{
     match digits_value(word) {
         None => Reading::Wrong,
         Some(value) if value > NUMBER_MOST => Reading::TooLarge,
@@ -70,11 +80,25 @@ fn read_number(word: &[u8]) -> Reading {
     }
 }
 
-fn read_round(word: &[u8]) -> Reading {
-    if word.len() < 3 || !word[..2].eq_ignore_ascii_case(b"PR") || word[2] == b'0' {
+fn read_round(word: &[u8]) -> Reading
+    ensures { result ≡ round_reading (raised word.now) }
+{
+    if word.len() < 2 || !is_word(&word[..2], b"PR") {
         return Reading::Wrong;
     }
-    match digits_value(&word[2..]) {
+    read_round_number(&word[2..])
+}
+
+fn read_round_number(digits: &[u8]) -> Reading
+    ensures { result ≡ round_number_reading (raised digits.now) }
+{
+    let [first, ..] = digits else {
+        return Reading::Wrong;
+    };
+    if *first == b'0' {
+        return Reading::Wrong;
+    }
+    match digits_value(digits) {
         None => Reading::Wrong,
         Some(number) if number > NUMBER_MOST => Reading::TooLarge,
         Some(number) => Reading::Value(Value::Round(Round::Opening(number))),
@@ -89,11 +113,13 @@ const BOUGHT_ALONE: [Private; 4] = [
     Private::MohawkHudson,
 ];
 
-fn private_from_word(word: &[u8]) -> Option<Private> {
+fn read_private(word: &[u8]) -> Reading
+    ensures { result ≡ private_among bought_alone (raised word.now) }
+{
     for private in BOUGHT_ALONE {
-        if word.eq_ignore_ascii_case(private.code().as_bytes()) {
-            return Some(private);
+        if is_word(word, private.code().as_bytes()) {
+            return Reading::Value(Value::Private(private));
         }
     }
-    None
+    Reading::Wrong
 }

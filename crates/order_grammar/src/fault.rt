@@ -1,3 +1,6 @@
+ghost use Rattle.std.specs.Prelude.{◌≡◌};
+ghost use Rattle.order_grammar.specs.Fault.{code_of};
+
 use thiserror::Error;
 
 /// Why a line is not obeyed whatever the game: the first of these that applies.
@@ -31,7 +34,9 @@ pub enum Fault {
 
 impl Fault {
     /// The code that a report prints.
-    pub fn code(self) -> &'static str {
+    pub fn code(self) -> &'static str
+        ensures { result.now ≡ code_of self }
+    {
         match self {
             Fault::TooLong => "G1",
             Fault::StrayByte => "G2",

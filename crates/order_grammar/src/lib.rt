@@ -6,12 +6,13 @@
 //! fit. Nothing here takes memory but `print_line`, for its answer.
 //!
 //! Reading order: `name`, `fault`, `words` (a line and its words), `order` (orders and their
-//! parts), `class` (the texts of each class of words), `form` (the table), `read`, `print`.
+//! parts), `class` (the texts of each class of words), `form` (the table), `read`, `print`, `laws`.
 #![tactic(auto)]
 
 mod class;
 mod fault;
 mod form;
+mod laws;
 mod name;
 mod order;
 mod print;
@@ -19,8 +20,12 @@ mod read;
 mod words;
 
 pub use fault::Fault;
+pub use laws::{read_where_spelt, spelling_is_read_again};
 pub use name::{NAME_MOST, Name};
 pub use order::Order;
 pub use print::{print_line, print_name, print_round};
 pub use read::{LINE_MOST, Line, read_line};
-pub use words::{Span, Token, WORDS_MOST, Words, first_word, has_word};
+pub use words::{Span, Token, WORDS_MOST, Words, begins_with_word, has_word};
+
+#[cfg(test)]
+mod tests;

@@ -1,4 +1,5 @@
-ghost use Rattle.std.specs.Prelude.{◌≡◌, [], Some, None, if◌then◌else◌};
+ghost use Rattle.std.specs.Bool.{OnTrue};
+ghost use Rattle.std.specs.Prelude.{◌≡◌, ◌≤◌, [], None, Some, if◌then◌else◌, length};
 ghost use Rattle.order_grammar.specs.Name.{is_name};
 ghost use Rattle.order_grammar.specs.Words.{raised};
 
@@ -37,14 +38,11 @@ impl Name {
     pub fn from_word(word: &[u8]) -> Option<Name>
         ensures { result ≡ (if is_name (raised word.now) then Some (raised word.now) else None) }
     {
-        if word.is_empty() || word.len() > NAME_MOST || !word[0].is_ascii_alphabetic() {
+        if !spells_name(word) {
             return None;
         }
         let mut letters = [0; NAME_MOST];
         for (i, byte) in word.iter().enumerate() {
-            if !byte.is_ascii_alphanumeric() {
-                return None;
-            }
             letters[i] = byte.to_ascii_uppercase();
         }
         Some(Name {
@@ -70,5 +68,18 @@ impl Default for Name {
             letters: [0; NAME_MOST],
             count: 0,
         }
+    }
+}
+
+/// Whether a word, in either case, is a letter and then up to seven letters or digits.
+fn spells_name(word: &[u8]) -> bool
+    ensures value { result ≡ is_name (raised word.now) }
+    ensures short { OnTrue result (length word.now ≤ 8) }
+{
+    match word {
+        [first, rest @ ..] => {
+            first.is_ascii_alphabetic() && rest.len() < NAME_MOST && rest.iter().all(|byte| byte.is_ascii_alphanumeric())
+        }
+        [] => false,
     }
 }

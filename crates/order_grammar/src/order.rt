@@ -1,3 +1,6 @@
+ghost use Rattle.std.specs.Prelude.{◌≡◌, ◌≤◌, length, option_map};
+ghost use Rattle.order_grammar.specs.Order.{names_from, order_from};
+
 use crate::name::Name;
 use arrayvec::ArrayVec;
 use tables::{PLAYERS_MOST, Private, Round};
@@ -21,7 +24,9 @@ pub enum Order {
 
 impl Order {
     /// An equal order.
-    pub fn duplicate(&self) -> Order {
+    pub fn duplicate(&self) -> Order
+        ensures { result ≡ self.now }
+    {
         match self {
             Order::Blank => Order::Blank,
             Order::Game { game, version } => Order::Game {
@@ -39,12 +44,12 @@ impl Order {
     }
 }
 
-fn duplicate_names(names: &ArrayVec<Name, PLAYERS_MOST>) -> ArrayVec<Name, PLAYERS_MOST> {
+fn duplicate_names(names: &ArrayVec<Name, PLAYERS_MOST>) -> ArrayVec<Name, PLAYERS_MOST>
+    ensures { result.items ≡ names.now.items }
+{
     let mut copies = ArrayVec::new();
     for name in names.as_slice() {
-        if !copies.is_full() {
-            copies.push(*name);
-        }
+        copies.push(*name);
     }
     copies
 }
@@ -81,7 +86,10 @@ pub(crate) const VALUES_MOST: usize = 6;
 pub(crate) type Values = ArrayVec<Value, VALUES_MOST>;
 
 /// The order of this kind with these values; `None` where they are not such values.
-pub(crate) fn order_from(kind: OrderKind, values: &[Value]) -> Option<Order> {
+pub(crate) fn order_from(kind: OrderKind, values: &[Value]) -> Option<Order>
+    requires { length values.now ≤ 6 }
+    ensures { result ≡ order_from kind values.now }
+{
     match (kind, values) {
         (OrderKind::Game, [Value::Number(game), Value::Number(version)]) => Some(Order::Game {
             game: *game,
@@ -98,15 +106,15 @@ pub(crate) fn order_from(kind: OrderKind, values: &[Value]) -> Option<Order> {
     }
 }
 
-fn names_from(values: &[Value]) -> Option<ArrayVec<Name, PLAYERS_MOST>> {
+fn names_from(values: &[Value]) -> Option<ArrayVec<Name, PLAYERS_MOST>>
+    requires { length values.now ≤ 6 }
+    ensures { result ≡ option_map (λ names. record { items = names }) (names_from values.now) }
+{
     let mut names = ArrayVec::new();
     for value in values {
         let Value::Name(name) = value else {
             return None;
         };
-        if names.is_full() {
-            return None;
-        }
         names.push(*name);
     }
     Some(names)

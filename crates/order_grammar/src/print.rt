@@ -1,48 +1,70 @@
+ghost use Rattle.std.specs.Prelude.{◌≡◌, ◌++◌, IfOk, OnOk, codes, decimal};
+ghost use Rattle.order_grammar.specs.Print.{spaced, spelling_of, text_of_round};
+
 use crate::name::Name;
 use crate::order::Order;
 use std::alloc::{AllocError, Global};
 use tables::Round;
 
 /// The one spelling of an order: upper case, single spaces, no leading zeros.
-pub fn print_line(alloc: Global, order: &Order) -> Result<Vec<u8>, AllocError> {
+pub fn print_line(alloc: Global, order: &Order) -> Result<Vec<u8>, AllocError>
+    ensures { IfOk result (λ text. text.items ≡ spelling_of order.now) }
+{
     let mut text = Vec::new(alloc);
-    match order {
-        Order::Blank => {}
-        Order::Game { game, version } => {
-            text.extend_from_slice(b"GAME ")?;
-            print_number(&mut text, *game)?;
-            text.push(b' ')?;
-            print_number(&mut text, *version)?;
-        }
-        Order::Players(names) => {
-            text.extend_from_slice(b"PLAYERS")?;
-            for name in names.as_slice() {
-                text.push(b' ')?;
-                print_name(&mut text, name)?;
-            }
-        }
-        Order::Sheet { name, round } => {
-            text.extend_from_slice(b"SHEET ")?;
-            print_name(&mut text, name)?;
-            text.push(b' ')?;
-            print_round(&mut text, round)?;
-        }
-        Order::Turn => text.extend_from_slice(b"TURN")?,
-        Order::BuyPrivate(private) => {
-            text.extend_from_slice(b"BUY ")?;
-            text.extend_from_slice(private.code().as_bytes())?;
-        }
-    }
+    print_order(&mut text, order)?;
     Ok(text)
 }
 
+/// Adds the spelling of an order.
+fn print_order(text: &mut Vec<u8>, order: &Order) -> Result<(), AllocError>
+    ensures { OnOk result (text.new.items ≡ text.old.items ++ spelling_of order.now) }
+{
+    match order {
+        Order::Blank => Ok(()),
+        Order::Game { game, version } => {
+            text.extend_from_slice(b"GAME ")?;
+            print_number(text, *game)?;
+            text.push(b' ')?;
+            print_number(text, *version)
+        }
+        Order::Players(names) => print_players(text, names.as_slice()),
+        Order::Sheet { name, round } => {
+            text.extend_from_slice(b"SHEET ")?;
+            print_name(text, name)?;
+            text.push(b' ')?;
+            print_round(text, round)
+        }
+        Order::Turn => text.extend_from_slice(b"TURN"),
+        Order::BuyPrivate(private) => {
+            text.extend_from_slice(b"BUY ")?;
+            text.extend_from_slice(private.code().as_bytes())
+        }
+    }
+}
+
+/// Adds the players line.
+fn print_players(text: &mut Vec<u8>, names: &[Name]) -> Result<(), AllocError>
+    ensures { OnOk result (text.new.items ≡ text.old.items ++ codes "PLAYERS" ++ spaced names.now) }
+{
+    text.extend_from_slice(b"PLAYERS")?;
+    for name in names {
+        text.push(b' ')?;
+        print_name(text, name)?;
+    }
+    Ok(())
+}
+
 /// Adds a name.
-pub fn print_name(text: &mut Vec<u8>, name: &Name) -> Result<(), AllocError> {
+pub fn print_name(text: &mut Vec<u8>, name: &Name) -> Result<(), AllocError>
+    ensures { OnOk result (text.new.items ≡ text.old.items ++ name.now) }
+{
     text.extend_from_slice(name.text())
 }
 
 /// Adds a round: `PR1`, `SR1` or `OR1.1`.
-pub fn print_round(text: &mut Vec<u8>, round: &Round) -> Result<(), AllocError> {
+pub fn print_round(text: &mut Vec<u8>, round: &Round) -> Result<(), AllocError>
+    ensures { OnOk result (text.new.items ≡ text.old.items ++ text_of_round round.now) }
+{
     match round {
         Round::Opening(number) => {
             text.extend_from_slice(b"PR")?;
@@ -61,7 +83,9 @@ pub fn print_round(text: &mut Vec<u8>, round: &Round) -> Result<(), AllocError> 
     }
 }
 
-fn print_number(text: &mut Vec<u8>, number: u32) -> Result<(), AllocError> {
+fn print_number(text: &mut Vec<u8>, number: u32) -> Result<(), AllocError>
+    ensures { OnOk result (text.new.items ≡ text.old.items ++ decimal number) }
+{
     let mut buffer = itoa::Buffer::new();
     text.extend_from_slice(buffer.format(number).as_bytes())
 }

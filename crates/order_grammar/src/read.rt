@@ -1,3 +1,7 @@
+ghost use Rattle.std.specs.Prelude.{◌≡◌, IfOk};
+ghost use Rattle.order_grammar.specs.Line.{order_of, reading_of};
+ghost use Rattle.order_grammar.specs.Words.{AreWordsOf, is_printable};
+
 use crate::fault::Fault;
 use crate::form::order_of_words;
 use crate::order::Order;
@@ -14,7 +18,12 @@ pub struct Line<'a> {
 }
 
 /// Reads a line, without its LF and a CR before that. A line without words is the order `Blank`.
-pub fn read_line(line: &[u8]) -> Result<Line<'_>, Fault> {
+pub fn read_line(line: &[u8]) -> Result<Line<'_>, Fault>
+    // The order, or the fault.
+    ensures order { order_of result ≡ reading_of line.now }
+    // The words, at their places.
+    ensures words { IfOk result (λ read. AreWordsOf line.now read.words) }
+{
     if line.len() > LINE_MOST {
         return Err(Fault::TooLong);
     }
@@ -27,6 +36,8 @@ pub fn read_line(line: &[u8]) -> Result<Line<'_>, Fault> {
 }
 
 /// Whether a byte may stand before a comment.
-fn is_printable(byte: u8) -> bool {
+fn is_printable(byte: u8) -> bool
+    ensures { result ≡ is_printable byte }
+{
     (0x20..=0x7E).contains(&byte)
 }

@@ -1,3 +1,6 @@
+ghost use Rattle.std.specs.Prelude.{◌≡◌, ◌<◌, ◌≤◌, IfOk, length, true};
+ghost use Rattle.privates.specs.Left.{total_left};
+
 use crate::turn::{opens_group, rule_standing, take_turn};
 use arrayvec::ArrayVec;
 use history::{Event, History, Party};
@@ -60,18 +63,34 @@ fn take_turns(history: &mut History, unruled: &mut Unruled) -> Result<bool, Allo
     let mut seat = usize::from(history.now().priority().0);
     let mut passes = 0;
     while passes < seats && seat < seats {
-        if take_turn(history, seat_at(seat), &mut lines[seat])? {
+        if play_turn(history, lines, seat)? {
             passes = 0;
-            if history.now().cheapest_unsold().is_none() {
-                return Ok(false);
-            }
         } else {
             passes += 1;
-            history.append(Event::Passes(seat_at(seat)))?;
+        }
+        if history.now().cheapest_unsold().is_none() {
+            return Ok(false);
         }
         seat = if seat + 1 < seats { seat + 1 } else { 0 };
     }
     Ok(true)
+}
+
+/// The turn of a seat, which passes where it buys nothing. Answers whether it bought.
+fn play_turn(
+    history: &mut History,
+    lines: &mut [Lines],
+    seat: usize,
+) -> Result<bool, AllocError>
+    requires { seat < length lines.old }
+    ensures taken { IfOk result (λ bought. bought ≡ true → total_left lines.new < total_left lines.old) }
+    ensures no_more { total_left lines.new ≤ total_left lines.old }
+{
+    let bought = take_turn(history, seat_at(seat), &mut lines[seat])?;
+    if !bought {
+        history.append(Event::Passes(seat_at(seat)))?;
+    }
+    Ok(bought)
 }
 
 /// The end of a round in which all have passed: SV falls, or each sold private pays.
@@ -131,9 +150,9 @@ fn tell_left(history: &mut History, unruled: &Unruled) -> Result<(), AllocError>
     Ok(())
 }
 
-fn count_left(lines: Lines) -> u32 {
+fn count_left(mut lines: Lines) -> u32 {
     let mut count: u32 = 0;
-    for line in lines {
+    while let Some(line) = lines.take_line() {
         if !opens_group(&line) {
             count = count.saturating_add(1);
         }

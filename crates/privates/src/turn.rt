@@ -1,3 +1,5 @@
+ghost use Rattle.std.specs.Prelude.{◌≡◌, ◌<◌, ◌≤◌, IfOk, length, true};
+
 use crate::judgement::{judge, price_of};
 use history::{Event, History, KeptOrder, Ruling};
 use order_grammar::{Fault, Order};
@@ -20,7 +22,7 @@ pub(crate) fn rule_standing(
     lines: &mut Lines,
 ) -> Result<(), AllocError> {
     let mut ahead = *lines;
-    while let Some(line) = ahead.next() {
+    while let Some(line) = ahead.take_line() {
         if opens_group(&line) {
             return Ok(());
         }
@@ -51,13 +53,16 @@ pub(crate) fn take_turn(
     history: &mut History,
     seat: Seat,
     lines: &mut Lines,
-) -> Result<bool, AllocError> {
+) -> Result<bool, AllocError>
+    ensures shorter { IfOk result (λ bought. bought ≡ true → length lines.new.rest.now < length lines.old.rest.now) }
+    ensures no_longer { length lines.new.rest.now ≤ length lines.old.rest.now }
+{
     let mut bought = false;
-    if lines.next().is_none() {
+    if lines.take_line().is_none() {
         return Ok(bought);
     }
     let mut ahead = *lines;
-    while let Some(line) = ahead.next() {
+    while let Some(line) = ahead.take_line() {
         if opens_group(&line) {
             return Ok(bought);
         }

@@ -1,0 +1,4 @@
+pub mod Column
+pub mod Line
+pub mod Statement
+pub mod Report

@@ -2,7 +2,7 @@ use crate::column::{push_left, push_right};
 use history::{Party, Past};
 use sheets::Sheets;
 use std::alloc::AllocError;
-use tables::{Company, Private, Seat};
+use tables::{Company, PLAYERS_MOST, Private, Seat};
 
 /// Adds the statement of what everybody holds.
 pub(crate) fn push_statement(
@@ -10,7 +10,7 @@ pub(crate) fn push_statement(
     sheets: &Sheets,
     past: &Past,
 ) -> Result<(), AllocError> {
-    for seat in 0..past.seats.min(6) {
+    for seat in 0..past.seats.min(PLAYERS_MOST) {
         push_player(out, sheets, past, Seat(seat as u8))?;
     }
     out.extend_from_slice(b"BANK ")?;

@@ -6,7 +6,7 @@ use order_grammar::{Fault, print_round};
 use rounds::{End, Game};
 use sheets::{FileFault, Sheets};
 use std::alloc::{AllocError, Global};
-use tables::{Round, Seat};
+use tables::{PLAYERS_MOST, Round, Seat};
 
 /// The text of a refused file.
 pub fn refusal_text(alloc: Global, fault: FileFault) -> Result<Vec<u8>, AllocError> {
@@ -21,9 +21,16 @@ pub fn refusal_text(alloc: Global, fault: FileFault) -> Result<Vec<u8>, AllocErr
 /// that was not played.
 pub fn round_text(alloc: Global, game: &Game, round: Round) -> Result<Vec<u8>, AllocError> {
     let mut out = Vec::new(alloc);
-    let events = game.history().events();
-    if let Some(start) = events.iter().position(|event| *event == Event::Round(round)) {
-        push_round(alloc, &mut out, game, start)?;
+    let history = game.history();
+    let events = history.events();
+    if let Some(start) = events.iter().position(|event| begins(event, &round)) {
+        for i in start..events.len() {
+            push_event(alloc, &mut out, game.sheets(), &events[i])?;
+            if ends_round(&events[i + 1..]) {
+                push_statement_after(&mut out, game, i + 1)?;
+                return Ok(out);
+            }
+        }
     }
     Ok(out)
 }
@@ -32,11 +39,7 @@ pub fn round_text(alloc: Global, game: &Game, round: Round) -> Result<Vec<u8>, A
 pub fn report(alloc: Global, game: &Game) -> Result<Vec<u8>, AllocError> {
     let mut out = Vec::new(alloc);
     push_header(&mut out, game.sheets())?;
-    for (start, event) in game.history().events().iter().enumerate() {
-        if let Event::Round(_) = event {
-            push_round(alloc, &mut out, game, start)?;
-        }
-    }
+    push_rounds(alloc, &mut out, game)?;
     push_unread(&mut out, game.sheets().unread())?;
     push_end(&mut out, game)?;
     Ok(out)
@@ -44,7 +47,7 @@ pub fn report(alloc: Global, game: &Game) -> Result<Vec<u8>, AllocError> {
 
 fn push_header(out: &mut Vec<u8>, sheets: &Sheets) -> Result<(), AllocError> {
     out.extend_from_slice(b"GAME 1830 1\nPLAYERS")?;
-    for seat in 0..sheets.seats().min(6) {
+    for seat in 0..sheets.seats().min(PLAYERS_MOST) {
         out.push(b' ')?;
         push_name(out, sheets, Seat(seat as u8))?;
     }
@@ -52,33 +55,45 @@ fn push_header(out: &mut Vec<u8>, sheets: &Sheets) -> Result<(), AllocError> {
     Ok(())
 }
 
-/// Adds the round whose first event stands at `start`.
-fn push_round(
-    alloc: Global,
+/// Adds the lines of all events, and after each round its statement.
+fn push_rounds(alloc: Global, out: &mut Vec<u8>, game: &Game) -> Result<(), AllocError> {
+    let history = game.history();
+    let events = history.events();
+    for (i, event) in events.iter().enumerate() {
+        push_event(alloc, out, game.sheets(), event)?;
+        if ends_round(&events[i + 1..]) {
+            push_statement_after(out, game, i + 1)?;
+        }
+    }
+    Ok(())
+}
+
+/// Adds the statement as it stood after the first events.
+fn push_statement_after(
     out: &mut Vec<u8>,
     game: &Game,
-    start: usize,
+    count: usize,
 ) -> Result<(), AllocError> {
     let history = game.history();
     let events = history.events();
-    let end = round_end(events, start);
-    for event in &events[start..end] {
-        push_event(alloc, out, game.sheets(), event)?;
-    }
     let past = Past {
         seats: history.seats(),
-        events: &events[..end],
+        events: &events[..count.min(events.len())],
     };
     push_statement(out, game.sheets(), &past)
 }
 
-/// Where the round that begins at `start` ends: at the next round, or at the end of the list.
-fn round_end(events: &[Event], start: usize) -> usize {
-    let mut end = start + 1;
-    while end < events.len() && !matches!(events[end], Event::Round(_)) {
-        end += 1;
+/// Whether the event begins this round.
+fn begins(event: &Event, round: &Round) -> bool {
+    match event {
+        Event::Round(other) => *other == *round,
+        _ => false,
     }
-    end
+}
+
+/// Whether a round ends before these later events: the next begins, or there is none.
+fn ends_round(later: &[Event]) -> bool {
+    matches!(later, [] | [Event::Round(_), ..])
 }
 
 fn push_unread(out: &mut Vec<u8>, unread: &[Fault]) -> Result<(), AllocError> {
@@ -103,7 +118,7 @@ fn push_end(out: &mut Vec<u8>, game: &Game) -> Result<(), AllocError> {
 fn push_awaiting(out: &mut Vec<u8>, sheets: &Sheets, round: &Round) -> Result<(), AllocError> {
     out.extend_from_slice(b"AWAITING ")?;
     print_round(out, round)?;
-    for seat in 0..sheets.seats().min(6) {
+    for seat in 0..sheets.seats().min(PLAYERS_MOST) {
         let seat = Seat(seat as u8);
         if sheets.sheet(seat, round).is_none() {
             out.push(b' ')?;

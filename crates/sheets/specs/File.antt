@@ -2,7 +2,7 @@
 -- the lines that are in no sheet.
 use Rattle.std.specs.Prelude.{ℕ, ◌==◌, ◌+◌, Bool, true, false, ◌&&◌, not, nat_lt, if◌then◌else◌, List, [], ◌∷◌, length, codes, Option, Some, None, Result, Ok, Err, take_while, is_some}
 use Rattle.std.specs.List.{list_any}
-use Rattle.order_grammar.specs.Class.{same_word}
+use Rattle.order_grammar.specs.Words.{same_word}
 use Rattle.order_grammar.specs.Line.{reading_of}
 use Rattle.order_grammar.specs.Words.{words_of, first_of_words}
 use Rattle.order_grammar.specs.declared.fault.Fault.{Fault}
@@ -11,7 +11,7 @@ use Rattle.order_grammar.specs.declared.order.Order.{Order}
 use Rattle.order_grammar.specs.declared.order.Order.TheVariants as order
 use Rattle.sheets.specs.Text.{written_lines}
 use Rattle.sheets.specs.declared.fault.FileFault.{FileFault}
-use Rattle.sheets.specs.declared.fault.FileFault.TheVariants.{Header, Players, TooLong, TooManySheets}
+use Rattle.sheets.specs.declared.fault.FileFault.TheVariants.{Header, Players, TooLong, TooManySheets, Memory}
 use Rattle.tables.specs.declared.round.Round.{Round}
 use Rattle.tables.specs.declared.round.Round.TheVariants.{Opening, Stock, Operating}
 
@@ -153,3 +153,11 @@ sheet_of file seat round = sheet_in (players_of file) (body_of file) seat round
 -- the codes of the unread lines, in order
 abbrev pub unread_of : List ℕ → List Fault
 unread_of file = unread_in (players_of file) false (body_of file)
+
+-- the code of a refused file
+abbrev pub code_of_file_fault : FileFault → List ℕ
+code_of_file_fault Header = codes "F1"
+code_of_file_fault Players = codes "F2"
+code_of_file_fault TooLong = codes "F3"
+code_of_file_fault TooManySheets = codes "F4"
+code_of_file_fault Memory = codes "F5"

@@ -3,7 +3,7 @@ use crate::sheet::Sheet;
 use crate::text::first_written;
 use arrayvec::ArrayVec;
 use indexmap::IndexSet;
-use order_grammar::{Fault, Name, Order, first_word, read_line};
+use order_grammar::{Fault, Name, Order, begins_with_word, read_line};
 use std::alloc::{AllocError, Global};
 use std::collections::HashMap;
 use tables::{PLAYERS_LEAST, PLAYERS_MOST, Round, Seat};
@@ -129,7 +129,7 @@ impl<'a> Sheets<'a> {
         let mut open: Option<OpenSheet<'a>> = None;
         let mut good = 0;
         while let Some(piece) = first_written(rest) {
-            if first_word(piece.line).eq_ignore_ascii_case(b"SHEET") {
+            if begins_with_word(piece.line, b"SHEET") {
                 self.close(open, rest)?;
                 open = None;
                 match self.sheet_begun(piece.line) {

@@ -1,3 +1,5 @@
+ghost use Rattle.std.specs.Prelude.{◌<◌, ◌≤◌, OnSome, length};
+
 use crate::text::first_written;
 use order_grammar::{Fault, Line, read_line};
 
@@ -33,10 +35,12 @@ pub struct Lines<'a> {
     number: u32,
 }
 
-impl<'a> Iterator for Lines<'a> {
-    type Item = NumberedLine<'a>;
-
-    fn next(&mut self) -> Option<NumberedLine<'a>> {
+impl<'a> Lines<'a> {
+    /// Takes the next line, if there is one.
+    pub fn take_line(&mut self) -> Option<NumberedLine<'a>>
+        ensures shorter { OnSome result (length self.new.rest.now < length self.old.rest.now) }
+        ensures no_longer { length self.new.rest.now ≤ length self.old.rest.now }
+    {
         let piece = first_written(self.rest)?;
         self.rest = piece.rest;
         self.number = self.number.saturating_add(1);

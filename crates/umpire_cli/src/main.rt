@@ -16,13 +16,22 @@ const MISUSED: u8 = 1;
 fn main(rt: HostRuntime) -> ExitCode {
     match words(&rt) {
         Ok(words) => start(&rt, words.as_slice()),
-        Err(_) => end(&rt, &Err(Fault::Memory)),
+        Err(error) => no_words(&rt, &error),
     }
 }
 
 /// The words of the command line.
 fn words(rt: &HostRuntime) -> io::Result<Vec<String>> {
     Ok(env::args(rt)?.collect(rt.alloc())?)
+}
+
+/// Ends where the command line could not be taken: it is no text, or memory ran out.
+fn no_words(rt: &HostRuntime, error: &io::Error) -> ExitCode {
+    if error.kind() == io::ErrorKind::OutOfMemory {
+        return end(rt, &Err(Fault::Memory));
+    }
+    let _ = eprintln!(rt; "error: the command line is no text");
+    ExitCode::from(MISUSED)
 }
 
 /// Runs the program that the command line names.
@@ -38,6 +47,7 @@ fn parse(alloc: Global, words: &[String]) -> Result<(), Error> {
     let report = Command::new(alloc, "report").about("Writes the report of the order file");
     let command = Command::new(alloc, "umpire")
         .about("Plays 1830 from written order sheets: the order file on standard input")
+        .bin_name("umpire")?
         .subcommand_required(true)
         .subcommand(report)?;
     command.try_get_matches_from(words)?;

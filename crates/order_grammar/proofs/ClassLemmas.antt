@@ -1,0 +1,97 @@
+-- Readings of words as texts of a class.
+use Rattle.std.proofs.Common.{◌≡◌, ℕ, suc, ◌+◌, ◌-◌, ◌*◌, ◌<◌, ◌≤◌, ◌==◌, min, Bool, true, false, ◌&&◌, cond, leb, List, [], ◌∷◌, ◌++◌, Option, Some, None, length, get_or, take, drop, refl, sym, ap, ◌∙◌, inl, inr, arith}
+use Rattle.std.specs.Prelude.{fold}
+use Rattle.std.specs.List.{list_all}
+use Rattle.std.proofs.lemmas.Bool.{cases_Bool, cases_lt, le-leb, lt-leb, and_parts}
+use Rattle.std.proofs.lemmas.Bool.Decides.{nat_tests}
+use Rattle.std.proofs.lemmas.List.{take_all, take-map, drop-map, drop_more}
+use Rattle.std.proofs.lemmas.List.Sums.{fold_more}
+use Rattle.std.proofs.lemmas.List.Recursion.{and_fails_at}
+use Rattle.std.proofs.lemmas.Grind.{common_steps}
+use Rattle.std.specs.Char.{to_ascii_uppercase, is_ascii_digit}
+use Rattle.order_grammar.specs.Class.{are_digits, value_of_digits, capped_value, digits_reading, number_reading, round_number_reading, round_reading, private_among}
+use Rattle.order_grammar.specs.Name.{is_digit}
+use Rattle.order_grammar.specs.Words.{raised, same_word}
+use Rattle.order_grammar.specs.declared.class.Reading.TheVariants.{Value, TooLarge, Wrong}
+use Rattle.order_grammar.specs.declared.order.Value as values
+use Rattle.order_grammar.specs.declared.order.Value.TheVariants.{Round as round_value, Private as private_value}
+use Rattle.tables.specs.declared.roster.Private.{Private}
+use Rattle.tables.specs.declared.round.Round.TheVariants.{Opening}
+use Rattle.tables.specs.Roster.{code_of_private}
+use Rattle.order_grammar.proofs.NameLemmas.{is_digit-raised}
+
+-- a digit raised
+digit-raised : (byte : ℕ) → is_digit byte ≡ true → to_ascii_uppercase byte ≡ byte
+digit-raised byte h = grind (arith, nat_tests)
+
+-- digits have no letters to raise
+raised-digits : (word : List ℕ) → list_all is_digit word ≡ true → raised word ≡ word
+raised-digits [] h = refl
+raised-digits (digit ∷ digits) h =
+    let parts = and_parts _ _ h in
+    let same : to_ascii_uppercase digit ≡ digit = digit-raised digit parts.0 in
+    rw (same, raised-digits digits parts.1) refl
+
+-- raised digits
+all_digits-raised : (word : List ℕ) → list_all is_digit (raised word) ≡ list_all is_digit word
+all_digits-raised [] = refl
+all_digits-raised (digit ∷ digits) = rw (is_digit-raised digit, all_digits-raised digits) refl
+
+-- a reading of digits does not ask for their case
+pub digits_reading-raised : (stands_for : ℕ → values.Value) (word : List ℕ) → digits_reading stands_for (raised word) ≡ digits_reading stands_for word
+digits_reading-raised stands_for [] = refl
+digits_reading-raised stands_for (digit ∷ digits) =
+    elim (cases_Bool (list_all is_digit (digit ∷ digits))) [
+      | inl e ↦ ap (digits_reading stands_for) (raised-digits (digit ∷ digits) e)
+      | inr e ↦ let r = all_digits-raised (digit ∷ digits) ∙ e in rw (r, e) refl
+    ]
+
+-- no digits
+pub digits_reading-none : (stands_for : ℕ → values.Value) (word : List ℕ) → None ≡ capped_value word → digits_reading stands_for word ≡ Wrong
+digits_reading-none stands_for word h =
+    elim (cases_Bool (are_digits word)) [
+      | inl e ↦ let wrong = rw e at h in absurd (cc)
+      | inr e ↦ rw e refl
+    ]
+
+-- digits of a large value
+pub digits_reading-large : (stands_for : ℕ → values.Value) (word : List ℕ) (v : ℕ) → Some v ≡ capped_value word → 99999 < v → digits_reading stands_for word ≡ TooLarge
+digits_reading-large stands_for word v h large =
+    elim (cases_Bool (are_digits word)) [
+      | inl e ↦
+        let is = rw e at h in
+        let value : v ≡ min (value_of_digits word) 100000 = cc in
+        rw (e, lt-leb (value_of_digits word) 99999 (omega arith)) refl
+      | inr e ↦ let wrong = rw e at h in absurd (cc)
+    ]
+
+-- digits of a value that is not too large
+pub digits_reading-value : (stands_for : ℕ → values.Value) (word : List ℕ) (v : ℕ) → Some v ≡ capped_value word → v ≤ 99999 → digits_reading stands_for word ≡ Value (stands_for v)
+digits_reading-value stands_for word v h small =
+    elim (cases_Bool (are_digits word)) [
+      | inl e ↦
+        let is = rw e at h in
+        let value : v ≡ min (value_of_digits word) 100000 = cc in
+        let same : value_of_digits word ≡ v = omega arith in
+        rw (e, le-leb (value_of_digits word) 99999 (omega arith), same) refl
+      | inr e ↦ let wrong = rw e at h in absurd (cc)
+    ]
+
+-- no other byte is raised to 0
+no_zero : (byte : ℕ) → (byte ≡ 48 → ⊥) → (to_ascii_uppercase byte == 48) ≡ false
+no_zero byte h = grind (arith, nat_tests)
+
+-- digits that do not begin with 0 are the number of a round
+pub round_number-digits : (digits : List ℕ) → 0 < length digits → (get_or digits 0 0 ≡ 48 → ⊥) → round_number_reading (raised digits) ≡ digits_reading (λ number. round_value (Opening number)) digits
+round_number-digits [] some other = absurd (omega arith)
+round_number-digits (digit ∷ digits) some other =
+    let test : (to_ascii_uppercase digit == 48) ≡ false = no_zero digit other in
+    rw test (digits_reading-raised (λ number. round_value (Opening number)) (digit ∷ digits))
+
+-- a private that is not the first
+pub private_among-next : (privates : List Private) (i : ℕ) (d : Private) (word : List ℕ) → i < length privates → same_word word (code_of_private (get_or privates i d)) ≡ false → private_among (drop i privates) word ≡ private_among (drop (i + 1) privates) word
+private_among-next privates i d word lt other = rw (drop_more privates i d lt, other) refl
+
+-- the private whose code it is
+pub private_among-here : (privates : List Private) (i : ℕ) (d : Private) (word : List ℕ) → i < length privates → same_word word (code_of_private (get_or privates i d)) ≡ true → private_among (drop i privates) word ≡ Value (private_value (get_or privates i d))
+private_among-here privates i d word lt here = rw (drop_more privates i d lt, here) refl

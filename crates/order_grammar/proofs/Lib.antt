@@ -1,0 +1,9 @@
+pub mod WordLemmas
+pub mod NameLemmas
+pub mod ClassLemmas
+pub mod OrderLemmas
+pub mod FormLemmas
+pub mod LineLemmas
+pub mod SpellsLemmas
+pub mod SpellingLemmas
+pub mod ReadLemmas

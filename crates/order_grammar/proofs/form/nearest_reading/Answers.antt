@@ -1,0 +1,34 @@
+use Rattle.std.proofs.Common.{◌≡◌, ◌+◌, List, ℕ, Result, Ok, Err, sym, ap, ◌∙◌, drop, map, fold}
+use Rattle.order_grammar.specs.Form.{Row, nearer}
+use Rattle.order_grammar.specs.Row.{row_of}
+use Rattle.order_grammar.specs.Token.{texts_of}
+use Rattle.order_grammar.specs.Words.{raised}
+use Rattle.order_grammar.specs.declared.fault.Fault.{Fault}
+use Rattle.order_grammar.specs.declared.order.Order.{Order}
+use Rattle.order_grammar.proofs.FormLemmas.{with_row, found_stays, nearer-found, rows-next, short_form}
+use Rattle.order_grammar.proofs.form.nearest_reading.Goals as goal
+
+pub read-requires : goal.read-requires
+read-requires c = short_form c.args.forms.now c.loop-form.form-index _ c.requires c.loop-form-test.true
+
+pub returns-in-Ok : goal.returns-in-Ok
+returns-in-Ok c =
+    let first = raised c.args.first.now in
+    let rest = texts_of c.args.rest.now in
+    let i = c.loop-form.form-index in
+    let others = drop (i + 1) (map row_of c.args.forms.now) in
+    let next = rows-next first rest (Err c.loop-form.nearest) c.args.forms.now i _ c.loop-form-test.true c.read.result c.read.ensures in
+    let found : fold (with_row first rest) (nearer (Err c.loop-form.nearest) c.read.result) others ≡ Ok c.in-Ok.order =
+        ap (λ (r : Result Order Fault). fold (with_row first rest) (nearer (Err c.loop-form.nearest) r) others) c.in-Ok.is
+        ∙ ap (λ (r : Result Order Fault). fold (with_row first rest) r others) (nearer-found c.loop-form.nearest c.in-Ok.order) ∙ found_stays first rest c.in-Ok.order others in
+    sym found ∙ sym next ∙ c.loop-form.invariant
+
+pub loop-form-preserved : goal.loop-form-preserved
+loop-form-preserved c =
+    let first = raised c.args.first.now in
+    let rest = texts_of c.args.rest.now in
+    let i = c.loop-form.form-index in
+    let others = drop (i + 1) (map row_of c.args.forms.now) in
+    let next = rows-next first rest (Err c.loop-form.nearest) c.args.forms.now i _ c.loop-form-test.true c.read.result c.read.ensures in
+    ap (λ (r : Result Order Fault). fold (with_row first rest) r others) c.nearer-nearest.ensures
+    ∙ ap (λ (r : Result Order Fault). fold (with_row first rest) (nearer (Err c.loop-form.nearest) r) others) (sym c.in-Err.is) ∙ sym next ∙ c.loop-form.invariant

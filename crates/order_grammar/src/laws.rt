@@ -1,0 +1,18 @@
+//! Laws of the definitions, each the contract of a function that does nothing.
+ghost use Rattle.std.specs.Prelude.{◌≡◌, ◌↔◌, List, Ok, ℕ};
+ghost use Rattle.order_grammar.specs.Line.{reading_of};
+ghost use Rattle.order_grammar.specs.Print.{spelling_of};
+ghost use Rattle.order_grammar.specs.Spells.{IsOrder, Spells};
+ghost use Rattle.order_grammar.specs.declared.order.Order.{Order};
+
+/// What is printed of an order is read as that order.
+pub fn spelling_is_read_again()
+    ensures { (order : Order) → IsOrder order → reading_of (spelling_of order) ≡ Ok order }
+{
+}
+
+/// A line is read as an order exactly where it spells that order.
+pub fn read_where_spelt()
+    ensures { (line : List ℕ) (order : Order) → (reading_of line ≡ Ok order) ↔ Spells line order }
+{
+}

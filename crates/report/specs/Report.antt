@@ -1,0 +1,94 @@
+-- The report of a file: for a refused file its one line; else the header, each round's events and its
+-- statement, the unread lines, and the end.
+use Rattle.std.specs.Prelude.{◌≡◌, ℕ, ◌+◌, Bool, true, false, if◌then◌else◌, List, [], ◌∷◌, ◌++◌, length, codes, decimal, Option, Some, None, is_none, Result, Ok, Err}
+use Rattle.std.specs.List.{flat_map, range_with_len}
+use Rattle.history.specs.declared.event.Event.{Event}
+use Rattle.history.specs.declared.event.Event.TheVariants.{Round}
+use Rattle.order_grammar.specs.Fault.{code_of as code_of_fault}
+use Rattle.order_grammar.specs.Print.{text_of_round}
+use Rattle.order_grammar.specs.declared.fault.Fault.{Fault}
+use Rattle.report.specs.Line.{name_of, event_line}
+use Rattle.report.specs.Statement.{statement}
+use Rattle.rounds.specs.Play.{Between, Plays, end_of}
+use Rattle.rounds.specs.declared.game.End.{End}
+use Rattle.rounds.specs.declared.game.End.TheVariants.{Awaiting, Bank}
+use Rattle.sheets.specs.File.{Content, content_of, code_of_file_fault, sheet_of, players_of, same_round, unread_of}
+use Rattle.sheets.specs.declared.fault.FileFault.{FileFault}
+use Rattle.tables.specs.declared.round.Round as round
+
+-- the line of a refused file
+abbrev pub refusal_line : FileFault → List ℕ
+refusal_line fault = codes "FILE REFUSED " ++ code_of_file_fault fault ++ 10 ∷ []
+
+-- the two lines at the head
+abbrev pub header : List ℕ → List ℕ
+header file = codes "GAME 1830 1" ++ 10 ∷ codes "PLAYERS" ++ flat_map (λ name. 32 ∷ name) (players_of file) ++ 10 ∷ []
+
+-- the list of events that follow ends a round here: the next begins, or there is none
+abbrev pub ends_round : List Event → Bool
+ends_round [] = true
+ends_round ((Round round) ∷ events) = true
+ends_round (other ∷ events) = false
+
+-- the lines of events with those before them, and after each round its statement
+abbrev pub rounds_text : List ℕ → ℕ → List Event → List Event → List ℕ
+rounds_text file seats before [] = []
+rounds_text file seats before (event ∷ events) =
+    event_line file event
+    ++ (if ends_round events then statement file seats (before ++ event ∷ []) else [])
+    ++ rounds_text file seats (before ++ event ∷ []) events
+
+-- the lines of a round from one of its events on, and its statement
+abbrev pub round_lines : List ℕ → ℕ → List Event → List Event → List ℕ
+round_lines file seats before [] = []
+round_lines file seats before (event ∷ events) =
+    event_line file event
+    ++ (if ends_round events then statement file seats (before ++ event ∷ []) else round_lines file seats (before ++ event ∷ []) events)
+
+-- the event begins this round
+abbrev pub begins_round : round.Round → Event → Bool
+begins_round round (Round other) = same_round other round
+begins_round round other = false
+
+-- the text of a round, nothing where it was not played
+abbrev pub round_text_in : List ℕ → ℕ → round.Round → List Event → List Event → List ℕ
+round_text_in file seats round before [] = []
+round_text_in file seats round before (event ∷ events) =
+    if begins_round round event
+    then round_lines file seats before (event ∷ events)
+    else round_text_in file seats round (before ++ event ∷ []) events
+
+-- the unread lines, of which so many came before
+abbrev pub unread_lines : ℕ → List Fault → List ℕ
+unread_lines count [] = []
+unread_lines count (fault ∷ faults) =
+    codes "UNREAD " ++ decimal (count + 1) ++ 32 ∷ code_of_fault fault ++ 10 ∷ unread_lines (count + 1) faults
+
+-- the names of the seats that have no sheet for a round
+abbrev pub owing : List ℕ → round.Round → List ℕ
+owing file round =
+    flat_map (λ seat. if is_none (sheet_of file seat round) then 32 ∷ name_of file (record { 0 = seat }) else []) (range_with_len 0 (length (players_of file)))
+
+-- why play stopped
+abbrev pub end_text : List ℕ → End → List ℕ
+end_text file (Awaiting round) = codes "AWAITING " ++ text_of_round round ++ owing file round ++ 10 ∷ []
+end_text file Bank = codes "END BANK" ++ 10 ∷ []
+
+-- the report of a file whose game has these events and this end
+abbrev pub report_text : List ℕ → ℕ → List Event → End → List ℕ
+report_text file seats events end =
+    header file ++ rounds_text file seats [] events ++ unread_lines 0 (unread_of file) ++ end_text file end
+
+-- the report of a file that is not refused
+pub record IsGameReport (file text : List ℕ) : Type 0 where
+  pub last : Between
+  pub game : Plays file last
+  pub is : text ≡ report_text file last.game.seats last.game.events (end_of last.next)
+
+-- the text is the report of the file
+abbrev pub IsReportOf : List ℕ → Result Content FileFault → List ℕ → Type 0
+IsReportOf file (Err fault) text = text ≡ refusal_line fault
+IsReportOf file (Ok content) text = IsGameReport file text
+
+abbrev pub IsReport : List ℕ → List ℕ → Type 0
+IsReport file text = IsReportOf file (content_of file) text
