@@ -1,5 +1,5 @@
 -- What a list of events, oldest first, says when it is looked back over.
-use Rattle.std.specs.Prelude.{ℕ, ◌+◌, ◌==◌, Bool, true, false, nat_lt, if◌then◌else◌, List, [], ◌∷◌, Option, Some, None, sum_by, pos, ◌-ℤ◌, ℤ, is_none, unwrap_or}
+use Rattle.std.specs.Prelude.{ℕ, ◌+◌, ◌==◌, Bool, true, false, nat_lt, min, if◌then◌else◌, List, [], ◌∷◌, Option, Some, None, sum_by, pos, ◌-ℤ◌, ℤ, is_none, unwrap_or}
 use Rattle.std.specs.List.{list_any}
 use Rattle.history.specs.Event.{payment_of, sale_of, sv_price_set, buyer_of, tells_broken}
 use Rattle.history.specs.declared.event.Event.{Event}
@@ -88,9 +88,9 @@ sv_price_of events = unwrap_or (last_said sv_price_set events) (face_of Schuylki
 abbrev pub broken_in : List Event → Bool
 broken_in events = list_any tells_broken events
 
--- the seat at the left of a seat
+-- the seat at the left of a seat; seats are numbered from 0 to 255 at most
 abbrev pub left_of : ℕ → Seat → Seat
-left_of seats seat = if nat_lt (seat.0 + 1) seats then record { 0 = seat.0 + 1 } else record { 0 = 0 }
+left_of seats seat = if nat_lt (seat.0 + 1) (min seats 256) then record { 0 = seat.0 + 1 } else record { 0 = 0 }
 
 -- the seat at the left of the last that bought; at first seat 0
 abbrev pub left_of_buyer : ℕ → Option Seat → Seat

@@ -1,3 +1,6 @@
+ghost use Rattle.std.specs.Prelude.{◌≡◌};
+ghost use Rattle.history.specs.Event.{buyer_of, payment_of, sale_of, sum_of, sv_price_set};
+
 use crate::ruling::{KeptOrder, Ruling};
 use tables::{Amount, Private, Round, Seat};
 
@@ -25,7 +28,10 @@ pub enum Event {
     /// A seat's turn ends without a purchase.
     Passes(Seat),
     /// So many lines of a seat's sheet were not taken up in the round.
-    Left { seat: Seat, lines: u32 },
+    Left {
+        seat: Seat,
+        lines: u32,
+    },
     /// A seat pays the bank for a private, and owns it from then on.
     Sold {
         private: Private,
@@ -33,7 +39,9 @@ pub enum Event {
         price: Amount,
     },
     /// The price of SV from then on.
-    Price { price: Amount },
+    Price {
+        price: Amount,
+    },
     /// The bank pays a private's revenue to its owner.
     Revenue {
         private: Private,
@@ -43,6 +51,9 @@ pub enum Event {
     /// The bank's cash came to 0 or less.
     Broken,
 }
+
+// An event is small, since a game keeps each one that ever happened.
+const _: () = prove!(size_of::<Event>() <= 16);
 
 /// Money that an event moves.
 #[derive(Clone, Copy, Debug, PartialEq, Eq)]
@@ -61,7 +72,9 @@ pub struct Sale {
 
 impl Event {
     /// The money that it moves.
-    pub fn payment(&self) -> Option<Payment> {
+    pub fn payment(&self) -> Option<Payment>
+        ensures { result ≡ payment_of self.now }
+    {
         match self {
             Event::Sold { seat, price, .. } => Some(Payment {
                 from: Party::Seat(*seat),
@@ -78,7 +91,9 @@ impl Event {
     }
 
     /// The sum of money that it names, or 0.
-    pub fn sum(&self) -> Amount {
+    pub fn sum(&self) -> Amount
+        ensures { result ≡ sum_of self.now }
+    {
         match self {
             Event::Sold { price, .. } | Event::Price { price } => *price,
             Event::Revenue { amount, .. } => *amount,
@@ -87,7 +102,9 @@ impl Event {
     }
 
     /// The private that it gives to an owner.
-    pub fn sale(&self) -> Option<Sale> {
+    pub fn sale(&self) -> Option<Sale>
+        ensures { result ≡ sale_of self.now }
+    {
         match self {
             Event::Sold { private, seat, .. } => Some(Sale {
                 private: *private,
@@ -98,7 +115,9 @@ impl Event {
     }
 
     /// The price of SV that it sets.
-    pub fn sv_price(&self) -> Option<Amount> {
+    pub fn sv_price(&self) -> Option<Amount>
+        ensures { result ≡ sv_price_set self.now }
+    {
         match self {
             Event::Price { price } => Some(*price),
             _ => None,
@@ -106,7 +125,9 @@ impl Event {
     }
 
     /// The seat whose own turn bought something in an opening by it.
-    pub fn buyer(&self) -> Option<Seat> {
+    pub fn buyer(&self) -> Option<Seat>
+        ensures { result ≡ buyer_of self.now }
+    {
         match self {
             Event::Ruled {
                 seat,

@@ -13,6 +13,8 @@ mod event;
 mod list;
 mod look_back;
 mod ruling;
+#[cfg(test)]
+mod tests;
 
 pub use event::{Event, Party, Payment, SUM_MOST, Sale};
 pub use list::History;

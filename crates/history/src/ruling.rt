@@ -1,3 +1,6 @@
+ghost use Rattle.std.specs.Prelude.{◌≡◌};
+ghost use Rattle.history.specs.Event.{code_of_refusal, order_kept};
+
 use order_grammar::{Fault, Order};
 use tables::Private;
 
@@ -16,7 +19,9 @@ pub enum Refusal {
 
 impl Refusal {
     /// The code that a report prints.
-    pub fn code(self) -> &'static str {
+    pub fn code(self) -> &'static str
+        ensures { result.now ≡ code_of_refusal self }
+    {
         match self {
             Refusal::Sold => "A2",
             Refusal::NotCheapest => "A3",
@@ -34,7 +39,9 @@ pub enum KeptOrder {
 
 impl KeptOrder {
     /// The order that is kept.
-    pub fn order(self) -> Order {
+    pub fn order(self) -> Order
+        ensures { result ≡ order_kept self }
+    {
         match self {
             KeptOrder::BuyPrivate(private) => Order::BuyPrivate(private),
         }

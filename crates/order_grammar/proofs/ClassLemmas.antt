@@ -1,15 +1,11 @@
 -- Readings of words as texts of a class.
-use Rattle.std.proofs.Common.{◌≡◌, ℕ, suc, ◌+◌, ◌-◌, ◌*◌, ◌<◌, ◌≤◌, ◌==◌, min, Bool, true, false, ◌&&◌, cond, leb, List, [], ◌∷◌, ◌++◌, Option, Some, None, length, get_or, take, drop, refl, sym, ap, ◌∙◌, inl, inr, arith}
-use Rattle.std.specs.Prelude.{fold}
+use Rattle.std.proofs.Common.{◌≡◌, ℕ, ◌+◌, ◌<◌, ◌≤◌, ◌==◌, min, true, false, List, [], ◌∷◌, Some, None, length, get_or, drop, refl, ap, ◌∙◌, inl, inr, arith}
 use Rattle.std.specs.List.{list_all}
-use Rattle.std.proofs.lemmas.Bool.{cases_Bool, cases_lt, le-leb, lt-leb, and_parts}
+use Rattle.std.proofs.lemmas.Bool.{cases_Bool, le-leb, lt-leb, and_parts}
 use Rattle.std.proofs.lemmas.Bool.Decides.{nat_tests}
-use Rattle.std.proofs.lemmas.List.{take_all, take-map, drop-map, drop_more}
-use Rattle.std.proofs.lemmas.List.Sums.{fold_more}
-use Rattle.std.proofs.lemmas.List.Recursion.{and_fails_at}
-use Rattle.std.proofs.lemmas.Grind.{common_steps}
-use Rattle.std.specs.Char.{to_ascii_uppercase, is_ascii_digit}
-use Rattle.order_grammar.specs.Class.{are_digits, value_of_digits, capped_value, digits_reading, number_reading, round_number_reading, round_reading, private_among}
+use Rattle.std.proofs.lemmas.List.{drop_more}
+use Rattle.std.specs.Char.{to_ascii_uppercase}
+use Rattle.order_grammar.specs.Class.{are_digits, value_of_digits, capped_value, digits_reading, round_number_reading, private_among}
 use Rattle.order_grammar.specs.Name.{is_digit}
 use Rattle.order_grammar.specs.Words.{raised, same_word}
 use Rattle.order_grammar.specs.declared.class.Reading.TheVariants.{Value, TooLarge, Wrong}
@@ -59,9 +55,9 @@ pub digits_reading-large : (stands_for : ℕ → values.Value) (word : List ℕ)
 digits_reading-large stands_for word v h large =
     elim (cases_Bool (are_digits word)) [
       | inl e ↦
-        let is = rw e at h in
-        let value : v ≡ min (value_of_digits word) 100000 = cc in
-        rw (e, lt-leb (value_of_digits word) 99999 (omega arith)) refl
+          let is = rw e at h in
+          let value : v ≡ min (value_of_digits word) 100000 = cc in
+          rw (e, lt-leb (value_of_digits word) 99999 (omega arith)) refl
       | inr e ↦ let wrong = rw e at h in absurd (cc)
     ]
 
@@ -70,10 +66,10 @@ pub digits_reading-value : (stands_for : ℕ → values.Value) (word : List ℕ)
 digits_reading-value stands_for word v h small =
     elim (cases_Bool (are_digits word)) [
       | inl e ↦
-        let is = rw e at h in
-        let value : v ≡ min (value_of_digits word) 100000 = cc in
-        let same : value_of_digits word ≡ v = omega arith in
-        rw (e, le-leb (value_of_digits word) 99999 (omega arith), same) refl
+          let is = rw e at h in
+          let value : v ≡ min (value_of_digits word) 100000 = cc in
+          let same : value_of_digits word ≡ v = omega arith in
+          rw (e, le-leb (value_of_digits word) 99999 (omega arith), same) refl
       | inr e ↦ let wrong = rw e at h in absurd (cc)
     ]
 

@@ -1,5 +1,5 @@
 -- Forms of lines: the values of their words, and the nearest form.
-use Rattle.std.proofs.Common.{◌≡◌, ℕ, suc, ◌+◌, ◌<◌, ◌≤◌, Bool, true, false, cond, List, [], ◌∷◌, ◌++◌, Result, Ok, Err, fold, nat_lt, nat_le, ltb, inl, inr, length, get_or, take, drop, map, refl, sym, ap, ◌∙◌, append_assoc, arith}
+use Rattle.std.proofs.Common.{◌≡◌, ℕ, suc, ◌+◌, ◌<◌, ◌≤◌, Bool, true, false, cond, List, [], ◌∷◌, ◌++◌, Result, Ok, Err, fold, nat_lt, ltb, inl, inr, length, get_or, take, drop, map, refl, sym, ap, ◌∙◌, append_assoc, arith}
 use Rattle.std.specs.List.{list_all}
 use Rattle.std.proofs.lemmas.Bool.{le-ltb, lt-ltb, leb-true, and_parts, cases_lt, cases_Bool}
 use Rattle.std.proofs.lemmas.List.Recursion.{and_at}
@@ -57,7 +57,6 @@ values_reading-lengths (class ∷ classes) [] h = refl
 values_reading-lengths (class ∷ classes) (word ∷ words) h =
     let rest = values_reading-lengths classes words (λ e. h (ap suc e)) in
     rw rest (spoilt (class_reading class word))
-
 
 -- what the nearest is after one more row
 abbrev pub with_row : List ℕ → List (List ℕ) → Result Order Fault → Row → Result Order Fault
@@ -146,15 +145,15 @@ long_fails first rest fault (row ∷ rows) short long =
     let long_row = row_reading-long row first rest parts.0 long in
     elim (cases_Bool (same_word first row.first)) [
       | inl e ↦
-        let here : row_reading row first rest ≡ Err WrongWords = long_row ∙ rw e refl in
-        let n = nearer-faults fault WrongWords in
-        let r = long_fails first rest n.0 rows parts.1 long in
-        (r.0, ap (λ (x : Result Order Fault). fold (with_row first rest) (nearer (Err fault) x) rows) here ∙ ap (λ (x : Result Order Fault). fold (with_row first rest) x rows) n.1 ∙ r.1)
+          let here : row_reading row first rest ≡ Err WrongWords = long_row ∙ rw e refl in
+          let n = nearer-faults fault WrongWords in
+          let r = long_fails first rest n.0 rows parts.1 long in
+          (r.0, ap (λ (x : Result Order Fault). fold (with_row first rest) (nearer (Err fault) x) rows) here ∙ ap (λ (x : Result Order Fault). fold (with_row first rest) x rows) n.1 ∙ r.1)
       | inr e ↦
-        let here : row_reading row first rest ≡ Err UnknownWord = long_row ∙ rw e refl in
-        let n = nearer-faults fault UnknownWord in
-        let r = long_fails first rest n.0 rows parts.1 long in
-        (r.0, ap (λ (x : Result Order Fault). fold (with_row first rest) (nearer (Err fault) x) rows) here ∙ ap (λ (x : Result Order Fault). fold (with_row first rest) x rows) n.1 ∙ r.1)
+          let here : row_reading row first rest ≡ Err UnknownWord = long_row ∙ rw e refl in
+          let n = nearer-faults fault UnknownWord in
+          let r = long_fails first rest n.0 rows parts.1 long in
+          (r.0, ap (λ (x : Result Order Fault). fold (with_row first rest) (nearer (Err fault) x) rows) here ∙ ap (λ (x : Result Order Fault). fold (with_row first rest) x rows) n.1 ∙ r.1)
     ]
 
 pub fault≢order : (fault : Fault) (order : Order) → ◌≡◌ {A = Result Order Fault} (Err fault) (Ok order) → ⊥

@@ -1,8 +1,8 @@
 -- A line's words as they are written and read.
-use Rattle.std.proofs.Common.{◌≡◌, ℕ, ◌≤◌, ltb, true, Ok, List, [], ◌∷◌, length, take, map, refl, sym, ap, ◌∙◌, arith}
+use Rattle.std.proofs.Common.{◌≡◌, ℕ, ◌≤◌, true, Ok, List, [], ◌∷◌, length, take, map, refl, sym, ap, ◌∙◌, arith}
 use Rattle.std.specs.List.{list_all}
 use Rattle.std.proofs.lemmas.Bool.{le-ltb}
-use Rattle.std.proofs.lemmas.List.{take-map, take_all, length-take}
+use Rattle.std.proofs.lemmas.List.{take-map, take_all}
 use Rattle.order_grammar.specs.Form.{words_reading}
 use Rattle.order_grammar.specs.Line.{reading_of}
 use Rattle.order_grammar.specs.Token.{placed, texts_of}

@@ -1,8 +1,7 @@
 -- Letters and digits, raised.
-use Rattle.std.proofs.Common.{◌≡◌, ℕ, suc, zero, ◌+◌, ◌-◌, ◌<◌, ◌≤◌, ◌==◌, Bool, true, false, ◌&&◌, ◌||◌, cond, List, [], ◌∷◌, length, leb, get_or, take, drop, map, refl, sym, ap, ◌∙◌, inl, inr, arith}
-use Rattle.std.specs.Char.{to_ascii_uppercase, is_ascii_alphabetic, is_ascii_alphanumeric, is_ascii_digit}
+use Rattle.std.proofs.Common.{◌≡◌, ℕ, ◌-◌, ◌<◌, ◌≤◌, Bool, true, List, [], ◌∷◌, length, leb, get_or, take, drop, refl, ap, ◌∙◌, arith}
+use Rattle.std.specs.Char.{to_ascii_uppercase, is_ascii_alphabetic, is_ascii_alphanumeric}
 use Rattle.std.specs.List.{list_all}
-use Rattle.std.proofs.lemmas.Grind.{common_steps}
 use Rattle.std.proofs.lemmas.Bool.{le-leb}
 use Rattle.std.proofs.lemmas.Bool.Decides.{nat_tests}
 use Rattle.std.proofs.lemmas.List.{length-map, take_rest}

@@ -1,7 +1,7 @@
 -- What is read as an order spells it.
-use Rattle.std.proofs.Common.{◌≡◌, ℕ, zero, suc, ◌+◌, ◌<◌, ◌≤◌, ◌==◌, ltb, Bool, true, false, ◌&&◌, cond, leb, fold, ◌⊎◌, inl, inr, List, [], ◌∷◌, ◌++◌, Option, Some, None, option_map, lit≤, Result, Ok, Err, Contains, codes, length, get_or, take, drop, map, replicate, refl, sym, ap, subst, ◌∙◌, arith}
+use Rattle.std.proofs.Common.{◌≡◌, ℕ, zero, suc, ◌≤◌, ◌==◌, ltb, true, leb, fold, ◌⊎◌, inl, inr, List, [], ◌∷◌, ◌++◌, Option, Some, None, option_map, lit≤, Result, Ok, Err, Contains, codes, length, get_or, take, drop, map, replicate, refl, sym, ap, subst, ◌∙◌, arith}
 use Rattle.std.specs.List.{list_all}
-use Rattle.std.proofs.lemmas.Bool.{cases_Bool, leb-true, le-ltb, ltb-false, eqb-true, eqb-false, and_parts, and_from}
+use Rattle.std.proofs.lemmas.Bool.{cases_Bool, leb-true, le-ltb, ltb-false, eqb-true, eqb-false, and_parts}
 use Rattle.std.proofs.lemmas.List.{take-append-drop}
 use Rattle.tables.specs.Roster.{code_of_private}
 use Rattle.tables.specs.declared.roster.Private.{Private}
@@ -12,7 +12,7 @@ use Rattle.order_grammar.specs.Form.{Row, row, forms, with_value, values_reading
 use Rattle.order_grammar.specs.Line.{reading_of}
 use Rattle.order_grammar.specs.Name.{is_name}
 use Rattle.order_grammar.specs.Order.{order_from}
-use Rattle.order_grammar.specs.Spells.{IsNumber, IsRound, AreNames, AreWordsFor, Spells}
+use Rattle.order_grammar.specs.Spells.{IsNumber, IsRound, AreWordsFor, Spells}
 use Rattle.order_grammar.specs.Words.{same_word, before_comment, is_printable, words_of}
 use Rattle.order_grammar.specs.declared.class.Class as classes
 use Rattle.order_grammar.specs.declared.class.Class.TheVariants as class
@@ -40,7 +40,7 @@ by_first : (row : Row) (rows : List Row) (first : List ℕ) (rest : List (List �
     → fold (with_row first rest) (nearer (Err fault) reading) rows ≡ Ok order → SomeRow (row ∷ rows) first rest order
 by_first row rows first rest order fault (Ok found) is later e =
     let stays : fold (with_row first rest) (nearer (Err fault) (Ok found)) rows ≡ Ok found =
-        ap (λ (r : Result Order Fault). fold (with_row first rest) r rows) (nearer-found fault found) ∙ found_stays first rest found rows in
+    ap (λ (r : Result Order Fault). fold (with_row first rest) r rows) (nearer-found fault found) ∙ found_stays first rest found rows in
     inl (is ∙ sym stays ∙ e)
 by_first row rows first rest order fault (Err other) is later e =
     let n = nearer-faults fault other in
@@ -84,9 +84,9 @@ row_read : (row : Row) (first : List ℕ) (rest : List (List ℕ)) (order : Orde
 row_read row first rest order e =
     elim (cases_Bool (same_word first row.first)) [
       | inl same ↦
-        let read : order_of_values row.order (values_reading row.classes rest) ≡ Ok order = rw same at e in
-        let v = from_values row.order (values_reading row.classes rest) order read in
-        record { word = same_word-is first row.first same; made = v.0; read = v.1; from = v.2 }
+          let read : order_of_values row.order (values_reading row.classes rest) ≡ Ok order = rw same at e in
+          let v = from_values row.order (values_reading row.classes rest) order read in
+          record { word = same_word-is first row.first same; made = v.0; read = v.1; from = v.2 }
       | inr other ↦ let wrong : ◌≡◌ {A = Result Order Fault} (Err UnknownWord) (Ok order) = rw other at e in absurd (fault≢order UnknownWord order wrong)
     ]
 
@@ -125,13 +125,13 @@ number_from : (stands_for : ℕ → values.Value) (text : List ℕ) (v : values.
 number_from stands_for text v e =
     elim (cases_Bool (are_digits text)) [
       | inl digits ↦
-        let read = rw digits at e in
-        elim (cases_Bool (leb (value_of_digits text) 99999)) [
-          | inl small ↦
-            let same : ◌≡◌ {A = Reading} (Value (stands_for (value_of_digits text))) (Value v) = rw small at read in
-            (value_of_digits text, let back : stands_for (value_of_digits text) ≡ v = cc in sym back, record { digits = digits; value = refl; small = leb-true (value_of_digits text) 99999 small })
-          | inr large ↦ let wrong : ◌≡◌ {A = Reading} TooLarge (Value v) = rw large at read in absurd cc
-        ]
+          let read = rw digits at e in
+          elim (cases_Bool (leb (value_of_digits text) 99999)) [
+            | inl small ↦
+                let same : ◌≡◌ {A = Reading} (Value (stands_for (value_of_digits text))) (Value v) = rw small at read in
+                (value_of_digits text, let back : stands_for (value_of_digits text) ≡ v = cc in sym back, record { digits = digits; value = refl; small = leb-true (value_of_digits text) 99999 small })
+            | inr large ↦ let wrong : ◌≡◌ {A = Reading} TooLarge (Value v) = rw large at read in absurd cc
+          ]
       | inr other ↦ let wrong : ◌≡◌ {A = Reading} Wrong (Value v) = rw other at e in absurd cc
     ]
 
@@ -142,9 +142,9 @@ round_number_from (digit ∷ digits) v e =
     elim (cases_Bool (digit == 48)) [
       | inl zeros ↦ let wrong : ◌≡◌ {A = Reading} Wrong (Value v) = rw zeros at e in absurd cc
       | inr other ↦
-        let read : digits_reading (λ n. value.Round (Opening n)) (digit ∷ digits) ≡ Value v = rw other at e in
-        let n = number_from (λ n. value.Round (Opening n)) (digit ∷ digits) v read in
-        (n.0, n.1, eqb-false digit 48 other, n.2)
+          let read : digits_reading (λ n. value.Round (Opening n)) (digit ∷ digits) ≡ Value v = rw other at e in
+          let n = number_from (λ n. value.Round (Opening n)) (digit ∷ digits) v read in
+          (n.0, n.1, eqb-false digit 48 other, n.2)
     ]
 
 -- what was read as a round
@@ -152,10 +152,10 @@ round_from : (text : List ℕ) (v : values.Value) → round_reading text ≡ Val
 round_from text v e =
     elim (cases_Bool (same_word (take 2 text) (codes "PR"))) [
       | inl same ↦
-        let read : round_number_reading (drop 2 text) ≡ Value v = rw same at e in
-        let n = round_number_from (drop 2 text) v read in
-        let whole : text ≡ codes "PR" ++ drop 2 text = sym (take-append-drop 2 text) ∙ ap (λ (start : List ℕ). start ++ drop 2 text) (same_word-is (take 2 text) (codes "PR") same) in
-        (Opening n.0, n.1, (drop 2 text, whole, n.2, n.3))
+          let read : round_number_reading (drop 2 text) ≡ Value v = rw same at e in
+          let n = round_number_from (drop 2 text) v read in
+          let whole : text ≡ codes "PR" ++ drop 2 text = sym (take-append-drop 2 text) ∙ ap (λ (start : List ℕ). start ++ drop 2 text) (same_word-is (take 2 text) (codes "PR") same) in
+          (Opening n.0, n.1, (drop 2 text, whole, n.2, n.3))
       | inr other ↦ let wrong : ◌≡◌ {A = Reading} Wrong (Value v) = rw other at e in absurd cc
     ]
 
@@ -164,8 +164,8 @@ name_from : (word : List ℕ) (v : values.Value) → class_reading class.Name wo
 name_from word v e =
     elim (cases_Bool (is_name word)) [
       | inl is ↦
-        let same : ◌≡◌ {A = Reading} (Value (value.Name word)) (Value v) = rw is at e in
-        (let back : value.Name word ≡ v = cc in sym back, is)
+          let same : ◌≡◌ {A = Reading} (Value (value.Name word)) (Value v) = rw is at e in
+          (let back : value.Name word ≡ v = cc in sym back, is)
       | inr other ↦ let wrong : ◌≡◌ {A = Reading} Wrong (Value v) = rw other at e in absurd cc
     ]
 
@@ -192,11 +192,11 @@ private_from [] word v e = absurd cc
 private_from (first ∷ privates) word v e =
     elim (cases_Bool (same_word word (code_of_private first))) [
       | inl same ↦
-        let is : ◌≡◌ {A = Reading} (Value (value.Private first)) (Value v) = rw same at e in
-        (first, let back : value.Private first ≡ v = cc in sym back, same_word-is word (code_of_private first) same, (0, omega arith, refl))
+          let is : ◌≡◌ {A = Reading} (Value (value.Private first)) (Value v) = rw same at e in
+          (first, let back : value.Private first ≡ v = cc in sym back, same_word-is word (code_of_private first) same, (0, omega arith, refl))
       | inr other ↦
-        let p = private_from privates word v (rw other at e) in
-        (p.0, p.1, p.2, later_private first p.0 privates p.3)
+          let p = private_from privates word v (rw other at e) in
+          (p.0, p.1, p.2, later_private first p.0 privates p.3)
     ]
 
 -- the order that was made
@@ -293,13 +293,13 @@ read_spells line order e =
     elim (cases_Bool (ltb 1024 (length line))) [
       | inl long ↦ let wrong : ◌≡◌ {A = Result Order Fault} (Err TooLong) (Ok order) = rw long at e in absurd (fault≢order TooLong order wrong)
       | inr short ↦
-        let rest = rw short at e in
-        elim (cases_Bool (list_all is_printable (before_comment line))) [
-          | inl printable ↦
-            let words : words_reading (words_of line) ≡ Ok order = rw printable at rest in
-            record { short = ltb-false 1024 (length line) short; printable = printable; words = words_read_spell (words_of line) order words }
-          | inr stray ↦ let wrong : ◌≡◌ {A = Result Order Fault} (Err StrayByte) (Ok order) = rw stray at rest in absurd (fault≢order StrayByte order wrong)
-        ]
+          let rest = rw short at e in
+          elim (cases_Bool (list_all is_printable (before_comment line))) [
+            | inl printable ↦
+                let words : words_reading (words_of line) ≡ Ok order = rw printable at rest in
+                record { short = ltb-false 1024 (length line) short; printable = printable; words = words_read_spell (words_of line) order words }
+            | inr stray ↦ let wrong : ◌≡◌ {A = Result Order Fault} (Err StrayByte) (Ok order) = rw stray at rest in absurd (fault≢order StrayByte order wrong)
+          ]
     ]
 
 -- a line that spells an order is read as it

@@ -1,8 +1,8 @@
 -- The spelling of an order is a line of its words.
-use Rattle.std.proofs.Common.{◌≡◌, ℕ, suc, ◌+◌, ◌-◌, ◌*◌, ◌/◌, ◌%◌, ◌^◌, ◌<◌, ◌≤◌, ◌==◌, ltb, nat_le, Bool, true, false, ◌&&◌, ◌||◌, not, cond, fold, List, [], ◌∷◌, ◌++◌, Result, Ok, Err, Contains, codes, length, get_or, take, drop, map, refl, sym, ap, subst, ◌∙◌, append_assoc, arith}
+use Rattle.std.proofs.Common.{◌≡◌, ℕ, ◌+◌, ◌-◌, ◌*◌, ◌/◌, ◌%◌, ◌^◌, ◌<◌, ◌≤◌, ◌==◌, ltb, nat_le, true, false, ◌&&◌, List, [], ◌∷◌, ◌++◌, Ok, codes, length, drop, map, refl, sym, ap, ◌∙◌, arith}
 use Rattle.std.specs.Char.{to_ascii_uppercase}
 use Rattle.std.specs.Fmt.{decimal}
-use Rattle.std.specs.List.{list_all, flat_map}
+use Rattle.std.specs.List.{list_all}
 use Rattle.std.proofs.lemmas.Bool.{le-ltb, leb-true, and_parts, and_from, or_left, or_right, false≢true}
 use Rattle.std.proofs.lemmas.Bool.Decides.{nat_tests}
 use Rattle.std.proofs.lemmas.Fmt.{decimal_by_steps, decimal_nonempty, first_decimal, length-decimal-le}
@@ -20,7 +20,7 @@ use Rattle.order_grammar.specs.Form.{words_reading}
 use Rattle.order_grammar.specs.Line.{reading_of}
 use Rattle.order_grammar.specs.Name.{is_name, is_capital, is_digit, is_letter_or_digit}
 use Rattle.order_grammar.specs.Print.{spaced, joined, words_of_order, spelling_of, text_of_round}
-use Rattle.order_grammar.specs.Spells.{IsNumber, IsRound, AreNames, AreWordsFor, IsOpeningRound, IsOrder}
+use Rattle.order_grammar.specs.Spells.{IsNumber, IsRound, AreWordsFor, IsOpeningRound, IsOrder}
 use Rattle.order_grammar.specs.Words.{before, with_word, words_from, raised, words_of, is_printable}
 use Rattle.order_grammar.specs.declared.order.Order.{Order}
 use Rattle.order_grammar.specs.declared.order.Order.TheVariants.{Blank, Game, Players, Sheet, Turn, BuyPrivate}
@@ -139,9 +139,9 @@ reading_of-joined (word ∷ words) h few =
     let clear : before 35 line ≡ line = before-plain 35 word (spaced words) no_comment h.0.plain ∙ ap (λ (bytes : List ℕ). word ++ bytes) (before-spaced words h.1) in
     let short : ltb 1024 (length line) ≡ false = le-ltb 1024 (length line) (omega (arith, h.0.few, length-append word (spaced words), length-spaced words h.1)) in
     let printable : list_all is_printable (before 35 line) ≡ true =
-        ap (list_all is_printable) clear ∙ list_all-append is_printable word (spaced words) ∙ and_from _ _ (printable-plain word h.0.plain) (printable-spaced words h.1) in
+    ap (list_all is_printable) clear ∙ list_all-append is_printable word (spaced words) ∙ and_from _ _ (printable-plain word h.0.plain) (printable-spaced words h.1) in
     let here : words_of line ≡ word ∷ words =
-        ap (λ (bytes : List ℕ). map raised (words_from [] bytes)) clear ∙ ap (map raised) (words_from-joined word words h.0 (words_from-spaced words h.1)) ∙ raised-words (word ∷ words) h in
+    ap (λ (bytes : List ℕ). map raised (words_from [] bytes)) clear ∙ ap (map raised) (words_from-joined word words h.0 (words_from-spaced words h.1)) ∙ raised-words (word ∷ words) h in
     rw (short, printable) (ap words_reading here)
 
 -- what is known of the digits of a number

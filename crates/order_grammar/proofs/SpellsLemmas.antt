@@ -1,6 +1,6 @@
 -- What spells an order is read as it.
-use Rattle.std.proofs.Common.{◌≡◌, ℕ, suc, ◌+◌, ◌-◌, ◌<◌, ◌≤◌, ◌==◌, Bool, true, false, ◌&&◌, cond, leb, fold, List, [], ◌∷◌, ◌++◌, Option, Some, None, Result, Ok, Err, Contains, codes, length, get_or, take, drop, map, refl, sym, ap, subst, ◌∙◌, arith}
-use Rattle.std.specs.List.{list_all, AllByRecursion}
+use Rattle.std.proofs.Common.{◌≡◌, ℕ, ◌==◌, true, false, leb, fold, List, [], ◌∷◌, Some, Result, Ok, Err, Contains, codes, length, get_or, drop, map, refl, ap, ◌∙◌, arith}
+use Rattle.std.specs.List.{list_all}
 use Rattle.std.proofs.lemmas.Bool.{le-leb, and_parts, ne_eqb, false≢true}
 use Rattle.std.proofs.lemmas.List.Elements.{All-contains, All-from_recursion}
 use Rattle.tables.specs.Roster.{code_of_private}
@@ -15,7 +15,7 @@ use Rattle.order_grammar.specs.Spells.{IsNumber, IsRound, AreNames, AreWordsFor}
 use Rattle.order_grammar.specs.declared.class.Class as classes
 use Rattle.order_grammar.specs.declared.class.Class.TheVariants as class
 use Rattle.order_grammar.specs.declared.class.Reading.{Reading}
-use Rattle.order_grammar.specs.declared.class.Reading.TheVariants.{Value, TooLarge, Wrong}
+use Rattle.order_grammar.specs.declared.class.Reading.TheVariants.{Value}
 use Rattle.order_grammar.specs.declared.fault.Fault.{Fault}
 use Rattle.order_grammar.specs.declared.fault.Fault.TheVariants.{UnknownWord, WrongWords}
 use Rattle.order_grammar.specs.declared.order.Order.{Order}
@@ -39,8 +39,8 @@ found_here row rows first rest order e = record {
 found_later : (row : Row) (rows : List Row) (first : List ℕ) (rest : List (List ℕ)) (order : Order) (other : Fault) → row_reading row first rest ≡ Err other → IsFoundBy rows first rest order → IsFoundBy (row ∷ rows) first rest order
 found_later row rows first rest order other e later = record {
   found = λ fault.
-    let n = nearer-faults fault other in
-    ap (λ (r : Result Order Fault). fold (with_row first rest) r rows) (ap (nearer (Err fault)) e ∙ n.1) ∙ later.found n.0;
+      let n = nearer-faults fault other in
+      ap (λ (r : Result Order Fault). fold (with_row first rest) r rows) (ap (nearer (Err fault)) e ∙ n.1) ∙ later.found n.0;
 }
 
 -- a number is read as it
@@ -111,18 +111,18 @@ pub words_for_read : (words : List (List ℕ)) (order : Order) → AreWordsFor w
 words_for_read words Blank is = ap words_reading is
 words_for_read words (Game game version) is =
     let values : values_reading (class.Number ∷ class.Number ∷ []) (is.0 ∷ is.1 ∷ []) ≡ Ok (value.Number game ∷ value.Number version ∷ []) =
-        ap (λ (r : Reading). with_value r (with_value (number_reading is.1) (Ok []))) (number_read value.Number is.0 game is.3)
-        ∙ ap (λ (r : Reading). with_value (Value (value.Number game)) (with_value r (Ok []))) (number_read value.Number is.1 version is.4) in
+    ap (λ (r : Reading). with_value r (with_value (number_reading is.1) (Ok []))) (number_read value.Number is.0 game is.3)
+    ∙ ap (λ (r : Reading). with_value (Value (value.Number game)) (with_value r (Ok []))) (number_read value.Number is.1 version is.4) in
     let found : IsFoundBy forms (codes "GAME") (is.0 ∷ is.1 ∷ []) (Game game version) = found_here _ _ _ _ _ (ap (order_of_values kind.Game) values) in
     ap words_reading is.2 ∙ found.found UnknownWord
 words_for_read words (Players names) is = ap words_reading is.0 ∙ (players_found names.items is.1).found UnknownWord
 words_for_read words (Sheet name round) is =
     let values : values_reading (class.Name ∷ class.Round ∷ []) (name ∷ is.0 ∷ []) ≡ Ok (value.Name name ∷ value.Round round ∷ []) =
-        ap (λ (r : Reading). with_value r (with_value (round_reading is.0) (Ok []))) (name_read name is.2)
-        ∙ ap (λ (r : Reading). with_value (Value (value.Name name)) (with_value r (Ok []))) (round_read is.0 round is.3) in
+    ap (λ (r : Reading). with_value r (with_value (round_reading is.0) (Ok []))) (name_read name is.2)
+    ∙ ap (λ (r : Reading). with_value (Value (value.Name name)) (with_value r (Ok []))) (round_read is.0 round is.3) in
     let here : IsFoundBy (drop 5 forms) (codes "SHEET") (name ∷ is.0 ∷ []) (Sheet name round) = found_here _ _ _ _ _ (ap (order_of_values kind.Sheet) values) in
     let found : IsFoundBy forms (codes "SHEET") (name ∷ is.0 ∷ []) (Sheet name round) =
-        found_later _ _ _ _ _ UnknownWord refl (found_later _ _ _ _ _ UnknownWord refl (found_later _ _ _ _ _ UnknownWord refl (found_later _ _ _ _ _ UnknownWord refl (found_later _ _ _ _ _ UnknownWord refl here)))) in
+    found_later _ _ _ _ _ UnknownWord refl (found_later _ _ _ _ _ UnknownWord refl (found_later _ _ _ _ _ UnknownWord refl (found_later _ _ _ _ _ UnknownWord refl (found_later _ _ _ _ _ UnknownWord refl here)))) in
     ap words_reading is.1 ∙ found.found UnknownWord
 words_for_read words Turn is = ap words_reading is
 words_for_read words (BuyPrivate private) is = ap words_reading is.0 ∙ buy_here private is.1

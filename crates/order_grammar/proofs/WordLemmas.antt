@@ -1,12 +1,10 @@
 -- Words of a text: where they end, and how they come one after the other.
-use Rattle.std.proofs.Common.{◌≡◌, ℕ, suc, zero, ◌+◌, ◌-◌, ◌<◌, ◌≤◌, ◌==◌, Bool, true, false, ◌&&◌, ◌||◌, not, cond, List, [], ◌∷◌, ◌++◌, Option, Some, None, unwrap_or, ltb, length, get_or, take, drop, map, refl, sym, ap, ◌∙◌, inl, inr, ◌⊎◌, subst, slice_range, arith}
+use Rattle.std.proofs.Common.{◌≡◌, ℕ, suc, ◌+◌, ◌-◌, ◌<◌, ◌≤◌, ◌==◌, Bool, true, false, ◌&&◌, not, cond, List, [], ◌∷◌, ◌++◌, Option, Some, None, unwrap_or, ltb, length, get_or, take, drop, map, refl, sym, ap, ◌∙◌, inl, inr, ◌⊎◌, slice_range, arith}
 use Rattle.std.specs.List.{list_any, position_or_len}
-use Rattle.std.proofs.lemmas.Grind.{common_steps}
 use Rattle.std.proofs.lemmas.Bool.{cases_Bool, cases_lt, lt-ltb, le-ltb}
-use Rattle.std.proofs.lemmas.List.{append-nil, map_push, drop_more, drop-drop, drop-take, take-take, take_at, take_all, length-take, length-append, append_assoc}
+use Rattle.std.proofs.lemmas.List.{append-nil, map_push, drop_more, drop-drop, drop-take, take-take, take_at, take_all, length-take, append_assoc}
 use Rattle.std.proofs.lemmas.List.Sums.{prefix_len-le-length}
 use Rattle.std.proofs.lemmas.List.Recursion.{is_position_or_len}
-use Rattle.std.specs.Char.{to_ascii_uppercase}
 use Rattle.order_grammar.specs.Token.{placed}
 use Rattle.order_grammar.specs.Words.{Placed, StandFrom, before, with_word, words_from, raised, first_of_words, has_words, same_word}
 use Rattle.order_grammar.specs.declared.words.Token.{Token}
@@ -26,15 +24,6 @@ take-before stop (byte ∷ bytes) =
       | false ↦ ap (λ (rest : List ℕ). byte ∷ rest) (take-before stop bytes)
     ]
 
--- no text is shorter than its part before a byte
-pub before-le : (stop : ℕ) (text : List ℕ) → length (before stop text) ≤ length text
-before-le stop [] = omega arith
-before-le stop (byte ∷ bytes) =
-    elim (byte == stop) as (λ b. length (cond b [] (byte ∷ before stop bytes)) ≤ suc (length bytes)) [
-      | true ↦ omega arith
-      | false ↦ omega (arith, before-le stop bytes)
-    ]
-
 -- the word that has begun ends before the next space, and the other words come after it
 pub words_from-word : (word text : List ℕ) → words_from word text ≡ with_word (word ++ before 32 text) (words_from [] (drop (length (before 32 text)) text))
 words_from-word word [] = ap (λ (w : List ℕ). with_word w []) (sym (append-nil word))
@@ -50,8 +39,8 @@ first_of_words-words_from [] = refl
 first_of_words-words_from (byte ∷ bytes) =
     elim (cases_Bool (byte == 32)) [
       | inl e ↦
-        let n : 1 + position_or_len (λ b. not (b == 32)) bytes ≡ suc (position_or_len (λ b. not (b == 32)) bytes) = omega arith in
-        rw (e, n) (first_of_words-words_from bytes)
+          let n : 1 + position_or_len (λ b. not (b == 32)) bytes ≡ suc (position_or_len (λ b. not (b == 32)) bytes) = omega arith in
+          rw (e, n) (first_of_words-words_from bytes)
       | inr e ↦ rw e (rw e (ap first_of_words (words_from-word (byte ∷ []) bytes)))
     ]
 
@@ -69,11 +58,6 @@ pub has_words-raised : (words : List (List ℕ)) → has_words (map raised words
 has_words-raised [] = refl
 has_words-raised (word ∷ words) = refl
 
--- the first of raised words
-pub first_of_words-raised : (words : List (List ℕ)) → first_of_words (map raised words) ≡ raised (first_of_words words)
-first_of_words-raised [] = refl
-first_of_words-raised (word ∷ words) = refl
-
 -- words of unequal lengths are not the same
 pub same_word-lengths : (a b : List ℕ) → (length a ≡ length b → ⊥) → same_word a b ≡ false
 same_word-lengths [] [] h = absurd (h refl)
@@ -85,20 +69,15 @@ same_word-lengths (x ∷ xs) (y ∷ ys) h =
       | false ↦ refl
     ]
 
--- two words from a place on are the same where the bytes there are, and the words after it
-pub same_word-drop : (written word : List ℕ) (i : ℕ) → i < length written → i < length word →
-    same_word (raised (drop i written)) (drop i word) ≡ (to_ascii_uppercase (get_or written i 0) == get_or word i 0 && same_word (raised (drop (i + 1) written)) (drop (i + 1) word))
-same_word-drop written word i h k = rw (drop_more written i 0 h, drop_more word i 0 k) refl
-
 -- where the first byte is that passes, or the end of the text
 pub position-end : (p : ℕ → Bool) (text : List ℕ) (r : Option ℕ) → r ≡ cond (ltb (position_or_len p text) (length text)) (Some (position_or_len p text)) None → unwrap_or r (length text) ≡ position_or_len p text
 position-end p text r e =
     elim (cases_lt (position_or_len p text) (length text)) [
       | inl lt ↦ let t = lt-ltb _ _ lt in ap (λ o. unwrap_or o (length text)) e ∙ rw t refl
       | inr le ↦
-        let t = le-ltb _ _ le in
-        let end : position_or_len p text ≡ length text = omega (arith, prefix_len-le-length (λ b. not (p b)) text) in
-        ap (λ o. unwrap_or o (length text)) e ∙ rw t (sym end)
+          let t = le-ltb _ _ le in
+          let end : position_or_len p text ≡ length text = omega (arith, prefix_len-le-length (λ b. not (p b)) text) in
+          ap (λ o. unwrap_or o (length text)) e ∙ rw t (sym end)
     ]
 
 -- a word with bytes stands in front of others
@@ -150,7 +129,7 @@ pub StandFrom-next : (text : List ℕ) (at count : ℕ) (so_far : List Token) (t
 StandFrom-next text at count so_far token some within is holds more h =
     let p : Placed = record { text = slice_range text at (at + count); start = at; end = at + count } in
     let e : map placed (so_far ++ token ∷ []) ++ more ≡ map placed so_far ++ (p ∷ more) =
-        ap (λ (ws : List Placed). ws ++ more) (map_push placed so_far token) ∙ append_assoc (map placed so_far) (placed token ∷ []) more ∙ ap (λ (w : Placed). map placed so_far ++ (w ∷ more)) is in
+    ap (λ (ws : List Placed). ws ++ more) (map_push placed so_far token) ∙ append_assoc (map placed so_far) (placed token ∷ []) more ∙ ap (λ (w : Placed). map placed so_far ++ (w ∷ more)) is in
     rw e (holds (p ∷ more) (omega arith, omega arith, within, refl, h))
 
 -- the texts of tokens at their places

@@ -1,6 +1,6 @@
 -- The classes of words: which texts may stand at a place of a form, and what each says. A word that
 -- would be such a text if numbers had no greatest value is too large.
-use Rattle.std.specs.Prelude.{ℕ, ◌+◌, ◌*◌, ◌-◌, ◌==◌, Bool, true, false, nat_le, if◌then◌else◌, List, [], ◌∷◌, codes, take, drop, fold, min, Option, Some, None}
+use Rattle.std.specs.Prelude.{ℕ, ◌+◌, ◌*◌, ◌-◌, ◌==◌, Bool, false, nat_le, if◌then◌else◌, List, [], ◌∷◌, codes, take, drop, fold, min, Option, Some, None}
 use Rattle.std.specs.List.{list_all}
 use Rattle.tables.specs.declared.roster.Private as private
 use Rattle.tables.specs.declared.roster.Private.TheVariants as privates

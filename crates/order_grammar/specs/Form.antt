@@ -1,6 +1,6 @@
 -- The table of forms, and what the words of a line are by it: the order that they spell, or why they
 -- spell none.
-use Rattle.std.specs.Prelude.{ℕ, List, [], ◌∷◌, codes, Option, Some, None, Result, Ok, Err, nat_lt, nat_le, Bool, length, fold, if◌then◌else◌}
+use Rattle.std.specs.Prelude.{ℕ, List, [], ◌∷◌, codes, Some, None, Result, Ok, Err, nat_lt, nat_le, Bool, length, fold, if◌then◌else◌}
 use Rattle.order_grammar.specs.Class.{class_reading}
 use Rattle.order_grammar.specs.Words.{same_word}
 use Rattle.order_grammar.specs.Order.{order_from}

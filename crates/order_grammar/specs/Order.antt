@@ -1,6 +1,5 @@
 -- Orders and their values: a form's row names the kind of order, and the values of the words fill it.
-use Rattle.std.specs.Prelude.{ℕ, List, [], ◌∷◌, Option, Some, None, option_map}
-use Rattle.arrayvec.specs.ArrayVec.{ArrayVec}
+use Rattle.std.specs.Prelude.{List, [], ◌∷◌, Option, Some, None, option_map}
 use Rattle.order_grammar.specs.declared.name.Name.{Name}
 use Rattle.order_grammar.specs.declared.order.Order.{Order}
 use Rattle.order_grammar.specs.declared.order.Order.TheVariants.{Game, Players, Sheet, Turn, BuyPrivate}

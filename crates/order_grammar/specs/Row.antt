@@ -1,5 +1,5 @@
 -- What the code's values are as those of the definitions.
-use Rattle.std.specs.Prelude.{◌≡◌, ℕ, List, Result, Ok, Err}
+use Rattle.std.specs.Prelude.{List, Result, Ok, Err}
 use Rattle.arrayvec.specs.ArrayVec.{ArrayVec}
 use Rattle.order_grammar.specs.Form.{Row, row}
 use Rattle.order_grammar.specs.declared.fault.Fault.{Fault}

@@ -1,6 +1,12 @@
 ghost use Rattle.std.specs.Prelude.{◌≡◌};
 ghost use Rattle.order_grammar.specs.Class.{
-    bought_alone, capped_value, class_reading, number_reading, private_among, round_number_reading, round_reading,
+  bought_alone,
+  capped_value,
+  class_reading,
+  number_reading,
+  private_among,
+  round_number_reading,
+  round_reading,
 };
 ghost use Rattle.order_grammar.specs.Words.{raised};
 

@@ -37,12 +37,25 @@ pub(crate) const FORMS: [Form; 8] = [
     Form {
         kind: OrderKind::Players,
         first: b"PLAYERS",
-        classes: &[Class::Name, Class::Name, Class::Name, Class::Name, Class::Name],
+        classes: &[
+            Class::Name,
+            Class::Name,
+            Class::Name,
+            Class::Name,
+            Class::Name,
+        ],
     },
     Form {
         kind: OrderKind::Players,
         first: b"PLAYERS",
-        classes: &[Class::Name, Class::Name, Class::Name, Class::Name, Class::Name, Class::Name],
+        classes: &[
+            Class::Name,
+            Class::Name,
+            Class::Name,
+            Class::Name,
+            Class::Name,
+            Class::Name,
+        ],
     },
     Form {
         kind: OrderKind::Sheet,

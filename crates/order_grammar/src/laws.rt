@@ -8,11 +8,9 @@ ghost use Rattle.order_grammar.specs.declared.order.Order.{Order};
 /// What is printed of an order is read as that order.
 pub fn spelling_is_read_again()
     ensures { (order : Order) → IsOrder order → reading_of (spelling_of order) ≡ Ok order }
-{
-}
+{}
 
 /// A line is read as an order exactly where it spells that order.
 pub fn read_where_spelt()
     ensures { (line : List ℕ) (order : Order) → (reading_of line ≡ Ok order) ↔ Spells line order }
-{
-}
+{}

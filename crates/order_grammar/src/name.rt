@@ -78,7 +78,9 @@ fn spells_name(word: &[u8]) -> bool
 {
     match word {
         [first, rest @ ..] => {
-            first.is_ascii_alphabetic() && rest.len() < NAME_MOST && rest.iter().all(|byte| byte.is_ascii_alphanumeric())
+            first.is_ascii_alphabetic()
+                && rest.len() < NAME_MOST
+                && rest.iter().all(|byte| byte.is_ascii_alphanumeric())
         }
         [] => false,
     }

@@ -1,4 +1,5 @@
 ghost use Rattle.std.specs.Prelude.{◌≡◌, ◌≤◌, length, option_map};
+ghost use Rattle.order_grammar.specs.declared.order.Value.TheVariants.{Number};
 ghost use Rattle.order_grammar.specs.Order.{names_from, order_from};
 
 use crate::name::Name;
@@ -74,6 +75,8 @@ pub(crate) enum Value {
 }
 
 impl Default for Value {
+    ghost is_default = { λ value. value ≡ Number 0 };
+
     fn default() -> Value {
         Value::Number(0)
     }

@@ -78,7 +78,7 @@ fn lines_are_read_and_printed(rt: HostRuntime) -> Result<(), Fail> {
 #[test]
 fn a_line_has_at_most_1024_bytes(rt: HostRuntime) -> Result<(), Fail> {
     let mut line = Vec::from_slice(rt.alloc(), b"TURN #")?;
-    while line.len() < LINE_MOST {
+    for _ in line.len()..LINE_MOST {
         line.push(b'x')?;
     }
     let text = answer(rt.alloc(), line.as_slice())?;

@@ -1,7 +1,16 @@
 ghost use Rattle.std.specs.Prelude.{◌≡◌, ◌≤◌, [], length, map, take};
 ghost use Rattle.order_grammar.specs.Token.{placed};
 ghost use Rattle.order_grammar.specs.Words.{
-    StandFrom, before, before_comment, first_of_words, has_words, raised, same_word, words_of, words_from, written_words,
+  StandFrom,
+  before,
+  before_comment,
+  first_of_words,
+  has_words,
+  raised,
+  same_word,
+  words_of,
+  words_from,
+  written_words,
 };
 
 use arrayvec::ArrayVec;
@@ -84,7 +93,9 @@ fn length_before(text: &[u8], stop: u8) -> usize
     ensures within { result ≤ length text.now }
     ensures front { take result text.now ≡ before stop text.now }
 {
-    text.iter().position(|byte| *byte == stop).unwrap_or(text.len())
+    text.iter()
+        .position(|byte| *byte == stop)
+        .unwrap_or(text.len())
 }
 
 /// The part of a line before its first `#`.
@@ -105,7 +116,10 @@ pub fn has_word(line: &[u8]) -> bool
 fn first_word(text: &[u8]) -> &[u8]
     ensures { result.now ≡ first_of_words (words_from [] text.now) }
 {
-    let start = text.iter().position(|byte| *byte != b' ').unwrap_or(text.len());
+    let start = text
+        .iter()
+        .position(|byte| *byte != b' ')
+        .unwrap_or(text.len());
     let rest = &text[start..];
     &rest[..length_before(rest, b' ')]
 }

@@ -1,1 +1,5 @@
-pub mod Measure
+pub mod Outside
+pub mod Revenues
+pub mod Soundness
+pub mod Turns
+pub mod WholeRound

@@ -3,6 +3,7 @@ use Rattle.std.specs.Prelude.{ℕ, ◌==◌, Bool, true, false, not, if◌then�
 use lib.Signed.{lt_z}
 use Rattle.history.specs.LookBack.{cash_of, owner_of, sv_price_of, cheapest_of, same_private}
 use Rattle.history.specs.declared.event.Event.{Event}
+use Rattle.history.specs.declared.event.Event.TheVariants.{Ruled}
 use Rattle.history.specs.declared.event.Party.TheVariants as party
 use Rattle.history.specs.declared.ruling.KeptOrder.TheVariants as kept
 use Rattle.history.specs.declared.ruling.Refusal.{Refusal}
@@ -55,10 +56,6 @@ reading_ruling seats events seat used (Err fault) = Faulty fault
 reading_ruling seats events seat used (Ok (BuyPrivate private)) = purchase_ruling private (refusal_of seats events seat private used)
 reading_ruling seats events seat used (Ok other) = Faulty OutOfPlace
 
--- what becomes of a line of a group
-abbrev pub ruling_of : ℕ → List Event → Seat → Bool → Numbered → Ruling
-ruling_of seats events seat used line = reading_ruling seats events seat used (standing_reading line)
-
 -- the fault of a line before the first group: none has a place there
 abbrev pub fault_outside : Result Order Fault → Fault
 fault_outside (Err fault) = fault
@@ -67,3 +64,7 @@ fault_outside (Ok order) = OutOfPlace
 -- what becomes of a line before the first group
 abbrev pub outside_ruling : Numbered → Ruling
 outside_ruling line = Faulty (fault_outside (standing_reading line))
+
+-- the event of a line before the first group
+abbrev pub outside_event : Seat → Numbered → Event
+outside_event seat line = Ruled seat line.number (outside_ruling line)

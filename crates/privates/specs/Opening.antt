@@ -8,7 +8,7 @@ use Rattle.history.specs.declared.event.Event.{Event}
 use Rattle.history.specs.declared.event.Event.TheVariants as event
 use Rattle.history.specs.declared.event.Party.{Party}
 use Rattle.history.specs.declared.event.Party.TheVariants as party
-use Rattle.privates.specs.Judgement.{outside_ruling}
+use Rattle.privates.specs.Judgement.{outside_event}
 use Rattle.privates.specs.Part.{Numbered, Parts, parts_of}
 use Rattle.privates.specs.Turn.{InPlay, seat_at, after_turn, turns_over, all_sold}
 use Rattle.sheets.specs.File.{sheet_of}
@@ -17,6 +17,7 @@ use Rattle.tables.specs.Steps.{Ends}
 use Rattle.tables.specs.declared.roster.Private.{Private}
 use Rattle.tables.specs.declared.roster.Private.TheVariants.{SchuylkillValley}
 use Rattle.tables.specs.declared.round.Round.{Round}
+use Rattle.tables.specs.declared.seat.Seat.{Seat}
 
 -- the parts of a seat's sheet for a round
 abbrev pub seat_parts : List ℕ → Round → ℕ → Parts
@@ -25,7 +26,7 @@ seat_parts file round seat = parts_of (unwrap_or (sheet_of file seat round) [])
 -- the rulings of the lines before the first group of a seat's sheet
 abbrev pub outside_events : List ℕ → Round → ℕ → List Event
 outside_events file round seat =
-    map (λ line. event.Ruled (seat_at seat) line.number (outside_ruling line)) (seat_parts file round seat).before
+    map (outside_event (seat_at seat)) (seat_parts file round seat).before
 
 -- the round before its first turn: that is of the holder of priority
 abbrev pub opened : ℕ → List ℕ → Round → List Event → InPlay
@@ -74,13 +75,13 @@ abbrev pub closed : ℕ → List Event → List Event
 closed seats events = if all_sold events then events else after_passing seats events
 
 -- a LEFT event for a count over 0, in front of others
-abbrev pub with_left : ℕ → ℕ → List Event → List Event
-with_left seat count events = if count == 0 then events else event.Left (seat_at seat) count ∷ events
+abbrev pub with_left : Seat → ℕ → List Event → List Event
+with_left seat count events = if count == 0 then events else event.Left seat count ∷ events
 
 -- the lines that were not taken up, seat by seat
 abbrev pub left_from : ℕ → List (List (List Numbered)) → List Event
 left_from seat [] = []
-left_from seat (groups ∷ others) = with_left seat (sum_by (λ group. length group) groups) (left_from (seat + 1) others)
+left_from seat (groups ∷ others) = with_left (seat_at seat) (sum_by (λ group. length group) groups) (left_from (seat + 1) others)
 
 -- the list at the end of the round
 abbrev pub finished : ℕ → InPlay → List Event

@@ -6,15 +6,25 @@ use Rattle.order_grammar.specs.declared.fault.Fault.{Fault}
 use Rattle.order_grammar.specs.declared.fault.Fault.TheVariants.{PastLastLine}
 use Rattle.order_grammar.specs.declared.order.Order.{Order}
 use Rattle.order_grammar.specs.declared.order.Order.TheVariants.{Turn}
+use Rattle.order_grammar.specs.Line.{order_of}
+use Rattle.sheets.specs.declared.sheet.NumberedLine.{NumberedLine}
 
 -- a line of a sheet with its number
 pub record Numbered : Type 0 where
   pub number : ℕ
   pub text : List ℕ
 
+-- what a line with this number is where it stands, if by itself it is this
+abbrev pub reading_at : ℕ → Result Order Fault → Result Order Fault
+reading_at number reading = if nat_lt 512 number then Err PastLastLine else reading
+
 -- the order of a line where it stands, or its first fault
 abbrev pub standing_reading : Numbered → Result Order Fault
-standing_reading line = if nat_lt 512 line.number then Err PastLastLine else reading_of line.text
+standing_reading line = reading_at line.number (reading_of line.text)
+
+-- the same of a line that was read
+abbrev pub reading_where : NumberedLine → Result Order Fault
+reading_where line = reading_at line.number (order_of line.reading)
 
 -- the order is that which begins a group
 abbrev pub is_turn : Result Order Fault → Bool

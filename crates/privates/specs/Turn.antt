@@ -1,46 +1,54 @@
 -- A seat's turn: the lines of its next group are ruled in order, each on the list that the one before
 -- left; without a purchase the seat passes.
-use Rattle.std.specs.Prelude.{ℕ, ◌+◌, Bool, true, false, ◌||◌, nat_le, if◌then◌else◌, List, [], ◌∷◌, ◌++◌, Option, Some, None, is_none, unwrap_or, slice_get, slice_set, drop}
+use Rattle.std.specs.Prelude.{ℕ, ◌+◌, Bool, true, false, ◌||◌, nat_le, if◌then◌else◌, List, [], ◌∷◌, ◌++◌, Option, Some, None, Result, is_none, is_some, unwrap_or, slice_get, slice_set, drop}
 use Rattle.history.specs.LookBack.{left_of, cheapest_of}
 use Rattle.history.specs.declared.event.Event.{Event}
 use Rattle.history.specs.declared.event.Event.TheVariants.{Ruled, Passes, Sold}
 use Rattle.history.specs.declared.ruling.KeptOrder.TheVariants as kept
 use Rattle.history.specs.declared.ruling.Ruling.{Ruling}
 use Rattle.history.specs.declared.ruling.Ruling.TheVariants.{Obeyed}
-use Rattle.privates.specs.Judgement.{price_of, ruling_of}
-use Rattle.privates.specs.Part.{Numbered}
+use Rattle.order_grammar.specs.declared.fault.Fault.{Fault}
+use Rattle.order_grammar.specs.declared.order.Order.{Order}
+use Rattle.privates.specs.Judgement.{price_of, reading_ruling}
+use Rattle.privates.specs.Part.{Numbered, standing_reading}
+use Rattle.tables.specs.declared.roster.Private.{Private}
 use Rattle.tables.specs.declared.seat.Seat.{Seat}
 
 -- the seat with this number
 abbrev pub seat_at : ℕ → Seat
 seat_at number = record { 0 = number }
 
--- the order was carried out
-abbrev pub is_obeyed : Ruling → Bool
-is_obeyed (Obeyed order) = true
-is_obeyed other = false
+-- the private that a ruling lets a seat buy
+abbrev pub bought_by : Ruling → Option Private
+bought_by (Obeyed (kept.BuyPrivate private)) = Some private
+bought_by other = None
 
--- the events that an order makes: a purchase sells the private
-abbrev pub made_by : List Event → Seat → Ruling → List Event
-made_by events seat (Obeyed (kept.BuyPrivate private)) = Sold private seat (price_of events private) ∷ []
-made_by events seat other = []
+-- the events that a purchase makes
+abbrev pub sales : List Event → Seat → Option Private → List Event
+sales events seat None = []
+sales events seat (Some private) = Sold private seat (price_of events private) ∷ []
 
 -- in a turn: the list so far, and whether the seat has bought
 pub record InTurn : Type 0 where
   pub events : List Event
   pub bought : Bool
 
--- after a line with this ruling
-abbrev pub after_ruling : Seat → InTurn → Numbered → Ruling → InTurn
-after_ruling seat turn line ruling =
+-- after a line with this number and this ruling
+abbrev pub after_ruling : Seat → InTurn → ℕ → Ruling → InTurn
+after_ruling seat turn number ruling =
     record {
-      events = turn.events ++ Ruled seat line.number ruling ∷ made_by turn.events seat ruling;
-      bought = turn.bought || is_obeyed ruling;
+      events = turn.events ++ Ruled seat number ruling ∷ sales turn.events seat (bought_by ruling);
+      bought = turn.bought || is_some (bought_by ruling);
     }
+
+-- after a line with this number that is this order or fault where it stands
+abbrev pub after_reading : ℕ → Seat → InTurn → ℕ → Result Order Fault → InTurn
+after_reading seats seat turn number reading =
+    after_ruling seat turn number (reading_ruling seats turn.events seat turn.bought reading)
 
 -- after a line
 abbrev pub after_line : ℕ → Seat → InTurn → Numbered → InTurn
-after_line seats seat turn line = after_ruling seat turn line (ruling_of seats turn.events seat turn.bought line)
+after_line seats seat turn line = after_reading seats seat turn line.number (standing_reading line)
 
 -- after some lines
 abbrev pub after_lines : ℕ → Seat → InTurn → List Numbered → InTurn

@@ -1,8 +1,13 @@
+ghost use Rattle.std.specs.Prelude.{◌≡◌};
+ghost use Rattle.privates.specs.Judgement.{is_the as is_that_private, price_of as asked_price, refusal_of};
+
 use history::{Past, Party, Refusal};
 use tables::{Amount, Money, Private, Seat, face};
 
 /// What the bank asks for a private: SV's price may have fallen, the others' is their face.
-pub(crate) fn price_of(past: &Past, private: Private) -> Amount {
+pub(crate) fn price_of(past: &Past, private: Private) -> Amount
+    ensures { result ≡ asked_price past.now.events.now private }
+{
     match private {
         Private::SchuylkillValley => past.sv_price(),
         _ => face(private),
@@ -11,11 +16,13 @@ pub(crate) fn price_of(past: &Past, private: Private) -> Amount {
 
 /// The first rule that a purchase of a private by a seat breaks, in a turn that has bought before
 /// or not.
-pub fn judge(past: &Past, seat: Seat, private: Private, turn_used: bool) -> Option<Refusal> {
+pub fn judge(past: &Past, seat: Seat, private: Private, turn_used: bool) -> Option<Refusal>
+    ensures { result ≡ refusal_of past.now.seats past.now.events.now seat private turn_used }
+{
     if past.owner(private).is_some() {
         return Some(Refusal::Sold);
     }
-    if past.cheapest_unsold() != Some(private) {
+    if !is_the(private, past.cheapest_unsold()) {
         return Some(Refusal::NotCheapest);
     }
     if past.cash(Party::Seat(seat)) < Money::from(price_of(past, private)) {
@@ -25,4 +32,14 @@ pub fn judge(past: &Past, seat: Seat, private: Private, turn_used: bool) -> Opti
         return Some(Refusal::TurnUsed);
     }
     None
+}
+
+/// Whether the private is the one.
+fn is_the(private: Private, one: Option<Private>) -> bool
+    ensures { result ≡ is_that_private private one }
+{
+    match one {
+        None => false,
+        Some(other) => private == other,
+    }
 }

@@ -1,18 +1,35 @@
-ghost use Rattle.std.specs.Prelude.{◌≡◌, ◌<◌, ◌≤◌, IfOk, length, true};
+ghost use Rattle.std.specs.Prelude.{◌≡◌, ◌<◌, ◌≤◌, ◌||◌, ◌++◌, ◌∷◌, [], IfOk, OnOk, drop, false, length, map, pos, true, ◌≤ℤ◌};
+ghost use Rattle.history.specs.LookBack.{cash_of};
+ghost use Rattle.history.specs.Sound.{IsSound};
+ghost use Rattle.history.specs.declared.event.Event.TheVariants as event;
+ghost use Rattle.history.specs.declared.event.Party.TheVariants as party;
+ghost use Rattle.privates.specs.Judgement.{fault_outside, outside_event, purchase_ruling as ruling_of_purchase, reading_ruling, refusal_of};
+ghost use Rattle.privates.specs.Left.{groups_left, parts_left};
+ghost use Rattle.privates.specs.Part.{is_turn, reading_where};
+ghost use Rattle.privates.specs.Turn.{after_lines, after_reading, bought_by as private_bought_by, next_group};
 
 use crate::judgement::{judge, price_of};
+use crate::tell::tell;
 use history::{Event, History, KeptOrder, Ruling};
 use order_grammar::{Fault, Order};
 use sheets::{Lines, NumberedLine};
 use std::alloc::AllocError;
-use tables::Seat;
+use tables::{Amount, Private, Seat};
 
 /// The last line of a sheet that may be an order.
 pub(crate) const LINES_MOST: u32 = 512;
 
 /// Whether a line begins a group.
-pub(crate) fn opens_group(line: &NumberedLine) -> bool {
-    line.number <= LINES_MOST && matches!(&line.reading, Ok(read) if read.order == Order::Turn)
+pub(crate) fn opens_group(line: &NumberedLine) -> bool
+    ensures { result ≡ is_turn (reading_where line.now) }
+{
+    if line.number > LINES_MOST {
+        return false;
+    }
+    match &line.reading {
+        Ok(read) => matches!(read.order, Order::Turn),
+        Err(_) => false,
+    }
 }
 
 /// Rules the lines of a sheet that stand before its first group. None of them has a place there.
@@ -20,24 +37,29 @@ pub(crate) fn rule_standing(
     history: &mut History,
     seat: Seat,
     lines: &mut Lines,
-) -> Result<(), AllocError> {
-    let mut ahead = *lines;
+) -> Result<(), AllocError>
+    requires { IsSound history.old }
+    ensures seats { OnOk result (history.new.seats ≡ history.old.seats) }
+    ensures events { OnOk result (history.new.events ≡ history.old.events ++ map (outside_event seat) (parts_left lines.old).before) }
+    ensures left { OnOk result (parts_left lines.new ≡ record { before = []; groups = groups_left lines.old }) }
+    ensures sound { OnOk result (IsSound history.new) }
+{
+    let mut ahead = lines.duplicate();
     while let Some(line) = ahead.take_line() {
         if opens_group(&line) {
             return Ok(());
         }
-        *lines = ahead;
-        history.append(Event::Ruled {
-            seat,
-            line: line.number,
-            ruling: Ruling::Faulty(standing_fault(&line)),
-        })?;
+        *lines = ahead.duplicate();
+        let ruling = Ruling::Faulty(standing_fault(&line));
+        tell_ruling(history, seat, &line, ruling)?;
     }
     Ok(())
 }
 
 /// The fault of a line that stands before the first group.
-fn standing_fault(line: &NumberedLine) -> Fault {
+fn standing_fault(line: &NumberedLine) -> Fault
+    ensures { result ≡ fault_outside (reading_where line.now) }
+{
     if line.number > LINES_MOST {
         return Fault::PastLastLine;
     }
@@ -54,21 +76,27 @@ pub(crate) fn take_turn(
     seat: Seat,
     lines: &mut Lines,
 ) -> Result<bool, AllocError>
-    ensures shorter { IfOk result (λ bought. bought ≡ true → length lines.new.rest.now < length lines.old.rest.now) }
-    ensures no_longer { length lines.new.rest.now ≤ length lines.old.rest.now }
+    requires head { (parts_left lines.old).before ≡ [] }
+    requires sound { IsSound history.old }
+    ensures shorter { IfOk result (λ bought. bought ≡ true → length lines.new.lines < length lines.old.lines) }
+    ensures no_longer { length lines.new.lines ≤ length lines.old.lines }
+    ensures seats { OnOk result (history.new.seats ≡ history.old.seats) }
+    ensures turn { IfOk result (λ bought. record { events = history.new.events; bought = bought } ≡ after_lines history.old.seats seat (record { events = history.old.events; bought = false }) (next_group (groups_left lines.old))) }
+    ensures left { OnOk result (parts_left lines.new ≡ record { before = []; groups = drop 1 (groups_left lines.old) }) }
+    ensures sound { OnOk result (IsSound history.new) }
 {
+    let Some(_head) = lines.take_line() else {
+        return Ok(false);
+    };
     let mut bought = false;
-    if lines.take_line().is_none() {
-        return Ok(bought);
-    }
-    let mut ahead = *lines;
+    let mut ahead = lines.duplicate();
     while let Some(line) = ahead.take_line() {
         if opens_group(&line) {
             return Ok(bought);
         }
-        *lines = ahead;
+        *lines = ahead.duplicate();
         let obeyed = rule_line(history, seat, &line, bought)?;
-        bought = bought || obeyed;
+        bought |= obeyed;
     }
     Ok(bought)
 }
@@ -79,43 +107,92 @@ fn rule_line(
     seat: Seat,
     line: &NumberedLine,
     turn_used: bool,
-) -> Result<bool, AllocError> {
+) -> Result<bool, AllocError>
+    requires { IsSound history.old }
+    ensures seats { OnOk result (history.new.seats ≡ history.old.seats) }
+    ensures turn { IfOk result (λ obeyed. record { events = history.new.events; bought = turn_used || obeyed } ≡ after_reading history.old.seats seat (record { events = history.old.events; bought = turn_used }) line.now.number (reading_where line.now)) }
+    ensures sound { OnOk result (IsSound history.new) }
+{
     let ruling = ruling_of(history, seat, line, turn_used);
-    history.append(Event::Ruled {
-        seat,
-        line: line.number,
-        ruling,
-    })?;
+    let Some(private) = bought_by(ruling) else {
+        tell_ruling(history, seat, line, ruling)?;
+        return Ok(false);
+    };
+    let price = price_of(&history.now(), private);
+    tell_ruling(history, seat, line, ruling)?;
+    sell(history, private, seat, price)?;
+    Ok(true)
+}
+
+/// The private that a ruling lets a seat buy.
+fn bought_by(ruling: Ruling) -> Option<Private>
+    ensures { result ≡ private_bought_by ruling }
+{
     match ruling {
-        Ruling::Obeyed(KeptOrder::BuyPrivate(private)) => {
-            let price = price_of(&history.now(), private);
-            history.append(Event::Sold {
-                private,
-                seat,
-                price,
-            })?;
-            Ok(true)
-        }
-        _ => Ok(false),
+        Ruling::Obeyed(KeptOrder::BuyPrivate(private)) => Some(private),
+        _ => None,
     }
 }
 
+/// Tells what becomes of a line.
+fn tell_ruling(
+    history: &mut History,
+    seat: Seat,
+    line: &NumberedLine,
+    ruling: Ruling,
+) -> Result<(), AllocError>
+    requires { IsSound history.old }
+    ensures event { OnOk result (history.new ≡ record { seats = history.old.seats; events = history.old.events ++ event.Ruled seat line.now.number ruling ∷ [] }) }
+    ensures sound { OnOk result (IsSound history.new) }
+{
+    let line = line.number;
+    tell(history, Event::Ruled { seat, line, ruling })
+}
+
+/// Sells a private to a seat that has its price.
+fn sell(
+    history: &mut History,
+    private: Private,
+    seat: Seat,
+    price: Amount,
+) -> Result<(), AllocError>
+    requires small { price ≤ 1000000 }
+    requires affordable { pos price ≤ℤ cash_of history.old.seats history.old.events (party.Seat seat) }
+    requires sound { IsSound history.old }
+    ensures event { OnOk result (history.new ≡ record { seats = history.old.seats; events = history.old.events ++ event.Sold private seat price ∷ [] }) }
+    ensures sound { OnOk result (IsSound history.new) }
+{
+    history.append(Event::Sold {
+        private,
+        seat,
+        price,
+    })?;
+    Ok(())
+}
+
 /// What becomes of a line of a group.
-fn ruling_of(history: &History, seat: Seat, line: &NumberedLine, turn_used: bool) -> Ruling {
+fn ruling_of(history: &History, seat: Seat, line: &NumberedLine, turn_used: bool) -> Ruling
+    ensures { result ≡ reading_ruling history.now.seats history.now.events seat turn_used (reading_where line.now) }
+{
     if line.number > LINES_MOST {
         return Ruling::Faulty(Fault::PastLastLine);
     }
     match &line.reading {
         Err(fault) => Ruling::Faulty(*fault),
         Ok(read) => match read.order {
-            Order::BuyPrivate(private) => {
-                let kept = KeptOrder::BuyPrivate(private);
-                match judge(&history.now(), seat, private, turn_used) {
-                    Some(refusal) => Ruling::Refused(refusal, kept),
-                    None => Ruling::Obeyed(kept),
-                }
-            }
+            Order::BuyPrivate(private) => purchase_ruling(history, seat, private, turn_used),
             _ => Ruling::Faulty(Fault::OutOfPlace),
         },
+    }
+}
+
+/// What becomes of a purchase.
+fn purchase_ruling(history: &History, seat: Seat, private: Private, turn_used: bool) -> Ruling
+    ensures { result ≡ ruling_of_purchase private (refusal_of history.now.seats history.now.events seat private turn_used) }
+{
+    let kept = KeptOrder::BuyPrivate(private);
+    match judge(&history.now(), seat, private, turn_used) {
+        Some(refusal) => Ruling::Refused(refusal, kept),
+        None => Ruling::Obeyed(kept),
     }
 }

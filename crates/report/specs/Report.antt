@@ -12,7 +12,7 @@ use Rattle.report.specs.Statement.{statement}
 use Rattle.rounds.specs.Play.{Between, Plays, end_of}
 use Rattle.rounds.specs.declared.game.End.{End}
 use Rattle.rounds.specs.declared.game.End.TheVariants.{Awaiting, Bank}
-use Rattle.sheets.specs.File.{Content, content_of, code_of_file_fault, sheet_of, players_of, same_round, unread_of}
+use Rattle.sheets.specs.File.{Content, content_of, code_of_fault as code_of_file_fault, sheet_of, players_of, same_round, unread_of}
 use Rattle.sheets.specs.declared.fault.FileFault.{FileFault}
 use Rattle.tables.specs.declared.round.Round as round
 
@@ -21,7 +21,7 @@ abbrev pub refusal_line : FileFault → List ℕ
 refusal_line fault = codes "FILE REFUSED " ++ code_of_file_fault fault ++ 10 ∷ []
 
 -- the two lines at the head
-abbrev pub header : List ℕ → List ℕ
+unfoldable pub header : List ℕ → List ℕ
 header file = codes "GAME 1830 1" ++ 10 ∷ codes "PLAYERS" ++ flat_map (λ name. 32 ∷ name) (players_of file) ++ 10 ∷ []
 
 -- the list of events that follow ends a round here: the next begins, or there is none
@@ -64,10 +64,13 @@ unread_lines count [] = []
 unread_lines count (fault ∷ faults) =
     codes "UNREAD " ++ decimal (count + 1) ++ 32 ∷ code_of_fault fault ++ 10 ∷ unread_lines (count + 1) faults
 
--- the names of the seats that have no sheet for a round
-abbrev pub owing : List ℕ → round.Round → List ℕ
-owing file round =
-    flat_map (λ seat. if is_none (sheet_of file seat round) then 32 ∷ name_of file (record { 0 = seat }) else []) (range_with_len 0 (length (players_of file)))
+-- the name of a seat's player after a space, if it has no sheet for a round
+abbrev pub name_owing : List ℕ → round.Round → ℕ → List ℕ
+name_owing file round seat = if is_none (sheet_of file seat round) then 32 ∷ name_of file (record { 0 = seat }) else []
+
+-- the names of those who have no sheet for a round
+unfoldable pub owing : List ℕ → round.Round → List ℕ
+owing file round = flat_map (λ seat. name_owing file round seat) (range_with_len 0 (length (players_of file)))
 
 -- why play stopped
 abbrev pub end_text : List ℕ → End → List ℕ

@@ -1,5 +1,5 @@
 -- The statement after a round: what each player and the bank hold.
-use Rattle.std.specs.Prelude.{ℕ, ◌==◌, ◌+◌, Bool, true, false, if◌then◌else◌, List, [], ◌∷◌, ◌++◌, codes, decimal, count_by, filter, Option, Some, None}
+use Rattle.std.specs.Prelude.{ℕ, ◌==◌, ◌+◌, Bool, true, false, if◌then◌else◌, List, [], ◌∷◌, ◌++◌, codes, decimal, count_by, Option, Some, None}
 use Rattle.std.specs.List.{flat_map, range_with_len}
 use Rattle.std.specs.Fmt.{signed_decimal}
 use Rattle.history.specs.LookBack.{cash_of, owner_of, privates, same_party}
@@ -17,30 +17,34 @@ abbrev pub is_seat : Seat → Option Party → Bool
 is_seat seat None = false
 is_seat seat (Some owner) = same_party owner (party.Seat seat)
 
--- the privates that a seat owns, in roster order
-abbrev pub privates_of : List Event → Seat → List Private
-privates_of events seat = filter (λ private. is_seat seat (owner_of events private)) privates
+-- the code of a private after a space, if the seat owns it
+abbrev pub code_owned : List Event → Seat → Private → List ℕ
+code_owned events seat private = if is_seat seat (owner_of events private) then 32 ∷ code_of_private private else []
+
+-- the codes of the privates that a seat owns, in roster order
+unfoldable pub codes_owned : List Event → Seat → List ℕ
+codes_owned events seat = flat_map (λ private. code_owned events seat private) privates
 
 -- how many of a seat's certificates count: its privates
-abbrev pub counted : List Event → Seat → ℕ
+unfoldable pub counted : List Event → Seat → ℕ
 counted events seat = count_by (λ private. is_seat seat (owner_of events private)) privates
 
 -- the tenths of the eight companies that a seat holds: none before the first stock round
-abbrev pub holdings : List ℕ
+unfoldable pub holdings : List ℕ
 holdings = flat_map (λ company. at_right 3 (decimal 0)) (range_with_len 0 8)
 
 -- a player's line
-abbrev pub player_line : List ℕ → ℕ → List Event → Seat → List ℕ
+unfoldable pub player_line : List ℕ → ℕ → List Event → Seat → List ℕ
 player_line file seats events seat =
     codes "PLAYER " ++ at_left 8 (name_of file seat) ++ at_right 6 (signed_decimal (cash_of seats events (party.Seat seat)))
     ++ at_right 3 (decimal (counted events seat)) ++ holdings
-    ++ flat_map (λ private. 32 ∷ code_of_private private) (privates_of events seat) ++ 10 ∷ []
+    ++ codes_owned events seat ++ 10 ∷ []
 
 -- the bank's line
-abbrev pub bank_line : ℕ → List Event → List ℕ
+unfoldable pub bank_line : ℕ → List Event → List ℕ
 bank_line seats events = codes "BANK " ++ at_right 6 (signed_decimal (cash_of seats events party.Bank)) ++ 10 ∷ []
 
 -- the statement of a list of events
-abbrev pub statement : List ℕ → ℕ → List Event → List ℕ
+unfoldable pub statement : List ℕ → ℕ → List Event → List ℕ
 statement file seats events =
     flat_map (λ seat. player_line file seats events (record { 0 = seat })) (range_with_len 0 seats) ++ bank_line seats events

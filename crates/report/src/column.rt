@@ -1,22 +1,31 @@
+ghost use Rattle.std.specs.Prelude.{◌≡◌, ◌++◌, OnOk, replicate};
+ghost use Rattle.report.specs.Column.{at_left, at_right};
+
 use itoa::Integer;
 use std::alloc::AllocError;
 
 /// Adds a text at the left of a column, filled up with spaces. A wider text is printed whole.
+#[tactic(auto, unfolding(crate::specs::Column::at_left))]
 pub(crate) fn push_left(
     out: &mut Vec<u8>,
     text: &[u8],
     width: usize,
-) -> Result<(), AllocError> {
+) -> Result<(), AllocError>
+    ensures { OnOk result (out.new.items ≡ out.old.items ++ at_left width text.now) }
+{
     out.extend_from_slice(text)?;
     push_spaces(out, width.saturating_sub(text.len()))
 }
 
 /// Adds a number at the right of a column. A wider number is printed whole.
+#[tactic(auto, unfolding(crate::specs::Column::at_right))]
 pub(crate) fn push_right<I: Integer>(
     out: &mut Vec<u8>,
     number: I,
     width: usize,
-) -> Result<(), AllocError> {
+) -> Result<(), AllocError>
+    ensures { OnOk result (out.new.items ≡ out.old.items ++ at_right width (I.text number)) }
+{
     let mut buffer = itoa::Buffer::new();
     let digits = buffer.format(number).as_bytes();
     push_spaces(out, width.saturating_sub(digits.len()))?;
@@ -24,11 +33,16 @@ pub(crate) fn push_right<I: Integer>(
 }
 
 /// Adds a number as it is.
-pub(crate) fn push_number<I: Integer>(out: &mut Vec<u8>, number: I) -> Result<(), AllocError> {
-    push_right(out, number, 0)
+pub(crate) fn push_number<I: Integer>(out: &mut Vec<u8>, number: I) -> Result<(), AllocError>
+    ensures { OnOk result (out.new.items ≡ out.old.items ++ I.text number) }
+{
+    let mut buffer = itoa::Buffer::new();
+    out.extend_from_slice(buffer.format(number).as_bytes())
 }
 
-fn push_spaces(out: &mut Vec<u8>, count: usize) -> Result<(), AllocError> {
+fn push_spaces(out: &mut Vec<u8>, count: usize) -> Result<(), AllocError>
+    ensures { OnOk result (out.new.items ≡ out.old.items ++ replicate count 32) }
+{
     for _ in 0..count {
         out.push(b' ')?;
     }

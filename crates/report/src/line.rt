@@ -1,3 +1,8 @@
+ghost use Rattle.std.specs.Prelude.{◌≡◌, ◌++◌, OnOk};
+ghost use Rattle.history.specs.Event.{order_kept};
+ghost use Rattle.order_grammar.specs.Print.{spelling_of};
+ghost use Rattle.report.specs.Line.{event_line, name_of, party_text, ruling_text};
+
 use crate::column::push_number;
 use history::{Event, KeptOrder, Party, Ruling};
 use order_grammar::{print_line, print_round};
@@ -11,7 +16,9 @@ pub(crate) fn push_event(
     out: &mut Vec<u8>,
     sheets: &Sheets,
     event: &Event,
-) -> Result<(), AllocError> {
+) -> Result<(), AllocError>
+    ensures { OnOk result (out.new.items ≡ out.old.items ++ event_line sheets.now event.now) }
+{
     match event {
         Event::Round(round) => {
             out.extend_from_slice(b"ROUND ")?;
@@ -72,21 +79,31 @@ pub(crate) fn push_name(
     out: &mut Vec<u8>,
     sheets: &Sheets,
     seat: Seat,
-) -> Result<(), AllocError> {
-    if let Some(name) = sheets.name(seat) {
-        out.extend_from_slice(name)?;
-    }
-    Ok(())
+) -> Result<(), AllocError>
+    ensures { OnOk result (out.new.items ≡ out.old.items ++ name_of sheets.now seat) }
+{
+    out.extend_from_slice(name(sheets, seat))
 }
 
-fn push_party(out: &mut Vec<u8>, sheets: &Sheets, party: &Party) -> Result<(), AllocError> {
+/// The name of a seat's player.
+pub(crate) fn name<'a>(sheets: &'a Sheets, seat: Seat) -> &'a [u8]
+    ensures { result.now ≡ name_of sheets.now seat }
+{
+    sheets.name(seat).unwrap_or(&[])
+}
+
+fn push_party(out: &mut Vec<u8>, sheets: &Sheets, party: &Party) -> Result<(), AllocError>
+    ensures { OnOk result (out.new.items ≡ out.old.items ++ party_text sheets.now party.now) }
+{
     match party {
         Party::Bank => out.extend_from_slice(b"BANK"),
         Party::Seat(seat) => push_name(out, sheets, *seat),
     }
 }
 
-fn push_ruling(alloc: Global, out: &mut Vec<u8>, ruling: &Ruling) -> Result<(), AllocError> {
+fn push_ruling(alloc: Global, out: &mut Vec<u8>, ruling: &Ruling) -> Result<(), AllocError>
+    ensures { OnOk result (out.new.items ≡ out.old.items ++ ruling_text ruling.now) }
+{
     match ruling {
         Ruling::Obeyed(order) => {
             out.extend_from_slice(b" OBEYED ")?;
@@ -105,7 +122,9 @@ fn push_ruling(alloc: Global, out: &mut Vec<u8>, ruling: &Ruling) -> Result<(), 
     }
 }
 
-fn push_order(alloc: Global, out: &mut Vec<u8>, order: &KeptOrder) -> Result<(), AllocError> {
+fn push_order(alloc: Global, out: &mut Vec<u8>, order: &KeptOrder) -> Result<(), AllocError>
+    ensures { OnOk result (out.new.items ≡ out.old.items ++ spelling_of (order_kept order.now)) }
+{
     let text = print_line(alloc, &order.order())?;
     out.extend_from_slice(text.as_slice())
 }

@@ -1,3 +1,9 @@
+ghost use Rattle.std.specs.Prelude.{◌≡◌, ◌∷◌, ◌++◌, [], ◌+◌, Bool, ◌≤◌, codes, IfOk, OnOk, length, take};
+ghost use Rattle.order_grammar.specs.Print.{text_of_round};
+ghost use Rattle.report.specs.Report.{begins_round, end_text, ends_round as ends_a_round, header, name_owing, owing, refusal_line, report_text, round_text_in, rounds_text, unread_lines};
+ghost use Rattle.report.specs.Statement.{statement};
+ghost use Rattle.sheets.specs.File.{players_of, unread_of};
+
 use crate::column::push_number;
 use crate::line::{push_event, push_name};
 use crate::statement::push_statement;
@@ -6,10 +12,12 @@ use order_grammar::{Fault, print_round};
 use rounds::{End, Game};
 use sheets::{FileFault, Sheets};
 use std::alloc::{AllocError, Global};
-use tables::{PLAYERS_MOST, Round, Seat};
+use tables::{Round, Seat};
 
 /// The text of a refused file.
-pub fn refusal_text(alloc: Global, fault: FileFault) -> Result<Vec<u8>, AllocError> {
+pub fn refusal_text(alloc: Global, fault: FileFault) -> Result<Vec<u8>, AllocError>
+    ensures { IfOk result (λ text. text.items ≡ refusal_line fault) }
+{
     let mut out = Vec::new(alloc);
     out.extend_from_slice(b"FILE REFUSED ")?;
     out.extend_from_slice(fault.code().as_bytes())?;
@@ -19,13 +27,18 @@ pub fn refusal_text(alloc: Global, fault: FileFault) -> Result<Vec<u8>, AllocErr
 
 /// The text of a round that was played: its events and the statement after them. Empty for a round
 /// that was not played.
-pub fn round_text(alloc: Global, game: &Game, round: Round) -> Result<Vec<u8>, AllocError> {
+pub fn round_text(alloc: Global, game: &Game, round: Round) -> Result<Vec<u8>, AllocError>
+    requires { game.now.game.seats ≡ length (players_of game.now.file) }
+    ensures { IfOk result (λ text. text.items ≡ round_text_in game.now.file game.now.game.seats round [] game.now.game.events) }
+{
     let mut out = Vec::new(alloc);
     let history = game.history();
     let events = history.events();
-    if let Some(start) = events.iter().position(|event| begins(event, &round)) {
-        for i in start..events.len() {
-            push_event(alloc, &mut out, game.sheets(), &events[i])?;
+    let mut begun = false;
+    for (i, event) in events.iter().enumerate() {
+        begun = begun || begins(event, &round);
+        if begun {
+            push_event(alloc, &mut out, game.sheets(), event)?;
             if ends_round(&events[i + 1..]) {
                 push_statement_after(&mut out, game, i + 1)?;
                 return Ok(out);
@@ -36,7 +49,10 @@ pub fn round_text(alloc: Global, game: &Game, round: Round) -> Result<Vec<u8>, A
 }
 
 /// The whole report of a game.
-pub fn report(alloc: Global, game: &Game) -> Result<Vec<u8>, AllocError> {
+pub fn report(alloc: Global, game: &Game) -> Result<Vec<u8>, AllocError>
+    requires { game.now.game.seats ≡ length (players_of game.now.file) }
+    ensures { IfOk result (λ text. text.items ≡ report_text game.now.file game.now.game.seats game.now.game.events game.now.end) }
+{
     let mut out = Vec::new(alloc);
     push_header(&mut out, game.sheets())?;
     push_rounds(alloc, &mut out, game)?;
@@ -45,9 +61,12 @@ pub fn report(alloc: Global, game: &Game) -> Result<Vec<u8>, AllocError> {
     Ok(out)
 }
 
-fn push_header(out: &mut Vec<u8>, sheets: &Sheets) -> Result<(), AllocError> {
+#[tactic(auto, unfolding(crate::specs::Report::header))]
+fn push_header(out: &mut Vec<u8>, sheets: &Sheets) -> Result<(), AllocError>
+    ensures { OnOk result (out.new.items ≡ out.old.items ++ header sheets.now) }
+{
     out.extend_from_slice(b"GAME 1830 1\nPLAYERS")?;
-    for seat in 0..sheets.seats().min(PLAYERS_MOST) {
+    for seat in 0..sheets.seats() {
         out.push(b' ')?;
         push_name(out, sheets, Seat(seat as u8))?;
     }
@@ -56,7 +75,10 @@ fn push_header(out: &mut Vec<u8>, sheets: &Sheets) -> Result<(), AllocError> {
 }
 
 /// Adds the lines of all events, and after each round its statement.
-fn push_rounds(alloc: Global, out: &mut Vec<u8>, game: &Game) -> Result<(), AllocError> {
+fn push_rounds(alloc: Global, out: &mut Vec<u8>, game: &Game) -> Result<(), AllocError>
+    requires { game.now.game.seats ≡ length (players_of game.now.file) }
+    ensures { OnOk result (out.new.items ≡ out.old.items ++ rounds_text game.now.file game.now.game.seats [] game.now.game.events) }
+{
     let history = game.history();
     let events = history.events();
     for (i, event) in events.iter().enumerate() {
@@ -73,18 +95,24 @@ fn push_statement_after(
     out: &mut Vec<u8>,
     game: &Game,
     count: usize,
-) -> Result<(), AllocError> {
+) -> Result<(), AllocError>
+    requires seats { game.now.game.seats ≡ length (players_of game.now.file) }
+    requires count { count ≤ length game.now.game.events }
+    ensures { OnOk result (out.new.items ≡ out.old.items ++ statement game.now.file game.now.game.seats (take count game.now.game.events)) }
+{
     let history = game.history();
     let events = history.events();
     let past = Past {
         seats: history.seats(),
-        events: &events[..count.min(events.len())],
+        events: &events[..count],
     };
     push_statement(out, game.sheets(), &past)
 }
 
 /// Whether the event begins this round.
-fn begins(event: &Event, round: &Round) -> bool {
+fn begins(event: &Event, round: &Round) -> bool
+    ensures { result ≡ begins_round round.now event.now }
+{
     match event {
         Event::Round(other) => *other == *round,
         _ => false,
@@ -92,11 +120,15 @@ fn begins(event: &Event, round: &Round) -> bool {
 }
 
 /// Whether a round ends before these later events: the next begins, or there is none.
-fn ends_round(later: &[Event]) -> bool {
+fn ends_round(later: &[Event]) -> bool
+    ensures { result ≡ ends_a_round later.now }
+{
     matches!(later, [] | [Event::Round(_), ..])
 }
 
-fn push_unread(out: &mut Vec<u8>, unread: &[Fault]) -> Result<(), AllocError> {
+fn push_unread(out: &mut Vec<u8>, unread: &[Fault]) -> Result<(), AllocError>
+    ensures { OnOk result (out.new.items ≡ out.old.items ++ unread_lines 0 unread.now) }
+{
     for (i, fault) in unread.iter().enumerate() {
         out.extend_from_slice(b"UNREAD ")?;
         push_number(out, i as u64 + 1)?;
@@ -107,7 +139,9 @@ fn push_unread(out: &mut Vec<u8>, unread: &[Fault]) -> Result<(), AllocError> {
     Ok(())
 }
 
-fn push_end(out: &mut Vec<u8>, game: &Game) -> Result<(), AllocError> {
+fn push_end(out: &mut Vec<u8>, game: &Game) -> Result<(), AllocError>
+    ensures { OnOk result (out.new.items ≡ out.old.items ++ end_text game.now.file game.now.end) }
+{
     match game.outcome() {
         End::Awaiting(round) => push_awaiting(out, game.sheets(), &round),
         End::Bank => out.extend_from_slice(b"END BANK\n"),
@@ -115,16 +149,31 @@ fn push_end(out: &mut Vec<u8>, game: &Game) -> Result<(), AllocError> {
 }
 
 /// Adds the line of the round that can't be played: the names of those who owe a sheet for it.
-fn push_awaiting(out: &mut Vec<u8>, sheets: &Sheets, round: &Round) -> Result<(), AllocError> {
+#[tactic(auto, unfolding(crate::specs::Report::owing))]
+fn push_awaiting(out: &mut Vec<u8>, sheets: &Sheets, round: &Round) -> Result<(), AllocError>
+    ensures { OnOk result (out.new.items ≡ out.old.items ++ codes "AWAITING " ++ text_of_round round.now ++ owing sheets.now round.now ++ 10 ∷ []) }
+{
     out.extend_from_slice(b"AWAITING ")?;
     print_round(out, round)?;
-    for seat in 0..sheets.seats().min(PLAYERS_MOST) {
-        let seat = Seat(seat as u8);
-        if sheets.sheet(seat, round).is_none() {
-            out.push(b' ')?;
-            push_name(out, sheets, seat)?;
-        }
+    for seat in 0..sheets.seats() {
+        push_owing(out, sheets, round, Seat(seat as u8))?;
     }
     out.push(b'\n')?;
+    Ok(())
+}
+
+/// Adds the name of a seat's player after a space, if it owes a sheet for the round.
+fn push_owing(
+    out: &mut Vec<u8>,
+    sheets: &Sheets,
+    round: &Round,
+    seat: Seat,
+) -> Result<(), AllocError>
+    ensures { OnOk result (out.new.items ≡ out.old.items ++ name_owing sheets.now round.now seat.0) }
+{
+    if sheets.sheet(seat, round).is_none() {
+        out.push(b' ')?;
+        push_name(out, sheets, seat)?;
+    }
     Ok(())
 }

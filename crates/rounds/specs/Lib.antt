@@ -1,2 +1,3 @@
 pub mod Sequence
 pub mod Play
+pub mod Example

@@ -58,3 +58,16 @@ pub record Plays (file : List ℕ) (last : Between) : Type 0 where
 abbrev pub end_of : Next → End
 end_of (next.Round round) = Awaiting round
 end_of next.Ended = Bank
+
+-- a game as it was played: its file, its events, and why play stopped
+pub record Played : Type 0 where
+  pub file : List ℕ
+  pub game : Game
+  pub end : End
+
+-- the game is that of its file
+pub record IsTheGame (played : Played) : Type 0 where
+  pub last : Between
+  pub plays : Plays played.file last
+  pub game : played.game ≡ last.game
+  pub end : played.end ≡ end_of last.next

@@ -12,3 +12,19 @@ following (Opening number) in_set all_sold broken = next.Round (if all_sold then
 following (Stock set) in_set all_sold broken = next.Round (Operating set 1)
 following (Operating set number) in_set all_sold broken =
     if nat_lt number in_set then next.Round (Operating set (number + 1)) else (if broken then next.Ended else next.Round (Stock (set + 1)))
+
+-- a round's number, or that of its set
+abbrev pub number_of : Round → ℕ
+number_of (Opening number) = number
+number_of (Stock set) = set
+number_of (Operating set number) = set
+
+-- an operating round's place in its set; 0 for other rounds
+abbrev pub turn_in_set : Round → ℕ
+turn_in_set (Operating set number) = number
+turn_in_set other = 0
+
+-- it is an opening round
+abbrev pub is_opening : Round → Bool
+is_opening (Opening number) = true
+is_opening other = false

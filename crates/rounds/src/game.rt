@@ -1,9 +1,14 @@
+ghost use Rattle.std.specs.Prelude.{◌≡◌, ◌↔◌, true, IfOk, IfSome, IsSome};
+ghost use Rattle.rounds.specs.Play.{IsTheGame, all_posted, can_play, end_of as the_end_of};
+ghost use Rattle.rounds.specs.Sequence.{is_opening};
+
 use crate::following::Next;
 use crate::sequence::next;
 use history::History;
 use privates::play_opening;
 use sheets::Sheets;
 use std::alloc::{AllocError, Global};
+use std::marker::Model;
 use tables::{Round, Seat};
 
 /// Why play stopped.
@@ -23,58 +28,92 @@ pub struct Game<'a> {
     end: End,
 }
 
+/// To a contract it is its file, its events and its end.
+impl<'a> Model for Game<'a> {
+    ghost use Rattle.rounds.specs.Play.{Played};
+
+    ghost Value = { Played };
+
+    ghost view = { λ game. record { file = game.sheets.now; game = game.history; end = game.end } };
+}
+
 impl<'a> Game<'a> {
     /// Its events.
-    pub fn history(&self) -> &History {
+    pub fn history(&self) -> &History
+        ensures { result.now ≡ self.now.game }
+    {
         &self.history
     }
 
     /// Why play stopped.
-    pub fn outcome(&self) -> End {
+    pub fn outcome(&self) -> End
+        ensures { result ≡ self.now.end }
+    {
         self.end
     }
 
     /// The sheets that it was played from.
-    pub fn sheets(&self) -> &'a Sheets<'a> {
+    pub fn sheets(&self) -> &'a Sheets<'a>
+        ensures { result.now ≡ self.now.file }
+    {
         self.sheets
     }
 }
 
 /// Plays the game of the sheets. An `Err` comes from want of memory alone.
-pub fn play<'a>(alloc: Global, sheets: &'a Sheets<'a>) -> Result<Game<'a>, AllocError> {
+pub fn play<'a>(alloc: Global, sheets: &'a Sheets<'a>) -> Result<Game<'a>, AllocError>
+    ensures file { IfOk result (λ game. game.file ≡ sheets.now) }
+    ensures game { IfOk result IsTheGame }
+{
     let mut history = History::start(alloc, sheets.seats());
-    let mut round = Round::Opening(1);
-    for _ in 0..u32::MAX {
-        if !is_playable(sheets, &round) {
-            break;
-        }
+    let mut upcoming = Next::Round(Round::Opening(1));
+    while let Some(round) = playable(sheets, upcoming) {
         history = play_opening(history, sheets, round)?;
         let all_sold = history.now().cheapest_unsold().is_none();
-        match next(round, 1, all_sold, false) {
-            Next::Round(following) => round = following,
-            Next::Ended => {
-                return Ok(Game {
-                    sheets,
-                    history,
-                    end: End::Bank,
-                });
-            }
-        }
+        upcoming = next(round, 1, all_sold, false);
     }
     Ok(Game {
         sheets,
         history,
-        end: End::Awaiting(round),
+        end: end_of(upcoming),
     })
 }
 
-/// Whether a round can be played: it is an opening, and every seat has a sheet for it.
-fn is_playable(sheets: &Sheets, round: &Round) -> bool {
-    let Round::Opening(_) = round else {
-        return false;
-    };
+/// Why play stops where this comes next.
+fn end_of(upcoming: Next) -> End
+    ensures { result ≡ the_end_of upcoming }
+{
+    match upcoming {
+        Next::Round(round) => End::Awaiting(round),
+        Next::Ended => End::Bank,
+    }
+}
+
+/// The round that comes next, if it can be played: an opening for which every seat has a sheet.
+fn playable(sheets: &Sheets, upcoming: Next) -> Option<Round>
+    ensures can { IsSome result ↔ (can_play sheets.now upcoming ≡ true) }
+    ensures is_next { IfSome result (λ round. upcoming ≡ Next.Round round) }
+    ensures posted { IfSome result (λ round. all_posted sheets.now round ≡ true) }
+    ensures opening { IfSome result (λ round. is_opening round ≡ true) }
+{
+    match upcoming {
+        Next::Round(round) if matches!(round, Round::Opening(_)) => {
+            if are_all_posted(sheets, &round) {
+                Some(round)
+            } else {
+                None
+            }
+        }
+        _ => None,
+    }
+}
+
+/// Whether every seat has a sheet for a round.
+fn are_all_posted(sheets: &Sheets, round: &Round) -> bool
+    ensures { result ≡ all_posted sheets.now round.now }
+{
     for seat in 0..sheets.seats() {
-        if seat > 5 || sheets.sheet(Seat(seat as u8), round).is_none() {
+        if sheets.sheet(Seat(seat as u8), round).is_none() {
             return false;
         }
     }

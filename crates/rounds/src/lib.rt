@@ -3,13 +3,17 @@
 //! A game is played by whole rounds, each once every seat has a sheet for it, until a sheet is
 //! missing or the game is over.
 //!
-//! Reading order: `sequence` (`next`), `game` (`Game`, `play`).
+//! Reading order: `following`, `sequence` (`next`), `game` (`Game`, `play`), `laws`.
 #![tactic(auto)]
 
 mod following;
 mod game;
+mod laws;
 mod sequence;
+#[cfg(test)]
+mod tests;
 
-pub use game::{End, Game, play};
 pub use following::Next;
+pub use game::{End, Game, play};
+pub use laws::{first_example, one_game};
 pub use sequence::next;

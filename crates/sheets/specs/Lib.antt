@@ -1,2 +1,5 @@
 pub mod Text
 pub mod File
+pub mod Collecting
+pub mod Sheet
+pub mod Laws

@@ -1,6 +1,6 @@
 -- The lines of a text: the pieces between LFs. A CR before an LF is dropped, a last line without LF
 -- counts. A line without words is blank, unless it is too long, and counts nowhere.
-use Rattle.std.specs.Prelude.{ℕ, ◌==◌, Bool, ◌&&◌, not, nat_le, if◌then◌else◌, List, [], ◌∷◌, ◌++◌, length, filter}
+use Rattle.std.specs.Prelude.{◌≡◌, ℕ, ◌==◌, Bool, ◌&&◌, not, nat_le, if◌then◌else◌, List, [], ◌∷◌, ◌++◌, length, filter}
 use Rattle.order_grammar.specs.Words.{words_of, has_words}
 
 -- a line that ended in LF, without a CR at its end
@@ -25,9 +25,23 @@ abbrev pub lines_of : List ℕ → List (List ℕ)
 lines_of text = lines_from [] text
 
 -- a line that counts nowhere
-abbrev pub is_blank : List ℕ → Bool
+unfoldable pub is_blank : List ℕ → Bool
 is_blank line = nat_le (length line) 1024 && not (has_words (words_of line))
 
--- the lines that count
-abbrev pub written_lines : List ℕ → List (List ℕ)
-written_lines text = filter (λ line. not (is_blank line)) (lines_of text)
+-- those of some lines that count
+abbrev pub written : List (List ℕ) → List (List ℕ)
+written lines = filter (λ line. not (is_blank line)) lines
+
+-- the lines of a text that count
+unfoldable pub written_lines : List ℕ → List (List ℕ)
+written_lines text = written (lines_of text)
+
+-- the lines of a front of a text and of any part of the rest are those of both together
+pub record IsCut (front rest : List ℕ) : Type 0 where
+  pub joins : (more left : List ℕ) → more ++ left ≡ rest → written_lines (front ++ more) ≡ written_lines front ++ written_lines more
+
+-- a text is a front with these written lines, cut from the rest
+pub record BeginsWith (front : List ℕ) (lines : List (List ℕ)) (rest text : List ℕ) : Type 0 where
+  pub whole : text ≡ front ++ rest
+  pub first : written_lines front ≡ lines
+  pub cut : IsCut front rest

@@ -1,3 +1,7 @@
+ghost use Rattle.std.specs.Prelude.{◌≡◌};
+ghost use Rattle.sheets.specs.File.{code_of_fault};
+ghost use Rattle.sheets.specs.declared.fault.FileFault.TheVariants.{Memory};
+
 use std::alloc::{AllocError, AllocFailed};
 use thiserror::Error;
 
@@ -23,7 +27,9 @@ pub enum FileFault {
 
 impl FileFault {
     /// The code that a report prints.
-    pub fn code(self) -> &'static str {
+    pub fn code(self) -> &'static str
+        ensures { result.now ≡ code_of_fault self }
+    {
         match self {
             FileFault::Header => "F1",
             FileFault::Players => "F2",
@@ -35,12 +41,16 @@ impl FileFault {
 }
 
 impl From<AllocError> for FileFault {
+    ghost from_gives = { λ _ fault. fault ≡ Memory };
+
     fn from(_error: AllocError) -> FileFault {
         FileFault::Memory
     }
 }
 
 impl<T: Drop> From<AllocFailed<T>> for FileFault {
+    ghost from_gives = { λ _ fault. fault ≡ Memory };
+
     fn from(_error: AllocFailed<T>) -> FileFault {
         FileFault::Memory
     }

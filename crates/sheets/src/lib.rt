@@ -4,14 +4,26 @@
 //! lines are read when they are asked for. To a contract `Sheets` is the file that it was collected
 //! from, and a `Sheet` the list of its lines.
 //!
-//! Reading order: `fault`, `text` (the lines of a text), `sheet`, `file` (`collect`).
+//! Reading order: `fault`, `text` (the lines of a text), `sheet`, `players`, `post` and `begun`
+//! (whose sheet it is, and where it began), `collecting` (line after line), `file` (`collect`),
+//! `laws`. In `specs/`, `File` says what a file says, and `Collecting` how far it was collected.
 #![tactic(auto)]
 
+mod begun;
+mod collecting;
 mod fault;
 mod file;
+mod laws;
+mod players;
+mod post;
 mod sheet;
 mod text;
 
-pub use file::{FILE_MOST, SHEETS_MOST, Sheets, collect};
+pub use collecting::SHEETS_MOST;
 pub use fault::FileFault;
+pub use file::{FILE_MOST, Sheets, collect};
+pub use laws::{arrival_changes_nothing, last_sheet_counts};
 pub use sheet::{Lines, NumberedLine, Sheet};
+
+#[cfg(test)]
+mod tests;

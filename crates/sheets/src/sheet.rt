@@ -1,17 +1,43 @@
-ghost use Rattle.std.specs.Prelude.{◌<◌, ◌≤◌, OnSome, length};
+ghost use Rattle.std.specs.Prelude.{◌≡◌, ◌≤◌, [], length};
+ghost use Rattle.std.specs.Iterator.{at_most};
+ghost use Rattle.sheets.specs.Sheet.{Unruled, TakesLine};
+ghost use Rattle.sheets.specs.Text.{written_lines};
 
 use crate::text::first_written;
 use order_grammar::{Fault, Line, read_line};
+use std::marker::Model;
 
 /// A player's sheet for a round: its lines, blank ones left out.
-#[derive(Clone, Copy, Debug)]
+#[derive(Debug, Drop)]
 pub struct Sheet<'a> {
-    pub(crate) text: &'a [u8],
+    text: &'a [u8],
+}
+
+/// To a contract a sheet is the list of its lines.
+impl<'a> Model for Sheet<'a> {
+    ghost use Rattle.std.specs.Prelude.{ℕ, ◌≤◌, List, length};
+    ghost use Rattle.sheets.specs.Text.{written_lines};
+
+    ghost Value = { List (List ℕ) };
+
+    ghost view = { λ sheet. written_lines sheet.text.now };
+
+    ghost invariant = { λ sheet. length sheet.text.now ≤ 4194304 };
 }
 
 impl<'a> Sheet<'a> {
+    /// The sheet with this text.
+    pub(crate) fn of(text: &'a [u8]) -> Sheet<'a>
+        requires { length text.now ≤ 4194304 }
+        ensures { result ≡ written_lines text.now }
+    {
+        Sheet { text }
+    }
+
     /// Its lines in order, numbered from 1, each read or a fault.
-    pub fn lines(&self) -> Lines<'a> {
+    pub fn lines(&self) -> Lines<'a>
+        ensures { result ≡ record { number = 0; lines = self.now } }
+    {
         Lines {
             rest: self.text,
             number: 0,
@@ -29,24 +55,77 @@ pub struct NumberedLine<'a> {
 }
 
 /// The lines of a sheet that are still to come.
-#[derive(Clone, Copy, Debug, Default)]
+#[derive(Debug, Drop)]
 pub struct Lines<'a> {
     rest: &'a [u8],
     number: u32,
 }
 
+/// To a contract they are the lines, with the number of those that came before.
+impl<'a> Model for Lines<'a> {
+    ghost use Rattle.std.specs.Prelude.{◌+◌, ◌≤◌, length};
+    ghost use Rattle.sheets.specs.Sheet.{Unruled};
+    ghost use Rattle.sheets.specs.Text.{written_lines};
+
+    ghost Value = { Unruled };
+
+    ghost view = { λ lines. record { number = lines.number; lines = written_lines lines.rest.now } };
+
+    ghost invariant = { λ lines. lines.number + length lines.rest.now ≤ 4194304 };
+}
+
 impl<'a> Lines<'a> {
-    /// Takes the next line, if there is one.
+    /// No lines.
+    #[tactic(auto, unfolding(crate::specs::Text::written_lines))]
+    pub fn none() -> Lines<'a>
+        ensures { result ≡ record { number = 0; lines = [] } }
+    {
+        Lines {
+            rest: &[],
+            number: 0,
+        }
+    }
+
+    /// The same lines once more.
+    pub fn duplicate(&self) -> Lines<'a>
+        ensures { result ≡ self.now }
+    {
+        Lines {
+            rest: self.rest,
+            number: self.number,
+        }
+    }
+
+    /// Takes the next line; `None` where there is none.
     pub fn take_line(&mut self) -> Option<NumberedLine<'a>>
-        ensures shorter { OnSome result (length self.new.rest.now < length self.old.rest.now) }
-        ensures no_longer { length self.new.rest.now ≤ length self.old.rest.now }
+        ensures { TakesLine self.old result self.new }
     {
         let piece = first_written(self.rest)?;
         self.rest = piece.rest;
-        self.number = self.number.saturating_add(1);
+        self.number += 1;
         Some(NumberedLine {
             number: self.number,
             reading: read_line(piece.line),
         })
+    }
+}
+
+impl<'a> Iterator for Lines<'a> {
+    type Item = NumberedLine<'a>;
+
+    ghost next_gives = { TakesLine };
+
+    ghost remaining = { λ lines. at_most (length lines.lines) };
+
+    fn next(&mut self) -> Option<NumberedLine<'a>> {
+        self.take_line()
+    }
+}
+
+impl<'a> Default for Lines<'a> {
+    ghost is_default = { λ lines. lines ≡ record { number = 0; lines = [] } };
+
+    fn default() -> Lines<'a> {
+        Lines::none()
     }
 }

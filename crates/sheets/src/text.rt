@@ -1,4 +1,5 @@
-ghost use Rattle.std.specs.Prelude.{◌<◌, IfSome, length};
+ghost use Rattle.std.specs.Prelude.{◌≡◌, ◌<◌, ℕ, List, [], ◌∷◌, ◌≢◌, EachIndex, IfSome, MatchOption, length, slice_index};
+ghost use Rattle.sheets.specs.Text.{BeginsWith, is_blank, lines_from, without_return, written, written_lines};
 
 use order_grammar::{LINE_MOST, has_word};
 
@@ -15,11 +16,13 @@ pub(crate) struct Piece<'a> {
 /// at its end belongs to it.
 pub(crate) fn first_line(text: &[u8]) -> Option<Piece<'_>>
     ensures shorter { IfSome result (λ piece. length piece.rest.now < length text.now) }
+    ensures first { MatchOption result (text.now ≡ [])
+        (λ piece. (front : List ℕ) × BeginsWith front (written (piece.line.now ∷ [])) piece.rest.now text.now) }
 {
     if text.is_empty() {
         return None;
     }
-    match text.iter().position(|byte| *byte == b'\n') {
+    match newline(text) {
         Some(end) => Some(Piece {
             line: without_return(&text[..end]),
             rest: &text[end + 1..],
@@ -31,22 +34,36 @@ pub(crate) fn first_line(text: &[u8]) -> Option<Piece<'_>>
     }
 }
 
+/// Where the first LF of a text stands.
+fn newline(text: &[u8]) -> Option<usize>
+    ensures { MatchOption result (EachIndex text.now (λ k. slice_index text.now k ≢ 10)) (λ end. (end < length text.now) × (slice_index text.now end ≡ 10) × ((k : ℕ) → k < end → slice_index text.now k ≢ 10)) }
+{
+    text.iter().position(|byte| *byte == b'\n')
+}
+
 /// A line that ended in LF, without a CR at its end.
-fn without_return(line: &[u8]) -> &[u8] {
-    match line {
-        [front @ .., b'\r'] => front,
-        _ => line,
-    }
+fn without_return(line: &[u8]) -> &[u8]
+    ensures { result.now ≡ without_return line.now }
+{
+    let Some((last, front)) = line.split_last() else {
+        return line;
+    };
+    if *last == b'\r' { front } else { line }
 }
 
 /// Whether a line counts nowhere: it has no words and at most 1,024 bytes.
-fn is_blank(line: &[u8]) -> bool {
+#[tactic(auto, unfolding(crate::specs::Text::is_blank))]
+fn is_blank(line: &[u8]) -> bool
+    ensures { result ≡ is_blank line.now }
+{
     line.len() <= LINE_MOST && !has_word(line)
 }
 
 /// The first line of a text that is not blank, and what follows it.
 pub(crate) fn first_written(text: &[u8]) -> Option<Piece<'_>>
     ensures shorter { IfSome result (λ piece. length piece.rest.now < length text.now) }
+    ensures lines { MatchOption result (written_lines text.now ≡ []) (λ piece. written_lines text.now ≡ piece.line.now ∷ written_lines piece.rest.now) }
+    ensures first { IfSome result (λ piece. (front : List ℕ) × BeginsWith front (piece.line.now ∷ []) piece.rest.now text.now) }
 {
     let mut rest = text;
     while let Some(piece) = first_line(rest) {

@@ -1,5 +1,5 @@
 -- What is repeated until it is over: the turns of a round, the rounds of a game.
-use Rattle.std.specs.Prelude.{◌≡◌, ℕ, zero, suc, ◌<◌, Bool, true, false, IsTrue}
+use Rattle.std.specs.Prelude.{◌≡◌, ℕ, zero, suc, ◌<◌, Bool, true, false}
 
 -- where n steps lead
 abbrev pub iterate : {A : Type 0} → (A → A) → ℕ → A → A

@@ -4,13 +4,18 @@
 //! words that several crates share: a step that is repeated until it is over, and the first rule
 //! of a table that is broken.
 //!
-//! Reading order: `roster` (companies and privates), `seat` (players and their money), `round`.
+//! Reading order: `roster` (companies and privates), `seat` (players and their money), `round`,
+//! `laws` (what holds of every step that is repeated).
 #![tactic(auto)]
 
+mod laws;
 mod roster;
 mod round;
 mod seat;
+#[cfg(test)]
+mod tests;
 
+pub use laws::one_end;
 pub use roster::{Company, Private, face, revenue};
 pub use round::Round;
 pub use seat::{Amount, Money, PLAYERS_LEAST, PLAYERS_MOST, Seat, bank_start, start_money};

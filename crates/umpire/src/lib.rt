@@ -1,10 +1,9 @@
 //! The umpire: bytes of an order file in, bytes of its report out.
 //!
-//! Reading order: `watched` (readers and writers that remember a failure), `fault`, `answer` (what is
-//! written for a file), `input`, `output`, `program` (`run`).
+//! Reading order: `watched` (readers and writers that remember a failure), `fault`, `read`,
+//! `write`, `run`.
 #![tactic(auto)]
 
-mod answer;
 mod fault;
 mod input;
 mod output;

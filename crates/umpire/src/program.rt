@@ -1,8 +1,10 @@
-use crate::answer::answer_to;
 use crate::fault::Fault;
 use crate::input::read_file;
 use crate::output::write_text;
 use crate::watched::Watched;
+use report::{refusal_text, report};
+use rounds::play;
+use sheets::{FileFault, collect};
 use std::alloc::Global;
 use std::io::{Read, Write};
 
@@ -14,10 +16,16 @@ pub fn run<R: Read, W: Write>(
     writer: &mut Watched<W>,
 ) -> Result<(), Fault> {
     let file = read_file(alloc, reader)?;
-    let answer = answer_to(alloc, file.as_slice())?;
-    write_text(writer, answer.text.as_slice())?;
-    match answer.refused {
-        None => Ok(()),
-        Some(fault) => Err(Fault::File(fault)),
-    }
+    let sheets = match collect(alloc, file.as_slice()) {
+        Ok(sheets) => sheets,
+        Err(FileFault::Memory) => return Err(Fault::Memory),
+        Err(fault) => {
+            let text = refusal_text(alloc, fault)?;
+            write_text(writer, text.as_slice())?;
+            return Err(Fault::File(fault));
+        }
+    };
+    let game = play(alloc, &sheets)?;
+    let text = report(alloc, &game)?;
+    write_text(writer, text.as_slice())
 }

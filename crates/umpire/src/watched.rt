@@ -1,5 +1,3 @@
-ghost use Rattle.std.specs.Prelude.{◌≤◌, IfOk, length};
-
 use std::io;
 use std::io::{Read, Write};
 
@@ -27,9 +25,7 @@ impl<S> Watched<S> {
 
 impl<S: Read> Watched<S> {
     /// Reads some bytes to the front of the buffer, and answers how many.
-    pub(crate) fn read_some(&mut self, buffer: &mut [u8]) -> io::Result<usize>
-        ensures within { IfOk result (λ count. count ≤ length buffer.old) }
-    {
+    pub(crate) fn read_some(&mut self, buffer: &mut [u8]) -> io::Result<usize> {
         let result = self.inner.read(buffer);
         if result.is_err() {
             self.failed = true;
@@ -40,9 +36,7 @@ impl<S: Read> Watched<S> {
 
 impl<S: Write> Watched<S> {
     /// Writes some of the bytes, and answers how many.
-    pub(crate) fn write_some(&mut self, bytes: &[u8]) -> io::Result<usize>
-        ensures within { IfOk result (λ count. count ≤ length bytes.now) }
-    {
+    pub(crate) fn write_some(&mut self, bytes: &[u8]) -> io::Result<usize> {
         let result = self.inner.write(bytes);
         match &result {
             Ok(0) if !bytes.is_empty() => self.failed = true,

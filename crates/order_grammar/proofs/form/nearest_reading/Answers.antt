@@ -1,5 +1,5 @@
-use Rattle.std.proofs.Common.{◌≡◌, ◌+◌, List, ℕ, Result, Ok, Err, sym, ap, ◌∙◌, drop, map, fold}
-use Rattle.order_grammar.specs.Form.{Row, nearer}
+use Rattle.std.proofs.Common.{◌≡◌, ◌+◌, Result, Ok, Err, sym, ap, ◌∙◌, drop, map, fold}
+use Rattle.order_grammar.specs.Form.{nearer}
 use Rattle.order_grammar.specs.Row.{row_of}
 use Rattle.order_grammar.specs.Token.{texts_of}
 use Rattle.order_grammar.specs.Words.{raised}
@@ -19,8 +19,8 @@ returns-in-Ok c =
     let others = drop (i + 1) (map row_of c.args.forms.now) in
     let next = rows-next first rest (Err c.loop-form.nearest) c.args.forms.now i _ c.loop-form-test.true c.read.result c.read.ensures in
     let found : fold (with_row first rest) (nearer (Err c.loop-form.nearest) c.read.result) others ≡ Ok c.in-Ok.order =
-        ap (λ (r : Result Order Fault). fold (with_row first rest) (nearer (Err c.loop-form.nearest) r) others) c.in-Ok.is
-        ∙ ap (λ (r : Result Order Fault). fold (with_row first rest) r others) (nearer-found c.loop-form.nearest c.in-Ok.order) ∙ found_stays first rest c.in-Ok.order others in
+    ap (λ (r : Result Order Fault). fold (with_row first rest) (nearer (Err c.loop-form.nearest) r) others) c.in-Ok.is
+    ∙ ap (λ (r : Result Order Fault). fold (with_row first rest) r others) (nearer-found c.loop-form.nearest c.in-Ok.order) ∙ found_stays first rest c.in-Ok.order others in
     sym found ∙ sym next ∙ c.loop-form.invariant
 
 pub loop-form-preserved : goal.loop-form-preserved

@@ -1,4 +1,4 @@
-use Rattle.std.proofs.Common.{◌≡◌, true, Ok, Err, Result, sym, ap, ◌∙◌, rules, tests, arith}
+use Rattle.std.proofs.Common.{◌≡◌, true, Ok, Err, sym, ap, ◌∙◌, rules, tests}
 use Rattle.std.specs.List.{list_all}
 use Rattle.std.proofs.lemmas.Iterator.{YieldsList-from_slice}
 use Rattle.std.proofs.lemmas.Iterator.Search.{all_from_yields_List}
@@ -7,7 +7,6 @@ use Rattle.order_grammar.specs.Form.{words_reading}
 use Rattle.order_grammar.specs.Line.{order_of}
 use Rattle.order_grammar.specs.Words.{before_comment, is_printable, words_of}
 use Rattle.order_grammar.specs.declared.fault.Fault.{Fault}
-use Rattle.order_grammar.specs.declared.order.Order.{Order}
 use Rattle.order_grammar.proofs.LineLemmas.{few_words, first_words-reading, line_reading}
 use Rattle.order_grammar.proofs.read.read_line.Goals as goal
 
@@ -31,5 +30,5 @@ pub returns-clause-words : goal.returns-clause-words
 returns-clause-words c =
     let line = c.args.line.now in
     let order : words_reading (words_of line) ≡ Ok c.in_ok-order.order =
-        sym (first_words-reading line c.as_slice.result.now c.of-words.result c.as_slice.ensures c.of-words.ensures.texts) ∙ sym c.order_of_words.ensures ∙ c.in_ok-order.was in
+    sym (first_words-reading line c.as_slice.result.now c.of-words.result c.as_slice.ensures c.of-words.ensures.texts) ∙ sym c.order_of_words.ensures ∙ c.in_ok-order.was in
     record { texts = few_words line c.of-words.result c.in_ok-order.order c.of-words.ensures.texts order; places = c.of-words.ensures.places }

@@ -1,4 +1,4 @@
-use Rattle.std.proofs.Common.{◌≡◌, ◌∙◌, ◌==◌, ◌≤◌, not, List, ℕ, take, drop, length, sym, ap, rules, tests}
+use Rattle.std.proofs.Common.{◌≡◌, ◌∙◌, ◌==◌, not, drop, sym, ap, rules, tests}
 use Rattle.std.specs.List.{position_or_len}
 use Rattle.std.proofs.lemmas.Iterator.{YieldsList-from_slice}
 use Rattle.std.proofs.lemmas.Iterator.Search.{position_from_yields_List}

@@ -1,4 +1,4 @@
-use Rattle.std.proofs.Common.{sym, ◌∙◌, map}
+use Rattle.std.proofs.Common.{sym, ◌∙◌}
 use Rattle.std.proofs.lemmas.List.{length-map}
 use Rattle.order_grammar.specs.Words.{raised}
 use Rattle.order_grammar.proofs.WordLemmas.{same_word-lengths}

@@ -1,8 +1,6 @@
-use Rattle.std.proofs.Common.{◌≡◌, ◌∙◌, ◌==◌, List, ℕ, sym, ap, take, length, rules, tests}
-use Rattle.std.specs.List.{position_or_len}
+use Rattle.std.proofs.Common.{◌∙◌, ◌==◌, sym, rules, tests}
 use Rattle.std.proofs.lemmas.Iterator.{YieldsList-from_slice}
 use Rattle.std.proofs.lemmas.Iterator.Search.{position_from_yields_List}
-use Rattle.order_grammar.specs.Words.{before}
 use Rattle.order_grammar.proofs.WordLemmas.{length-before, take-before, position-end}
 use Rattle.order_grammar.proofs.words.length_before.Goals as goal
 

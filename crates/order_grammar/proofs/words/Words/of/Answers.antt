@@ -30,10 +30,10 @@ loop-at-preserved c =
     let tokens = c.loop-at.tokens.items in
     let room = eqb-false (length tokens) 8 (sym c.if-not-is_full.ensures.value) in
     let words : map (λ (token : Token). token.text.now) c.push.new.self.items ++ rest ≡ words_from [] text =
-        ap (λ (ts : List Token). map (λ (token : Token). token.text.now) ts ++ rest) items
-        ∙ ap (λ (ws : List (List ℕ)). ws ++ rest) (map_push (λ (token : Token). token.text.now) tokens _)
-        ∙ append_assoc (map (λ (token : Token). token.text.now) tokens) (slice_range text at (at + count) ∷ []) rest
-        ∙ ap (λ (ws : List (List ℕ)). map (λ (token : Token). token.text.now) tokens ++ ws) (sym next) ∙ c.loop-at.invariant.1 in
+    ap (λ (ts : List Token). map (λ (token : Token). token.text.now) ts ++ rest) items
+    ∙ ap (λ (ws : List (List ℕ)). ws ++ rest) (map_push (λ (token : Token). token.text.now) tokens _)
+    ∙ append_assoc (map (λ (token : Token). token.text.now) tokens) (slice_range text at (at + count) ∷ []) rest
+    ∙ ap (λ (ws : List (List ℕ)). map (λ (token : Token). token.text.now) tokens ++ ws) (sym next) ∙ c.loop-at.invariant.1 in
     (within, words, omega (arith, room, c.push.ensures.len, c.loop-at.invariant.2), rw items (StandFrom-next text at count tokens _ some within refl c.loop-at.invariant.3))
 
 pub returns-clause-texts : goal.returns-clause-texts
@@ -44,10 +44,10 @@ returns-clause-texts c =
     let rest = words_from [] (drop c.loop-at.at text) in
     let few : length kept ≤ 8 = omega (arith, c.loop-at.invariant.2, length-map tokens (λ (token : Token). token.text.now)) in
     let last : (length kept ≡ 8) ⊎ (rest ≡ []) =
-        elim c.loop-at-test.branch [
-          | then-loop-at-test+else-not-is_full w ↦ inl (length-map tokens (λ (token : Token). token.text.now) ∙ eqb-true (length tokens) 8 (sym w.if-not-is_full.ensures.value))
-          | else-loop-at-test w ↦ inr (at_drop_all (words_from []) text c.loop-at.at w.loop-at-test.false)
-        ] in
+    elim c.loop-at-test.branch [
+      | then-loop-at-test+else-not-is_full w ↦ inl (length-map tokens (λ (token : Token). token.text.now) ∙ eqb-true (length tokens) 8 (sym w.if-not-is_full.ensures.value))
+      | else-loop-at-test w ↦ inr (at_drop_all (words_from []) text c.loop-at.at w.loop-at-test.false)
+    ] in
     texts-placed tokens ∙ first_eight kept rest (words_from [] text) c.loop-at.invariant.1 few last ∙ ap (λ (t : List ℕ). take 8 (words_from [] t)) c.before_comment-text.ensures
 
 pub returns-clause-places : goal.returns-clause-places

@@ -1,0 +1,8 @@
+use Rattle.std.proofs.Common.{decimal}
+use Rattle.report.specs.Column.{at_right}
+use Rattle.report.proofs.Seats.{seats_step}
+use Rattle.report.proofs.statement.push_holdings.Goals as goal
+
+pub loop-company-preserved : goal.loop-company-preserved
+loop-company-preserved c =
+    seats_step (λ company. at_right 3 (decimal 0)) c.loop-company._company _ _ _ c.loop-company.invariant c.in_ok-push_right.ensures

@@ -1,0 +1,9 @@
+use Rattle.history.specs.LookBack.{privates}
+use Rattle.report.specs.Statement.{code_owned}
+use Rattle.report.proofs.Seats.{elements_step}
+use Rattle.report.proofs.statement.push_privates.Goals as goal
+
+pub loop-private-preserved : goal.loop-private-preserved
+loop-private-preserved c =
+    elements_step (λ private. code_owned c.args.past.now.events.now c.args.seat private) privates c.loop-private.private-index _ _ _ _
+    c.loop-private-test.true c.loop-private.invariant c.in_ok-push_private.ensures

@@ -1,0 +1,10 @@
+use Rattle.std.proofs.Common.{◌≡◌, ◌++◌, take}
+use Rattle.std.specs.List.{flat_map}
+use Rattle.history.specs.LookBack.{privates}
+use Rattle.report.specs.Statement.{code_owned}
+use Rattle.report.proofs.statement.push_privates.Given as goal
+
+-- the privates so far
+abbrev pub invariant-loop-private : goal.invariant-loop-private
+invariant-loop-private l =
+    l.out.items ≡ l.fn.out.items ++ flat_map (λ private. code_owned l.past.events.now l.seat private) (take l.private-index privates)

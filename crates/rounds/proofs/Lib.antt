@@ -1,0 +1,4 @@
+pub mod Posted
+pub mod Numbers
+pub mod OneGame
+pub mod Example

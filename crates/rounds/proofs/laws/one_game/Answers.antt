@@ -1,0 +1,5 @@
+use Rattle.rounds.proofs.OneGame.{game_once}
+use Rattle.rounds.proofs.laws.one_game.Goals as goal
+
+pub returns : goal.returns
+returns c = game_once

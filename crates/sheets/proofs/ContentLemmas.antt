@@ -1,0 +1,57 @@
+-- What a file is kept as, and why it is refused.
+use Rattle.std.proofs.Common.{◌≡◌, ℕ, ◌<◌, ◌≤◌, List, true, false, Option, Some, Result, Ok, Err, length, refl, ◌∙◌}
+use Rattle.std.proofs.lemmas.Bool.{lt-ltb, le-ltb}
+use Rattle.std.specs.Prelude.{nat_lt}
+use Rattle.order_grammar.specs.declared.fault.Fault.{Fault}
+use Rattle.sheets.specs.Collecting.{Fails, StopsBy, IsCollected}
+use Rattle.sheets.specs.File.{Content, content_of, lines_content, body_content, players_of, body_of, sheet_of, unread_of, sheet_in, unread_in, good_lines}
+use Rattle.sheets.specs.Text.{written_lines}
+use Rattle.sheets.specs.declared.fault.FileFault.{FileFault}
+use Rattle.sheets.specs.declared.fault.FileFault.TheVariants.{Header, Players, TooLong, TooManySheets, Memory}
+use Rattle.sheets.specs.declared.post.Post.{Post}
+
+-- a file with too many bytes
+pub too_long : (file : List ℕ) → 4194304 < length file → content_of file ≡ Err TooLong
+unfolding content_of
+too_long file h = let t : nat_lt 4194304 (length file) ≡ true = lt-ltb 4194304 (length file) h in rw t refl
+
+-- another file
+pub short_enough : (file : List ℕ) → length file ≤ 4194304 → content_of file ≡ lines_content (written_lines file)
+unfolding content_of
+short_enough file h = let t : nat_lt 4194304 (length file) ≡ false = le-ltb 4194304 (length file) h in rw t refl
+
+-- a body with too many good SHEET lines
+many : (players body : List (List ℕ)) → 4096 < good_lines players body → body_content body (Some players) ≡ Err TooManySheets
+many players body h = let t : nat_lt 4096 (good_lines players body) ≡ true = lt-ltb 4096 (good_lines players body) h in rw t refl
+
+-- another body
+pub few_enough : (players body : List (List ℕ)) → good_lines players body ≤ 4096 → body_content body (Some players) ≡ Ok (record { players = players; body = body })
+few_enough players body h = let t : nat_lt 4096 (good_lines players body) ≡ false = le-ltb 4096 (good_lines players body) h in rw t refl
+
+-- a fault of the file
+pub fails : (fault : FileFault) (content : Result Content FileFault) → content ≡ Err fault → Fails fault content
+fails Memory content e = tt
+fails Header content e = e
+fails Players content e = e
+fails TooLong content e = e
+fails TooManySheets content e = e
+
+-- a fault of the body
+pub fails_by : (players body : List (List ℕ)) (fault : FileFault) (content : Result Content FileFault) → content ≡ body_content body (Some players) → StopsBy (good_lines players body) fault → Fails fault content
+fails_by players body Memory content e h = tt
+fails_by players body Header content e h = absurd h
+fails_by players body Players content e h = absurd h
+fails_by players body TooLong content e h = absurd h
+fails_by players body TooManySheets content e h = e ∙ many players body h
+
+-- what is kept of a file is what it says
+pub collected : (file : List ℕ) (players body : List (List ℕ)) (sheets : Post → Option (List (List ℕ))) (unread : List Fault) → content_of file ≡ Ok (record { players = players; body = body }) → 3 ≤ length players → length players ≤ 6 → ((post : Post) → sheets post ≡ sheet_in players body post) → unread ≡ unread_in players false body → IsCollected file players sheets unread
+unfolding players_of body_of sheet_of unread_of
+collected file players body sheets unread e least most same codes = record {
+  accepted = rw e refl;
+  players_are = rw e refl;
+  least = least;
+  most = most;
+  sheets_are = λ post. rw e (same post);
+  unread_are = rw e codes;
+}

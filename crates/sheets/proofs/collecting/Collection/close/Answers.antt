@@ -1,0 +1,9 @@
+use Rattle.std.proofs.Common.{refl, ◌∙◌}
+use Rattle.sheets.proofs.PostLemmas.{found_after_insert}
+use Rattle.sheets.proofs.collecting.Collection.close.Goals as goal
+
+pub returns-in_ok-insert-clause-sheets : goal.returns-in_ok-insert-clause-sheets
+returns-in_ok-insert-clause-sheets c = λ post.
+    rw (← c.in-Some.ensures.value)
+    (found_after_insert c.in-Some.sheet.post post c.of.result c.args.self.now.sheets.entries c.insert.new.self.entries (c.in_ok-insert.ensures.updates.0 post)
+    ∙ rw (c.of.ensures, c.saturating_sub-length.ensures) refl)

@@ -1,0 +1,14 @@
+use Rattle.std.proofs.Common.{ℕ, List, ◌+◌, take, sym, arith, length, ◌≡◌}
+use Rattle.std.proofs.lemmas.Bool.{eqb-false}
+use Rattle.sheets.proofs.TextLemmas.{begins_with_line, begins_with_last, behind}
+use Rattle.sheets.proofs.text.first_line.Goals as goal
+
+pub returns-in-Some-clause-first : goal.returns-in-Some-clause-first
+returns-in-Some-clause-first c =
+    let text : List ℕ = c.args.text.now in
+    let end : ℕ = c.in-Some.end in
+    let h = c.in-Some.ensures in
+    rw (c.without_return.ensures, behind c.args.text.now (c.in-Some.end + 1)) (take (end + 1) text, begins_with_line text end h.0 h.1 h.2)
+
+pub returns-in-None-clause-first : goal.returns-in-None-clause-first
+returns-in-None-clause-first c = let some : length c.args.text.now ≡ 0 → ⊥ = eqb-false (length c.args.text.now) 0 (sym c.if-is_empty.ensures) in (c.args.text.now, begins_with_last c.args.text.now (omega arith) c.in-None.ensures)

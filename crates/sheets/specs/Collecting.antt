@@ -1,0 +1,77 @@
+-- How far the sheets of a file are collected: what is kept, what is open, and what is left to read.
+use Rattle.std.specs.Prelude.{◌≡◌, ℕ, ◌+◌, ◌-◌, ◌<◌, ◌≤◌, false, if◌then◌else◌, List, ◌++◌, length, take, Option, Some, None, Result, Err, is_some}
+use Rattle.order_grammar.specs.declared.fault.Fault.{Fault}
+use Rattle.sheets.specs.File.{same_post, block, later_or, sheet_in, good_lines, unread_in, players_of, unread_of, sheet_of, IsAccepted, Content}
+use Rattle.sheets.specs.Text.{written_lines, BeginsWith}
+use Rattle.sheets.specs.declared.fault.FileFault.{FileFault}
+use Rattle.sheets.specs.declared.fault.FileFault.TheVariants.{TooManySheets, Memory}
+use Rattle.sheets.specs.declared.begun.OpenSheet.{OpenSheet}
+use Rattle.sheets.specs.declared.post.Post.{Post}
+
+-- a sheet that is open: whose it is, and its lines so far
+pub record Open : Type 0 where
+  pub post : Post
+  pub lines : List (List ℕ)
+
+-- the text of an open sheet, of which this is left
+abbrev pub IsOpen : Option OpenSheet → Option Open → List ℕ → Type 0
+IsOpen None None rest = Unit {0}
+IsOpen None (Some current) rest = ⊥
+IsOpen (Some sheet) None rest = ⊥
+IsOpen (Some sheet) (Some current) rest =
+    (sheet.post ≡ current.post) × ((front : List ℕ) × BeginsWith front current.lines rest sheet.text.now)
+
+-- the open sheet, with the lines that are still to come in it
+abbrev pub open_with : Option Open → List (List ℕ) → Post → Option (List (List ℕ))
+open_with None more post = None
+open_with (Some current) more post = if same_post current.post post then Some (current.lines ++ block more) else None
+
+-- a sheet once these lines are read too
+abbrev pub sheet_with : List (List ℕ) → Option Open → (Post → Option (List (List ℕ))) → List (List ℕ) → Post → Option (List (List ℕ))
+sheet_with players current sheets lines post =
+    later_or (sheet_in players lines post) (later_or (open_with current lines post) (sheets post))
+
+-- what is kept and what is left are together what the whole body has
+pub record Stands (players body lines : List (List ℕ)) (current : Option Open) (sheets : Post → Option (List (List ℕ))) (unread : List Fault) (good : ℕ) : Type 0 where
+  pub sheets_are : (post : Post) → sheet_with players current sheets lines post ≡ sheet_in players body post
+  pub unread_are : unread ++ unread_in players (is_some current) lines ≡ unread_in players false body
+  pub good_are : good + good_lines players lines ≡ good_lines players body
+  pub few : good ≤ 4096
+
+-- the same, where this text is left
+abbrev pub Reaches : List (List ℕ) → List (List ℕ) → List ℕ → Option OpenSheet → (Post → Option (List (List ℕ))) → List Fault → ℕ → Type 0
+Reaches players body rest sheet sheets unread good =
+    (current : Option Open) × IsOpen sheet current rest × Stands players body (written_lines rest) current sheets unread good
+
+-- the sheets once an open one is kept that ends where this is left
+abbrev pub closed : Option OpenSheet → List ℕ → (Post → Option (List (List ℕ))) → Post → Option (List (List ℕ))
+closed None rest sheets post = sheets post
+closed (Some sheet) rest sheets post =
+    if same_post sheet.post post
+    then Some (written_lines (take (length sheet.text.now - length rest) sheet.text.now))
+    else sheets post
+
+-- the sheet that was begun, of which all is left
+abbrev pub IsBegun : Post → List ℕ → Option OpenSheet → Type 0
+IsBegun post rest None = ⊥
+IsBegun post rest (Some sheet) = (sheet.post ≡ post) × (sheet.text.now ≡ rest)
+
+-- why reading stops, where there are so many good SHEET lines
+abbrev pub StopsBy : ℕ → FileFault → Type 0
+StopsBy good Memory = Unit {0}
+StopsBy good TooManySheets = 4096 < good
+StopsBy good other = ⊥
+
+-- a file is refused by the first fault that it has, or for want of memory
+abbrev pub Fails : FileFault → Result Content FileFault → Type 0
+Fails Memory content = Unit {0}
+Fails fault content = content ≡ Err fault
+
+-- what a file is kept as
+pub record IsCollected (file : List ℕ) (players : List (List ℕ)) (sheets : Post → Option (List (List ℕ))) (unread : List Fault) : Type 0 where
+  pub accepted : IsAccepted file
+  pub players_are : players ≡ players_of file
+  pub least : 3 ≤ length players
+  pub most : length players ≤ 6
+  pub sheets_are : (post : Post) → sheets post ≡ sheet_of file post.seat.0 post.round
+  pub unread_are : unread ≡ unread_of file

@@ -1,0 +1,170 @@
+ghost use Rattle.std.specs.Prelude.{◌≡◌, false, ℕ, ◌+◌, ◌<◌, ◌≤◌, List, [], ◌∷◌, ◌++◌, length, IfOk, OnOk, IfErr, MatchOption, MatchResult};
+ghost use Rattle.std.specs.HashMap.{get};
+ghost use Rattle.order_grammar.specs.Line.{order_of, reading_of};
+ghost use Rattle.sheets.specs.Collecting.{Reaches, StopsBy, closed, IsBegun};
+ghost use Rattle.sheets.specs.File.{is_sheet_line, post_begun, fault_of_reading, same_post, sheet_in, unread_in, good_lines};
+ghost use Rattle.sheets.specs.Text.{BeginsWith, written_lines};
+ghost use Rattle.sheets.specs.declared.post.Post.{Post};
+
+use crate::begun::OpenSheet;
+use crate::fault::FileFault;
+use crate::players::seat_of;
+use crate::post::Post;
+use crate::sheet::Sheet;
+use crate::text::{Piece, first_written};
+use order_grammar::{Fault, Line, Name, Order, begins_with_word, read_line};
+use std::alloc::{AllocError, Global};
+use std::collections::HashMap;
+
+/// The most good SHEET lines of an order file.
+pub const SHEETS_MOST: usize = 4_096;
+
+/// What has come of the lines after the players line.
+#[derive(Drop)]
+pub(crate) struct Collection<'a> {
+    pub(crate) sheets: HashMap<Post, Sheet<'a>>,
+    pub(crate) unread: Vec<Fault>,
+    current: Option<OpenSheet<'a>>,
+    good: usize,
+}
+
+/// Collects the lines after the players line.
+pub(crate) fn collect_body<'a>(
+    alloc: Global,
+    players: &[Name],
+    body: &'a [u8],
+) -> Result<Collection<'a>, FileFault>
+    requires few { length players.now ≤ 6 }
+    requires short { length body.now ≤ 4194304 }
+    ensures sheets { IfOk result (λ c. (post : Post) → get same_post c.sheets post ≡ sheet_in players.now (written_lines body.now) post) }
+    ensures unread { IfOk result (λ c. c.unread.items ≡ unread_in players.now false (written_lines body.now)) }
+    ensures good { OnOk result (good_lines players.now (written_lines body.now) ≤ 4096) }
+    ensures err { IfErr result (StopsBy (good_lines players.now (written_lines body.now))) }
+{
+    let mut collection = Collection {
+        sheets: HashMap::new(alloc),
+        unread: Vec::new(alloc),
+        current: None,
+        good: 0,
+    };
+    let mut rest = body;
+    while let Some(piece) = first_written(rest) {
+        collection.take_line(players, rest, piece)?;
+        rest = piece.rest;
+    }
+    collection.close(&[])?;
+    Ok(collection)
+}
+
+impl<'a> Collection<'a> {
+    /// Takes the next line, which begins a text and leaves its rest.
+    fn take_line(
+        &mut self,
+        players: &[Name],
+        text: &'a [u8],
+        piece: Piece<'a>,
+    ) -> Result<(), FileFault>
+        requires few { length players.now ≤ 6 }
+        requires short { length piece.rest.now ≤ 4194304 }
+        requires lines { written_lines text.now ≡ piece.line.now ∷ written_lines piece.rest.now }
+        requires first { (front : List ℕ) × BeginsWith front (piece.line.now ∷ []) piece.rest.now text.now }
+        ensures ok { OnOk result ((body : List (List ℕ)) →
+            Reaches players.now body text.now self.old.current (get same_post self.old.sheets) self.old.unread.items self.old.good →
+            Reaches players.now body piece.entry.rest.now self.new.current (get same_post self.new.sheets) self.new.unread.items self.new.good) }
+        ensures err { IfErr result (λ fault. (body : List (List ℕ)) →
+            Reaches players.now body text.now self.old.current (get same_post self.old.sheets) self.old.unread.items self.old.good →
+            StopsBy (good_lines players.now body) fault) }
+    {
+        if is_sheet_line(piece.line) {
+            self.close(text)?;
+            self.begin(players, piece)
+        } else if self.current.is_some() {
+            Ok(())
+        } else {
+            self.unread.push(unread_fault(&read_line(piece.line)))?;
+            Ok(())
+        }
+    }
+
+    /// Keeps the sheet that is open, which ends where `rest` begins.
+    fn close(&mut self, rest: &[u8]) -> Result<(), AllocError>
+        ensures current { self.new.current ≡ None }
+        ensures sheets { OnOk result ((post : Post) → get same_post self.new.sheets post ≡ closed self.old.current rest.now (get same_post self.old.sheets) post) }
+        ensures unread { self.new.unread.items ≡ self.old.unread.items }
+        ensures good { self.new.good ≡ self.old.good }
+    {
+        if let Some(sheet) = self.current.take() {
+            let length = sheet.text.len().saturating_sub(rest.len());
+            let text = &sheet.text[..length];
+            self.sheets.insert(sheet.post, Sheet::of(text))?;
+        }
+        Ok(())
+    }
+
+    /// Takes a SHEET line where no sheet is open.
+    fn begin(&mut self, players: &[Name], piece: Piece<'a>) -> Result<(), FileFault>
+        requires few { length players.now ≤ 6 }
+        requires short { length piece.rest.now ≤ 4194304 }
+        requires none { self.old.current ≡ None }
+        ensures sheets { self.new.sheets ≡ self.old.sheets }
+        ensures ok { OnOk result (MatchOption (post_begun players.now (reading_of piece.entry.line.now))
+            ((self.new.current ≡ None) × (self.new.good ≡ self.old.good) × (self.new.unread.items ≡ self.old.unread.items ++ fault_of_reading (reading_of piece.entry.line.now) ∷ []))
+            (λ post. IsBegun post piece.entry.rest.now self.new.current × (self.old.good < 4096) × (self.new.good ≡ self.old.good + 1) × (self.new.unread.items ≡ self.old.unread.items))) }
+        ensures err { IfErr result (λ fault. MatchOption (post_begun players.now (reading_of piece.entry.line.now)) (fault ≡ FileFault.Memory) (λ _. (fault ≡ FileFault.TooManySheets) × (4096 ≤ self.old.good))) }
+    {
+        let reading = read_line(piece.line);
+        match post_begun(players, &reading) {
+            Some(post) => {
+                if self.good >= SHEETS_MOST {
+                    return Err(FileFault::TooManySheets);
+                }
+                self.good += 1;
+                self.current = Some(OpenSheet {
+                    post,
+                    text: piece.rest,
+                });
+            }
+            None => self.unread.push(unread_fault(&reading))?,
+        }
+        Ok(())
+    }
+}
+
+/// Whether the first word of a line is SHEET.
+#[tactic(auto, unfolding(crate::specs::File::is_sheet_line))]
+fn is_sheet_line(line: &[u8]) -> bool
+    ensures { result ≡ is_sheet_line line.now }
+{
+    begins_with_word(line, b"SHEET")
+}
+
+/// Whose sheet for which round a line begins, if it begins one.
+fn post_begun(players: &[Name], reading: &Result<Line, Fault>) -> Option<Post>
+    requires { length players.now ≤ 6 }
+    ensures { result ≡ post_begun players.now (order_of reading.now) }
+{
+    let Ok(line) = reading else {
+        return None;
+    };
+    let Order::Sheet { name, round } = &line.order else {
+        return None;
+    };
+    let seat = seat_of(players, name)?;
+    Some(Post {
+        seat,
+        round: *round,
+    })
+}
+
+/// The code of a line that is in no sheet.
+fn unread_fault(reading: &Result<Line, Fault>) -> Fault
+    ensures { result ≡ fault_of_reading (order_of reading.now) }
+{
+    match reading {
+        Err(fault) => *fault,
+        Ok(line) => match &line.order {
+            Order::Sheet { .. } => Fault::UnknownPlayer,
+            _ => Fault::OutOfPlace,
+        },
+    }
+}

@@ -1,0 +1,14 @@
+//! Laws of order files: each function does nothing, and its contract is the law.
+
+ghost use Rattle.sheets.specs.Laws.{LastSheetCounts, ArrivalChangesNothing};
+
+/// The sheet of a player for a round is the last that the player sent for it.
+pub fn last_sheet_counts()
+    ensures { LastSheetCounts }
+{}
+
+/// Files in which each player sent the same sheets in the same order have the same sheet for each
+/// player and round, however the sheets of different players follow one another.
+pub fn arrival_changes_nothing()
+    ensures { ArrivalChangesNothing }
+{}
