@@ -1,3 +1,7 @@
+ghost use Rattle.std.specs.Prelude.{◌≡◌};
+ghost use Rattle.umpire.specs.Fault.{status_of, word_of};
+ghost use Rattle.umpire.specs.declared.fault.Fault.TheVariants.{Memory};
+
 use sheets::FileFault;
 use std::alloc::AllocError;
 use thiserror::Error;
@@ -20,6 +24,8 @@ pub enum Fault {
 }
 
 impl From<AllocError> for Fault {
+    ghost from_gives = { λ _ fault. fault ≡ Memory };
+
     fn from(_error: AllocError) -> Fault {
         Fault::Memory
     }
@@ -27,7 +33,9 @@ impl From<AllocError> for Fault {
 
 /// The exit status of the program: 0 for a report, 2 for a refused file, 4 where reading, writing or
 /// memory failed.
-pub fn status(outcome: &Result<(), Fault>) -> u8 {
+pub fn status(outcome: &Result<(), Fault>) -> u8
+    ensures { result ≡ status_of outcome.now }
+{
     match outcome {
         Ok(()) => 0,
         Err(Fault::File(_)) => 2,
@@ -36,7 +44,9 @@ pub fn status(outcome: &Result<(), Fault>) -> u8 {
 }
 
 /// The word for a fault on standard error; empty for a refused file, of which the report speaks.
-pub fn word(fault: &Fault) -> &'static str {
+pub fn word(fault: &Fault) -> &'static str
+    ensures { result.now ≡ word_of fault.now }
+{
     match fault {
         Fault::Read => "Read",
         Fault::Write => "Write",

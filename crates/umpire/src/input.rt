@@ -1,3 +1,7 @@
+ghost use Rattle.std.specs.Io.KnownBytes.{Consumes};
+ghost use Rattle.std.specs.Prelude.{◌≡◌, false, IfOk, IfErr, OnOk, IfSome};
+ghost use Rattle.umpire.specs.Run.{IsReadFault, as_read};
+
 use crate::fault::Fault;
 use crate::watched::Watched;
 use sheets::FILE_MOST;
@@ -8,19 +12,22 @@ use std::io::Read;
 const PIECE: usize = 65_536;
 
 /// Reads the order file to its end, or to the first byte past the greatest size of a file.
-pub(crate) fn read_file<R: Read>(
-    alloc: Global,
-    reader: &mut Watched<R>,
-) -> Result<Vec<u8>, Fault> {
+pub(crate) fn read_file<R: Read>(alloc: Global, reader: &mut Watched<R>) -> Result<Vec<u8>, Fault>
+    requires { reader.old.failed ≡ false }
+    ensures file { IfOk result (λ file. IfSome (R.remaining reader.old.inner) (λ bytes. file.items ≡ as_read bytes)) }
+    ensures taken { IfOk result (λ file. Consumes (R.remaining reader.old.inner) (R.remaining reader.new.inner) file.items) }
+    ensures ok { OnOk result (reader.new.failed ≡ false) }
+    ensures err { IfErr result (IsReadFault reader.new.failed) }
+{
     let mut file = Vec::new(alloc);
     let mut buffer = [0; PIECE];
     while file.len() <= FILE_MOST {
         let wanted = PIECE.min(FILE_MOST + 1 - file.len());
-        let Ok(count) = reader.read_some(&mut buffer[..wanted]) else {
+        let Ok(count) = reader.read(&mut buffer[..wanted]) else {
             return Err(Fault::Read);
         };
         if count == 0 {
-            break;
+            return Ok(file);
         }
         file.extend_from_slice(&buffer[..count])?;
     }

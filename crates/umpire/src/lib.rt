@@ -1,13 +1,15 @@
 //! The umpire: bytes of an order file in, bytes of its report out.
 //!
-//! Reading order: `watched` (readers and writers that remember a failure), `fault`, `read`,
-//! `write`, `run`.
+//! Reading order: `watched` (readers and writers that remember a failure), `fault`, `input`,
+//! `output`, `program` (`run`).
 #![tactic(auto)]
 
 mod fault;
 mod input;
 mod output;
 mod program;
+#[cfg(test)]
+mod tests;
 mod watched;
 
 pub use fault::{Fault, status, word};

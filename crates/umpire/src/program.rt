@@ -1,11 +1,17 @@
+ghost use Rattle.report.specs.Report.{IsGameReport, IsReport};
+ghost use Rattle.sheets.specs.File.{content_of};
+ghost use Rattle.std.specs.Prelude.{◌≡◌, false, IfErr, IfOk, OnOk};
+ghost use Rattle.std.specs.Result.{result_err};
+ghost use Rattle.umpire.specs.Run.{IsReported, Stops};
+
 use crate::fault::Fault;
 use crate::input::read_file;
 use crate::output::write_text;
 use crate::watched::Watched;
 use report::{refusal_text, report};
 use rounds::play;
-use sheets::{FileFault, collect};
-use std::alloc::Global;
+use sheets::{FileFault, Sheets, collect};
+use std::alloc::{AllocError, Global};
 use std::io::{Read, Write};
 
 /// Reads an order file to its end and writes its report. A refused file gives the one line that
@@ -14,18 +20,50 @@ pub fn run<R: Read, W: Write>(
     alloc: Global,
     reader: &mut Watched<R>,
     writer: &mut Watched<W>,
-) -> Result<(), Fault> {
+) -> Result<(), Fault>
+    requires reader { reader.old.failed ≡ false }
+    requires writer { writer.old.failed ≡ false }
+    ensures ok { OnOk result (IsReported (R.remaining reader.old.inner) (W.contents writer.old.inner) (W.contents writer.new.inner)) }
+    ensures err { IfErr result (Stops (R.remaining reader.old.inner) (W.contents writer.old.inner) (W.contents writer.new.inner) reader.new.failed writer.new.failed) }
+{
     let file = read_file(alloc, reader)?;
-    let sheets = match collect(alloc, file.as_slice()) {
-        Ok(sheets) => sheets,
-        Err(FileFault::Memory) => return Err(Fault::Memory),
-        Err(fault) => {
-            let text = refusal_text(alloc, fault)?;
-            write_text(writer, text.as_slice())?;
-            return Err(Fault::File(fault));
-        }
-    };
-    let game = play(alloc, &sheets)?;
-    let text = report(alloc, &game)?;
-    write_text(writer, text.as_slice())
+    let answer = answer_to(alloc, file.as_slice())?;
+    write_text(writer, answer.text.as_slice())?;
+    match answer.refused {
+        None => Ok(()),
+        Some(fault) => Err(Fault::File(fault)),
+    }
+}
+
+/// The text for a file, and why the file is refused, if it is.
+#[derive(Drop)]
+struct Answer {
+    text: Vec<u8>,
+    refused: Option<FileFault>,
+}
+
+/// The answer to a file: the report of its game, or the line that says why it is refused.
+fn answer_to(alloc: Global, file: &[u8]) -> Result<Answer, AllocError>
+    ensures text { IfOk result (λ answer. IsReport file.now answer.text.items) }
+    ensures refused { IfOk result (λ answer. answer.refused ≡ result_err (content_of file.now)) }
+{
+    match collect(alloc, file) {
+        Ok(sheets) => Ok(Answer {
+            text: game_text(alloc, &sheets)?,
+            refused: None,
+        }),
+        Err(FileFault::Memory) => Err(AllocError),
+        Err(fault) => Ok(Answer {
+            text: refusal_text(alloc, fault)?,
+            refused: Some(fault),
+        }),
+    }
+}
+
+/// The report of the game of some sheets.
+fn game_text(alloc: Global, sheets: &Sheets) -> Result<Vec<u8>, AllocError>
+    ensures { IfOk result (λ text. IsGameReport sheets.now text.items) }
+{
+    let game = play(alloc, sheets)?;
+    report(alloc, &game)
 }

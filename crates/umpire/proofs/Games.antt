@@ -1,0 +1,21 @@
+-- The game that is played from a file has its players at its seats, and its text is the file's report.
+use Rattle.std.proofs.Common.{◌≡◌, ℕ, zero, suc, List, length, refl, ap, sym, subst, ◌∙◌}
+use Rattle.report.specs.Report.{IsGameReport, report_text}
+use Rattle.rounds.specs.Play.{AreRounds, Between, IsTheGame, Played, before_play}
+use Rattle.sheets.specs.File.{players_of}
+
+-- rounds keep the number of seats
+seats_kept : (file : List ℕ) (rounds : ℕ) (old new : Between) → AreRounds file rounds old new → new.game.seats ≡ old.game.seats
+seats_kept file zero old new same = ap (λ (between : Between). between.game.seats) (sym same)
+seats_kept file (suc rounds) old new (mid, before, last) =
+    ap (λ game. game.seats) last.played.after ∙ seats_kept file rounds old mid before
+
+-- a game has a seat for each player of its file
+pub game_seats : (played : Played) → IsTheGame played → played.game.seats ≡ length (players_of played.file)
+game_seats played is = ap (λ game. game.seats) is.game ∙ seats_kept played.file is.plays.rounds (before_play played.file) is.last is.plays.reached
+
+-- the text of the game of a file is its report
+pub game_report : (file text : List ℕ) (played : Played) → played.file ≡ file → IsTheGame played → text ≡ report_text played.file played.game.seats played.game.events played.end → IsGameReport file text
+game_report file text played same is text_is =
+    subst (λ (whole : List ℕ). IsGameReport whole text) same
+    (record { last = is.last; game = is.plays; is = rw (← is.game, ← is.end) text_is })

@@ -1,0 +1,15 @@
+-- What calls of a reader or a writer leave, one that fails included.
+use Rattle.std.specs.Prelude.{ℕ, ◌≤◌, ◌==◌, Bool, true, false, List, [], ◌∷◌, length, take, Option, Result, Ok, Err}
+use Rattle.std.specs.Io.KnownBytes.{Appends}
+
+-- a write of one or more bytes took none
+abbrev pub took_none : {E : Type 0} → Result ℕ E → List ℕ → Bool
+took_none (Ok count) [] = false
+took_none (Ok count) (byte ∷ bytes) = count == 0
+took_none (Err error) bytes = false
+
+-- a writer holds what it held, and a front of the text after it
+pub record AppendsFront (old new : Option (List ℕ)) (text : List ℕ) : Type 0 where
+  pub count : ℕ
+  pub within : count ≤ length text
+  pub appended : Appends old new (take count text)

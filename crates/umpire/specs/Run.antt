@@ -1,0 +1,55 @@
+-- What a run of the program leaves, by what the reader gave and what the writer held.
+use Rattle.std.specs.Prelude.{◌≡◌, ℕ, Bool, true, false, List, Option, take, IfSome, Result, Ok, Err}
+use Rattle.std.specs.Io.KnownBytes.{Appends, Keeps}
+use Rattle.report.specs.Report.{IsReport, refusal_line}
+use Rattle.sheets.specs.File.{IsAccepted, content_of}
+use Rattle.sheets.specs.declared.fault.FileFault.{FileFault}
+use Rattle.umpire.specs.Failure.{AppendsFront}
+use Rattle.umpire.specs.declared.fault.Fault.{Fault}
+use Rattle.umpire.specs.declared.fault.Fault.TheVariants.{Read, Write, Memory, File}
+
+-- as much of a file as is read: one byte more than the most that a file may have
+unfoldable pub as_read : List ℕ → List ℕ
+as_read bytes = take 4194305 bytes
+
+-- why reading stopped early: a call failed, or memory ran out
+abbrev pub IsReadFault : Bool → Fault → Type 0
+IsReadFault failed Read = failed ≡ true
+IsReadFault failed Memory = failed ≡ false
+IsReadFault failed Write = ⊥
+IsReadFault failed (File fault) = ⊥
+
+-- the file is all the bytes that the reader gives, where they are known
+abbrev pub IsFileOf : Option (List ℕ) → List ℕ → Type 0
+IsFileOf given file = IfSome given (λ bytes. file ≡ bytes)
+
+-- the file is accepted, and its report follows what the writer held
+pub record IsReported (given old new : Option (List ℕ)) : Type 0 where
+  pub file : List ℕ
+  pub text : List ℕ
+  pub whole : IsFileOf given file
+  pub accepted : IsAccepted file
+  pub report : IsReport file text
+  pub written : Appends old new text
+
+-- the file is refused, and the line that says so follows what the writer held
+pub record IsRefused (given old new : Option (List ℕ)) (fault : FileFault) : Type 0 where
+  pub file : List ℕ
+  pub whole : IsFileOf given file
+  pub refused : content_of file ≡ Err fault
+  pub written : Appends old new (refusal_line fault)
+
+-- a front of the file's report follows what the writer held
+pub record IsCutShort (given old new : Option (List ℕ)) : Type 0 where
+  pub file : List ℕ
+  pub text : List ℕ
+  pub whole : IsFileOf given file
+  pub report : IsReport file text
+  pub front : AppendsFront old new text
+
+-- what a fault leaves, where these calls of the reader and the writer have failed
+abbrev pub Stops : Option (List ℕ) → Option (List ℕ) → Option (List ℕ) → Bool → Bool → Fault → Type 0
+Stops given old new read_failed write_failed Read = (read_failed ≡ true) × Keeps old new
+Stops given old new read_failed write_failed Write = (write_failed ≡ true) × IsCutShort given old new
+Stops given old new read_failed write_failed Memory = Keeps old new
+Stops given old new read_failed write_failed (File fault) = IsRefused given old new fault
