@@ -28,12 +28,12 @@ use Rattle.tables.specs.declared.seat.Seat.{Seat}
 pub sv_price_most : (game : Game) → IsSound game → sv_price_of game.events ≤ 20
 sv_price_most game sound =
     elim sound.price [
-      inl e ↦ omega arith
-    | inr rest ↦ elim rest [
-        inl e ↦ omega arith
+      | inl e ↦ omega arith
       | inr rest ↦ elim rest [
-          inl e ↦ omega arith
-        | inr rest ↦ elim rest [ inl e ↦ omega arith | inr e ↦ omega arith ]
+        | inl e ↦ omega arith
+        | inr rest ↦ elim rest [
+          | inl e ↦ omega arith
+          | inr rest ↦ elim rest [ inl e ↦ omega arith | inr e ↦ omega arith ]
         ]
       ]
     ]
@@ -87,12 +87,12 @@ solvent_after_sale old private seat price other affordable solvent =
     let after = cash_of_at_end old.seats old.events (Sold private seat price) (party.Seat other) in
     let before = solvent other in
     elim (cases_order seat.0 other.0) [
-      inl same ↦
-        let cash : cash_of old.seats old.events (party.Seat seat) ≡ cash_of old.seats old.events (party.Seat other) = ap (λ (number : ℕ). cash_of old.seats old.events (party.Seat (record { 0 = number }))) same in
-        omega (arith, ints, pays_at_most (party.Seat other) payment)
-    | inr order ↦
-        let apart : seat.0 ≢ other.0 = omega arith in
-        omega (arith, ints, other_pays_nothing seat other party.Bank price apart)
+      | inl same ↦
+          let cash : cash_of old.seats old.events (party.Seat seat) ≡ cash_of old.seats old.events (party.Seat other) = ap (λ (number : ℕ). cash_of old.seats old.events (party.Seat (record { 0 = number }))) same in
+          omega (arith, ints, pays_at_most (party.Seat other) payment)
+      | inr order ↦
+          let apart : seat.0 ≢ other.0 = omega arith in
+          omega (arith, ints, other_pays_nothing seat other party.Bank price apart)
     ]
 
 -- a sale to a seat that has the price
@@ -114,12 +114,12 @@ solvent_after_price old price seat sound =
 fallen_price : (before after : ℕ) → after ≡ before - 5 → after ≢ 0 → (before ≡ 20) ⊎ (before ≡ 15) ⊎ (before ≡ 10) ⊎ (before ≡ 5) ⊎ (before ≡ 0) → (after ≡ 20) ⊎ (after ≡ 15) ⊎ (after ≡ 10) ⊎ (after ≡ 5) ⊎ (after ≡ 0)
 fallen_price before after fallen some price =
     elim price [
-      inl e ↦ inr (inl (omega arith))
-    | inr rest ↦ elim rest [
-        inl e ↦ inr (inr (inl (omega arith)))
+      | inl e ↦ inr (inl (omega arith))
       | inr rest ↦ elim rest [
-          inl e ↦ inr (inr (inr (inl (omega arith))))
-        | inr rest ↦ elim rest [ inl e ↦ absurd (omega arith) | inr e ↦ absurd (omega arith) ]
+        | inl e ↦ inr (inr (inl (omega arith)))
+        | inr rest ↦ elim rest [
+          | inl e ↦ inr (inr (inr (inl (omega arith))))
+          | inr rest ↦ elim rest [ inl e ↦ absurd (omega arith) | inr e ↦ absurd (omega arith) ]
         ]
       ]
     ]
@@ -139,7 +139,7 @@ pub gift_sound : (old : Game) (seat : Seat) (price : ℕ) → price ≡ 0 → Is
 gift_sound old seat price none sound =
     let priced : Game = record { seats = old.seats; events = old.events ++ Price price ∷ [] } in
     let set : sv_price_of (priced.events ++ Sold SchuylkillValley seat price ∷ []) ≡ 0 =
-      sv_price_of_before priced.events (Sold SchuylkillValley seat price) refl ∙ sv_price_of_at_end old.events (Price price) ∙ none
+    sv_price_of_before priced.events (Sold SchuylkillValley seat price) refl ∙ sv_price_of_at_end old.events (Price price) ∙ none
     in
     let solvent : (other : Seat) → pos 0 ≤ℤ cash_of priced.seats priced.events (party.Seat other) = λ other. solvent_after_price old price other sound in
     record {
@@ -178,6 +178,6 @@ obeyed_affordable seats events seat used (Ok other) private obeyed = cc
 pub still_affordable : (old new : Game) (event : Event) (seat : Seat) (price : ℕ) → new ≡ record { seats = old.seats; events = old.events ++ event ∷ [] } → payment_of event ≡ None → pos price ≤ℤ cash_of old.seats old.events (party.Seat seat) → pos price ≤ℤ cash_of new.seats new.events (party.Seat seat)
 still_affordable old new event seat price appended no_payment affordable =
     let same : cash_of new.seats new.events (party.Seat seat) ≡ cash_of old.seats old.events (party.Seat seat) =
-      ap (λ (game : Game). cash_of game.seats game.events (party.Seat seat)) appended ∙ cash_of_before old.seats old.events event (party.Seat seat) no_payment
+    ap (λ (game : Game). cash_of game.seats game.events (party.Seat seat)) appended ∙ cash_of_before old.seats old.events event (party.Seat seat) no_payment
     in
     subst (λ (cash : ℤ). pos price ≤ℤ cash) (sym same) affordable

@@ -53,9 +53,9 @@ pub turns_go_on : (seats same : ℕ) (start : InPlay) (events after : List Event
 turns_go_on seats same start events after seat left passes counted unruled new is_same unsold fewer at_left turn before last ends =
     let now : InPlay = in_play events seat passes unruled in
     let stepped : in_play after left counted new ≡ after_turn seats now =
-      ap (λ (n : ℕ). in_play after n counted new) (at_left ∙ ap (λ (n : ℕ). (left_of n (seat_at seat)).0) (sym is_same))
-      ∙ turn
-      ∙ ap (λ (n : ℕ). after_turn n now) is_same
+    ap (λ (n : ℕ). in_play after n counted new) (at_left ∙ ap (λ (n : ℕ). (left_of n (seat_at seat)).0) (sym is_same))
+    ∙ turn
+    ∙ ap (λ (n : ℕ). after_turn n now) is_same
     in
     before last (ends_later (after_turn seats) (turns_over seats) now last (going_on seats events passes unsold fewer) (subst (λ (play : InPlay). Ends (after_turn seats) (turns_over seats) play last) stepped ends))
 
@@ -80,13 +80,13 @@ turn_taken seats events seat passes unruled d new turn taker within is_seat take
     let start : InTurn = record { events = events; bought = false } in
     let here = groups_here unruled seat d within in
     let same_turn : turn ≡ after_lines seats (seat_at seat) start (next_group (groups_at (map groups_left unruled) seat)) =
-      taken
-      ∙ ap (λ (s : Seat). after_lines seats s start (next_group (groups_left (get_or unruled seat d)))) is_seat
-      ∙ ap (λ (groups : List (List Numbered)). after_lines seats (seat_at seat) start (next_group groups)) (sym here)
+    taken
+    ∙ ap (λ (s : Seat). after_lines seats s start (next_group (groups_left (get_or unruled seat d)))) is_seat
+    ∙ ap (λ (groups : List (List Numbered)). after_lines seats (seat_at seat) start (next_group groups)) (sym here)
     in
     let same_groups : map groups_left (set unruled seat new) ≡ set (map groups_left unruled) seat (drop 1 (groups_at (map groups_left unruled) seat)) =
-      map-set groups_left unruled seat new
-      ∙ ap (λ (groups : List (List Numbered)). set (map groups_left unruled) seat groups) (ap (λ (parts : Parts). parts.groups) dropped ∙ ap (λ (groups : List (List Numbered)). drop 1 groups) (sym here))
+    map-set groups_left unruled seat new
+    ∙ ap (λ (groups : List (List Numbered)). set (map groups_left unruled) seat groups) (ap (λ (parts : Parts). parts.groups) dropped ∙ ap (λ (groups : List (List Numbered)). drop 1 groups) (sym here))
     in
     ap (λ (groups : List (List (List Numbered))). played seats seat passes turn groups) same_groups
     ∙ ap (λ (turn : InTurn). turn_over seats (in_play events seat passes unruled) turn) same_turn

@@ -18,16 +18,16 @@ begun : (file : List ℕ) (round : Round) (old told ruled : Game) (first : ℕ) 
 begun file round old told ruled first unruled players is_told is_ruled groups is_first =
     let outside : ℕ → List Event = λ seats. flat_map (outside_events file round) (range_with_len 0 seats) in
     let events : ruled.events ≡ old.events ++ event.Round round ∷ outside old.seats =
-      is_ruled
-      ∙ ap (λ (game : Game). game.events ++ outside (length (players_of file))) is_told
-      ∙ append_assoc old.events (event.Round round ∷ []) (outside (length (players_of file)))
-      ∙ ap (λ (seats : ℕ). old.events ++ event.Round round ∷ outside seats) (sym players)
+    is_ruled
+    ∙ ap (λ (game : Game). game.events ++ outside (length (players_of file))) is_told
+    ∙ append_assoc old.events (event.Round round ∷ []) (outside (length (players_of file)))
+    ∙ ap (λ (seats : ℕ). old.events ++ event.Round round ∷ outside seats) (sym players)
     in
     let all : map groups_left unruled ≡ map (λ seat. (seat_parts file round seat).groups) (range_with_len 0 old.seats) =
-      groups ∙ ap (λ (seats : ℕ). map (λ seat. (seat_parts file round seat).groups) (range_with_len 0 seats)) (sym players)
+    groups ∙ ap (λ (seats : ℕ). map (λ seat. (seat_parts file round seat).groups) (range_with_len 0 seats)) (sym players)
     in
     let play : List Event → ℕ → List (List (List Numbered)) → InPlay =
-      λ events seat groups. record { events = events; seat = seat; passes = 0; groups = groups }
+    λ events seat groups. record { events = events; seat = seat; passes = 0; groups = groups }
     in
     ap (λ (events : List Event). play events first (map groups_left unruled)) events
     ∙ ap (λ (seat : ℕ). play (old.events ++ event.Round round ∷ outside old.seats) seat (map groups_left unruled)) is_first
@@ -38,9 +38,9 @@ over : (old turned ended new : Game) (left : List (List (List Numbered))) (last 
 over old turned ended new left last seats events groups ended_seats is_ended new_seats is_new =
     let game : ℕ → List Event → Game = λ seats events. record { seats = seats; events = events } in
     let list : new.events ≡ finished old.seats last =
-      is_new
-      ∙ ap (λ (events : List Event). events ++ left_from 0 left) (is_ended ∙ ap (λ (n : ℕ). closed n turned.events) seats ∙ ap (λ (events : List Event). closed old.seats events) (sym events))
-      ∙ ap (λ (groups : List (List (List Numbered))). closed old.seats last.events ++ left_from 0 groups) (sym groups)
+    is_new
+    ∙ ap (λ (events : List Event). events ++ left_from 0 left) (is_ended ∙ ap (λ (n : ℕ). closed n turned.events) seats ∙ ap (λ (events : List Event). closed old.seats events) (sym events))
+    ∙ ap (λ (groups : List (List (List Numbered))). closed old.seats last.events ++ left_from 0 groups) (sym groups)
     in
     ap (λ (n : ℕ). game n new.events) (new_seats ∙ ended_seats ∙ seats) ∙ ap (λ (events : List Event). game old.seats events) list
 
@@ -52,7 +52,7 @@ whole_round file round old told ruled turned ended new first unruled left player
     record {
       last = lead.last;
       turns =
-        subst (λ (play : InPlay). Ends (after_turn old.seats) (turns_over old.seats) play lead.last) start
-        (subst (λ (n : ℕ). Ends (after_turn n) (turns_over n) (in_play ruled.events first 0 unruled) lead.last) seats lead.turns);
+          subst (λ (play : InPlay). Ends (after_turn old.seats) (turns_over old.seats) play lead.last) start
+          (subst (λ (n : ℕ). Ends (after_turn n) (turns_over n) (in_play ruled.events first 0 unruled) lead.last) seats lead.turns);
       after = over old turned ended new (map groups_left left) lead.last (turned_seats ∙ seats) lead.events_then lead.groups_then ended_seats is_ended new_seats is_new;
     }

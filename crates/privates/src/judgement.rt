@@ -1,7 +1,7 @@
 ghost use Rattle.std.specs.Prelude.{◌≡◌};
 ghost use Rattle.privates.specs.Judgement.{is_the as is_that_private, price_of as asked_price, refusal_of};
 
-use history::{Past, Party, Refusal};
+use history::{Party, Past, Refusal};
 use tables::{Amount, Money, Private, Seat, face};
 
 /// What the bank asks for a private: SV's price may have fallen, the others' is their face.

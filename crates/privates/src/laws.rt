@@ -6,5 +6,4 @@ ghost use Rattle.tables.specs.declared.round.Round.{Round};
 /// There is one opening round: the sheets and the game before it say what the game after it is.
 pub fn one_opening_round()
     ensures { (file : List ℕ) (round : Round) (old : Game) (a : Game) (b : Game) → IsOpeningRound file round old a → IsOpeningRound file round old b → a ≡ b }
-{
-}
+{}

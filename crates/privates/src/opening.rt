@@ -88,11 +88,7 @@ fn seat_at(number: usize) -> Seat
 }
 
 /// Takes turns to the left of a seat until all privates are sold or all have passed in succession.
-fn take_turns(
-    history: &mut History,
-    first: usize,
-    unruled: &mut [Lines],
-) -> Result<(), AllocError>
+fn take_turns(history: &mut History, first: usize, unruled: &mut [Lines]) -> Result<(), AllocError>
     requires first { first < length unruled.old }
     requires few { length unruled.old ≤ 6 }
     requires seats { history.old.seats ≡ length unruled.old }

@@ -6,11 +6,7 @@ use std::alloc::AllocError;
 
 /// Adds a text at the left of a column, filled up with spaces. A wider text is printed whole.
 #[tactic(auto, unfolding(crate::specs::Column::at_left))]
-pub(crate) fn push_left(
-    out: &mut Vec<u8>,
-    text: &[u8],
-    width: usize,
-) -> Result<(), AllocError>
+pub(crate) fn push_left(out: &mut Vec<u8>, text: &[u8], width: usize) -> Result<(), AllocError>
     ensures { OnOk result (out.new.items ≡ out.old.items ++ at_left width text.now) }
 {
     out.extend_from_slice(text)?;

@@ -75,11 +75,7 @@ pub(crate) fn push_event(
 }
 
 /// Adds the name of a seat's player.
-pub(crate) fn push_name(
-    out: &mut Vec<u8>,
-    sheets: &Sheets,
-    seat: Seat,
-) -> Result<(), AllocError>
+pub(crate) fn push_name(out: &mut Vec<u8>, sheets: &Sheets, seat: Seat) -> Result<(), AllocError>
     ensures { OnOk result (out.new.items ≡ out.old.items ++ name_of sheets.now seat) }
 {
     out.extend_from_slice(name(sheets, seat))

@@ -91,11 +91,7 @@ fn push_rounds(alloc: Global, out: &mut Vec<u8>, game: &Game) -> Result<(), Allo
 }
 
 /// Adds the statement as it stood after the first events.
-fn push_statement_after(
-    out: &mut Vec<u8>,
-    game: &Game,
-    count: usize,
-) -> Result<(), AllocError>
+fn push_statement_after(out: &mut Vec<u8>, game: &Game, count: usize) -> Result<(), AllocError>
     requires seats { game.now.game.seats ≡ length (players_of game.now.file) }
     requires count { count ≤ length game.now.game.events }
     ensures { OnOk result (out.new.items ≡ out.old.items ++ statement game.now.file game.now.game.seats (take count game.now.game.events)) }

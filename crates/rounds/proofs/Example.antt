@@ -1,6 +1,5 @@
 -- The game of the small file, computed from the definitions.
-use Rattle.std.proofs.Common.{◌≡◌, ℕ, zero, suc, ◌<◌, Bool, true, false, List, [], ◌∷◌, take, refl, arith}
-use Rattle.order_grammar.specs.Line.{reading_of}
+use Rattle.std.proofs.Common.{◌≡◌, ℕ, zero, suc, ◌<◌, false, [], ◌∷◌, take, refl, arith}
 use Rattle.privates.specs.Opening.{IsOpeningRound, opened}
 use Rattle.privates.specs.Turn.{InPlay, after_turn, turns_over}
 use Rattle.rounds.specs.Example.{first_end, first_events, first_file}

@@ -10,6 +10,6 @@ returns-in_ok-append-2-clause-sound c =
 pub returns-else-price-eq0-clause-sound : goal.returns-else-price-eq0-clause-sound
 returns-else-price-eq0-clause-sound c =
     let fallen : c.saturating_sub-price.result ≡ sv_price_of c.args.history.now.events - 5 =
-      rw (c.saturating_sub-price.ensures, c.sv_price.ensures, c.now.ensures.events)
+    rw (c.saturating_sub-price.ensures, c.sv_price.ensures, c.now.ensures.events)
     in
     rw c.in_ok-append.ensures.ok (fall_sound _ _ fallen c.if-price-eq0.false c.requires)

@@ -9,11 +9,11 @@ pub loop-passes-preserved : goal.loop-passes-preserved
 loop-passes-preserved c =
     let seats = c.args.history.now.seats in
     let unsold : is_some (cheapest_of c.loop-passes.history.events) ≡ true =
-      rw (← c.now.ensures.events, ← c.cheapest_unsold.ensures, ← c.is_some.ensures) c.if-is_some.true
+    rw (← c.now.ensures.events, ← c.cheapest_unsold.ensures, ← c.is_some.ensures) c.if-is_some.true
     in
     let fewer : c.loop-passes.passes < seats = omega arith in
     let at_left : c.next_seat-seat.result ≡ (left_of seats (seat_at c.loop-passes.seat)).0 =
-      c.next_seat-seat.ensures.next ∙ ap (λ (n : ℕ). (left_of n (seat_at c.loop-passes.seat)).0) (sym c.requires.seats)
+    c.next_seat-seat.ensures.next ∙ ap (λ (n : ℕ). (left_of n (seat_at c.loop-passes.seat)).0) (sym c.requires.seats)
     in
     record {
       seat_within = search rules;
@@ -28,7 +28,7 @@ pub returns-else-is_some-clause-turns : goal.returns-else-is_some-clause-turns
 returns-else-is_some-clause-turns c =
     let seats = c.args.history.now.seats in
     let sold : is_some (cheapest_of c.loop-passes.history.events) ≡ false =
-      rw (← c.now.ensures.events, ← c.cheapest_unsold.ensures, ← c.is_some.ensures) c.if-is_some.false
+    rw (← c.now.ensures.events, ← c.cheapest_unsold.ensures, ← c.is_some.ensures) c.if-is_some.false
     in
     record {
       last = in_play c.loop-passes.history.events c.loop-passes.seat c.loop-passes.passes c.loop-passes.unruled;

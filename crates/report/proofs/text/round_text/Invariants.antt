@@ -7,6 +7,6 @@ abbrev pub invariant-loop-i : goal.invariant-loop-i
 invariant-loop-i l =
     l.out.items
     ++ (if l.begun
-        then round_lines l.game.file l.game.game.seats (take l.i l.game.game.events) (drop l.i l.game.game.events)
-        else round_text_in l.game.file l.game.game.seats l.round (take l.i l.game.game.events) (drop l.i l.game.game.events))
+    then round_lines l.game.file l.game.game.seats (take l.i l.game.game.events) (drop l.i l.game.game.events)
+    else round_text_in l.game.file l.game.game.seats l.round (take l.i l.game.game.events) (drop l.i l.game.game.events))
     ≡ round_text_in l.game.file l.game.game.seats l.round [] l.game.game.events

@@ -1,4 +1,4 @@
-use Rattle.std.proofs.Common.{◌≡◌, ℕ, ◌<◌, Bool, true, is_some, length, arith, rules}
+use Rattle.std.proofs.Common.{◌≡◌, ◌<◌, true, is_some, length, arith, rules}
 use Rattle.rounds.proofs.Posted.{posted_here, posted_rest}
 use Rattle.sheets.specs.File.{sheet_of, players_of}
 use Rattle.rounds.proofs.game.are_all_posted.Goals as goal

@@ -1,8 +1,8 @@
-use Rattle.std.proofs.Common.{◌≡◌, ℕ, ◌<◌, ◌≤◌, suc, true, false, is_none, IsSome, is_some, length, arith, rules, refl, sym, ap, ◌∙◌}
+use Rattle.std.proofs.Common.{◌≡◌, suc, true, false, is_none, is_some, length, arith, rules, ap, ◌∙◌}
 use Rattle.history.specs.LookBack.{cheapest_of}
-use Rattle.rounds.proofs.Numbers.{fewer_to_come, opening_turn, posted_small, rounds_to_come}
+use Rattle.rounds.proofs.Numbers.{fewer_to_come, posted_small}
 use Rattle.rounds.proofs.Posted.{missing_from, posted_each}
-use Rattle.rounds.specs.Sequence.{following, number_of, turn_in_set}
+use Rattle.rounds.specs.Sequence.{following}
 use Rattle.sheets.specs.File.{sheet_of, players_of}
 use Rattle.rounds.proofs.game.play.Goals as goal
 

@@ -1,4 +1,4 @@
-use Rattle.std.proofs.Common.{◌≡◌, ℕ, ◌-◌, length}
+use Rattle.std.proofs.Common.{◌≡◌, ℕ, length}
 use Rattle.history.specs.Sound.{IsSound}
 use Rattle.rounds.specs.Play.{AreRounds, before_play}
 use Rattle.rounds.proofs.Numbers.{rounds_to_come}
