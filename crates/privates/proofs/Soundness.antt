@@ -1,12 +1,12 @@
 -- An event at the end keeps a list sound.
-use Rattle.std.proofs.Common.{◌≡◌, ◌≢◌, ℕ, ◌+◌, ◌-◌, ◌≤◌, ◌⊎◌, Bool, true, false, not, T, if◌then◌else◌, List, [], ◌∷◌, ◌++◌, Option, Some, None, IsSome, is_some, Result, Ok, Err, ℤ, pos, ◌+ℤ◌, ◌-ℤ◌, ◌≤ℤ◌, inl, inr, refl, sym, ap, subst, ◌∙◌, arith}
+use Rattle.std.proofs.Common.{◌≡◌, ◌≢◌, ℕ, ◌-◌, ◌≤◌, ◌⊎◌, Bool, true, false, not, T, if◌then◌else◌, List, [], ◌∷◌, ◌++◌, Option, Some, None, IsSome, is_some, Result, Ok, Err, ℤ, pos, ◌≤ℤ◌, inl, inr, refl, sym, ap, subst, ◌∙◌, arith}
 use lib.Signed.{lt_z, lt_z_no}
 use Rattle.std.proofs.lemmas.Bool.{cases_order}
 use Rattle.std.proofs.lemmas.Bool.Decides.{nat_tests}
 use Rattle.std.proofs.lemmas.Int.{ints}
-use Rattle.history.proofs.EventAtEnd.{cash_of_at_end, cash_of_before, owner_of_at_end, owner_of_before, sv_price_of_at_end, sv_price_of_before}
+use Rattle.history.proofs.EventAtEnd.{cash_of_at_end, cash_of_before, owner_of_at_end, sv_price_of_at_end, sv_price_of_before}
 use Rattle.history.specs.Event.{payment_of, sale_of, sv_price_set}
-use Rattle.history.specs.LookBack.{Game, cash_of, cheapest_of, or_earlier, owner_by, owner_of, paid_by, paid_to, sv_price_of}
+use Rattle.history.specs.LookBack.{Game, cash_of, cheapest_of, or_earlier, owner_by, owner_of, paid_by, sv_price_of}
 use Rattle.history.specs.Sound.{IsSound}
 use Rattle.history.specs.declared.event.Event.{Event}
 use Rattle.history.specs.declared.event.Event.TheVariants.{Sold, Price, Revenue}

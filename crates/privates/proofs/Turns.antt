@@ -1,5 +1,5 @@
 -- The turns of a round, one after another, until they are over.
-use Rattle.std.proofs.Common.{◌≡◌, ℕ, zero, suc, ◌+◌, ◌-◌, ◌<◌, ◌≤◌, Bool, true, false, ◌||◌, nat_le, if◌then◌else◌, List, [], ◌∷◌, ◌++◌, length, map, drop, get_or, set, Option, Some, None, is_none, is_some, unwrap_or, slice_get, slice_set, option_map, refl, sym, subst, ap, ◌∙◌, arith}
+use Rattle.std.proofs.Common.{◌≡◌, ℕ, zero, suc, ◌+◌, ◌<◌, ◌≤◌, Bool, true, false, ◌||◌, nat_le, if◌then◌else◌, List, [], ◌∷◌, ◌++◌, length, map, drop, get_or, set, Option, Some, None, is_none, is_some, unwrap_or, option_map, refl, sym, subst, ap, ◌∙◌, arith}
 use Rattle.std.proofs.lemmas.Bool.Decides.{nat_tests}
 use Rattle.std.proofs.lemmas.List.{map-set}
 use Rattle.std.proofs.lemmas.Option.{slice_get-get_or, slice_get-map}
@@ -27,7 +27,7 @@ none_before step over a z ends (suc k) going less =
     ap over (iterate_first step k a) ∙ ends.not_before k (omega arith)
 
 -- what is not over ends where its next step ends
-ends_later : {A : Type 0} (step : A → A) (over : A → Bool) (a z : A) → over a ≡ false → Ends step over (step a) z → Ends step over a z
+pub ends_later : {A : Type 0} (step : A → A) (over : A → Bool) (a z : A) → over a ≡ false → Ends step over (step a) z → Ends step over a z
 ends_later step over a z going ends =
     record {
       steps = suc ends.steps;

@@ -1,5 +1,5 @@
 -- The rules that a purchase of a private may break, in their order, and what becomes of a line.
-use Rattle.std.specs.Prelude.{ℕ, ◌==◌, Bool, true, false, not, if◌then◌else◌, List, [], ◌∷◌, Option, Some, None, is_some, Result, Ok, Err, pos}
+use Rattle.std.specs.Prelude.{ℕ, Bool, false, not, List, [], ◌∷◌, Option, Some, None, is_some, Result, Ok, Err, pos}
 use lib.Signed.{lt_z}
 use Rattle.history.specs.LookBack.{cash_of, owner_of, sv_price_of, cheapest_of, same_private}
 use Rattle.history.specs.declared.event.Event.{Event}

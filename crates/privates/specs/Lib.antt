@@ -1,5 +1,5 @@
 pub mod Part
 pub mod Judgement
 pub mod Turn
-pub mod Opening
 pub mod Left
+pub mod Opening

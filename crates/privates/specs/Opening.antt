@@ -1,6 +1,6 @@
 -- An opening round, from a list to a list: the ROUND event, the lines before the first groups, the
 -- turns, the close where all have passed, and what was left.
-use Rattle.std.specs.Prelude.{◌≡◌, ℕ, ◌+◌, ◌-◌, ◌==◌, Bool, true, false, ◌&&◌, not, if◌then◌else◌, List, [], ◌∷◌, ◌++◌, length, map, sum_by, Option, Some, None, is_none, unwrap_or, pos}
+use Rattle.std.specs.Prelude.{◌≡◌, ℕ, ◌+◌, ◌-◌, ◌==◌, Bool, ◌&&◌, not, if◌then◌else◌, List, [], ◌∷◌, ◌++◌, length, map, sum_by, Option, Some, None, is_none, unwrap_or, pos}
 use Rattle.std.specs.List.{flat_map, range_with_len}
 use lib.Signed.{le_z}
 use Rattle.history.specs.LookBack.{Game, cash_of, owner_of, broken_in, sv_price_of, priority_of, privates}

@@ -1,6 +1,6 @@
 -- A seat's turn: the lines of its next group are ruled in order, each on the list that the one before
 -- left; without a purchase the seat passes.
-use Rattle.std.specs.Prelude.{ℕ, ◌+◌, Bool, true, false, ◌||◌, nat_le, if◌then◌else◌, List, [], ◌∷◌, ◌++◌, Option, Some, None, Result, is_none, is_some, unwrap_or, slice_get, slice_set, drop}
+use Rattle.std.specs.Prelude.{ℕ, ◌+◌, Bool, false, ◌||◌, nat_le, if◌then◌else◌, List, [], ◌∷◌, ◌++◌, Option, Some, None, Result, is_none, is_some, unwrap_or, slice_get, slice_set, drop}
 use Rattle.history.specs.LookBack.{left_of, cheapest_of}
 use Rattle.history.specs.declared.event.Event.{Event}
 use Rattle.history.specs.declared.event.Event.TheVariants.{Ruled, Passes, Sold}

@@ -1,4 +1,4 @@
-ghost use Rattle.std.specs.Prelude.{◌≡◌, ℕ, List};
+ghost use Rattle.std.specs.Prelude.{◌≡◌, ◌*◌, ◌≤◌, ℕ, List};
 ghost use Rattle.history.specs.LookBack.{Game};
 ghost use Rattle.privates.specs.Opening.{IsOpeningRound};
 ghost use Rattle.tables.specs.declared.round.Round.{Round};
@@ -6,4 +6,14 @@ ghost use Rattle.tables.specs.declared.round.Round.{Round};
 /// There is one opening round: the sheets and the game before it say what the game after it is.
 pub fn one_opening_round()
     ensures { (file : List ℕ) (round : Round) (old : Game) (a : Game) (b : Game) → IsOpeningRound file round old a → IsOpeningRound file round old b → a ≡ b }
+{}
+
+/// Each opening round ends, whatever the sheets say.
+pub fn opening_round_ends()
+    ensures { (file : List ℕ) (round : Round) (old : Game) → (new : Game) × IsOpeningRound file round old new }
+{}
+
+/// An opening round has at most six turns for each seat.
+pub fn six_turns_each()
+    ensures { (file : List ℕ) (round : Round) (old : Game) (new : Game) → (played : IsOpeningRound file round old new) → played.turns.steps ≤ 6 * old.seats }
 {}

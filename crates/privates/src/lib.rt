@@ -15,5 +15,5 @@ mod tell;
 mod turn;
 
 pub use judgement::judge;
-pub use laws::one_opening_round;
+pub use laws::{one_opening_round, opening_round_ends, six_turns_each};
 pub use opening::play_opening;

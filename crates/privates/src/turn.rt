@@ -4,7 +4,7 @@ ghost use Rattle.history.specs.Sound.{IsSound};
 ghost use Rattle.history.specs.declared.event.Event.TheVariants as event;
 ghost use Rattle.history.specs.declared.event.Party.TheVariants as party;
 ghost use Rattle.privates.specs.Judgement.{fault_outside, outside_event, purchase_ruling as ruling_of_purchase, reading_ruling, refusal_of};
-ghost use Rattle.privates.specs.Left.{groups_left, parts_left};
+ghost use Rattle.privates.specs.Left.{StandsAtGroup, groups_left, parts_left};
 ghost use Rattle.privates.specs.Part.{is_turn, reading_where};
 ghost use Rattle.privates.specs.Turn.{after_lines, after_reading, bought_by as private_bought_by, next_group};
 
@@ -76,7 +76,7 @@ pub(crate) fn take_turn(
     seat: Seat,
     lines: &mut Lines,
 ) -> Result<bool, AllocError>
-    requires head { (parts_left lines.old).before ≡ [] }
+    requires stand { StandsAtGroup lines.old }
     requires sound { IsSound history.old }
     ensures shorter { IfOk result (λ bought. bought ≡ true → length lines.new.lines < length lines.old.lines) }
     ensures no_longer { length lines.new.lines ≤ length lines.old.lines }

@@ -1,14 +1,15 @@
 ghost use Rattle.std.specs.Prelude.{◌≡◌, ◌++◌, OnOk};
 ghost use Rattle.history.specs.Event.{order_kept};
+ghost use Rattle.history.specs.declared.event.Event.TheVariants.{Left, Revenue, Ruled, Sold};
 ghost use Rattle.order_grammar.specs.Print.{spelling_of};
-ghost use Rattle.report.specs.Line.{event_line, name_of, party_text, ruling_text};
+ghost use Rattle.report.specs.Line.{event_line, event_text, name_of, party_text, ruling_text};
 
 use crate::column::push_number;
 use history::{Event, KeptOrder, Party, Ruling};
 use order_grammar::{print_line, print_round};
 use sheets::Sheets;
 use std::alloc::{AllocError, Global};
-use tables::Seat;
+use tables::{Amount, Private, Seat};
 
 /// Adds an event as its line.
 pub(crate) fn push_event(
@@ -25,33 +26,18 @@ pub(crate) fn push_event(
             print_round(out, round)?;
         }
         Event::Ruled { seat, line, ruling } => {
-            push_name(out, sheets, *seat)?;
-            out.push(b' ')?;
-            push_number(out, *line)?;
-            push_ruling(alloc, out, ruling)?;
+            push_ruled(alloc, out, sheets, *seat, *line, ruling)?;
         }
         Event::Passes(seat) => {
             push_name(out, sheets, *seat)?;
             out.extend_from_slice(b" PASSES")?;
         }
-        Event::Left { seat, lines } => {
-            out.extend_from_slice(b"LEFT ")?;
-            push_name(out, sheets, *seat)?;
-            out.push(b' ')?;
-            push_number(out, *lines)?;
-        }
+        Event::Left { seat, lines } => push_left_lines(out, sheets, *seat, *lines)?,
         Event::Sold {
             private,
             seat,
             price,
-        } => {
-            out.extend_from_slice(b"SOLD ")?;
-            out.extend_from_slice(private.code().as_bytes())?;
-            out.push(b' ')?;
-            push_name(out, sheets, *seat)?;
-            out.push(b' ')?;
-            push_number(out, *price)?;
-        }
+        } => push_sold(out, sheets, *private, *seat, *price)?,
         Event::Price { price } => {
             out.extend_from_slice(b"PRICE SV ")?;
             push_number(out, *price)?;
@@ -60,18 +46,79 @@ pub(crate) fn push_event(
             private,
             owner,
             amount,
-        } => {
-            out.extend_from_slice(b"REVENUE ")?;
-            out.extend_from_slice(private.code().as_bytes())?;
-            out.push(b' ')?;
-            push_party(out, sheets, owner)?;
-            out.push(b' ')?;
-            push_number(out, *amount)?;
-        }
+        } => push_revenue(out, sheets, *private, owner, *amount)?,
         Event::Broken => out.extend_from_slice(b"BROKEN")?,
     }
     out.push(b'\n')?;
     Ok(())
+}
+
+/// Adds what became of a line.
+fn push_ruled(
+    alloc: Global,
+    out: &mut Vec<u8>,
+    sheets: &Sheets,
+    seat: Seat,
+    line: u32,
+    ruling: &Ruling,
+) -> Result<(), AllocError>
+    ensures { OnOk result (out.new.items ≡ out.old.items ++ event_text sheets.now (Ruled seat line ruling.now)) }
+{
+    push_name(out, sheets, seat)?;
+    out.push(b' ')?;
+    push_number(out, line)?;
+    push_ruling(alloc, out, ruling)
+}
+
+/// Adds how many lines of a seat were not taken up.
+fn push_left_lines(
+    out: &mut Vec<u8>,
+    sheets: &Sheets,
+    seat: Seat,
+    lines: u32,
+) -> Result<(), AllocError>
+    ensures { OnOk result (out.new.items ≡ out.old.items ++ event_text sheets.now (Left seat lines)) }
+{
+    out.extend_from_slice(b"LEFT ")?;
+    push_name(out, sheets, seat)?;
+    out.push(b' ')?;
+    push_number(out, lines)
+}
+
+/// Adds who bought a private, and its price.
+fn push_sold(
+    out: &mut Vec<u8>,
+    sheets: &Sheets,
+    private: Private,
+    seat: Seat,
+    price: Amount,
+) -> Result<(), AllocError>
+    ensures { OnOk result (out.new.items ≡ out.old.items ++ event_text sheets.now (Sold private seat price)) }
+{
+    out.extend_from_slice(b"SOLD ")?;
+    out.extend_from_slice(private.code().as_bytes())?;
+    out.push(b' ')?;
+    push_name(out, sheets, seat)?;
+    out.push(b' ')?;
+    push_number(out, price)
+}
+
+/// Adds what a private pays, and to whom.
+fn push_revenue(
+    out: &mut Vec<u8>,
+    sheets: &Sheets,
+    private: Private,
+    owner: &Party,
+    amount: Amount,
+) -> Result<(), AllocError>
+    ensures { OnOk result (out.new.items ≡ out.old.items ++ event_text sheets.now (Revenue private owner.now amount)) }
+{
+    out.extend_from_slice(b"REVENUE ")?;
+    out.extend_from_slice(private.code().as_bytes())?;
+    out.push(b' ')?;
+    push_party(out, sheets, owner)?;
+    out.push(b' ')?;
+    push_number(out, amount)
 }
 
 /// Adds the name of a seat's player.

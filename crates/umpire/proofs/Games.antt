@@ -1,6 +1,5 @@
--- The game that is played from a file has its players at its seats, and its text is the file's report.
-use Rattle.std.proofs.Common.{◌≡◌, ℕ, zero, suc, List, length, refl, ap, sym, subst, ◌∙◌}
-use Rattle.report.specs.Report.{IsGameReport, report_text}
+-- The game that is played from a file has a seat for each of its players.
+use Rattle.std.proofs.Common.{◌≡◌, ℕ, zero, suc, List, length, ap, sym, ◌∙◌}
 use Rattle.rounds.specs.Play.{AreRounds, Between, IsTheGame, Played, before_play}
 use Rattle.sheets.specs.File.{players_of}
 
@@ -13,9 +12,3 @@ seats_kept file (suc rounds) old new (mid, before, last) =
 -- a game has a seat for each player of its file
 pub game_seats : (played : Played) → IsTheGame played → played.game.seats ≡ length (players_of played.file)
 game_seats played is = ap (λ game. game.seats) is.game ∙ seats_kept played.file is.plays.rounds (before_play played.file) is.last is.plays.reached
-
--- the text of the game of a file is its report
-pub game_report : (file text : List ℕ) (played : Played) → played.file ≡ file → IsTheGame played → text ≡ report_text played.file played.game.seats played.game.events played.end → IsGameReport file text
-game_report file text played same is text_is =
-    subst (λ (whole : List ℕ). IsGameReport whole text) same
-    (record { last = is.last; game = is.plays; is = rw (← is.game, ← is.end) text_is })

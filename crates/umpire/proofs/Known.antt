@@ -1,16 +1,9 @@
 -- The known bytes of a reader and a writer over several calls.
-use Rattle.std.proofs.Common.{◌≡◌, ℕ, ◌+◌, ◌<◌, ◌≤◌, List, [], ◌∷◌, ◌++◌, length, take, drop, refl, append_assoc, arith}
+use Rattle.std.proofs.Common.{◌≡◌, ℕ, ◌+◌, ◌≤◌, List, [], ◌++◌, length, take, drop, append_assoc, arith}
 use Rattle.std.specs.Prelude.{Option, Some, None, IfSome}
-use Rattle.std.specs.Io.KnownBytes.{Appends, Consumes, IsAtEnd, Keeps}
+use Rattle.std.specs.Io.KnownBytes.{Appends, Consumes, IsAtEnd}
 use Rattle.std.proofs.Math.Seq.{take-add}
 use Rattle.std.proofs.lemmas.Grind.{common_steps}
-
--- bytes that are taken after others are taken with them
-pub consumes_more : (old mid new : Option (List ℕ)) (xs ys : List ℕ) → Consumes old mid xs → Consumes mid new ys → Consumes old new (xs ++ ys)
-consumes_more None mid new xs ys before after = tt
-consumes_more (Some all) None new xs ys before after = elim before [ ]
-consumes_more (Some all) (Some rest) None xs ys before after = elim after [ ]
-consumes_more (Some all) (Some rest) (Some left) xs ys before after = grind (arith, append_assoc)
 
 -- bytes that are added after others are added with them
 pub appends_more : (old mid new : Option (List ℕ)) (xs ys : List ℕ) → Appends old mid xs → Appends mid new ys → Appends old new (xs ++ ys)
@@ -18,13 +11,6 @@ appends_more None mid new xs ys before after = tt
 appends_more (Some held) None new xs ys before after = elim before [ ]
 appends_more (Some held) (Some more) None xs ys before after = elim after [ ]
 appends_more (Some held) (Some more) (Some now) xs ys before after = grind (arith, append_assoc)
-
--- what is added stays added
-pub appends_kept : (old mid new : Option (List ℕ)) (xs : List ℕ) → Appends old mid xs → Keeps mid new → Appends old new xs
-appends_kept None mid new xs before after = tt
-appends_kept (Some held) None new xs before after = elim before [ ]
-appends_kept (Some held) (Some more) None xs before after = elim after [ ]
-appends_kept (Some held) (Some more) (Some now) xs before after = grind arith
 
 -- a further part of a text is added
 pub appends_part : (old mid new : Option (List ℕ)) (text rest : List ℕ) (done count : ℕ) → rest ≡ drop done text → Appends old mid (take done text) → Appends mid new (take count rest) → Appends old new (take (done + count) text)

@@ -1,5 +1,5 @@
 -- What a run of the program leaves, by what the reader gave and what the writer held.
-use Rattle.std.specs.Prelude.{◌≡◌, ℕ, Bool, true, false, List, Option, take, IfSome, Result, Ok, Err}
+use Rattle.std.specs.Prelude.{◌≡◌, ℕ, Bool, true, false, List, Option, take, IfSome, Err}
 use Rattle.std.specs.Io.KnownBytes.{Appends, Keeps}
 use Rattle.report.specs.Report.{IsReport, refusal_line}
 use Rattle.sheets.specs.File.{IsAccepted, content_of}

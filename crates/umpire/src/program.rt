@@ -24,6 +24,7 @@ pub fn run<R: Read, W: Write>(
     requires reader { reader.old.failed ≡ false }
     requires writer { writer.old.failed ≡ false }
     ensures ok { OnOk result (IsReported (R.remaining reader.old.inner) (W.contents writer.old.inner) (W.contents writer.new.inner)) }
+    ensures unfailed { OnOk result ((reader.new.failed ≡ false) × (writer.new.failed ≡ false)) }
     ensures err { IfErr result (Stops (R.remaining reader.old.inner) (W.contents writer.old.inner) (W.contents writer.new.inner) reader.new.failed writer.new.failed) }
 {
     let file = read_file(alloc, reader)?;

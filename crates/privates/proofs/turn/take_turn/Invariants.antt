@@ -1,4 +1,4 @@
-use Rattle.std.proofs.Common.{◌≡◌, ◌<◌, ◌≤◌, false, length, drop}
+use Rattle.std.proofs.Common.{◌≡◌, ◌<◌, false, length, drop}
 use Rattle.history.specs.Sound.{IsSound}
 use Rattle.privates.specs.Left.{groups_left, parts_left}
 use Rattle.privates.specs.Turn.{after_lines, next_group}

@@ -1,6 +1,5 @@
 use Rattle.std.proofs.Common.{◌≡◌, ◌++◌, ◌∷◌, [], ◌<◌, length, rules, arith}
 use Rattle.std.specs.Prelude.{unwrap_or, slice_get}
-use Rattle.std.proofs.lemmas.Grind.{common_steps}
 use Rattle.sheets.specs.File.{players_of}
 use Rattle.report.proofs.Seats.{names_step}
 use Rattle.report.proofs.text.push_header.Goals as goal

@@ -1,4 +1,3 @@
-use Rattle.std.proofs.Common.{◌≡◌}
 use Rattle.std.proofs.lemmas.Result.{err_from_is_err_and}
 use Rattle.umpire.proofs.Files.{reported, refused, cut_short, stops}
 use Rattle.umpire.proofs.program.run.Goals as goal
