@@ -1,3 +1,4 @@
+pub mod Ending
 pub mod Outside
 pub mod Revenues
 pub mod Soundness

@@ -15,5 +15,5 @@ mod tell;
 mod turn;
 
 pub use judgement::judge;
-pub use laws::one_opening_round;
+pub use laws::{a_round_ends, one_opening_round};
 pub use opening::play_opening;
