@@ -1,3 +1,4 @@
+pub mod Ending
 pub mod Posted
 pub mod Numbers
 pub mod OneGame
