@@ -1,3 +1,4 @@
+pub mod Causal
 pub mod Ending
 pub mod Posted
 pub mod Numbers
