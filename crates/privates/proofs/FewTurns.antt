@@ -6,7 +6,7 @@ use Rattle.std.proofs.lemmas.List.Sums.{sum_by-cons}
 use lib.Signed.{lt_z}
 use Rattle.history.proofs.EventAtEnd.{owner_of_at_end, owner_of_before}
 use Rattle.history.specs.Event.{sale_of}
-use Rattle.history.specs.LookBack.{cash_of, cheapest_of, first_unsold, or_earlier, owner_by, owner_of, privates}
+use Rattle.history.specs.LookBack.{Game, cash_of, cheapest_of, first_unsold, or_earlier, owner_by, owner_of, privates}
 use Rattle.history.specs.declared.event.Event.{Event}
 use Rattle.history.specs.declared.event.Event.TheVariants.{Passes, Ruled, Sold}
 use Rattle.history.specs.declared.event.Party.{Party}
@@ -21,7 +21,9 @@ use Rattle.privates.specs.Judgement.{is_the, price_of, purchase_ruling, reading_
 use Rattle.privates.specs.Part.{Numbered, standing_reading}
 use Rattle.privates.specs.Turn.{InPlay, InTurn, after_line, after_lines, after_turn, bought_by, groups_at, next_group, sales, seat_at, turn_over, turns_over}
 use Rattle.privates.proofs.Turns.{ends_here, ends_later}
+use Rattle.privates.specs.Opening.{IsOpeningRound, finished, opened}
 use Rattle.tables.specs.Steps.{iterate, Ends}
+use Rattle.tables.specs.declared.round.Round as round
 use Rattle.tables.specs.declared.roster.Private.{Private}
 use Rattle.tables.specs.declared.roster.Private.TheVariants.{SchuylkillValley, ChamplainStLawrence, DelawareHudson, MohawkHudson, CamdenAmboy, BaltimoreOhio}
 use Rattle.tables.specs.declared.seat.Seat.{Seat}
@@ -245,3 +247,9 @@ six_each seats start last ends =
 pub turns_end : (seats : ℕ) (start : InPlay) → (last : InPlay) × Ends (after_turn seats) (turns_over seats) start last
 turns_end seats start =
     an_end (after_turn seats) (turns_over seats) (turns_left seats) (turns_left seats start) start (turn_less seats) (omega arith)
+
+-- each opening round leads somewhere
+pub some_opening_round : (file : List ℕ) (round : round.Round) (old : Game) → (new : Game) × IsOpeningRound file round old new
+some_opening_round file round old =
+    let ends = turns_end old.seats (opened old.seats file round old.events) in
+    (record { seats = old.seats; events = finished old.seats ends.0 }, record { last = ends.0; turns = ends.1; after = refl })

@@ -1,3 +1,5 @@
+pub mod Causal
+pub mod Ending
 pub mod Posted
 pub mod Numbers
 pub mod OneGame

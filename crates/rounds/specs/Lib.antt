@@ -1,3 +1,4 @@
 pub mod Sequence
 pub mod Play
 pub mod Example
+pub mod Causality

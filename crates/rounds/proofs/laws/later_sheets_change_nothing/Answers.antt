@@ -1,0 +1,5 @@
+use Rattle.rounds.proofs.Causal.{later_nothing}
+use Rattle.rounds.proofs.laws.later_sheets_change_nothing.Goals as goal
+
+pub returns : goal.returns
+returns c = later_nothing
