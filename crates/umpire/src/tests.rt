@@ -2,7 +2,7 @@ use crate::{Fault, Watched, run, status, word};
 use report::round_text;
 use rounds::play;
 use sheets::{FileFault, collect};
-use std::alloc::Global;
+use std::alloc::{AllocError, Global};
 use std::io;
 use std::io::{Read, Write};
 use std::test::Fail;
@@ -239,6 +239,45 @@ fn gives_the_first_private_away(rt: HostRuntime) {
     let run = plain(rt.alloc(), GIFT);
     assert_eq!(rt; run.result, Ok(()));
     assert_eq!(rt; run.text.as_slice(), GIFT_REPORT.as_bytes());
+}
+
+/// An order file of 197 opening rounds, of which the first sells four privates.
+fn long_file(alloc: Global) -> Result<String, AllocError> {
+    let mut file = String::from_str(
+        alloc,
+        "GAME 1830 1\nPLAYERS ANN BOB CYD\nSHEET ANN PR1\nTURN\nBUY SV\nTURN\nBUY MH\nSHEET BOB PR1\nTURN\nBUY CS\nSHEET CYD PR1\nTURN\nBUY DH\n",
+    )?;
+    for round in 2..198u32 {
+        for name in ["ANN", "BOB", "CYD"] {
+            let line = format!(in alloc; "SHEET {name} PR{round}\n")?;
+            file.push_str(line.as_str())?;
+        }
+    }
+    Ok(file)
+}
+
+#[test]
+fn breaks_the_bank(rt: HostRuntime) -> Result<(), Fail> {
+    let file = long_file(rt.alloc())?;
+    let run = plain(rt.alloc(), file.as_str());
+    assert_eq!(rt; run.result, Ok(()));
+    let text = run.text.as_slice();
+    let last =
+        b"REVENUE MH ANN 20\nBROKEN\nPLAYER ANN       5595  2  0  0  0  0  0  0  0  0 SV MH\nPLAYER BOB       2730  1  0  0  0  0  0  0  0  0 CS\nPLAYER CYD       3685  1  0  0  0  0  0  0  0  0 DH\nBANK    -10\nAWAITING PR198 ANN BOB CYD\n";
+    assert!(rt; text.ends_with(last));
+    Ok(())
+}
+
+#[test]
+fn takes_the_last_sheet(rt: HostRuntime) -> Result<(), Fail> {
+    let mut file = String::from_str(rt.alloc(), FIRST)?;
+    file.push_str("SHEET ANN PR1\n")?;
+    let run = plain(rt.alloc(), file.as_str());
+    assert_eq!(rt; run.result, Ok(()));
+    let all_pass =
+        b"GAME 1830 1\nPLAYERS ANN BOB CYD\nROUND PR1\nANN PASSES\nBOB PASSES\nCYD PASSES\nPRICE SV 15\n";
+    assert!(rt; run.text.as_slice().starts_with(all_pass));
+    Ok(())
 }
 
 /// The text of one round of a file.
