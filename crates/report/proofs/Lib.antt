@@ -1,1 +1,2 @@
+pub mod OneReport
 pub mod Seats

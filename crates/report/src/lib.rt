@@ -2,12 +2,14 @@
 //! lines and the end.
 //!
 //! Reading order: `column` (numbers and names in columns), `line` (an event as a line),
-//! `statement`, `text` (`round_text`, `report`).
+//! `statement`, `text` (`round_text`, `report`), `laws`.
 #![tactic(auto)]
 
 mod column;
+mod laws;
 mod line;
 mod statement;
 mod text;
 
+pub use laws::one_report;
 pub use text::{refusal_text, report, round_text};
