@@ -97,8 +97,7 @@ pub later_nothing : (number : ℕ) (first second : List ℕ) (rounds : ℕ) (the
 later_nothing number first second zero there agree few played =
     sym (same_before first second agree.players) ∙ played
 later_nothing number first second (suc rounds) there agree few played =
-    let is_next = numbered first rounds played.0 played.1 played.2.posted in
-    (
+    let is_next = numbered first rounds played.0 played.1 played.2.posted in (
       played.0,
       later_nothing number first second rounds played.0 agree (omega arith) played.1,
       same_step number rounds first second played.0 there agree few is_next played.2,

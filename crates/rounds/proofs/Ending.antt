@@ -40,8 +40,7 @@ one_more : (file : List ℕ) (old : Between) → 0 < length (players_of file) �
 one_more file old some seats can =
     let upcoming = playable file old.next can in
     let played = some_opening_round file upcoming.0 old.game in
-    let fewer = fewer_to_come upcoming.0 (all_sold played.0.events) upcoming.2 (all_posted_small file upcoming.0 some upcoming.3) in
-    (
+    let fewer = fewer_to_come upcoming.0 (all_sold played.0.events) upcoming.2 (all_posted_small file upcoming.0 some upcoming.3) in (
       record { game = played.0; next = following upcoming.0 1 (all_sold played.0.events) false },
       record { round = upcoming.0; was_next = upcoming.1; posted = can; played = played.1; then_next = refl },
       ap (λ (game : Game). game.seats) played.1.after,

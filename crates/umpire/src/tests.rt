@@ -1,7 +1,7 @@
 use crate::{Fault, Watched, run, status, word};
 use report::round_text;
 use rounds::play;
-use sheets::{FileFault, collect};
+use sheets::{FileFault, Sheets, collect};
 use std::alloc::{AllocError, Global};
 use std::io;
 use std::io::{Read, Write};
@@ -281,18 +281,18 @@ fn takes_the_last_sheet(rt: HostRuntime) -> Result<(), Fail> {
 }
 
 /// The text of one round of a file.
-fn round_of(alloc: Global, file: &str, round: Round) -> Result<Vec<u8>, Fail> {
-    let sheets = collect(alloc, file.as_bytes())?;
-    let game = play(alloc, &sheets)?;
-    Ok(round_text(alloc, &game, round)?)
+fn round_of(alloc: Global, sheets: &Sheets, round: Round) -> Result<Vec<u8>, AllocError> {
+    let game = play(alloc, sheets)?;
+    round_text(alloc, &game, round)
 }
 
 #[test]
 fn writes_one_round(rt: HostRuntime) -> Result<(), Fail> {
-    let third = round_of(rt.alloc(), GIFT, Round::Opening(3))?;
+    let sheets = collect(rt.alloc(), GIFT.as_bytes())?;
+    let third = round_of(rt.alloc(), &sheets, Round::Opening(3))?;
     assert_eq!(rt; third.as_slice(), THIRD_ROUND.as_bytes());
     for round in [Round::Opening(5), Round::Opening(0), Round::Stock(1)] {
-        let text = round_of(rt.alloc(), GIFT, round)?;
+        let text = round_of(rt.alloc(), &sheets, round)?;
         assert!(rt; text.is_empty());
     }
     Ok(())
