@@ -8,11 +8,11 @@ ghost use Rattle.sheets.specs.declared.post.Post.{Post};
 
 use crate::begun::OpenSheet;
 use crate::fault::FileFault;
-use crate::players::seat_of;
+use crate::players::Players;
 use crate::post::Post;
 use crate::sheet::Sheet;
 use crate::text::{Piece, first_written};
-use order_grammar::{Fault, Line, Name, Order, begins_with_word, read_line};
+use order_grammar::{Fault, Line, Order, begins_with_word, read_line};
 use std::alloc::{AllocError, Global};
 use std::collections::HashMap;
 
@@ -31,7 +31,7 @@ pub(crate) struct Collection<'a> {
 /// Collects the lines after the players line.
 pub(crate) fn collect_body<'a>(
     alloc: Global,
-    players: &[Name],
+    players: &Players,
     body: &'a [u8],
 ) -> Result<Collection<'a>, FileFault>
     requires few { length players.now ≤ 6 }
@@ -60,7 +60,7 @@ impl<'a> Collection<'a> {
     /// Takes the next line, which begins a text and leaves its rest.
     fn take_line(
         &mut self,
-        players: &[Name],
+        players: &Players,
         text: &'a [u8],
         piece: Piece<'a>,
     ) -> Result<(), FileFault>
@@ -102,7 +102,7 @@ impl<'a> Collection<'a> {
     }
 
     /// Takes a SHEET line where no sheet is open.
-    fn begin(&mut self, players: &[Name], piece: Piece<'a>) -> Result<(), FileFault>
+    fn begin(&mut self, players: &Players, piece: Piece<'a>) -> Result<(), FileFault>
         requires few { length players.now ≤ 6 }
         requires short { length piece.rest.now ≤ 4194304 }
         requires none { self.old.current ≡ None }
@@ -139,7 +139,7 @@ fn is_sheet_line(line: &[u8]) -> bool
 }
 
 /// Whose sheet for which round a line begins, if it begins one.
-fn post_begun(players: &[Name], reading: &Result<Line, Fault>) -> Option<Post>
+fn post_begun(players: &Players, reading: &Result<Line, Fault>) -> Option<Post>
     requires { length players.now ≤ 6 }
     ensures { result ≡ post_begun players.now (order_of reading.now) }
 {
@@ -149,7 +149,7 @@ fn post_begun(players: &[Name], reading: &Result<Line, Fault>) -> Option<Post>
     let Order::Sheet { name, round } = &line.order else {
         return None;
     };
-    let seat = seat_of(players, name)?;
+    let seat = players.seat_of(name)?;
     Some(Post {
         seat,
         round: *round,

@@ -39,7 +39,7 @@ impl<'a> Model for Sheets<'a> {
 
     ghost view = { λ sheets. sheets.file.now };
 
-    ghost invariant = { λ sheets. IsCollected sheets.file.now sheets.players.items (get same_post sheets.sheets) sheets.unread.items };
+    ghost invariant = { λ sheets. IsCollected sheets.file.now sheets.players (get same_post sheets.sheets) sheets.unread.items };
 }
 
 impl<'a> Sheets<'a> {
@@ -74,7 +74,7 @@ impl<'a> Sheets<'a> {
     pub fn name(&self, seat: Seat) -> Option<&[u8]>
         ensures { option_map (λ name. name.now) result ≡ slice_get (players_of self.now) seat.0 }
     {
-        let name = self.players.get(usize::from(seat.0))?;
+        let name = self.players.name(seat)?;
         Some(name.text())
     }
 }
@@ -91,8 +91,8 @@ pub fn collect(alloc: Global, file: &[u8]) -> Result<Sheets<'_>, FileFault>
         return Err(FileFault::TooLong);
     }
     let after_header = skip_header(file)?;
-    let (players, body) = read_players(after_header)?;
-    let collection = collect_body(alloc, players.as_slice(), body)?;
+    let (players, body) = read_players(alloc, after_header)?;
+    let collection = collect_body(alloc, &players, body)?;
     Ok(Sheets {
         file,
         players,
@@ -134,18 +134,18 @@ fn is_header(line: &[u8]) -> bool
 }
 
 /// The players, and what follows their line.
-fn read_players(text: &[u8]) -> Result<(Players, &[u8]), FileFault>
+fn read_players(alloc: Global, text: &[u8]) -> Result<(Players, &[u8]), FileFault>
     ensures shorter { IfOk result (λ read. length read.1.now ≤ length text.now) }
-    ensures least { IfOk result (λ read. 3 ≤ length read.0.items) }
-    ensures most { IfOk result (λ read. length read.0.items ≤ 6) }
+    ensures least { IfOk result (λ read. 3 ≤ length read.0) }
+    ensures most { IfOk result (λ read. length read.0 ≤ 6) }
     ensures content { MatchResult result
-        (λ read. players_content (written_lines text.now) ≡ body_content (written_lines read.1.now) (Some read.0.items))
-        (λ fault. players_content (written_lines text.now) ≡ Err fault) }
+        (λ read. players_content (written_lines text.now) ≡ body_content (written_lines read.1.now) (Some read.0))
+        (λ fault. Fails fault (players_content (written_lines text.now))) }
 {
     let Some(piece) = first_written(text) else {
         return Err(FileFault::Players);
     };
-    match players_named(piece.line) {
+    match players_named(alloc, piece.line)? {
         Some(players) => Ok((players, piece.rest)),
         None => Err(FileFault::Players),
     }

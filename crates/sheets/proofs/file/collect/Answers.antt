@@ -1,8 +1,8 @@
-use Rattle.std.proofs.Common.{◌≡◌, ◌≤◌, ◌∙◌, Some, false, refl, ap, subst}
+use Rattle.std.proofs.Common.{◌≡◌, ◌≤◌, ◌∙◌, Some, refl, sym, subst}
 use Rattle.std.specs.HashMap.{get}
 use Rattle.std.proofs.lemmas.Result.{err_from_is_err_and}
-use Rattle.sheets.specs.File.{content_of, body_content, same_post, good_lines, sheet_in, unread_in}
-use Rattle.sheets.specs.Collecting.{StopsBy}
+use Rattle.sheets.specs.File.{content_of, body_content, same_post, good_lines}
+use Rattle.sheets.specs.Collecting.{Fails}
 use Rattle.sheets.specs.Text.{written_lines}
 use Rattle.sheets.proofs.ContentLemmas.{too_long, short_enough, few_enough, fails, fails_by, collected}
 use Rattle.sheets.proofs.file.collect.Goals as goal
@@ -19,38 +19,35 @@ pub returns-in_err-players-clause-file : goal.returns-in_err-players-clause-file
 returns-in_err-players-clause-file c =
     let p = err_from_is_err_and c.from_residual-in_err-players.result c.from_residual-in_err-players.ensures.1 in
     rw (p.1, p.2)
-    (fails _ (content_of c.args.file.now)
-    (short_enough c.args.file.now c.if-file-gt-FILE_MOST.false ∙ c.in_ok-after_header.ensures.content ∙ c.in_err-players.ensures.content))
+    (subst (Fails c.in_err-players.field-0.0)
+    (sym (short_enough c.args.file.now c.if-file-gt-FILE_MOST.false ∙ c.in_ok-after_header.ensures.content)) c.in_err-players.ensures.content)
 
 pub returns-in_err-collection-clause-file : goal.returns-in_err-collection-clause-file
 returns-in_err-collection-clause-file c =
     let p = err_from_is_err_and c.from_residual-in_err-collection.result c.from_residual-in_err-collection.ensures.1 in
-    let names = c.in_ok-players.players.items in
+    let names = c.in_ok-players.players in
     let body = written_lines c.in_ok-players.body.now in
     let content : content_of c.args.file.now ≡ body_content body (Some names) =
     short_enough c.args.file.now c.if-file-gt-FILE_MOST.false ∙ c.in_ok-after_header.ensures.content ∙ c.in_ok-players.ensures.content in
     rw (p.1, p.2) (fails_by names body _ (content_of c.args.file.now) content
-    (subst (λ ps. StopsBy (good_lines ps body) c.in_err-collection.field-0.0) c.as_slice.ensures.value c.in_err-collection.ensures.err))
+    c.in_err-collection.ensures.err)
 
 pub invariant_of-result : goal.invariant_of-result
 invariant_of-result c =
-    let names = c.in_ok-players.players.items in
+    let names = c.in_ok-players.players in
     let body = written_lines c.in_ok-players.body.now in
-    let same : c.as_slice.result.now ≡ names = c.as_slice.ensures.value in
     let kept = c.in_ok-collection.collection in
-    let few : good_lines names body ≤ 4096 = subst (λ ps. good_lines ps body ≤ 4096) same c.in_ok-collection.ensures.good in
+    let few : good_lines names body ≤ 4096 = c.in_ok-collection.ensures.good in
     let content : content_of c.args.file.now ≡ body_content body (Some names) =
     short_enough c.args.file.now c.if-file-gt-FILE_MOST.false ∙ c.in_ok-after_header.ensures.content ∙ c.in_ok-players.ensures.content in
     collected c.args.file.now names body (get same_post kept.sheets) kept.unread.items (content ∙ few_enough names body few) c.in_ok-players.ensures.least c.in_ok-players.ensures.most
-    (λ post. c.in_ok-collection.ensures.sheets post ∙ ap (λ ps. sheet_in ps body post) same)
-    (c.in_ok-collection.ensures.unread ∙ ap (λ ps. unread_in ps false body) same)
+    c.in_ok-collection.ensures.sheets c.in_ok-collection.ensures.unread
 
 pub returns-clause-accepted : goal.returns-clause-accepted
 returns-clause-accepted c =
-    let names = c.in_ok-players.players.items in
+    let names = c.in_ok-players.players in
     let body = written_lines c.in_ok-players.body.now in
-    let same : c.as_slice.result.now ≡ names = c.as_slice.ensures.value in
-    let few : good_lines names body ≤ 4096 = subst (λ ps. good_lines ps body ≤ 4096) same c.in_ok-collection.ensures.good in
+    let few : good_lines names body ≤ 4096 = c.in_ok-collection.ensures.good in
     let content : content_of c.args.file.now ≡ body_content body (Some names) =
     short_enough c.args.file.now c.if-file-gt-FILE_MOST.false ∙ c.in_ok-after_header.ensures.content ∙ c.in_ok-players.ensures.content in
     rw (content ∙ few_enough names body few) refl
