@@ -2,7 +2,7 @@ ghost use Rattle.std.specs.Prelude.{◌≡◌, ◌∷◌, ◌++◌, [], ◌+◌,
 ghost use Rattle.order_grammar.specs.Print.{text_of_round};
 ghost use Rattle.report.specs.Report.{begins_round, end_text, ends_round as ends_a_round, header, name_owing, owing, refusal_line, report_text, round_text_in, rounds_text, unread_lines};
 ghost use Rattle.report.specs.Statement.{statement};
-ghost use Rattle.sheets.specs.File.{players_of, unread_of};
+ghost use Rattle.sheets.specs.File.{unread_of};
 
 use crate::column::push_number;
 use crate::line::{push_event, push_name};
@@ -28,7 +28,6 @@ pub fn refusal_text(alloc: Global, fault: FileFault) -> Result<Vec<u8>, AllocErr
 /// The text of a round that was played: its events and the statement after them. Empty for a round
 /// that was not played.
 pub fn round_text(alloc: Global, game: &Game, round: Round) -> Result<Vec<u8>, AllocError>
-    requires { game.now.game.seats ≡ length (players_of game.now.file) }
     ensures { IfOk result (λ text. text.items ≡ round_text_in game.now.file game.now.game.seats round [] game.now.game.events) }
 {
     let mut out = Vec::new(alloc);
@@ -50,7 +49,6 @@ pub fn round_text(alloc: Global, game: &Game, round: Round) -> Result<Vec<u8>, A
 
 /// The whole report of a game.
 pub fn report(alloc: Global, game: &Game) -> Result<Vec<u8>, AllocError>
-    requires { game.now.game.seats ≡ length (players_of game.now.file) }
     ensures { IfOk result (λ text. text.items ≡ report_text game.now.file game.now.game.seats game.now.game.events game.now.end) }
 {
     let mut out = Vec::new(alloc);
@@ -76,7 +74,6 @@ fn push_header(out: &mut Vec<u8>, sheets: &Sheets) -> Result<(), AllocError>
 
 /// Adds the lines of all events, and after each round its statement.
 fn push_rounds(alloc: Global, out: &mut Vec<u8>, game: &Game) -> Result<(), AllocError>
-    requires { game.now.game.seats ≡ length (players_of game.now.file) }
     ensures { OnOk result (out.new.items ≡ out.old.items ++ rounds_text game.now.file game.now.game.seats [] game.now.game.events) }
 {
     let history = game.history();
@@ -92,8 +89,7 @@ fn push_rounds(alloc: Global, out: &mut Vec<u8>, game: &Game) -> Result<(), Allo
 
 /// Adds the statement as it stood after the first events.
 fn push_statement_after(out: &mut Vec<u8>, game: &Game, count: usize) -> Result<(), AllocError>
-    requires seats { game.now.game.seats ≡ length (players_of game.now.file) }
-    requires count { count ≤ length game.now.game.events }
+    requires { count ≤ length game.now.game.events }
     ensures { OnOk result (out.new.items ≡ out.old.items ++ statement game.now.file game.now.game.seats (take count game.now.game.events)) }
 {
     let history = game.history();

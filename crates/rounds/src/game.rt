@@ -1,4 +1,5 @@
-ghost use Rattle.std.specs.Prelude.{◌≡◌, ◌↔◌, true, IfOk, IfSome, IsSome};
+ghost use Rattle.std.specs.Prelude.{◌≡◌, ◌↔◌, true, IfOk, IfSome, IsSome, length};
+ghost use Rattle.sheets.specs.File.{players_of};
 ghost use Rattle.rounds.specs.Play.{IsTheGame, all_posted, can_play, end_of as the_end_of};
 ghost use Rattle.rounds.specs.Sequence.{is_opening};
 
@@ -28,19 +29,24 @@ pub struct Game<'a> {
     end: End,
 }
 
-/// To a contract it is its file, its events and its end.
+/// To a contract it is its file, its events and its end. It has a seat for each player of its file.
 impl<'a> Model for Game<'a> {
+    ghost use Rattle.std.specs.Prelude.{◌≡◌, length};
     ghost use Rattle.rounds.specs.Play.{Played};
+    ghost use Rattle.sheets.specs.File.{players_of};
 
     ghost Value = { Played };
 
     ghost view = { λ game. record { file = game.sheets.now; game = game.history; end = game.end } };
+
+    ghost invariant = { λ game. game.history.seats ≡ length (players_of game.sheets.now) };
 }
 
 impl<'a> Game<'a> {
     /// Its events.
     pub fn history(&self) -> &History
-        ensures { result.now ≡ self.now.game }
+        ensures events { result.now ≡ self.now.game }
+        ensures seats { self.now.game.seats ≡ length (players_of self.now.file) }
     {
         &self.history
     }
