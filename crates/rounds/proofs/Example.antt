@@ -1,10 +1,11 @@
 -- The game of the small file, computed from the definitions.
-use Rattle.std.proofs.Common.{◌≡◌, ℕ, zero, suc, ◌<◌, false, [], ◌∷◌, take, refl, arith}
+use Rattle.std.proofs.Common.{◌≡◌, ℕ, zero, suc, ◌<◌, false, [], ◌∷◌, Err, take, refl, arith}
 use Rattle.privates.specs.Opening.{IsOpeningRound, opened}
 use Rattle.privates.specs.Turn.{InPlay, after_turn, turns_over}
 use Rattle.rounds.specs.Example.{first_end, first_events, first_file}
 use Rattle.rounds.specs.Play.{Plays, before_play}
 use Rattle.sheets.specs.File.{begins, body_of, content_of, is_sheet_line, players_of, sheet_of}
+use Rattle.sheets.specs.declared.fault.FileFault.TheVariants.{Header}
 use Rattle.sheets.specs.Text.{is_blank, written_lines}
 use Rattle.tables.specs.Steps.{iterate}
 use Rattle.tables.specs.declared.round.Round.TheVariants.{Opening}
@@ -41,3 +42,8 @@ first_plays =
       reached = (before_play first_file, refl, record { round = Opening 1; was_next = refl; posted = refl; played = played; then_next = refl });
       stopped = refl;
     }
+
+-- an empty file has no header
+pub empty_refused : content_of [] ≡ Err Header
+unfolding content_of written_lines
+empty_refused = refl

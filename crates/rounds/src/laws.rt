@@ -1,9 +1,10 @@
 //! Laws of the definitions, each the contract of a function that does nothing.
-ghost use Rattle.std.specs.Prelude.{◌≡◌, ◌≤◌, ℕ, List};
+ghost use Rattle.std.specs.Prelude.{◌≡◌, ◌≤◌, ℕ, List, [], Err};
 ghost use Rattle.rounds.specs.Causality.{AgreeUpTo};
 ghost use Rattle.rounds.specs.Example.{first_end, first_file};
 ghost use Rattle.rounds.specs.Play.{AreRounds, Between, Plays, before_play};
-ghost use Rattle.sheets.specs.File.{IsAccepted};
+ghost use Rattle.sheets.specs.File.{IsAccepted, content_of};
+ghost use Rattle.sheets.specs.declared.fault.FileFault.TheVariants.{Header};
 
 /// A file has one game and no second.
 pub fn one_game()
@@ -24,4 +25,9 @@ pub fn later_sheets_change_nothing()
 /// The definitions play the small file of `specs/Example.antt` as its events say: computed from them.
 pub fn first_example()
     ensures { Plays first_file first_end }
+{}
+
+/// An empty file is refused for its header: computed from the definitions.
+pub fn empty_example()
+    ensures { content_of [] ≡ Err Header }
 {}

@@ -15,5 +15,5 @@ mod tests;
 
 pub use following::Next;
 pub use game::{End, Game, play};
-pub use laws::{first_example, later_sheets_change_nothing, one_game, some_game};
+pub use laws::{empty_example, first_example, later_sheets_change_nothing, one_game, some_game};
 pub use sequence::next;
