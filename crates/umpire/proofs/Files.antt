@@ -1,5 +1,5 @@
 -- What was read of a file says what the whole file says.
-use Rattle.std.proofs.Common.{◌≡◌, ℕ, ◌<◌, ◌≤◌, ◌⊎◌, inl, inr, Bool, true, List, length, refl, sym, subst, arith, ◌∙◌}
+use Rattle.std.proofs.Common.{◌≡◌, ℕ, ◌<◌, ◌≤◌, ◌⊎◌, inl, inr, Bool, true, false, List, length, refl, sym, subst, arith, ◌∙◌}
 use Rattle.std.specs.Prelude.{Option, Some, None, Result, Ok, Err, IfSome, IsOk}
 use Rattle.std.specs.Io.KnownBytes.{Appends}
 use Rattle.std.specs.Result.{result_err}
@@ -106,5 +106,5 @@ cut_short given old new file text read report front =
     }
 
 -- what a failed write leaves
-pub stops : (given old new : Option (List ℕ)) (read_failed write_failed : Bool) (fault : Fault) → fault ≡ Write → write_failed ≡ true → IsCutShort given old new → Stops given old new read_failed write_failed fault
-stops given old new read_failed write_failed fault is failed cut = rw is (failed, cut)
+pub stops : (given old new : Option (List ℕ)) (read_failed write_failed : Bool) (fault : Fault) → fault ≡ Write → read_failed ≡ false → write_failed ≡ true → IsCutShort given old new → Stops given old new read_failed write_failed fault
+stops given old new read_failed write_failed fault is read failed cut = rw is (read, failed, cut)

@@ -2,8 +2,10 @@
 use Rattle.std.proofs.Common.{◌≡◌, ℕ, ◌+◌, ◌≤◌, List, [], ◌++◌, length, take, drop, append_assoc, arith}
 use Rattle.std.specs.Prelude.{Option, Some, None, IfSome}
 use Rattle.std.specs.Io.KnownBytes.{Appends, Consumes, IsAtEnd}
+use Rattle.std.proofs.KnownBytes.{Consumes-trans}
 use Rattle.std.proofs.Math.Seq.{take-add}
 use Rattle.std.proofs.lemmas.Grind.{common_steps}
+use Rattle.umpire.specs.Failure.{TakesWithin}
 
 -- bytes that are added after others are added with them
 pub appends_more : (old mid new : Option (List ℕ)) (xs ys : List ℕ) → Appends old mid xs → Appends mid new ys → Appends old new (xs ++ ys)
@@ -29,3 +31,8 @@ pub enough_taken : (old new : Option (List ℕ)) (xs : List ℕ) (most : ℕ) �
 enough_taken None new xs most taken many = tt
 enough_taken (Some all) None xs most taken many = elim taken [ ]
 enough_taken (Some all) (Some rest) xs most taken many = grind (arith, common_steps)
+
+-- a piece that was taken last is within the limit
+pub within_limit : (old mid new : Option (List ℕ)) (xs ys : List ℕ) → Consumes old mid xs → Consumes mid new ys → length xs + length ys ≤ 4194305 → TakesWithin old new
+within_limit old mid new xs ys taken then_taken few =
+    record { taken = xs ++ ys; consumed = Consumes-trans old mid new xs ys taken then_taken; within = grind (arith, common_steps) }

@@ -1,6 +1,6 @@
 -- What calls of a reader or a writer leave, one that fails included.
 use Rattle.std.specs.Prelude.{ℕ, ◌≤◌, ◌==◌, Bool, false, List, [], ◌∷◌, length, take, Option, Result, Ok, Err}
-use Rattle.std.specs.Io.KnownBytes.{Appends}
+use Rattle.std.specs.Io.KnownBytes.{Appends, Consumes}
 
 -- a write of one or more bytes took none
 abbrev pub took_none : {E : Type 0} → Result ℕ E → List ℕ → Bool
@@ -13,3 +13,9 @@ pub record AppendsFront (old new : Option (List ℕ)) (text : List ℕ) : Type 0
   pub count : ℕ
   pub within : count ≤ length text
   pub appended : Appends old new (take count text)
+
+-- a reader gave no byte past the first that is over the limit of a file
+pub record TakesWithin (old new : Option (List ℕ)) : Type 0 where
+  pub taken : List ℕ
+  pub consumed : Consumes old new taken
+  pub within : length taken ≤ 4194305

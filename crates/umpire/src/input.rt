@@ -1,5 +1,6 @@
 ghost use Rattle.std.specs.Io.KnownBytes.{Consumes};
 ghost use Rattle.std.specs.Prelude.{◌≡◌, false, IfOk, IfErr, OnOk, IfSome};
+ghost use Rattle.umpire.specs.Failure.{TakesWithin};
 ghost use Rattle.umpire.specs.Run.{IsReadFault, as_read};
 
 use crate::fault::Fault;
@@ -15,6 +16,7 @@ const PIECE: usize = 65_536;
 pub(crate) fn read_file<R: Read>(alloc: Global, reader: &mut Watched<R>) -> Result<Vec<u8>, Fault>
     requires { reader.old.failed ≡ false }
     ensures file { IfOk result (λ file. IfSome (R.remaining reader.old.inner) (λ bytes. file.items ≡ as_read bytes)) }
+    ensures limit { TakesWithin (R.remaining reader.old.inner) (R.remaining reader.new.inner) }
     ensures taken { IfOk result (λ file. Consumes (R.remaining reader.old.inner) (R.remaining reader.new.inner) file.items) }
     ensures ok { OnOk result (reader.new.failed ≡ false) }
     ensures err { IfErr result (IsReadFault reader.new.failed) }

@@ -2,6 +2,7 @@ ghost use Rattle.report.specs.Report.{IsGameReport, IsReport};
 ghost use Rattle.sheets.specs.File.{content_of};
 ghost use Rattle.std.specs.Prelude.{◌≡◌, false, IfErr, IfOk, OnOk};
 ghost use Rattle.std.specs.Result.{result_err};
+ghost use Rattle.umpire.specs.Failure.{TakesWithin};
 ghost use Rattle.umpire.specs.Run.{IsReported, Stops};
 
 use crate::fault::Fault;
@@ -14,8 +15,14 @@ use sheets::{FileFault, Sheets, collect};
 use std::alloc::{AllocError, Global};
 use std::io::{Read, Write};
 
-/// Reads an order file to its end and writes its report. A refused file gives the one line that
-/// says so, and the fault `File`.
+/// Reads an order file to its end, or to the first byte past the greatest size of a file, and writes
+/// its report. What the writer then holds is what it held and, at
+///
+/// - `Ok`: the report, whole;
+/// - `File`, where the file is refused: the one line that says so, whole;
+/// - `Read`, where a read failed: nothing more;
+/// - `Write`, where a write failed or took nothing: a front of the report;
+/// - `Memory`, where memory was refused: nothing more.
 pub fn run<R: Read, W: Write>(
     alloc: Global,
     reader: &mut Watched<R>,
@@ -25,6 +32,7 @@ pub fn run<R: Read, W: Write>(
     requires writer { writer.old.failed ≡ false }
     ensures ok { OnOk result (IsReported (R.remaining reader.old.inner) (W.contents writer.old.inner) (W.contents writer.new.inner)) }
     ensures unfailed { OnOk result ((reader.new.failed ≡ false) × (writer.new.failed ≡ false)) }
+    ensures limit { TakesWithin (R.remaining reader.old.inner) (R.remaining reader.new.inner) }
     ensures err { IfErr result (Stops (R.remaining reader.old.inner) (W.contents writer.old.inner) (W.contents writer.new.inner) reader.new.failed writer.new.failed) }
 {
     let file = read_file(alloc, reader)?;

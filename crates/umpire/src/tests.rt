@@ -1,4 +1,4 @@
-use crate::{Fault, Watched, run, status, word};
+use crate::{Fault, Watched, run};
 use report::round_text;
 use rounds::play;
 use sheets::{FileFault, Sheets, collect};
@@ -123,6 +123,20 @@ impl<'a> Read for Source<'a> {
         buffer[..count].copy_from_slice(&self.text[..count]);
         self.text = &self.text[count..];
         Ok(count)
+    }
+}
+
+/// Gives bytes without an end, and counts them.
+#[derive(Drop)]
+struct Endless {
+    given: usize,
+}
+
+impl Read for Endless {
+    fn read(&mut self, buffer: &mut [u8]) -> io::Result<usize> {
+        buffer.fill(b'#');
+        self.given = self.given.saturating_add(buffer.len());
+        Ok(buffer.len())
     }
 }
 
@@ -322,6 +336,18 @@ fn refuses_a_file(rt: HostRuntime) {
 }
 
 #[test]
+fn reads_no_further_than_the_limit(rt: HostRuntime) {
+    let mut source = Endless { given: 0 };
+    let mut sink = taking(rt.alloc(), 1_000, 0, Trouble::None);
+    let mut reader = Watched::new(&mut source);
+    let mut writer = Watched::new(&mut sink);
+    let result = run(rt.alloc(), &mut reader, &mut writer);
+    assert_eq!(rt; result, Err(Fault::File(FileFault::TooLong)));
+    assert_eq!(rt; source.given, 4_194_305);
+    assert_eq!(rt; sink.text.as_slice(), b"FILE REFUSED F3\n".as_slice());
+}
+
+#[test]
 fn takes_any_pieces(rt: HostRuntime) {
     for most in [1, 2, 7, 100] {
         let sink = taking(rt.alloc(), most, 0, Trouble::None);
@@ -333,8 +359,8 @@ fn takes_any_pieces(rt: HostRuntime) {
 
 #[test]
 fn stops_at_a_failed_read(rt: HostRuntime) {
-    // The last of these calls would find the end.
-    for bad in [0, 1, 5, 85, 86] {
+    // A byte a call; the last of these calls would find the end.
+    for bad in 0..=FIRST.len() {
         let sink = taking(rt.alloc(), 7, 0, Trouble::None);
         let run = outcome_of(rt.alloc(), giving(FIRST, 1, Some(bad)), sink);
         assert_eq!(rt; run.result, Err(Fault::Read), "at {bad}");
@@ -345,35 +371,14 @@ fn stops_at_a_failed_read(rt: HostRuntime) {
 
 #[test]
 fn stops_at_a_failed_write(rt: HostRuntime) {
-    for (bad, trouble) in [
-        (0, Trouble::Fails),
-        (0, Trouble::TakesNothing),
-        (3, Trouble::Fails),
-        (9, Trouble::TakesNothing),
-    ] {
-        let sink = taking(rt.alloc(), 7, bad, trouble);
-        let run = outcome_of(rt.alloc(), giving(FIRST, 50, None), sink);
-        assert_eq!(rt; run.result, Err(Fault::Write), "at {bad}");
-        assert_eq!(rt; run.text.len(), bad * 7, "at {bad}");
-        assert!(rt;
-            FIRST_REPORT.as_bytes().starts_with(run.text.as_slice()),
-            "at {bad}"
-        );
-        assert!(rt; !run.read_failed && run.write_failed, "at {bad}");
-    }
-}
-
-#[test]
-fn ends_with_a_status_and_a_word(rt: HostRuntime) {
-    assert_eq!(rt; status(&Ok(())), 0);
-    for (fault, number, text) in [
-        (Fault::Read, 4, "Read"),
-        (Fault::Write, 4, "Write"),
-        (Fault::Memory, 4, "Memory"),
-        (Fault::File(FileFault::Header), 2, ""),
-        (Fault::File(FileFault::TooManySheets), 2, ""),
-    ] {
-        assert_eq!(rt; status(&Err(fault)), number);
-        assert_eq!(rt; word(&fault), text);
+    for bad in 0..FIRST_REPORT.len() {
+        for trouble in [Trouble::Fails, Trouble::TakesNothing] {
+            let sink = taking(rt.alloc(), 1, bad, trouble);
+            let run = outcome_of(rt.alloc(), giving(FIRST, 50, None), sink);
+            assert_eq!(rt; run.result, Err(Fault::Write), "at {bad}");
+            let written = &FIRST_REPORT.as_bytes()[..bad];
+            assert_eq!(rt; run.text.as_slice(), written, "at {bad}");
+            assert!(rt; !run.read_failed && run.write_failed, "at {bad}");
+        }
     }
 }

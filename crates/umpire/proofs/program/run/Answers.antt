@@ -8,7 +8,7 @@ returns-in_err-write_text-clause-err g c =
     let report = rw c.as_slice.ensures.value at c.in_ok-answer.ensures.text in
     let front = rw c.as_slice-2.ensures.value at c.in_err-write_text.ensures.front in
     rw (given.1, given.2)
-    (stops _ _ _ _ _ _ c.in_err-write_text.ensures.fault c.in_err-write_text.ensures.failed (cut_short _ _ _ _ _ c.in_ok-file.ensures.file report front))
+    (stops _ _ _ _ _ _ c.in_err-write_text.ensures.fault c.in_ok-file.ensures.ok c.in_err-write_text.ensures.failed (cut_short _ _ _ _ _ c.in_ok-file.ensures.file report front))
 
 pub returns-in-None-clause-ok : goal.returns-in-None-clause-ok
 returns-in-None-clause-ok g c =
@@ -22,4 +22,4 @@ returns-clause-err g c =
     let fault = rw c.as_slice.ensures.value at c.in_ok-answer.ensures.refused in
     let report = rw c.as_slice.ensures.value at c.in_ok-answer.ensures.text in
     let written = rw c.as_slice-2.ensures.value at c.in_ok-write_text.ensures.ok in
-    refused _ _ _ _ _ _ _ c.in_ok-file.ensures.file fault c.in-Some.is report written
+    (c.in_ok-file.ensures.ok, c.in_ok-write_text.ensures.unfailed, refused _ _ _ _ _ _ _ c.in_ok-file.ensures.file fault c.in-Some.is report written)
