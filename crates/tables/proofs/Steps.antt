@@ -1,5 +1,5 @@
--- What is repeated until it is over: the steps by another count, and that there is one end.
-use Rattle.std.proofs.Common.{◌≡◌, ℕ, zero, suc, ◌+◌, Bool, refl, zero-add, suc-add, ap, ◌∙◌, inl, inr}
+-- What is repeated until it is over: its first step by itself, and that there is at most one end.
+use Rattle.std.proofs.Common.{◌≡◌, ℕ, zero, suc, Bool, refl, ap, inl, inr}
 use Rattle.std.proofs.lemmas.Bool.{cases_order}
 use Rattle.tables.specs.Steps.{iterate, Ends}
 
@@ -8,12 +8,7 @@ pub iterate_first : {A : Type 0} (step : A → A) (n : ℕ) (a : A) → iterate 
 iterate_first step zero a = refl
 iterate_first step (suc n) a = ap step (iterate_first step n a)
 
--- m steps after n steps
-pub iterate_sum : {A : Type 0} (step : A → A) (m n : ℕ) (a : A) → iterate step (m + n) a ≡ iterate step m (iterate step n a)
-iterate_sum step zero n a = ap (λ count. iterate step count a) (zero-add n)
-iterate_sum step (suc m) n a = ap (λ count. iterate step count a) (suc-add m n) ∙ ap step (iterate_sum step m n a)
-
--- there is one end
+-- there is at most one end
 pub ends_once : {A : Type 0} (step : A → A) (over : A → Bool) (a y z : A) → Ends step over a y → Ends step over a z → y ≡ z
 ends_once step over a y z first second =
     elim (cases_order first.steps second.steps) [

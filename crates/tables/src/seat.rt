@@ -18,7 +18,8 @@ pub const PLAYERS_LEAST: usize = 3;
 /// The most players of a game.
 pub const PLAYERS_MOST: usize = 6;
 
-/// What each player begins with, paid by the bank: 800, 600, 480 or 400 for 3, 4, 5 or 6 players.
+/// What each player begins with, paid by the bank: 800, 600, 480 or 400 for 3, 4, 5 or 6 players, and 0
+/// for any other number, with which nobody plays.
 pub fn start_money(players: usize) -> Amount
     ensures { result ≡ start_money_of players }
 {
@@ -31,7 +32,8 @@ pub fn start_money(players: usize) -> Amount
     }
 }
 
-/// What the bank has of its 12,000 once the players have their start money.
+/// What the bank has of its 12,000 once the players have their start money: 9,600 for 3 to 6 players, and
+/// all of it for any other number.
 pub fn bank_start(players: usize) -> Amount
     ensures { result ≡ bank_start_of players }
 {

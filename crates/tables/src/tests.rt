@@ -1,4 +1,4 @@
-use crate::{Company, Private, Seat, bank_start, face, one_end, revenue, start_money};
+use crate::{Company, Private, bank_start, face, revenue, start_money};
 
 #[test]
 fn the_roster(rt: HostRuntime) {
@@ -23,7 +23,6 @@ fn the_money(rt: HostRuntime) {
     for (players, money) in [(2, 0), (3, 800), (4, 600), (5, 480), (6, 400), (7, 0)] {
         assert_eq!(rt; start_money(players), money, "at {players}");
     }
-    one_end::<Seat>();
     for (players, money) in [(2, 12_000), (3, 9_600), (6, 9_600), (7, 12_000)] {
         assert_eq!(rt; bank_start(players), money, "at {players}");
     }
