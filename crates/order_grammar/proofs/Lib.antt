@@ -7,3 +7,4 @@ pub mod LineLemmas
 pub mod SpellsLemmas
 pub mod SpellingLemmas
 pub mod ReadLemmas
+pub mod LineFaultLemmas

@@ -20,7 +20,7 @@ use Rattle.order_grammar.specs.Form.{words_reading}
 use Rattle.order_grammar.specs.Line.{reading_of}
 use Rattle.order_grammar.specs.Name.{is_name, is_capital, is_digit, is_letter_or_digit}
 use Rattle.order_grammar.specs.Print.{spaced, joined, words_of_order, spelling_of, text_of_round}
-use Rattle.order_grammar.specs.Spells.{IsNumber, IsRound, AreWordsFor, IsOpeningRound, IsOrder}
+use Rattle.order_grammar.specs.Spells.{IsNumber, IsRound, AreWordsFor, IsSmallRound, HasSmallNumbers, IsOpeningRound, IsOrder}
 use Rattle.order_grammar.specs.Words.{before, with_word, words_from, raised, words_of, is_printable}
 use Rattle.order_grammar.specs.declared.order.Order.{Order}
 use Rattle.order_grammar.specs.declared.order.Order.TheVariants.{Blank, Game, Players, Sheet, Turn, BuyPrivate}
@@ -171,7 +171,7 @@ decimal_number : (number : ℕ) → number ≤ 99999 → IsNumber (decimal numbe
 decimal_number number small =
     let long : number < 2 ^ 64 = omega arith in
     let digits = decimal_by_steps DigitsOf digits_one digits_more number long in
-    record { digits = some_digits (decimal number) (decimal_nonempty number long) digits.0; value = digits.1; small = small }
+    record { digits = some_digits (decimal number) (decimal_nonempty number long) digits.0; value = digits.1 }
 
 -- digits are plain
 plain_digits : (digits : List ℕ) → list_all is_digit digits ≡ true → list_all is_letter_or_digit digits ≡ true
@@ -266,7 +266,22 @@ order_words (Sheet name round) is = (text_of_round round, refl, is.0, round_text
 order_words Turn is = refl
 order_words (BuyPrivate p) is = (refl, is)
 
+-- a round that has a spelling has a small number
+round_small : (round : Round) → IsOpeningRound round → IsSmallRound round
+round_small (Opening number) is = is.1
+round_small (Stock number) is = absurd is
+round_small (Operating set number) is = absurd is
+
+-- an order that has a spelling has small numbers
+order_small : (order : Order) → IsOrder order → HasSmallNumbers order
+order_small Blank is = tt
+order_small (Game game version) is = is
+order_small (Players names) is = tt
+order_small (Sheet name round) is = round_small round is.1
+order_small Turn is = tt
+order_small (BuyPrivate p) is = tt
+
 -- the spelling of an order is read as it
 pub spelling_read : (order : Order) → IsOrder order → reading_of (spelling_of order) ≡ Ok order
 spelling_read order is =
-    reading_of-joined (words_of_order order) (order_plain order is) (order_few order is) ∙ words_for_read (words_of_order order) order (order_words order is)
+    reading_of-joined (words_of_order order) (order_plain order is) (order_few order is) ∙ words_for_read (words_of_order order) order (order_words order is) (order_small order is)

@@ -9,3 +9,4 @@ pub mod Row
 pub mod Print
 pub mod Fault
 pub mod Spells
+pub mod LineFault

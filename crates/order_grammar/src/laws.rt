@@ -1,8 +1,10 @@
 //! Laws of the definitions, each the contract of a function that does nothing.
-ghost use Rattle.std.specs.Prelude.{◌≡◌, ◌↔◌, List, Ok, ℕ};
+ghost use Rattle.std.specs.Prelude.{◌≡◌, ◌↔◌, Err, List, Ok, ℕ};
 ghost use Rattle.order_grammar.specs.Line.{reading_of};
+ghost use Rattle.order_grammar.specs.LineFault.{IsFaultOf};
 ghost use Rattle.order_grammar.specs.Print.{spelling_of};
 ghost use Rattle.order_grammar.specs.Spells.{IsOrder, Spells};
+ghost use Rattle.order_grammar.specs.declared.fault.Fault.{Fault};
 ghost use Rattle.order_grammar.specs.declared.order.Order.{Order};
 
 /// What is printed of an order is read as that order.
@@ -13,4 +15,9 @@ pub fn spelling_is_read_again()
 /// A line is read as an order exactly where it spells that order.
 pub fn read_where_spelt()
     ensures { (line : List ℕ) (order : Order) → (reading_of line ≡ Ok order) ↔ Spells line order }
+{}
+
+/// A line is read as a fault exactly where it has that fault: the first of five that applies.
+pub fn faulty_where_it_has_one()
+    ensures { (line : List ℕ) (fault : Fault) → (reading_of line ≡ Err fault) ↔ IsFaultOf line fault }
 {}

@@ -20,7 +20,7 @@ mod read;
 mod words;
 
 pub use fault::Fault;
-pub use laws::{read_where_spelt, spelling_is_read_again};
+pub use laws::{faulty_where_it_has_one, read_where_spelt, spelling_is_read_again};
 pub use name::{NAME_MOST, Name};
 pub use order::Order;
 pub use print::{print_line, print_name, print_round};
