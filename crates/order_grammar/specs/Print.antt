@@ -1,5 +1,5 @@
 -- The one spelling of an order: upper case, single spaces, no leading zeros.
-use Rattle.std.specs.Prelude.{ℕ, List, [], ◌∷◌, ◌++◌, codes, decimal}
+use Rattle.std.specs.Prelude.{◌≡◌, ℕ, List, [], ◌∷◌, ◌++◌, codes, decimal}
 use Rattle.std.specs.List.{flat_map}
 use Rattle.tables.specs.Roster.{code_of_private}
 use Rattle.tables.specs.declared.round.Round.{Round}
@@ -34,3 +34,10 @@ words_of_order (BuyPrivate private) = codes "BUY" ∷ code_of_private private �
 -- its spelling
 abbrev pub spelling_of : Order → List ℕ
 spelling_of order = joined (words_of_order order)
+
+-- what was there, and after it a front of the text
+pub record AddsFront (old new text : List ℕ) : Type 0 where
+  pub front : List ℕ
+  pub rest : List ℕ
+  pub added : new ≡ old ++ front
+  pub whole : text ≡ front ++ rest

@@ -1,5 +1,5 @@
-ghost use Rattle.std.specs.Prelude.{◌≡◌, ◌++◌, IfOk, OnOk, codes, decimal};
-ghost use Rattle.order_grammar.specs.Print.{spaced, spelling_of, text_of_round};
+ghost use Rattle.std.specs.Prelude.{◌≡◌, ◌++◌, IfOk, OnErr, OnOk, codes, decimal};
+ghost use Rattle.order_grammar.specs.Print.{AddsFront, spaced, spelling_of, text_of_round};
 
 use crate::name::Name;
 use crate::order::Order;
@@ -54,16 +54,18 @@ fn print_players(text: &mut Vec<u8>, names: &[Name]) -> Result<(), AllocError>
     Ok(())
 }
 
-/// Adds a name.
+/// Adds a name. At want of memory the text is as it was.
 pub fn print_name(text: &mut Vec<u8>, name: &Name) -> Result<(), AllocError>
-    ensures { OnOk result (text.new.items ≡ text.old.items ++ name.now) }
+    ensures ok { OnOk result (text.new.items ≡ text.old.items ++ name.now) }
+    ensures err { OnErr result (text.new.items ≡ text.old.items) }
 {
     text.extend_from_slice(name.text())
 }
 
-/// Adds a round: `PR1`, `SR1` or `OR1.1`.
+/// Adds a round: `PR1`, `SR1` or `OR1.1`. At want of memory a front of that may have been added.
 pub fn print_round(text: &mut Vec<u8>, round: &Round) -> Result<(), AllocError>
-    ensures { OnOk result (text.new.items ≡ text.old.items ++ text_of_round round.now) }
+    ensures ok { OnOk result (text.new.items ≡ text.old.items ++ text_of_round round.now) }
+    ensures err { OnErr result (AddsFront text.old.items text.new.items (text_of_round round.now)) }
 {
     match round {
         Round::Opening(number) => {
@@ -84,7 +86,8 @@ pub fn print_round(text: &mut Vec<u8>, round: &Round) -> Result<(), AllocError>
 }
 
 fn print_number(text: &mut Vec<u8>, number: u32) -> Result<(), AllocError>
-    ensures { OnOk result (text.new.items ≡ text.old.items ++ decimal number) }
+    ensures ok { OnOk result (text.new.items ≡ text.old.items ++ decimal number) }
+    ensures err { OnErr result (text.new.items ≡ text.old.items) }
 {
     let mut buffer = itoa::Buffer::new();
     text.extend_from_slice(buffer.format(number).as_bytes())
