@@ -7,7 +7,7 @@ use Rattle.std.proofs.lemmas.List.Folds.{list_all_at}
 use Rattle.order_grammar.specs.Class.{class_reading}
 use Rattle.order_grammar.specs.Form.{Row, row, forms, with_value, values_reading, nearness, nearer, order_of_values, row_reading, words_reading}
 use Rattle.order_grammar.specs.Line.{reading_of}
-use Rattle.order_grammar.specs.LineFault.{IsTooLong, HasStrayByte, first_words, BeginsNoForm, HasUnknownWord, IsLooselySpelt, IsSpelt, IsFaultOf}
+use Rattle.order_grammar.specs.LineFault.{IsTooLong, HasStrayByte, first_words_of_forms, BeginsNoForm, HasUnknownWord, IsLooselySpelt, IsSpelt, IsFaultOf}
 use Rattle.order_grammar.specs.Order.{order_from}
 use Rattle.order_grammar.specs.Spells.{AreWordsFor, HasSmallNumbers, LooselySpells, Spells}
 use Rattle.order_grammar.specs.Words.{same_word, before_comment, is_printable, words_of}
@@ -70,6 +70,7 @@ found_near k made =
       | None ↦ lit≤ tt
     ]
 
+-- one more word in front of what is no unknown word
 with_value-near : (k : OrderKind) (first : Reading) (rest : Result (List values.Value) Fault) → 1 ≤ nearness (order_of_values k rest) → 1 ≤ nearness (order_of_values k (with_value first rest))
 with_value-near k Wrong rest near = lit≤ tt
 with_value-near k TooLarge (Ok made) near = lit≤ tt
@@ -109,8 +110,8 @@ abbrev IsKnown : List ℕ → Type 0
 IsKnown first = (rest : List (List ℕ)) → 1 ≤ nearness (words_reading (first ∷ rest))
 
 -- a word that a form begins with is known
-known_word : (first : List ℕ) → Contains first_words first → IsKnown first
-known_word first among = All-contains IsKnown first_words first (All-from_recursion IsKnown first_words (
+known_word : (first : List ℕ) → Contains first_words_of_forms first → IsKnown first
+known_word first among = All-contains IsKnown first_words_of_forms first (All-from_recursion IsKnown first_words_of_forms (
     (λ rest. begun_near kind.Game (codes "GAME") (class.Number ∷ class.Number ∷ []) (drop 1 forms) rest refl),
     ((λ rest. begun_near kind.Players (codes "PLAYERS") (class.Name ∷ class.Name ∷ class.Name ∷ []) (drop 2 forms) rest refl),
     ((λ rest. begun_near kind.Sheet (codes "SHEET") (class.Name ∷ class.Round ∷ []) (drop 6 forms) rest refl),
@@ -148,6 +149,7 @@ no_form_read (first ∷ rest) none =
 abbrev IsOfWords : Result Order Fault → Type 0
 IsOfWords reading = (reading ≡ Err UnknownWord) ⊎ (1 ≤ nearness reading)
 
+-- by a row
 row_of_words : (row : Row) (first : List ℕ) (rest : List (List ℕ)) → IsOfWords (row_reading row first rest)
 row_of_words row first rest =
     elim (cases_Bool (same_word first row.first)) [
@@ -155,6 +157,7 @@ row_of_words row first rest =
       | inr other ↦ inl (rw other refl)
     ]
 
+-- by some rows
 rows_of_words : (rows : List Row) (first : List ℕ) (rest : List (List ℕ)) (start : Result Order Fault) → IsOfWords start → IsOfWords (fold (with_row first rest) start rows)
 rows_of_words [] first rest start h = h
 rows_of_words (row ∷ rows) first rest start h =
@@ -165,6 +168,7 @@ rows_of_words (row ∷ rows) first rest start h =
     ] in
     rows_of_words rows first rest (nearer start (row_reading row first rest)) next
 
+-- by the forms
 reading_of_words : (words : List (List ℕ)) → IsOfWords (words_reading words)
 reading_of_words [] = inr (lit≤ tt)
 reading_of_words (first ∷ rest) = rows_of_words forms first rest (Err UnknownWord) (inl refl)

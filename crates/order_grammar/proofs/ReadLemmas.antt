@@ -76,6 +76,7 @@ record FitsLoosely (row : Row) (first : List ℕ) (rest : List (List ℕ)) : Typ
   word : first ≡ row.first
   loose : AreLoose (values_reading row.classes rest)
 
+-- a fault that is near is a number that is too large
 loose_fault : (fault : Fault) → IsNear (Err fault) → AreLoose (Err fault)
 loose_fault NumberTooLarge near = tt
 loose_fault WrongWords near = absurd (omega arith)
@@ -86,6 +87,7 @@ loose_values : (k : kinds.OrderKind) (read : Result (List values.Value) Fault) �
 loose_values k (Ok made) near = tt
 loose_values k (Err fault) near = loose_fault fault near
 
+-- a row by which words are near
 loose_row : (row : Row) (first : List ℕ) (rest : List (List ℕ)) → IsNear (row_reading row first rest) → FitsLoosely row first rest
 loose_row row first rest near =
     elim (cases_Bool (same_word first row.first)) [
@@ -258,6 +260,7 @@ near_words (first ∷ rest) near =
 small_number : (number : ℕ) → (number ≤ 99999) ⊎ (number ≤ 99999 → ⊥)
 small_number number = elim (cases_lt 99999 number) [ inl large ↦ inr (λ small. omega arith) | inr small ↦ inl small ]
 
+-- so is that of a round
 small_round : (round : Round) → IsSmallRound round ⊎ (IsSmallRound round → ⊥)
 small_round (Opening number) = small_number number
 small_round (Stock number) = small_number number

@@ -50,7 +50,7 @@ number_read stands_for text number is small =
     let digits : are_digits text ≡ true = is.digits in
     rw (digits, test, is.value) refl
 
--- one that is too large
+-- one that is too large is read as that
 number_too_large : (stands_for : ℕ → values.Value) (text : List ℕ) (number : ℕ) → IsNumber text number → 99999 < number → digits_reading stands_for text ≡ TooLarge
 number_too_large stands_for text number is large =
     let test : leb (value_of_digits text) 99999 ≡ false = lt-leb (value_of_digits text) 99999 (omega (arith, is.value)) in
@@ -71,7 +71,7 @@ round_read text (Opening number) is small =
 round_read text (Stock number) is small = absurd is
 round_read text (Operating set number) is small = absurd is
 
--- one whose number is too large
+-- one whose number is too large is read as that
 round_too_large : (text : List ℕ) (round : Round) → IsRound text round → (IsSmallRound round → ⊥) → round_reading text ≡ TooLarge
 round_too_large text (Opening number) is large =
     ap round_reading is.1 ∙ round_digits_read is.0 number is.2 is.3 ∙ number_too_large (λ n. value.Round (Opening n)) is.0 number is.3 (omega arith)
@@ -90,7 +90,7 @@ names_read (name ∷ names) all =
     rw (parts.0, names_read names parts.1) refl
 
 -- and are the names of the players
-pub names_from_read : (names : List (List ℕ)) → names_from (map value.Name names) ≡ Some names
+names_from_read : (names : List (List ℕ)) → names_from (map value.Name names) ≡ Some names
 names_from_read [] = refl
 names_from_read (name ∷ names) = rw (names_from_read names) refl
 

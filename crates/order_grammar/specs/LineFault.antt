@@ -14,15 +14,16 @@ IsTooLong line = 1024 < length line
 abbrev pub HasStrayByte : List ℕ → Type 0
 HasStrayByte line = Any (λ byte. ¬ IsTrue (is_printable byte)) (before_comment line)
 
--- the words that a form begins with
-abbrev pub first_words : List (List ℕ)
-first_words = codes "GAME" ∷ codes "PLAYERS" ∷ codes "SHEET" ∷ codes "TURN" ∷ codes "BUY" ∷ []
+-- the words that forms begin with
+abbrev pub first_words_of_forms : List (List ℕ)
+first_words_of_forms = codes "GAME" ∷ codes "PLAYERS" ∷ codes "SHEET" ∷ codes "TURN" ∷ codes "BUY" ∷ []
 
 -- there is a first word, and no form begins with it
 abbrev pub BeginsNoForm : List (List ℕ) → Type 0
 BeginsNoForm [] = ⊥
-BeginsNoForm (first ∷ rest) = ¬ Contains first_words first
+BeginsNoForm (first ∷ rest) = ¬ Contains first_words_of_forms first
 
+-- the line's first word is of no form
 abbrev pub HasUnknownWord : List ℕ → Type 0
 HasUnknownWord line = BeginsNoForm (words_of line)
 
