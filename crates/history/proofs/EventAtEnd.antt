@@ -1,14 +1,13 @@
 -- What a list of events says once one more event stands at its end: what that event says, and what
 -- the list said before.
-use Rattle.std.proofs.Common.{◌≡◌, ℕ, ◌+◌, List, [], ◌∷◌, ◌++◌, Bool, true, false, ◌||◌, Option, Some, None, pos, ◌-ℤ◌, ◌+ℤ◌, unwrap_or, refl, ap, ◌∙◌, sym, arith}
+use Rattle.std.proofs.Common.{◌≡◌, ℕ, ◌+◌, List, [], ◌∷◌, ◌++◌, Option, Some, None, pos, ◌-ℤ◌, ◌+ℤ◌, unwrap_or, refl, ap, ◌∙◌, sym, arith}
 use Rattle.std.proofs.lemmas.Int.{ints}
-use Rattle.std.proofs.lemmas.List.Folds.{list_any-append}
 use Rattle.std.proofs.lemmas.List.Sums.{sum_by_push}
 use Rattle.tables.specs.Roster.{face_of}
 use Rattle.tables.specs.declared.roster.Private.{Private}
 use Rattle.tables.specs.declared.roster.Private.TheVariants.{SchuylkillValley}
-use Rattle.history.specs.Event.{payment_of, sale_of, sv_price_set, buyer_of, tells_broken}
-use Rattle.history.specs.LookBack.{or_earlier, last_said, paid_to, paid_by, came_in, went_out, cash_of, owner_by, owner_of, sv_price_of, broken_in, left_of_buyer, priority_of}
+use Rattle.history.specs.Event.{payment_of, sale_of, sv_price_set}
+use Rattle.history.specs.LookBack.{or_earlier, last_said, paid_to, paid_by, came_in, went_out, cash_of, owner_by, owner_of, sv_price_of}
 use Rattle.history.specs.declared.event.Event.{Event}
 use Rattle.history.specs.declared.event.Party.{Party}
 
@@ -26,11 +25,6 @@ or_earlier_assoc None b c = refl
 unwrap_or_earlier : {A : Type 0} (a b : Option A) (default : A) → unwrap_or (or_earlier a b) default ≡ unwrap_or a (unwrap_or b default)
 unwrap_or_earlier (Some a) b default = refl
 unwrap_or_earlier None b default = refl
-
--- nothing else is false
-or_false : (a b : Bool) → b ≡ false → (a || b) ≡ a
-or_false true b silent = refl
-or_false false b silent = silent
 
 -- what was said last: what the event at the end says, or else what was said before it
 pub last_said_at_end : {A : Type 0} (says : Event → Option A) (events : List Event) (event : Event) → last_said says (events ++ event ∷ []) ≡ or_earlier (says event) (last_said says events)
@@ -93,22 +87,3 @@ sv_price_of_at_end events event =
 pub sv_price_of_before : (events : List Event) (event : Event) → sv_price_set event ≡ None → sv_price_of (events ++ event ∷ []) ≡ sv_price_of events
 sv_price_of_before events event none =
     sv_price_of_at_end events event ∙ ap (λ price. unwrap_or price (sv_price_of events)) none
-
--- the bank is broken: it was, or the event tells so
-pub broken_in_at_end : (events : List Event) (event : Event) → broken_in (events ++ event ∷ []) ≡ (broken_in events || tells_broken event)
-broken_in_at_end events event =
-    list_any-append tells_broken events (event ∷ []) ∙ ap (λ told. broken_in events || told) (grind arith)
-
--- an event that does not tell of it leaves the bank as it was
-pub broken_in_before : (events : List Event) (event : Event) → tells_broken event ≡ false → broken_in (events ++ event ∷ []) ≡ broken_in events
-broken_in_before events event silent =
-    broken_in_at_end events event ∙ or_false (broken_in events) (tells_broken event) silent
-
--- priority: at the left of the seat that bought by the event, or else where it was
-pub priority_of_at_end : (seats : ℕ) (events : List Event) (event : Event) → priority_of seats (events ++ event ∷ []) ≡ left_of_buyer seats (or_earlier (buyer_of event) (last_said buyer_of events))
-priority_of_at_end seats events event = ap (left_of_buyer seats) (last_said_at_end buyer_of events event)
-
--- where nobody bought, priority stays
-pub priority_of_before : (seats : ℕ) (events : List Event) (event : Event) → buyer_of event ≡ None → priority_of seats (events ++ event ∷ []) ≡ priority_of seats events
-priority_of_before seats events event none =
-    priority_of_at_end seats events event ∙ ap (λ buyer. left_of_buyer seats (or_earlier buyer (last_said buyer_of events))) none

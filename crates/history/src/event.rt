@@ -10,7 +10,9 @@ pub const SUM_MOST: Amount = 1_000_000;
 /// Who can hold money.
 #[derive(Clone, Copy, Debug, PartialEq, Eq)]
 pub enum Party {
+    /// The bank, whose cash may go under 0.
     Bank,
+    /// The player of a seat.
     Seat(Seat),
 }
 
@@ -58,15 +60,20 @@ const _: () = prove!(size_of::<Event>() <= 16);
 /// Money that an event moves.
 #[derive(Clone, Copy, Debug, PartialEq, Eq)]
 pub struct Payment {
+    /// Who pays.
     pub from: Party,
+    /// Who is paid.
     pub to: Party,
+    /// How many dollars.
     pub amount: Amount,
 }
 
 /// A private that an event gives to an owner.
 #[derive(Clone, Copy, Debug, PartialEq, Eq)]
 pub struct Sale {
+    /// What is given.
     pub private: Private,
+    /// Who owns it from then on.
     pub owner: Party,
 }
 

@@ -1,6 +1,7 @@
 ghost use Rattle.std.specs.Prelude.{◌≡◌, ◌↔◌, ◌≤◌, IsTrue, OnOk, OnErr, pos, [], ◌∷◌, ◌++◌};
 ghost use Rattle.history.specs.Event.{sum_of};
 ghost use Rattle.history.specs.LookBack.{broken_in, cash_of, owner_of, sv_price_of};
+ghost use Rattle.history.specs.Sound.{IsSound};
 
 use crate::event::{Event, Party, SUM_MOST};
 use crate::look_back::Past;
@@ -30,7 +31,8 @@ impl Model for History {
 impl History {
     /// A game of so many seats in which nothing has happened.
     pub fn start(alloc: Global, seats: usize) -> History
-        ensures { result ≡ record { seats = seats; events = [] } }
+        ensures empty { result ≡ record { seats = seats; events = [] } }
+        ensures sound { IsSound result }
     {
         History {
             seats,
@@ -94,7 +96,8 @@ impl History {
         self.now().owner(private)
     }
 
-    /// The price of SV, at first its face.
+    /// The price of SV, at first its face. It comes as `Money`, like a cash that it is compared with;
+    /// `Past::sv_price` gives the same price as the `Amount` that a payment names.
     pub fn sv_price(&self) -> Money
         ensures { result ≡ pos (sv_price_of self.now.events) }
     {

@@ -8,7 +8,9 @@ use tables::{Amount, Money, Private, Seat, bank_start, face, start_money};
 /// A list of events with the number of seats: a game as it stood after them.
 #[derive(Clone, Copy, Debug)]
 pub struct Past<'a> {
+    /// How many seats there are.
     pub seats: usize,
+    /// What had happened, oldest first.
     pub events: &'a [Event],
 }
 
@@ -44,7 +46,7 @@ impl Past<'_> {
         None
     }
 
-    /// The price of SV, at first its face.
+    /// The price of SV in dollars, at first its face.
     pub fn sv_price(&self) -> Amount
         ensures { result ≡ sv_price_of self.now.events.now }
     {

@@ -34,6 +34,7 @@ impl Refusal {
 /// An order as a ruling keeps it: the orders that a rule of play may obey or refuse, in few bytes.
 #[derive(Clone, Copy, Debug, PartialEq, Eq)]
 pub enum KeptOrder {
+    /// To buy this private from the bank.
     BuyPrivate(Private),
 }
 
