@@ -1,6 +1,6 @@
 ghost use Rattle.std.specs.Prelude.{◌≡◌, false, is_some, slice_index_or};
 ghost use Rattle.history.specs.Event.{sale_of};
-ghost use Rattle.history.specs.LookBack.{broken_in, cash_of, cheapest_of, left_of, owner_by, owner_of, place_of, priority_of, same_party, same_private, start_of, sv_price_of};
+ghost use Rattle.history.specs.LookBack.{broken_in, cash_of, cheapest_of, left_of, owner_by, owner_of, place_of, priority_of, start_of, sv_price_of};
 
 use crate::event::{Event, Party};
 use tables::{Amount, Money, Private, Seat, bank_start, face, start_money};
@@ -23,10 +23,10 @@ impl Past<'_> {
         let mut went_out = 0;
         for event in self.events {
             if let Some(payment) = event.payment() {
-                if same_party(payment.to, party) {
+                if payment.to == party {
                     came_in += Money::from(payment.amount);
                 }
-                if same_party(payment.from, party) {
+                if payment.from == party {
                     went_out += Money::from(payment.amount);
                 }
             }
@@ -112,7 +112,7 @@ fn owner_by(event: &Event, private: Private) -> Option<Party>
     ensures { result ≡ owner_by private (sale_of event.now) }
 {
     match event.sale() {
-        Some(sale) if same_private(sale.private, private) => Some(sale.owner),
+        Some(sale) if sale.private == private => Some(sale.owner),
         _ => None,
     }
 }
@@ -136,22 +136,6 @@ fn start_of(seats: usize, party: Party) -> Amount
         Party::Bank => bank_start(seats),
         Party::Seat(_) => start_money(seats),
     }
-}
-
-fn same_party(a: Party, b: Party) -> bool
-    ensures { result ≡ same_party a b }
-{
-    match (a, b) {
-        (Party::Bank, Party::Bank) => true,
-        (Party::Seat(a), Party::Seat(b)) => a.0 == b.0,
-        _ => false,
-    }
-}
-
-fn same_private(a: Private, b: Private) -> bool
-    ensures { result ≡ same_private a b }
-{
-    place_of(a) == place_of(b)
 }
 
 /// The place of a private in the roster.

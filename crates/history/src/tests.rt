@@ -129,9 +129,3 @@ fn append_takes_a_sum_of_a_million(rt: HostRuntime) -> Result<(), AllocError> {
     assert!(rt; !history.broken());
     Ok(())
 }
-
-#[test]
-fn words(rt: HostRuntime) {
-    assert_eq!(rt; crate::Refusal::NotCheapest.code(), "A3");
-    assert!(rt; KeptOrder::BuyPrivate(SV).order() == order_grammar::Order::BuyPrivate(SV));
-}
