@@ -1,3 +1,4 @@
+-- What a game is, by its events: each event, what a list of them says, and when that is sound.
 pub mod Event
 pub mod LookBack
 pub mod Sound

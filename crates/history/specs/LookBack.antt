@@ -43,22 +43,25 @@ place_of MohawkHudson = 3
 place_of CamdenAmboy = 4
 place_of BaltimoreOhio = 5
 
+-- two privates are the same
 abbrev pub same_private : Private → Private → Bool
 same_private a b = place_of a == place_of b
 
--- what a payment brings to a party, and what it takes from one
+-- what a payment brings to a party
 abbrev pub paid_to : Party → Option Payment → ℕ
 paid_to party None = 0
 paid_to party (Some payment) = if same_party payment.to party then payment.amount else 0
 
+-- what a payment takes from a party
 abbrev pub paid_by : Party → Option Payment → ℕ
 paid_by party None = 0
 paid_by party (Some payment) = if same_party payment.from party then payment.amount else 0
 
--- all that came in, and all that went out
+-- all that came in to a party
 abbrev pub came_in : List Event → Party → ℕ
 came_in events party = sum_by (λ event. paid_to party (payment_of event)) events
 
+-- all that went out from a party
 abbrev pub went_out : List Event → Party → ℕ
 went_out events party = sum_by (λ event. paid_by party (payment_of event)) events
 

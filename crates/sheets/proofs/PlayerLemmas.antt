@@ -1,5 +1,6 @@
 -- Names of players, and their seats.
 use Rattle.std.proofs.Common.{◌≡◌, ℕ, suc, ◌+◌, ◌-◌, ◌<◌, Bool, true, false, not, ◌&&◌, ◌||◌, cond, List, [], ◌∷◌, ◌++◌, length, take, drop, get_or, Option, Some, None, refl, sym, ap, subst, ◌∙◌, true≢false, add-one, drop-cons}
+use Rattle.std.proofs.lemmas.Bool.{and_parts, and_from}
 use Rattle.std.proofs.lemmas.Bool.Decides.{same_from_decides, Decides-eqb}
 use Rattle.std.proofs.lemmas.Iterator.Adapters.{position_from-zero}
 use Rattle.std.proofs.lemmas.List.{take-append-drop}
@@ -21,10 +22,11 @@ use Rattle.tables.specs.declared.seat.Seat.{Seat}
 abbrev pub is_equal : List ℕ → List ℕ → Bool
 is_equal a b = derived.eq-value.it a b
 
--- the test goes by the letters, with the room behind them, and by how many there are
+-- the letters of a name, with the room behind them
 filled : List ℕ → List ℕ
 filled a = a ++ replicate (8 - length a) 0
 
+-- the derived test goes by the letters, with the room behind them, and by how many there are
 by_room : (a b : List ℕ) → is_equal a b ≡ (pointwise nat_eq (filled a) (filled b) && nat_eq (length a) (length b))
 unfolding filled
 by_room a b = refl
@@ -36,32 +38,27 @@ pointwise_is_same_word [] (y ∷ b) = refl
 pointwise_is_same_word (x ∷ a) [] = refl
 pointwise_is_same_word (x ∷ a) (y ∷ b) = ap (λ t. nat_eq x y && t) (pointwise_is_same_word a b)
 
+-- the letters stand before the room
 first_of_filled : (a : List ℕ) → take (length a) (filled a) ≡ a
 unfolding filled
 first_of_filled a = take-append_seam a (replicate (8 - length a) 0)
 
-both_true : (p q : Bool) → (p && q) ≡ true → (p ≡ true) × (q ≡ true)
-both_true true true h = (refl, refl)
-both_true true false h = absurd (true≢false (sym h))
-both_true false q h = absurd (true≢false (sym h))
-
-and_true : (p q : Bool) → p ≡ true → q ≡ true → (p && q) ≡ true
-and_true p q h k = rw (h, k) refl
-
+-- so they are the same where the texts are equal
 same_decides : (a b : List ℕ) → Decides (same_word a b) (a ≡ b)
 same_decides a b = subst (λ t. Decides t (a ≡ b)) (pointwise_is_same_word a b) (bytes_eq-Decides a b)
 
 -- the derived test tells whether the texts are the same
 equal_texts : (a b : List ℕ) → is_equal a b ≡ true → a ≡ b
 equal_texts a b h =
-    let k : (pointwise nat_eq (filled a) (filled b) ≡ true) × (nat_eq (length a) (length b) ≡ true) = both_true _ _ (sym (by_room a b) ∙ h) in
+    let k : (pointwise nat_eq (filled a) (filled b) ≡ true) × (nat_eq (length a) (length b) ≡ true) = and_parts _ _ (sym (by_room a b) ∙ h) in
     let e : filled a ≡ filled b = (bytes_eq-Decides (filled a) (filled b)).0 k.0 in
     let n : length a ≡ length b = (Decides-eqb (length a) (length b)).0 k.1 in
     let t : take (length a) (filled a) ≡ take (length b) (filled b) = λ i. take (n i) (e i) in
     sym (first_of_filled a) ∙ t ∙ first_of_filled b
 
+-- a name is equal to itself by the derived test
 equal_itself : (a : List ℕ) → is_equal a a ≡ true
-equal_itself a = by_room a a ∙ and_true _ _ ((bytes_eq-Decides (filled a) (filled a)).1 refl) ((Decides-eqb (length a) (length a)).1 refl)
+equal_itself a = by_room a a ∙ and_from _ _ ((bytes_eq-Decides (filled a) (filled a)).1 refl) ((Decides-eqb (length a) (length a)).1 refl)
 
 -- so it is the test of the definitions
 pub name_test : (a b : List ℕ) → is_equal a b ≡ same_word b a
@@ -70,23 +67,21 @@ name_test a b =
     (equal_texts a b, λ e. subst (λ c. is_equal a c ≡ true) e (equal_itself a))
     (λ h. sym ((same_decides b a).0 h), λ e. (same_decides b a).1 (sym e))
 
--- the seat of a place
-abbrev pub seat_at : ℕ → Seat
-seat_at i = record { 0 = i }
-
-seat_step : (t : Bool) (seat : ℕ) (o : Option Seat) (place : Option ℕ) → o ≡ option_map seat_at place → cond t (Some (seat_at seat)) o ≡ option_map seat_at (cond t (Some seat) place)
+-- one more player before the place
+seat_step : (t : Bool) (seat : ℕ) (o : Option Seat) (place : Option ℕ) → o ≡ option_map (λ i. record { 0 = i }) place → cond t (Some (record { 0 = seat })) o ≡ option_map (λ i. record { 0 = i }) (cond t (Some seat) place)
 seat_step true seat o place e = refl
 seat_step false seat o place e = e
 
-seat_is_place : (seat : ℕ) (players : List (List ℕ)) (name : List ℕ) → seat_from seat players name ≡ option_map seat_at (position_from (is_equal name) seat players)
+-- the seat of a name, counted from a seat, is its place counted from there
+seat_is_place : (seat : ℕ) (players : List (List ℕ)) (name : List ℕ) → seat_from seat players name ≡ option_map (λ i. record { 0 = i }) (position_from (is_equal name) seat players)
 seat_is_place seat [] name = refl
 seat_is_place seat (player ∷ players) name =
-    ap (λ t. cond t (Some (seat_at seat)) (seat_from (seat + 1) players name)) (sym (name_test name player))
+    ap (λ t. cond t (Some (record { 0 = seat })) (seat_from (seat + 1) players name)) (sym (name_test name player))
     ∙ seat_step (is_equal name player) seat (seat_from (seat + 1) players name) (position_from (is_equal name) (seat + 1) players) (seat_is_place (seat + 1) players name)
 
 -- the seat of a name is its place among the names
-pub seat_found : (players : List (List ℕ)) (name : List ℕ) (place : Option ℕ) → place ≡ position (is_equal name) players → option_map seat_at place ≡ seat_from 0 players name
-seat_found players name place e = ap (option_map seat_at) (e ∙ position_from-zero (is_equal name) players) ∙ sym (seat_is_place 0 players name)
+pub seat_found : (players : List (List ℕ)) (name : List ℕ) (place : Option ℕ) → place ≡ position (is_equal name) players → option_map (λ i. record { 0 = i }) place ≡ seat_from 0 players name
+seat_found players name place e = ap (option_map (λ i. record { 0 = i })) (e ∙ position_from-zero (is_equal name) players) ∙ sym (seat_is_place 0 players name)
 
 -- one name twice
 twice : (a l m n rest : Bool) → (a || l) ≡ true → (l ≡ true → rest ≡ false) → (not (m || (a || n)) && rest) ≡ false
@@ -96,6 +91,7 @@ twice false l true n rest h ih = refl
 twice false l false true rest h ih = refl
 twice false l false false rest h ih = ih h
 
+-- names do not differ where one of them stands among those before it
 repeats : (before after : List (List ℕ)) (name : List ℕ) → list_any (is_equal name) before ≡ true → all_differ (before ++ name ∷ after) ≡ false
 repeats [] after name h = absurd (true≢false (sym h))
 repeats (player ∷ before) after name h =
@@ -109,6 +105,7 @@ more true l m rest longer h d ih = absurd (true≢false h)
 more false l true rest longer h d ih = absurd (true≢false (sym d))
 more false l false rest longer h d ih = ih h d
 
+-- names still differ where the next is not among those before it
 differs : (before : List (List ℕ)) (name : List ℕ) → list_any (is_equal name) before ≡ false → all_differ before ≡ true → all_differ (before ++ name ∷ []) ≡ true
 differs [] name h d = refl
 differs (player ∷ before) name h d =
@@ -116,11 +113,12 @@ differs (player ∷ before) name h d =
     (more (same_word player name) (list_any (is_equal name) before) (list_any (same_word player) before) (all_differ before) (all_differ (before ++ name ∷ []))
     (ap (λ t. t || list_any (is_equal name) before) (sym (name_test name player)) ∙ h) d (differs before name))
 
--- what an insertion tells
+-- a name that was not put in was among the others
 pub was_among : (is_new among : Bool) → is_new ≡ not among → is_new ≡ false → among ≡ true
 was_among is_new true h n = refl
 was_among is_new false h n = absurd (true≢false (sym h ∙ n))
 
+-- a name that was put in was not among the others
 pub was_new : (is_new among : Bool) → is_new ≡ not among → is_new ≡ true → among ≡ false
 was_new is_new true h n = absurd (true≢false (sym n ∙ h))
 was_new is_new false h n = refl
@@ -134,6 +132,7 @@ module _ (names keys : List (List ℕ)) (i : ℕ) (name : List ℕ) (within : i 
       let whole : take i names ++ name ∷ drop (suc i) names ≡ names = ap (λ l. take i names ++ l) (sym after) ∙ take-append-drop i names in
       subst (λ l. all_differ l ≡ false) whole (repeats (take i names) (drop (suc i) names) name before)
 
+  -- one name more is taken
   one_more : take (i + 1) names ≡ take i names ++ name ∷ []
   one_more = ap (λ n. take n names) (add-one i) ∙ take-suc names i name within ∙ ap (λ n. take i names ++ n ∷ []) (sym is)
 
@@ -151,5 +150,6 @@ refused true true d names h = rw h refl
 refused true false d names h = refl
 refused false b d names h = refl
 
+-- so nobody plays
 pub no_players : (names : List (List ℕ)) → all_differ names ≡ false → None ≡ players_from names
 no_players names h = refused (nat_le 3 (length names)) (nat_le (length names) 6) (all_differ names) names h

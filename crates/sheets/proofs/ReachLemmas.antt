@@ -7,7 +7,7 @@ use Rattle.order_grammar.specs.declared.fault.Fault.{Fault}
 use Rattle.sheets.specs.Collecting.{Open, IsOpen, Stands, Reaches, closed, IsBegun, StopsBy}
 use Rattle.sheets.specs.File.{is_sheet_line, begins, post_begun, fault_of_reading, unread_fault, same_post, sheet_in, good_lines}
 use Rattle.sheets.specs.Text.{written_lines, BeginsWith}
-use Rattle.sheets.specs.declared.begun.OpenSheet.{OpenSheet}
+use Rattle.sheets.specs.declared.open_sheet.OpenSheet.{OpenSheet}
 use Rattle.sheets.specs.declared.fault.FileFault.{FileFault}
 use Rattle.sheets.specs.declared.fault.FileFault.TheVariants.{TooManySheets, Memory}
 use Rattle.sheets.specs.declared.post.Post.{Post}

@@ -5,7 +5,7 @@ use Rattle.sheets.specs.File.{same_post, block, later_or, sheet_in, good_lines, 
 use Rattle.sheets.specs.Text.{written_lines, BeginsWith}
 use Rattle.sheets.specs.declared.fault.FileFault.{FileFault}
 use Rattle.sheets.specs.declared.fault.FileFault.TheVariants.{TooManySheets, Memory}
-use Rattle.sheets.specs.declared.begun.OpenSheet.{OpenSheet}
+use Rattle.sheets.specs.declared.open_sheet.OpenSheet.{OpenSheet}
 use Rattle.sheets.specs.declared.post.Post.{Post}
 
 -- a sheet that is open: whose it is, and its lines so far

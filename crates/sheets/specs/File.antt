@@ -16,7 +16,8 @@ use Rattle.tables.specs.declared.round.Round.{Round}
 use Rattle.tables.specs.declared.round.Round.TheVariants.{Opening, Stock, Operating}
 use Rattle.tables.specs.declared.seat.Seat.{Seat}
 
--- the code that a report prints for a file that is refused
+-- the code of a fault: that which the report of a refused file prints; no report prints that of want
+-- of memory, where the file is not refused
 abbrev pub code_of_fault : FileFault → List ℕ
 code_of_fault Header = codes "F1"
 code_of_fault Players = codes "F2"
@@ -24,7 +25,7 @@ code_of_fault TooLong = codes "F3"
 code_of_fault TooManySheets = codes "F4"
 code_of_fault Memory = codes "F5"
 
--- the order of the header line
+-- the order of the header line: game 1830, and version 1 of its files
 abbrev pub is_header : Result Order Fault → Bool
 is_header (Ok (order.Game game version)) = game == 1830 && version == 1
 is_header other = false

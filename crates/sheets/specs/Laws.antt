@@ -11,7 +11,7 @@ LastSheetCounts = (file : List ℕ) (seat : ℕ) (round : Round) → sheet_of fi
 abbrev pub SentTheSame : List ℕ → List ℕ → Type 0
 SentTheSame f g = (seat : ℕ) → posts_of f seat ≡ posts_of g seat
 
--- files in which each player sent the same have the same sheets
+-- files in which each player sent the same have the same sheet for each seat and round
 abbrev pub ArrivalChangesNothing : Type 0
 ArrivalChangesNothing =
     (f g : List ℕ) → SentTheSame f g → (seat : ℕ) (round : Round) → sheet_of f seat round ≡ sheet_of g seat round

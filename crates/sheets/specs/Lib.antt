@@ -1,3 +1,4 @@
+-- What an order file says: its lines, its sheets, and how they are collected and taken.
 pub mod Text
 pub mod File
 pub mod Collecting

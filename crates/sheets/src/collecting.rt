@@ -6,8 +6,8 @@ ghost use Rattle.sheets.specs.File.{is_sheet_line, post_begun, fault_of_reading,
 ghost use Rattle.sheets.specs.Text.{BeginsWith, written_lines};
 ghost use Rattle.sheets.specs.declared.post.Post.{Post};
 
-use crate::begun::OpenSheet;
 use crate::fault::FileFault;
+use crate::open_sheet::OpenSheet;
 use crate::players::Players;
 use crate::post::Post;
 use crate::sheet::Sheet;

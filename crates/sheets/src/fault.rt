@@ -5,7 +5,8 @@ ghost use Rattle.sheets.specs.declared.fault.FileFault.TheVariants.{Memory};
 use std::alloc::{AllocError, AllocFailed};
 use thiserror::Error;
 
-/// Why a file is refused as a whole: the first of F3, F1, F2, F4 that applies, or F5.
+/// Why a file has no sheets: it is refused as a whole, by the first of F3, F1, F2, F4 that applies,
+/// or memory was refused, which says nothing of the file.
 #[derive(Clone, Copy, Debug, PartialEq, Eq, Drop, Error)]
 pub enum FileFault {
     /// F1: the first line that is not blank is not `GAME 1830 1`.
@@ -20,13 +21,14 @@ pub enum FileFault {
     /// F4: the file has over 4,096 good SHEET lines.
     #[error("F4")]
     TooManySheets,
-    /// F5: memory was refused.
+    /// F5: memory was refused. No report prints this code, since the file itself is not refused.
     #[error("F5")]
     Memory,
 }
 
 impl FileFault {
-    /// The code that a report prints.
+    /// The code of the fault: for a refused file the one that its report prints, and for want of
+    /// memory one that no report prints.
     pub fn code(self) -> &'static str
         ensures { result.now ≡ code_of_fault self }
     {

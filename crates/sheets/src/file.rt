@@ -16,6 +16,12 @@ use std::collections::HashMap;
 use std::marker::Model;
 use tables::{Round, Seat};
 
+/// The game that an order file is for, as its header line names it.
+const GAME: u32 = 1830;
+
+/// The version of order files, as the header line names it.
+const VERSION: u32 = 1;
+
 /// The most bytes of an order file.
 pub const FILE_MOST: usize = 4_194_304;
 
@@ -43,7 +49,8 @@ impl<'a> Model for Sheets<'a> {
 }
 
 impl<'a> Sheets<'a> {
-    /// What the player of this seat last sent for this round.
+    /// What the player of this seat last sent for this round; `None` where the player sent no sheet for
+    /// it, or nobody has the seat.
     pub fn sheet(&self, seat: Seat, round: &Round) -> Option<&Sheet<'a>>
         ensures { option_copied result ≡ sheet_of self.now seat.0 round.now }
     {
@@ -70,7 +77,7 @@ impl<'a> Sheets<'a> {
         self.players.len()
     }
 
-    /// The name of the player of a seat, in upper case.
+    /// The name of the player of a seat, in upper case; `None` where nobody has the seat.
     pub fn name(&self, seat: Seat) -> Option<&[u8]>
         ensures { option_map (λ name. name.now) result ≡ slice_get (players_of self.now) seat.0 }
     {
@@ -117,7 +124,7 @@ fn skip_header(file: &[u8]) -> Result<&[u8], FileFault>
     Ok(piece.rest)
 }
 
-/// Whether a line is the header line.
+/// Whether a line is the header line, `GAME 1830 1`.
 fn is_header(line: &[u8]) -> bool
     ensures { result ≡ is_header (reading_of line.now) }
 {
@@ -125,8 +132,8 @@ fn is_header(line: &[u8]) -> bool
         Ok(line) => matches!(
             &line.order,
             Order::Game {
-                game: 1830,
-                version: 1
+                game: GAME,
+                version: VERSION
             }
         ),
         Err(_) => false,

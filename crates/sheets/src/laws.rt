@@ -7,8 +7,9 @@ pub fn last_sheet_counts()
     ensures { LastSheetCounts }
 {}
 
-/// Files in which each player sent the same sheets in the same order have the same sheet for each
-/// player and round, however the sheets of different players follow one another.
+/// The order in which the sheets of different players arrive changes no player's sheet: two files in
+/// which each player sent the same sheets in the same order have the same sheet for each player and
+/// round. Of the unread lines it says nothing: their codes stand in the order of the file.
 pub fn arrival_changes_nothing()
     ensures { ArrivalChangesNothing }
 {}

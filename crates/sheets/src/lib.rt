@@ -4,16 +4,17 @@
 //! lines are read when they are asked for. To a contract `Sheets` is the file that it was collected
 //! from, and a `Sheet` the list of its lines.
 //!
-//! Reading order: `fault`, `text` (the lines of a text), `sheet`, `players`, `post` and `begun`
-//! (whose sheet it is, and where it began), `collecting` (line after line), `file` (`collect`),
-//! `laws`. In `specs/`, `File` says what a file says, and `Collecting` how far it was collected.
+//! Reading order: `fault`, `text` (the lines of a text), `sheet`, `players`, `post` and
+//! `open_sheet` (whose sheet it is, and where it began), `collecting` (line after line), `file`
+//! (`collect`), `laws`. In `specs/`, `File` says what a file says, and `Collecting` how far it was
+//! collected.
 #![tactic(auto)]
 
-mod begun;
 mod collecting;
 mod fault;
 mod file;
 mod laws;
+mod open_sheet;
 mod players;
 mod post;
 mod sheet;
