@@ -1,1 +1,2 @@
 pub mod EventAtEnd
+pub mod Cheapest

@@ -2,3 +2,4 @@
 pub mod Event
 pub mod LookBack
 pub mod Sound
+pub mod Laws

@@ -6,10 +6,11 @@
 //! owner, ..), and every reader is a short look back over one of them.
 //!
 //! Reading order: `event` (events and their aspects), `ruling`, `look_back` (the readers),
-//! `list` (`History`).
+//! `list` (`History`), `laws`.
 #![tactic(auto)]
 
 mod event;
+mod laws;
 mod list;
 mod look_back;
 mod ruling;
@@ -17,6 +18,7 @@ mod ruling;
 mod tests;
 
 pub use event::{Event, Party, Payment, SUM_MOST, Sale};
+pub use laws::first_is_cheapest;
 pub use list::History;
 pub use look_back::Past;
 pub use ruling::{KeptOrder, Refusal, Ruling};
