@@ -1,7 +1,6 @@
 -- A round is played from its own sheets alone, so later sheets change nothing.
-use Rattle.std.proofs.Common.{◌≡◌, ℕ, zero, suc, ◌+◌, ◌≤◌, Bool, true, false, cond, List, [], ◌∷◌, ◌++◌, length, map, Option, Some, None, is_some, unwrap_or, refl, sym, ap, subst, ◌∙◌, arith}
+use Rattle.std.proofs.Common.{◌≡◌, ℕ, zero, suc, ◌+◌, ◌≤◌, Bool, true, false, List, [], ◌∷◌, ◌++◌, length, map, Option, is_some, unwrap_or, refl, sym, ap, subst, ◌∙◌, arith}
 use Rattle.std.specs.List.{flat_map, list_all, range_with_len}
-use Rattle.std.proofs.lemmas.Bool.{true≢false}
 use Rattle.history.specs.LookBack.{Game, priority_of}
 use Rattle.history.specs.declared.event.Event.{Event}
 use Rattle.history.specs.declared.event.Event.TheVariants as event
@@ -17,7 +16,7 @@ use Rattle.rounds.specs.declared.following.Next.TheVariants as next
 use Rattle.sheets.specs.File.{players_of, sheet_of}
 use Rattle.tables.specs.Steps.{Ends}
 use Rattle.tables.specs.declared.round.Round.{Round}
-use Rattle.tables.specs.declared.round.Round.TheVariants.{Opening, Stock, Operating}
+use Rattle.tables.specs.declared.round.Round.TheVariants.{Opening}
 
 -- the round before its first turn, by the sheet of each seat
 abbrev opened_by : ℕ → (ℕ → Option (List (List ℕ))) → Round → List Event → InPlay
@@ -35,7 +34,7 @@ same_opened first second seats round events same =
     λ i. opened_by seats (λ seat. same seat i) round events
 
 -- the same sheets are all posted, or not, in both files
-same_posted : (first second : List ℕ) (round : Round) → players_of first ≡ players_of second → ((seat : ℕ) → sheet_of first seat round ≡ sheet_of second seat round) → all_posted first round ≡ all_posted second round
+pub same_posted : (first second : List ℕ) (round : Round) → players_of first ≡ players_of second → ((seat : ℕ) → sheet_of first seat round ≡ sheet_of second seat round) → all_posted first round ≡ all_posted second round
 same_posted first second round players same =
     λ i. list_all (λ seat. is_some (same seat i)) (range_with_len 0 (length (players i)))
 

@@ -1,4 +1,5 @@
 pub mod Causal
+pub mod Arrival
 pub mod Ending
 pub mod Posted
 pub mod Numbers

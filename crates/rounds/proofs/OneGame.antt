@@ -1,21 +1,18 @@
--- A file has one game and no second.
+-- A file has at most one game, since an opening round has at most one outcome.
 use Rattle.std.proofs.Common.{◌≡◌, ℕ, zero, suc, ◌<◌, List, true, false, sym, ap, subst, ◌∙◌, inl, inr, arith}
 use Rattle.std.proofs.lemmas.Bool.{cases_order, true≢false}
 use Rattle.history.specs.LookBack.{Game}
-use Rattle.privates.specs.Opening.{IsOpeningRound, opened, finished}
-use Rattle.privates.specs.Turn.{InPlay, after_turn, turns_over, all_sold}
+use Rattle.privates.specs.Opening.{IsOpeningRound}
+use Rattle.privates.specs.Turn.{all_sold}
 use Rattle.rounds.specs.Play.{AreRounds, Between, IsRound, Plays, before_play, can_play}
 use Rattle.rounds.specs.Sequence.{following}
 use Rattle.rounds.specs.declared.following.Next.{Next}
 use Rattle.rounds.specs.declared.following.Next.TheVariants as next
-use Rattle.tables.proofs.Steps.{ends_once}
 use Rattle.tables.specs.declared.round.Round as round
 
--- an opening round has one outcome
-pub opening_once : (file : List ℕ) (round : round.Round) (old a b : Game) → IsOpeningRound file round old a → IsOpeningRound file round old b → a ≡ b
-opening_once file round old a b first second =
-    let same : first.last ≡ second.last = ends_once (after_turn old.seats) (turns_over old.seats) (opened old.seats file round old.events) first.last second.last first.turns second.turns in
-    first.after ∙ ap (λ (last : InPlay). let game : Game = record { seats = old.seats; events = finished old.seats last } in game) same ∙ sym second.after
+-- an opening round has at most one outcome
+abbrev pub OneOpeningRound : Type 0
+OneOpeningRound = (file : List ℕ) (round : round.Round) (old a b : Game) → IsOpeningRound file round old a → IsOpeningRound file round old b → a ≡ b
 
 -- two games between rounds are the same if their parts are
 between_same : (a b : Between) → a.game ≡ b.game → a.next ≡ b.next → a ≡ b
@@ -24,20 +21,20 @@ between_same a b game next =
     ∙ ap (λ (n : Next). let there : Between = record { game = b.game; next = n } in there) next
 
 -- a round leads to one place
-pub round_once : (file : List ℕ) (old a b : Between) → IsRound file old a → IsRound file old b → a ≡ b
-round_once file old a b first second =
+round_once : OneOpeningRound → (file : List ℕ) (old a b : Between) → IsRound file old a → IsRound file old b → a ≡ b
+round_once one_opening file old a b first second =
     let named : next.Round first.round ≡ next.Round second.round = sym first.was_next ∙ second.was_next in
     let numbered : first.round ≡ second.round = cc (named) in
     let played : IsOpeningRound file first.round old.game b.game = subst (λ (r : round.Round). IsOpeningRound file r old.game b.game) (sym numbered) second.played in
-    let game : a.game ≡ b.game = opening_once file first.round old.game a.game b.game first.played played in
+    let game : a.game ≡ b.game = one_opening file first.round old.game a.game b.game first.played played in
     between_same a b game (first.then_next ∙ ap (λ (r : round.Round). following r 1 (all_sold a.game.events) false) numbered ∙ ap (λ (g : Game). following second.round 1 (all_sold g.events) false) game ∙ sym second.then_next)
 
 -- so many rounds lead to one place
-pub rounds_once : (file : List ℕ) (n : ℕ) (old a b : Between) → AreRounds file n old a → AreRounds file n old b → a ≡ b
-rounds_once file zero old a b first second = sym first ∙ second
-rounds_once file (suc n) old a b first second =
-    let mid : first.0 ≡ second.0 = rounds_once file n old first.0 second.0 first.1 second.1 in
-    round_once file first.0 a b first.2 (subst (λ (m : Between). IsRound file m b) (sym mid) second.2)
+rounds_once : OneOpeningRound → (file : List ℕ) (n : ℕ) (old a b : Between) → AreRounds file n old a → AreRounds file n old b → a ≡ b
+rounds_once one_opening file zero old a b first second = sym first ∙ second
+rounds_once one_opening file (suc n) old a b first second =
+    let mid : first.0 ≡ second.0 = rounds_once one_opening file n old first.0 second.0 first.1 second.1 in
+    round_once one_opening file first.0 a b first.2 (subst (λ (m : Between). IsRound file m b) (sym mid) second.2)
 
 -- before the last round the game could go on
 could_go_on : (file : List ℕ) (n k : ℕ) (old a : Between) → AreRounds file n old a → k < n → (mid : Between) × AreRounds file k old mid × (can_play file mid.next ≡ true)
@@ -49,19 +46,19 @@ could_go_on file (suc n) k old a rounds fewer =
     ]
 
 -- where the game stopped after k rounds, it didn't go on for more
-not_more : (file : List ℕ) (k n : ℕ) (old a b : Between) → AreRounds file k old a → can_play file a.next ≡ false → AreRounds file n old b → k < n → ⊥
-not_more file k n old a b first stopped second more =
+not_more : OneOpeningRound → (file : List ℕ) (k n : ℕ) (old a b : Between) → AreRounds file k old a → can_play file a.next ≡ false → AreRounds file n old b → k < n → ⊥
+not_more one_opening file k n old a b first stopped second more =
     let on = could_go_on file n k old b second more in
-    let same : a ≡ on.0 = rounds_once file k old a on.0 first on.1 in
+    let same : a ≡ on.0 = rounds_once one_opening file k old a on.0 first on.1 in
     true≢false (sym on.2 ∙ (ap (λ (m : Between). can_play file m.next) (sym same) ∙ stopped))
 
--- a file has one game and no second
-pub game_once : (file : List ℕ) (a b : Between) → Plays file a → Plays file b → a ≡ b
-game_once file a b first second =
+-- a file has at most one game
+pub game_once : OneOpeningRound → (file : List ℕ) (a b : Between) → Plays file a → Plays file b → a ≡ b
+game_once one_opening file a b first second =
     elim (cases_order first.rounds second.rounds) [
-      | inl same ↦ rounds_once file second.rounds (before_play file) a b (subst (λ (m : ℕ). AreRounds file m (before_play file) a) same first.reached) second.reached
+      | inl same ↦ rounds_once one_opening file second.rounds (before_play file) a b (subst (λ (m : ℕ). AreRounds file m (before_play file) a) same first.reached) second.reached
       | inr apart ↦ elim apart [
-        | inl earlier ↦ absurd (not_more file first.rounds second.rounds (before_play file) a b first.reached first.stopped second.reached earlier)
-        | inr later ↦ absurd (not_more file second.rounds first.rounds (before_play file) b a second.reached second.stopped first.reached later)
+        | inl earlier ↦ absurd (not_more one_opening file first.rounds second.rounds (before_play file) a b first.reached first.stopped second.reached earlier)
+        | inr later ↦ absurd (not_more one_opening file second.rounds first.rounds (before_play file) b a second.reached second.stopped first.reached later)
       ]
     ]

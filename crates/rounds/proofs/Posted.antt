@@ -1,27 +1,12 @@
 -- Whether all seats have posted is asked seat by seat.
 use Rattle.std.proofs.Common.{◌≡◌, ℕ, zero, suc, ◌+◌, ◌-◌, ◌<◌, ◌≤◌, Bool, true, false, ◌&&◌, Option, Some, None, option_map, is_some, is_none, not, refl, sym, ap, ◌∙◌, inl, inr, arith}
-use Rattle.std.proofs.lemmas.Bool.{true≢false, cases_lt}
+use Rattle.std.proofs.lemmas.Bool.{and_parts, true≢false, cases_lt}
 use Rattle.std.specs.List.{list_all, range_with_len}
-
--- both tests hold
-pub and_left : (a b : Bool) → (a && b) ≡ true → a ≡ true
-and_left true b both = refl
-and_left false b both = both
-
-pub and_right : (a b : Bool) → (a && b) ≡ true → b ≡ true
-and_right true b both = both
-and_right false b both = cc
 
 -- one seat more
 pub posted_more : (p : ℕ → Bool) (i n : ℕ) → i < n → list_all p (range_with_len i (n - i)) ≡ (p i && list_all p (range_with_len (i + 1) (n - (i + 1))))
 posted_more p i n below =
     let count : n - i ≡ suc (n - (i + 1)) = omega arith in
-    rw count refl
-
--- the last seat was asked
-pub posted_all : (p : ℕ → Bool) (i n : ℕ) → n ≤ i → list_all p (range_with_len i (n - i)) ≡ true
-posted_all p i n past =
-    let count : n - i ≡ zero = omega arith in
     rw count refl
 
 -- what is not missing is there, seen by whatever it refers to
@@ -39,8 +24,8 @@ pub posted_each : (p : ℕ → Bool) (first n k : ℕ) → list_all p (range_wit
 posted_each p first zero k all from below = absurd (omega arith)
 posted_each p first (suc n) k all from below =
     elim (cases_lt first k) [
-      | inl later ↦ posted_each p (first + 1) n k (and_right (p first) _ all) (omega arith) (omega arith)
-      | inr here ↦ let same : first ≡ k = omega arith in rw (← same) (and_left (p first) _ all)
+      | inl later ↦ posted_each p (first + 1) n k (and_parts (p first) _ all).1 (omega arith) (omega arith)
+      | inr here ↦ let same : first ≡ k = omega arith in rw (← same) (and_parts (p first) _ all).0
     ]
 
 -- the test for nothing, from the test for something

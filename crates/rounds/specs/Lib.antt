@@ -2,3 +2,4 @@ pub mod Sequence
 pub mod Play
 pub mod Example
 pub mod Causality
+pub mod Arrival

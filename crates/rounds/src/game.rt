@@ -4,6 +4,7 @@ ghost use Rattle.rounds.specs.Play.{IsTheGame, all_posted, can_play, end_of as t
 ghost use Rattle.rounds.specs.Sequence.{is_opening};
 
 use crate::following::Next;
+use crate::laws::sheets_are_numbered_to_99999;
 use crate::sequence::next;
 use history::History;
 use privates::play_opening;
@@ -73,9 +74,12 @@ pub fn play<'a>(alloc: Global, sheets: &'a Sheets<'a>) -> Result<Game<'a>, Alloc
 {
     let mut history = History::start(alloc, sheets.seats());
     let mut upcoming = Next::Round(Round::Opening(1));
+    // A law, which does nothing when it runs: by it the loop comes to an end.
+    sheets_are_numbered_to_99999();
     while let Some(round) = playable(sheets, upcoming) {
         history = play_opening(history, sheets, round)?;
         let all_sold = history.now().cheapest_unsold().is_none();
+        // Neither the length of a set nor a broken bank decides what follows an opening.
         upcoming = next(round, 1, all_sold, false);
     }
     Ok(Game {
@@ -103,13 +107,7 @@ fn playable(sheets: &Sheets, upcoming: Next) -> Option<Round>
     ensures opening { IfSome result (λ round. is_opening round ≡ true) }
 {
     match upcoming {
-        Next::Round(round) if matches!(round, Round::Opening(_)) => {
-            if are_all_posted(sheets, &round) {
-                Some(round)
-            } else {
-                None
-            }
-        }
+        Next::Round(round @ Round::Opening(_)) if are_all_posted(sheets, &round) => Some(round),
         _ => None,
     }
 }

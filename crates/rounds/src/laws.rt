@@ -1,20 +1,47 @@
 //! Laws of the definitions, each the contract of a function that does nothing.
-ghost use Rattle.std.specs.Prelude.{◌≡◌, ◌≤◌, ℕ, List, [], Err};
+ghost use Rattle.std.specs.Prelude.{◌≡◌, ◌≤◌, ℕ, List, [], Err, IsSome};
+ghost use Rattle.rounds.specs.Arrival.{ArrivalChangesNoGame};
 ghost use Rattle.rounds.specs.Causality.{AgreeUpTo};
 ghost use Rattle.rounds.specs.Example.{first_end, first_file};
 ghost use Rattle.rounds.specs.Play.{AreRounds, Between, Plays, before_play};
-ghost use Rattle.sheets.specs.File.{IsAccepted, content_of};
+ghost use Rattle.rounds.specs.Sequence.{number_of};
+ghost use Rattle.sheets.specs.File.{IsAccepted, content_of, sheet_of};
 ghost use Rattle.sheets.specs.declared.fault.FileFault.TheVariants.{Header};
+ghost use Rattle.tables.specs.declared.round.Round.{Round};
 
-/// A file has one game and no second.
+use order_grammar::read_where_spelt;
+use privates::{one_opening_round, opening_round_ends};
+use sheets::arrival_changes_nothing;
+
+/// A file has at most one game.
 pub fn one_game()
     ensures { (file : List ℕ) (a b : Between) → Plays file a → Plays file b → a ≡ b }
-{}
+{
+    one_opening_round()
+}
 
-/// Each accepted file has a game: its rounds all come to an end, and so does their sequence.
+/// Each file that is not refused has a game: each of its rounds comes to an end, and so does their
+/// sequence.
 pub fn some_game()
     ensures { (file : List ℕ) → IsAccepted file → (last : Between) × Plays file last }
-{}
+{
+    sheets_are_numbered_to_99999();
+    opening_round_ends()
+}
+
+/// No sheet is for a round past 99,999.
+pub(crate) fn sheets_are_numbered_to_99999()
+    ensures { (file : List ℕ) (seat : ℕ) (round : Round) → IsSome (sheet_of file seat round) → number_of round ≤ 99999 }
+{
+    read_where_spelt()
+}
+
+/// In which order the sheets of different players arrive changes nothing in the game.
+pub fn arrival_changes_no_game()
+    ensures { ArrivalChangesNoGame }
+{
+    arrival_changes_nothing()
+}
 
 /// Sheets for later rounds change nothing: where two files have the same players and the same sheets
 /// for the rounds up to one, what the first plays up to the end of that round the second plays too.

@@ -15,5 +15,8 @@ mod tests;
 
 pub use following::Next;
 pub use game::{End, Game, play};
-pub use laws::{empty_example, first_example, later_sheets_change_nothing, one_game, some_game};
+pub use laws::{
+    arrival_changes_no_game, empty_example, first_example, later_sheets_change_nothing, one_game,
+    some_game,
+};
 pub use sequence::next;
