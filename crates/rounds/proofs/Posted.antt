@@ -1,23 +1,7 @@
--- Whether all seats have posted is asked seat by seat.
-use Rattle.std.proofs.Common.{◌≡◌, ℕ, zero, suc, ◌+◌, ◌-◌, ◌<◌, ◌≤◌, Bool, true, false, ◌&&◌, Option, Some, None, option_map, is_some, is_none, not, refl, sym, ap, ◌∙◌, inl, inr, arith}
-use Rattle.std.proofs.lemmas.Bool.{and_parts, true≢false, cases_lt}
+-- Where all seats have posted, each has.
+use Rattle.std.proofs.Common.{◌≡◌, ℕ, zero, suc, ◌+◌, ◌<◌, ◌≤◌, Bool, true, false, Option, Some, None, is_some, is_none, not, refl, inl, inr, arith}
+use Rattle.std.proofs.lemmas.Bool.{and_parts, cases_lt}
 use Rattle.std.specs.List.{list_all, range_with_len}
-
--- one seat more
-pub posted_more : (p : ℕ → Bool) (i n : ℕ) → i < n → list_all p (range_with_len i (n - i)) ≡ (p i && list_all p (range_with_len (i + 1) (n - (i + 1))))
-posted_more p i n below =
-    let count : n - i ≡ suc (n - (i + 1)) = omega arith in
-    rw count refl
-
--- what is not missing is there, seen by whatever it refers to
-pub posted_here : {X Y : Type 0} (now : X → Y) (found : Option X) (sheet : Option Y) → option_map now found ≡ sheet → is_none found ≡ false → is_some sheet ≡ true
-posted_here now None sheet same there = absurd (true≢false there)
-posted_here now (Some x) sheet same there = rw (← same) refl
-
--- the rest of the seats decide, where this one has posted
-pub posted_rest : (p : ℕ → Bool) (i n : ℕ) (all : Bool) → i < n → p i ≡ true → list_all p (range_with_len i (n - i)) ≡ all → list_all p (range_with_len (i + 1) (n - (i + 1))) ≡ all
-posted_rest p i n all below here so_far =
-    sym (posted_more p i n below ∙ ap (λ b. b && list_all p (range_with_len (i + 1) (n - (i + 1)))) here) ∙ so_far
 
 -- where all have posted, each has
 pub posted_each : (p : ℕ → Bool) (first n k : ℕ) → list_all p (range_with_len first n) ≡ true → first ≤ k → k < first + n → p k ≡ true

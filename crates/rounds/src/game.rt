@@ -116,10 +116,5 @@ fn playable(sheets: &Sheets, upcoming: Next) -> Option<Round>
 fn are_all_posted(sheets: &Sheets, round: &Round) -> bool
     ensures { result ≡ all_posted sheets.now round.now }
 {
-    for seat in 0..sheets.seats() {
-        if sheets.sheet(Seat(seat as u8), round).is_none() {
-            return false;
-        }
-    }
-    true
+    (0..sheets.seats()).all(|seat| sheets.sheet(Seat(seat as u8), round).is_some())
 }
