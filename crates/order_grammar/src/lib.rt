@@ -23,7 +23,7 @@ pub use fault::Fault;
 pub use laws::{faulty_where_it_has_one, read_where_spelt, spelling_is_read_again};
 pub use name::{NAME_MOST, Name};
 pub use order::Order;
-pub use print::{print_line, print_name, print_round};
+pub use print::{print_line, print_name, print_order, print_round};
 pub use read::{LINE_MOST, Line, read_line};
 pub use words::{Span, Token, WORDS_MOST, Words, begins_with_word, has_word};
 
