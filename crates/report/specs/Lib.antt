@@ -1,4 +1,6 @@
+-- What a report is, from its columns and lines up to the whole text and its laws.
 pub mod Column
 pub mod Line
 pub mod Statement
 pub mod Report
+pub mod Laws

@@ -1,8 +1,13 @@
-//! The report of a game: its events line by line, the bank statement after each round, the unread
-//! lines and the end.
+//! The report of an order file. For a file that is refused it is the one line that says why; else
+//! the header, the lines of each round's events and the statement after them, the lines that are
+//! in no sheet, and why play stopped.
 //!
-//! Reading order: `column` (numbers and names in columns), `line` (an event as a line),
-//! `statement`, `text` (`round_text`, `report`), `laws`.
+//! `refusal_text` and `report` write it, and `round_text` one round of it: byte for byte the text
+//! that `specs/Report` defines, or the error that memory is refused. Each file has a report and no
+//! second.
+//!
+//! Reading order: `column` (numbers and names in columns), `line` (an event as a line), `statement`
+//! (what each player and the bank hold), `text` (`refusal_text`, `round_text`, `report`), `laws`.
 #![tactic(auto)]
 
 mod column;
@@ -11,5 +16,5 @@ mod line;
 mod statement;
 mod text;
 
-pub use laws::one_report;
+pub use laws::{one_report, some_report};
 pub use text::{refusal_text, report, round_text};

@@ -1,0 +1,94 @@
+-- Where files have the same players, sheets and unread lines, a game of theirs is printed the same.
+use Rattle.std.proofs.Common.{◌≡◌, ℕ, List, [], ◌∷◌, ◌++◌, length, ap, refl, ◌∙◌}
+use Rattle.std.specs.Prelude.{Result, Ok, Err, IsOk}
+use Rattle.std.specs.List.{flat_map, range_with_len}
+use Rattle.history.specs.declared.event.Event.{Event}
+use Rattle.history.specs.declared.event.Event.TheVariants.{Round, Ruled, Passes, Left, Sold, Price, Revenue, Broken}
+use Rattle.history.specs.declared.event.Party.{Party}
+use Rattle.history.specs.declared.event.Party.TheVariants as party
+use Rattle.report.specs.Laws.{ArrivalChangesNoReport}
+use Rattle.report.specs.Line.{event_text, party_text}
+use Rattle.report.specs.Report.{IsReportOf, end_text, header, name_owing, owing, report_text, rounds_text}
+use Rattle.report.specs.Statement.{player_line, statement}
+use Rattle.rounds.specs.Play.{Between, Plays, end_of}
+use Rattle.rounds.specs.declared.game.End.{End}
+use Rattle.rounds.specs.declared.game.End.TheVariants.{Awaiting, Bank}
+use Rattle.sheets.specs.File.{Content, content_of, players_of, sheet_of, unread_of}
+use Rattle.sheets.specs.Laws.{ArrivalChangesNothing, SentTheSame}
+use Rattle.sheets.specs.declared.fault.FileFault.{FileFault}
+use Rattle.tables.specs.declared.round.Round as table
+
+-- files of the same players, in which each sent the same, have the same game
+abbrev ArrivalChangesNoGame : Type 0
+ArrivalChangesNoGame =
+    (f g : List ℕ) → players_of f ≡ players_of g → SentTheSame f g → (last : Between) → Plays f last → Plays g last
+
+-- the same holder is printed the same
+party_same : (f g : List ℕ) (holder : Party) → players_of f ≡ players_of g → party_text f holder ≡ party_text g holder
+party_same f g party.Bank players = refl
+party_same f g (party.Seat seat) players = rw players
+
+-- the same event is printed the same
+event_same : (f g : List ℕ) (event : Event) → players_of f ≡ players_of g → event_text f event ≡ event_text g event
+event_same f g (Round round) players = refl
+event_same f g (Ruled seat line ruling) players = rw players
+event_same f g (Passes seat) players = rw players
+event_same f g (Left seat lines) players = rw players
+event_same f g (Sold private seat price) players = rw players
+event_same f g (Price price) players = refl
+event_same f g (Revenue private owner amount) players = rw (party_same f g owner players)
+event_same f g Broken players = refl
+
+-- the same events give the same statement
+statement_same : (f g : List ℕ) (seats : ℕ) (events : List Event) → players_of f ≡ players_of g → statement f seats events ≡ statement g seats events
+unfolding statement player_line
+statement_same f g seats events players = rw players
+
+-- the same rounds are printed the same
+rounds_same : (f g : List ℕ) (seats : ℕ) (before events : List Event) → players_of f ≡ players_of g → rounds_text f seats before events ≡ rounds_text g seats before events
+rounds_same f g seats before [] players = refl
+rounds_same f g seats before (event ∷ events) players =
+    rw (event_same f g event players, statement_same f g seats (before ++ event ∷ []) players, rounds_same f g seats (before ++ event ∷ []) events players)
+
+-- the same players are printed the same
+header_same : (f g : List ℕ) → players_of f ≡ players_of g → header f ≡ header g
+unfolding header
+header_same f g players = rw players
+
+-- the same of some seats owe a sheet
+names_same : (f g : List ℕ) (round : table.Round) (seats : List ℕ) → players_of f ≡ players_of g → ((seat : ℕ) (round : table.Round) → sheet_of f seat round ≡ sheet_of g seat round) → flat_map (λ seat. name_owing f round seat) seats ≡ flat_map (λ seat. name_owing g round seat) seats
+names_same f g round [] players sheets = refl
+names_same f g round (seat ∷ seats) players sheets = rw (players, sheets seat round, names_same f g round seats players sheets)
+
+-- the same owe a sheet
+owing_same : (f g : List ℕ) (round : table.Round) → players_of f ≡ players_of g → ((seat : ℕ) (round : table.Round) → sheet_of f seat round ≡ sheet_of g seat round) → owing f round ≡ owing g round
+unfolding owing
+owing_same f g round players sheets =
+    names_same f g round (range_with_len 0 (length (players_of f))) players sheets
+    ∙ ap (λ (names : List (List ℕ)). flat_map (λ seat. name_owing g round seat) (range_with_len 0 (length names))) players
+
+-- the same end is printed the same
+end_same : (f g : List ℕ) (end : End) → players_of f ≡ players_of g → ((seat : ℕ) (round : table.Round) → sheet_of f seat round ≡ sheet_of g seat round) → end_text f end ≡ end_text g end
+end_same f g (Awaiting round) players sheets = rw (owing_same f g round players sheets)
+end_same f g Bank players sheets = refl
+
+-- the same game is reported the same
+report_same : (f g : List ℕ) (seats : ℕ) (events : List Event) (end : End) → players_of f ≡ players_of g → ((seat : ℕ) (round : table.Round) → sheet_of f seat round ≡ sheet_of g seat round) → unread_of f ≡ unread_of g → report_text f seats events end ≡ report_text g seats events end
+report_same f g seats events end players sheets unread =
+    rw (header_same f g players, rounds_same f g seats [] events players, unread, end_same f g end players sheets)
+
+-- a report is that of the other file too
+report_carried : ArrivalChangesNoGame → ArrivalChangesNothing → (f g : List ℕ) (of_f of_g : Result Content FileFault) → IsOk of_f → IsOk of_g → players_of f ≡ players_of g → SentTheSame f g → unread_of f ≡ unread_of g → (text : List ℕ) → IsReportOf f of_f text → IsReportOf g of_g text
+report_carried no_game nothing f g (Ok a) (Ok b) ok_f ok_g players sent unread text report =
+    record {
+      last = report.last;
+      game = no_game f g players sent report.last report.game;
+      is = report.is ∙ report_same f g report.last.game.seats report.last.game.events (end_of report.last.next) players (nothing f g sent) unread;
+    }
+report_carried no_game nothing f g (Ok a) (Err fault) ok_f ok_g players sent unread text report = absurd cc
+report_carried no_game nothing f g (Err fault) of_g ok_f ok_g players sent unread text report = absurd cc
+
+-- arrival changes no report if it changes no game
+pub arrival_by : ArrivalChangesNoGame → ArrivalChangesNothing → ArrivalChangesNoReport
+arrival_by no_game nothing f g accepted_f accepted_g players sent unread text report =
+    report_carried no_game nothing f g (content_of f) (content_of g) accepted_f accepted_g players sent unread text report
