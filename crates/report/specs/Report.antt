@@ -5,11 +5,11 @@ use Rattle.std.specs.List.{flat_map, range_with_len}
 use Rattle.history.specs.declared.event.Event.{Event}
 use Rattle.history.specs.declared.event.Event.TheVariants.{Round}
 use Rattle.order_grammar.specs.Fault.{code_of as code_of_fault}
-use Rattle.order_grammar.specs.Print.{text_of_round}
+use Rattle.order_grammar.specs.Print.{spaced, text_of_round}
 use Rattle.order_grammar.specs.declared.fault.Fault.{Fault}
 use Rattle.report.specs.Line.{name_of, event_line}
 use Rattle.report.specs.Statement.{statement}
-use Rattle.rounds.specs.Play.{Between, Plays, end_of}
+use Rattle.rounds.specs.Play.{Between, Played, Plays, end_of}
 use Rattle.rounds.specs.declared.game.End.{End}
 use Rattle.rounds.specs.declared.game.End.TheVariants.{Awaiting, Bank}
 use Rattle.sheets.specs.File.{Content, content_of, code_of_fault as code_of_file_fault, sheet_of, players_of, same_round, unread_of}
@@ -22,7 +22,7 @@ refusal_line fault = codes "FILE REFUSED " ++ code_of_file_fault fault ++ 10 ∷
 
 -- the two lines at the head
 unfoldable pub header : List ℕ → List ℕ
-header file = codes "GAME 1830 1" ++ 10 ∷ codes "PLAYERS" ++ flat_map (λ name. 32 ∷ name) (players_of file) ++ 10 ∷ []
+header file = codes "GAME 1830 1" ++ 10 ∷ codes "PLAYERS" ++ spaced (players_of file) ++ 10 ∷ []
 
 -- the list of events that follow ends a round here: the next begins, or there is none
 abbrev pub ends_round : List Event → Bool
@@ -58,6 +58,10 @@ round_text_in file seats round before (event ∷ events) =
     then round_lines file seats before (event ∷ events)
     else round_text_in file seats round (before ++ event ∷ []) events
 
+-- the text of a round of a game that was played
+abbrev pub round_text_of : Played → round.Round → List ℕ
+round_text_of played round = round_text_in played.file played.game.seats round [] played.game.events
+
 -- the unread lines, of which so many came before
 abbrev pub unread_lines : ℕ → List Fault → List ℕ
 unread_lines count [] = []
@@ -82,16 +86,21 @@ abbrev pub report_text : List ℕ → ℕ → List Event → End → List ℕ
 report_text file seats events end =
     header file ++ rounds_text file seats [] events ++ unread_lines 0 (unread_of file) ++ end_text file end
 
+-- the report of a game that was played
+abbrev pub report_of : Played → List ℕ
+report_of played = report_text played.file played.game.seats played.game.events played.end
+
 -- the report of a file that is not refused
 pub record IsGameReport (file text : List ℕ) : Type 0 where
   pub last : Between
   pub game : Plays file last
   pub is : text ≡ report_text file last.game.seats last.game.events (end_of last.next)
 
--- the text is the report of the file
+-- the text is the report of the file, by what the file says
 abbrev pub IsReportOf : List ℕ → Result Content FileFault → List ℕ → Type 0
 IsReportOf file (Err fault) text = text ≡ refusal_line fault
 IsReportOf file (Ok content) text = IsGameReport file text
 
+-- the text is the report of the file
 abbrev pub IsReport : List ℕ → List ℕ → Type 0
 IsReport file text = IsReportOf file (content_of file) text

@@ -1,19 +1,18 @@
-ghost use Rattle.std.specs.Prelude.{◌≡◌, ◌++◌, OnOk};
+ghost use Rattle.std.specs.Prelude.{◌≡◌, ◌++◌, OnOk, codes, decimal};
 ghost use Rattle.history.specs.Event.{order_kept};
-ghost use Rattle.history.specs.declared.event.Event.TheVariants.{Left, Revenue, Ruled, Sold};
+ghost use Rattle.history.specs.declared.event.Event.TheVariants.{Left, Passes, Revenue, Ruled, Sold};
 ghost use Rattle.order_grammar.specs.Print.{spelling_of};
 ghost use Rattle.report.specs.Line.{event_line, event_text, name_of, party_text, ruling_text};
 
 use crate::column::push_number;
 use history::{Event, KeptOrder, Party, Ruling};
-use order_grammar::{print_line, print_round};
+use order_grammar::{print_order, print_round};
 use sheets::Sheets;
-use std::alloc::{AllocError, Global};
+use std::alloc::AllocError;
 use tables::{Amount, Private, Seat};
 
 /// Adds an event as its line.
 pub(crate) fn push_event(
-    alloc: Global,
     out: &mut Vec<u8>,
     sheets: &Sheets,
     event: &Event,
@@ -25,23 +24,15 @@ pub(crate) fn push_event(
             out.extend_from_slice(b"ROUND ")?;
             print_round(out, round)?;
         }
-        Event::Ruled { seat, line, ruling } => {
-            push_ruled(alloc, out, sheets, *seat, *line, ruling)?;
-        }
-        Event::Passes(seat) => {
-            push_name(out, sheets, *seat)?;
-            out.extend_from_slice(b" PASSES")?;
-        }
+        Event::Ruled { seat, line, ruling } => push_ruled(out, sheets, *seat, *line, ruling)?,
+        Event::Passes(seat) => push_passes(out, sheets, *seat)?,
         Event::Left { seat, lines } => push_left_lines(out, sheets, *seat, *lines)?,
         Event::Sold {
             private,
             seat,
             price,
         } => push_sold(out, sheets, *private, *seat, *price)?,
-        Event::Price { price } => {
-            out.extend_from_slice(b"PRICE SV ")?;
-            push_number(out, *price)?;
-        }
+        Event::Price { price } => push_price(out, *price)?,
         Event::Revenue {
             private,
             owner,
@@ -55,7 +46,6 @@ pub(crate) fn push_event(
 
 /// Adds what became of a line.
 fn push_ruled(
-    alloc: Global,
     out: &mut Vec<u8>,
     sheets: &Sheets,
     seat: Seat,
@@ -67,7 +57,15 @@ fn push_ruled(
     push_name(out, sheets, seat)?;
     out.push(b' ')?;
     push_number(out, line)?;
-    push_ruling(alloc, out, ruling)
+    push_ruling(out, ruling)
+}
+
+/// Adds that a seat passes.
+fn push_passes(out: &mut Vec<u8>, sheets: &Sheets, seat: Seat) -> Result<(), AllocError>
+    ensures { OnOk result (out.new.items ≡ out.old.items ++ event_text sheets.now (Passes seat)) }
+{
+    push_name(out, sheets, seat)?;
+    out.extend_from_slice(b" PASSES")
 }
 
 /// Adds how many lines of a seat were not taken up.
@@ -100,6 +98,14 @@ fn push_sold(
     out.push(b' ')?;
     push_name(out, sheets, seat)?;
     out.push(b' ')?;
+    push_number(out, price)
+}
+
+/// Adds the new price of the Schuylkill Valley.
+fn push_price(out: &mut Vec<u8>, price: Amount) -> Result<(), AllocError>
+    ensures { OnOk result (out.new.items ≡ out.old.items ++ codes "PRICE SV " ++ decimal price) }
+{
+    out.extend_from_slice(b"PRICE SV ")?;
     push_number(out, price)
 }
 
@@ -144,19 +150,19 @@ fn push_party(out: &mut Vec<u8>, sheets: &Sheets, party: &Party) -> Result<(), A
     }
 }
 
-fn push_ruling(alloc: Global, out: &mut Vec<u8>, ruling: &Ruling) -> Result<(), AllocError>
+fn push_ruling(out: &mut Vec<u8>, ruling: &Ruling) -> Result<(), AllocError>
     ensures { OnOk result (out.new.items ≡ out.old.items ++ ruling_text ruling.now) }
 {
     match ruling {
         Ruling::Obeyed(order) => {
             out.extend_from_slice(b" OBEYED ")?;
-            push_order(alloc, out, order)
+            push_order(out, order)
         }
         Ruling::Refused(refusal, order) => {
             out.extend_from_slice(b" REFUSED ")?;
             out.extend_from_slice(refusal.code().as_bytes())?;
             out.push(b' ')?;
-            push_order(alloc, out, order)
+            push_order(out, order)
         }
         Ruling::Faulty(fault) => {
             out.extend_from_slice(b" REFUSED ")?;
@@ -165,9 +171,8 @@ fn push_ruling(alloc: Global, out: &mut Vec<u8>, ruling: &Ruling) -> Result<(), 
     }
 }
 
-fn push_order(alloc: Global, out: &mut Vec<u8>, order: &KeptOrder) -> Result<(), AllocError>
+fn push_order(out: &mut Vec<u8>, order: &KeptOrder) -> Result<(), AllocError>
     ensures { OnOk result (out.new.items ≡ out.old.items ++ spelling_of (order_kept order.now)) }
 {
-    let text = print_line(alloc, &order.order())?;
-    out.extend_from_slice(text.as_slice())
+    print_order(out, &order.order())
 }

@@ -6,9 +6,19 @@ ghost use Rattle.sheets.specs.File.{players_of};
 use crate::column::{push_left, push_right};
 use crate::line::name;
 use history::{Party, Past};
+use order_grammar::NAME_MOST;
 use sheets::Sheets;
 use std::alloc::AllocError;
 use tables::{Company, Private, Seat};
+
+/// The width of the column of names.
+const NAME_WIDTH: usize = NAME_MOST;
+
+/// The width of a column of money.
+const CASH_WIDTH: usize = 6;
+
+/// The width of a column of certificates or tenths.
+const COUNT_WIDTH: usize = 3;
 
 /// Adds the statement of what everybody holds.
 #[tactic(auto, unfolding(crate::specs::Statement::statement))]
@@ -32,7 +42,7 @@ fn push_bank(out: &mut Vec<u8>, past: &Past) -> Result<(), AllocError>
     ensures { OnOk result (out.new.items ≡ out.old.items ++ bank_line past.now.seats past.now.events.now) }
 {
     out.extend_from_slice(b"BANK ")?;
-    push_right(out, past.cash(Party::Bank), 6)?;
+    push_right(out, past.cash(Party::Bank), CASH_WIDTH)?;
     out.push(b'\n')?;
     Ok(())
 }
@@ -48,9 +58,9 @@ fn push_player(
     ensures { OnOk result (out.new.items ≡ out.old.items ++ player_line sheets.now past.now.seats past.now.events.now seat) }
 {
     out.extend_from_slice(b"PLAYER ")?;
-    push_left(out, name(sheets, seat), 8)?;
-    push_right(out, past.cash(Party::Seat(seat)), 6)?;
-    push_right(out, certificates(past, seat), 3)?;
+    push_left(out, name(sheets, seat), NAME_WIDTH)?;
+    push_right(out, past.cash(Party::Seat(seat)), CASH_WIDTH)?;
+    push_right(out, certificates(past, seat), COUNT_WIDTH)?;
     push_holdings(out)?;
     push_privates(out, past, seat)?;
     out.push(b'\n')?;
@@ -62,8 +72,8 @@ fn push_player(
 fn push_holdings(out: &mut Vec<u8>) -> Result<(), AllocError>
     ensures { OnOk result (out.new.items ≡ out.old.items ++ holdings) }
 {
-    for _company in 0..Company::ALL.len() {
-        push_right(out, 0u32, 3)?;
+    for _ in Company::ALL {
+        push_right(out, 0u32, COUNT_WIDTH)?;
     }
     Ok(())
 }

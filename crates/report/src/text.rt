@@ -1,6 +1,6 @@
 ghost use Rattle.std.specs.Prelude.{◌≡◌, ◌∷◌, ◌++◌, [], ◌+◌, Bool, ◌≤◌, codes, IfOk, OnOk, length, take};
 ghost use Rattle.order_grammar.specs.Print.{text_of_round};
-ghost use Rattle.report.specs.Report.{begins_round, end_text, ends_round as ends_a_round, header, name_owing, owing, refusal_line, report_text, round_text_in, rounds_text, unread_lines};
+ghost use Rattle.report.specs.Report.{begins_round, end_text, ends_round as ends_a_round, header, name_owing, owing, refusal_line, report_of, round_text_of, rounds_text, unread_lines};
 ghost use Rattle.report.specs.Statement.{statement};
 ghost use Rattle.sheets.specs.File.{unread_of};
 
@@ -14,7 +14,10 @@ use sheets::{FileFault, Sheets};
 use std::alloc::{AllocError, Global};
 use tables::{Round, Seat};
 
-/// The text of a refused file.
+/// The words at the head of each report: the game, its version, and what the names after them are.
+const HEAD: &[u8] = b"GAME 1830 1\nPLAYERS";
+
+/// The text of a refused file, or an error where memory is refused.
 pub fn refusal_text(alloc: Global, fault: FileFault) -> Result<Vec<u8>, AllocError>
     ensures { IfOk result (λ text. text.items ≡ refusal_line fault) }
 {
@@ -26,9 +29,9 @@ pub fn refusal_text(alloc: Global, fault: FileFault) -> Result<Vec<u8>, AllocErr
 }
 
 /// The text of a round that was played: its events and the statement after them. Empty for a round
-/// that was not played.
+/// that was not played. An error where memory is refused.
 pub fn round_text(alloc: Global, game: &Game, round: Round) -> Result<Vec<u8>, AllocError>
-    ensures { IfOk result (λ text. text.items ≡ round_text_in game.now.file game.now.game.seats round [] game.now.game.events) }
+    ensures { IfOk result (λ text. text.items ≡ round_text_of game.now round) }
 {
     let mut out = Vec::new(alloc);
     let history = game.history();
@@ -37,7 +40,7 @@ pub fn round_text(alloc: Global, game: &Game, round: Round) -> Result<Vec<u8>, A
     for (i, event) in events.iter().enumerate() {
         begun = begun || begins(event, &round);
         if begun {
-            push_event(alloc, &mut out, game.sheets(), event)?;
+            push_event(&mut out, game.sheets(), event)?;
             if ends_round(&events[i + 1..]) {
                 push_statement_after(&mut out, game, i + 1)?;
                 return Ok(out);
@@ -47,13 +50,13 @@ pub fn round_text(alloc: Global, game: &Game, round: Round) -> Result<Vec<u8>, A
     Ok(out)
 }
 
-/// The whole report of a game.
+/// The whole report of a game, or an error where memory is refused.
 pub fn report(alloc: Global, game: &Game) -> Result<Vec<u8>, AllocError>
-    ensures { IfOk result (λ text. text.items ≡ report_text game.now.file game.now.game.seats game.now.game.events game.now.end) }
+    ensures { IfOk result (λ text. text.items ≡ report_of game.now) }
 {
     let mut out = Vec::new(alloc);
     push_header(&mut out, game.sheets())?;
-    push_rounds(alloc, &mut out, game)?;
+    push_rounds(&mut out, game)?;
     push_unread(&mut out, game.sheets().unread())?;
     push_end(&mut out, game)?;
     Ok(out)
@@ -63,7 +66,7 @@ pub fn report(alloc: Global, game: &Game) -> Result<Vec<u8>, AllocError>
 fn push_header(out: &mut Vec<u8>, sheets: &Sheets) -> Result<(), AllocError>
     ensures { OnOk result (out.new.items ≡ out.old.items ++ header sheets.now) }
 {
-    out.extend_from_slice(b"GAME 1830 1\nPLAYERS")?;
+    out.extend_from_slice(HEAD)?;
     for seat in 0..sheets.seats() {
         out.push(b' ')?;
         push_name(out, sheets, Seat(seat as u8))?;
@@ -73,13 +76,13 @@ fn push_header(out: &mut Vec<u8>, sheets: &Sheets) -> Result<(), AllocError>
 }
 
 /// Adds the lines of all events, and after each round its statement.
-fn push_rounds(alloc: Global, out: &mut Vec<u8>, game: &Game) -> Result<(), AllocError>
+fn push_rounds(out: &mut Vec<u8>, game: &Game) -> Result<(), AllocError>
     ensures { OnOk result (out.new.items ≡ out.old.items ++ rounds_text game.now.file game.now.game.seats [] game.now.game.events) }
 {
     let history = game.history();
     let events = history.events();
     for (i, event) in events.iter().enumerate() {
-        push_event(alloc, out, game.sheets(), event)?;
+        push_event(out, game.sheets(), event)?;
         if ends_round(&events[i + 1..]) {
             push_statement_after(out, game, i + 1)?;
         }

@@ -3,6 +3,6 @@ use Rattle.report.specs.Column.{at_right}
 use Rattle.report.proofs.Seats.{seats_step}
 use Rattle.report.proofs.statement.push_holdings.Goals as goal
 
-pub loop-company-preserved : goal.loop-company-preserved
-loop-company-preserved c =
-    seats_step (λ company. at_right 3 (decimal 0)) c.loop-company._company _ _ _ c.loop-company.invariant c.in_ok-push_right.ensures
+pub loop-preserved : goal.loop-preserved
+loop-preserved c =
+    seats_step (λ company. at_right 3 (decimal 0)) c.loop.index _ _ _ c.loop.invariant c.in_ok-push_right.ensures

@@ -4,5 +4,5 @@ use Rattle.report.specs.Column.{at_right}
 use Rattle.report.proofs.statement.push_holdings.Given as goal
 
 -- the companies so far
-abbrev pub invariant-loop-company : goal.invariant-loop-company
-invariant-loop-company l = l.out.items ≡ l.fn.out.items ++ flat_map (λ company. at_right 3 (decimal 0)) (range_with_len 0 l._company)
+abbrev pub invariant-loop : goal.invariant-loop
+invariant-loop l = l.out.items ≡ l.fn.out.items ++ flat_map (λ company. at_right 3 (decimal 0)) (range_with_len 0 l.index)

@@ -1,9 +1,9 @@
 use Rattle.std.proofs.Common.{◌≡◌, ◌++◌, ◌∷◌, codes, take}
-use Rattle.std.specs.List.{flat_map}
+use Rattle.order_grammar.specs.Print.{spaced}
 use Rattle.sheets.specs.File.{players_of}
 use Rattle.report.proofs.text.push_header.Given as goal
 
 -- the names so far
 abbrev pub invariant-loop-seat : goal.invariant-loop-seat
 invariant-loop-seat l =
-    l.out.items ≡ (l.fn.out.items ++ codes "GAME 1830 1" ++ 10 ∷ codes "PLAYERS") ++ flat_map (λ name. 32 ∷ name) (take l.seat (players_of l.sheets))
+    l.out.items ≡ (l.fn.out.items ++ codes "GAME 1830 1" ++ 10 ∷ codes "PLAYERS") ++ spaced (take l.seat (players_of l.sheets))
