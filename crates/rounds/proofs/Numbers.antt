@@ -3,7 +3,7 @@ use Rattle.std.proofs.Common.{◌≡◌, ℕ, ◌-◌, ◌<◌, ◌≤◌, ◌==
 use Rattle.std.proofs.lemmas.Bool.{and_parts, cases_Bool}
 use Rattle.std.proofs.lemmas.Bool.Decides.{nat_tests}
 use Rattle.order_grammar.specs.Line.{reading_of}
-use Rattle.order_grammar.specs.Spells.{IsRound, Spells}
+use Rattle.order_grammar.specs.Spells.{IsSmallRound, Spells}
 use Rattle.order_grammar.specs.declared.fault.Fault.{Fault}
 use Rattle.order_grammar.specs.declared.order.Order.{Order}
 use Rattle.order_grammar.specs.declared.order.Order.TheVariants as order
@@ -35,10 +35,10 @@ abbrev pub ReadWhereSpelt : Type 0
 ReadWhereSpelt = (line : List ℕ) (order : Order) → (reading_of line ≡ Ok order) ↔ Spells line order
 
 -- a round that a line names is numbered at most 99,999
-named_small : (text : List ℕ) (round : Round) → IsRound text round → number_of round ≤ 99999
-named_small text (Opening number) named = named.3.small
-named_small text (Stock set) named = absurd named
-named_small text (Operating set number) named = absurd named
+named_small : (round : Round) → IsSmallRound round → number_of round ≤ 99999
+named_small (Opening number) small = small
+named_small (Stock set) small = small
+named_small (Operating set number) small = small
 
 -- a sheet is for the round that its line names
 round_begun : (round : Round) (seat : Option Seat) (post : Post) → post_for round seat ≡ Some post → round ≡ post.round
@@ -50,8 +50,7 @@ round_begun round (Some seat) post same =
 -- so is that of each sheet that a line with this reading begins
 begun_small : ReadWhereSpelt → (players : List (List ℕ)) (line : List ℕ) (reading : Result Order Fault) (post : Post) → reading_of line ≡ reading → post_begun players reading ≡ Some post → number_of post.round ≤ 99999
 begun_small spelt players line (Ok (order.Sheet name round)) post read begun =
-    let named = ((spelt line (order.Sheet name round)).0 read).words in
-    rw (← round_begun round (seat_from 0 players name) post begun) (named_small named.0 round named.3)
+    rw (← round_begun round (seat_from 0 players name) post begun) (named_small round ((spelt line (order.Sheet name round)).0 read).small)
 begun_small spelt players line (Ok order.Blank) post read begun = cc
 begun_small spelt players line (Ok (order.Game game version)) post read begun = cc
 begun_small spelt players line (Ok (order.Players names)) post read begun = cc
