@@ -63,6 +63,7 @@ impl Name {
 impl Default for Name {
     ghost is_default = { λ name. name ≡ [] };
 
+    /// No letters at all: what fills a list of names that has room for more, and no player's name.
     fn default() -> Name {
         Name {
             letters: [0; NAME_MOST],
