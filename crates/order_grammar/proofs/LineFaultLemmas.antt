@@ -112,11 +112,18 @@ IsKnown first = (rest : List (List ℕ)) → 1 ≤ nearness (words_reading (firs
 -- a word that a form begins with is known
 known_word : (first : List ℕ) → Contains first_words_of_forms first → IsKnown first
 known_word first among = All-contains IsKnown first_words_of_forms first (All-from_recursion IsKnown first_words_of_forms (
-    (λ rest. begun_near kind.Game (codes "GAME") (class.Number ∷ class.Number ∷ []) (drop 1 forms) rest refl),
-    ((λ rest. begun_near kind.Players (codes "PLAYERS") (class.Name ∷ class.Name ∷ class.Name ∷ []) (drop 2 forms) rest refl),
-    ((λ rest. begun_near kind.Sheet (codes "SHEET") (class.Name ∷ class.Round ∷ []) (drop 6 forms) rest refl),
-    ((λ rest. begun_near kind.Turn (codes "TURN") [] (drop 7 forms) rest refl),
-    ((λ rest. begun_near kind.BuyPrivate (codes "BUY") (class.Private ∷ []) (drop 8 forms) rest refl), tt)))))) among
+  (λ rest. begun_near kind.Game (codes "GAME") (class.Number ∷ class.Number ∷ []) (drop 1 forms) rest refl),
+  (
+    (λ rest. begun_near kind.Players (codes "PLAYERS") (class.Name ∷ class.Name ∷ class.Name ∷ []) (drop 2 forms) rest refl),
+    (
+      (λ rest. begun_near kind.Sheet (codes "SHEET") (class.Name ∷ class.Round ∷ []) (drop 6 forms) rest refl),
+      (
+        (λ rest. begun_near kind.Turn (codes "TURN") [] (drop 7 forms) rest refl),
+        ((λ rest. begun_near kind.BuyPrivate (codes "BUY") (class.Private ∷ []) (drop 8 forms) rest refl), tt),
+      ),
+    ),
+  ),
+)) among
 
 -- words that are read as an unknown word begin with one
 unknown_begins : (words : List (List ℕ)) → words_reading words ≡ Err UnknownWord → BeginsNoForm words
@@ -200,18 +207,26 @@ begins_form words fault other e none =
 -- the fault of words is that of their line
 words_fault : (line : List ℕ) (fault : Fault) → (IsTooLong line → ⊥) → (HasStrayByte line → ⊥) → words_reading (words_of line) ≡ Err fault → IsFaultOf line fault
 words_fault line UnknownWord short clean e = (short, clean, unknown_begins (words_of line) e)
-words_fault line WrongWords short clean e = (short, clean, begins_form (words_of line) WrongWords (λ same. cc) e, λ loosely.
-    let near = loosely_near (words_of line) loosely.0 loosely.1.words in
-    let wrong : 2 ≤ 1 = rw e at near in
-    omega arith)
+words_fault line WrongWords short clean e = (
+  short,
+  clean,
+  begins_form (words_of line) WrongWords (λ same. cc) e,
+  λ loosely.
+      let near = loosely_near (words_of line) loosely.0 loosely.1.words in
+      let wrong : 2 ≤ 1 = rw e at near in
+      omega arith,
+)
 words_fault line NumberTooLarge short clean e =
     let near : IsNear (words_reading (words_of line)) = rw e (lit≤ tt) in
-    let some = near_words (words_of line) near in
-    (short, clean, begins_form (words_of line) NumberTooLarge (λ same. cc) e,
-    (some.0, record { short = omega arith; printable = all_printable line clean; words = some.1 }),
-    λ spelt.
-    let wrong : ◌≡◌ {A = Result Order Fault} (Ok spelt.0) (Err NumberTooLarge) = sym (words_for_read (words_of line) spelt.0 spelt.1.loosely.words spelt.1.small) ∙ e in
-    cc)
+    let some = near_words (words_of line) near in (
+      short,
+      clean,
+      begins_form (words_of line) NumberTooLarge (λ same. cc) e,
+      (some.0, record { short = omega arith; printable = all_printable line clean; words = some.1 }),
+      λ spelt.
+          let wrong : ◌≡◌ {A = Result Order Fault} (Ok spelt.0) (Err NumberTooLarge) = sym (words_for_read (words_of line) spelt.0 spelt.1.loosely.words spelt.1.small) ∙ e in
+          cc,
+    )
 words_fault line other short clean e = absurd (other_fault (words_of line) other refl (λ same. cc) e)
 
 -- a line that is read as a fault has it
