@@ -39,13 +39,9 @@ stray_byte (byte ∷ bytes) e =
 -- with one, not all are
 not_printable : (bytes : List ℕ) → Any (λ byte. is_printable byte ≡ true → ⊥) bytes → list_all is_printable bytes ≡ false
 not_printable bytes stray =
-    elim (cases_Bool (list_all is_printable bytes)) [
-      | inr other ↦ other
-      | inl all ↦
-          elim (cases_Bool (is_printable stray.1)) [
-            | inl printable ↦ absurd (stray.4 printable)
-            | inr other ↦ list_all_at is_printable bytes stray.0 stray.1 stray.2 (ap is_printable stray.3 ∙ other)
-          ]
+    elim (cases_Bool (is_printable stray.1)) [
+      | inl printable ↦ absurd (stray.4 printable)
+      | inr other ↦ list_all_at is_printable bytes stray.0 stray.1 stray.2 (ap is_printable stray.3 ∙ other)
     ]
 
 -- with none, all are
