@@ -1,5 +1,6 @@
 -- Each turn sells a private, or is one more of the passes that end the round.
 use Rattle.std.proofs.Common.{◌≡◌, ℕ, zero, suc, ◌+◌, ◌-◌, ◌*◌, ◌<◌, ◌≤◌, Bool, true, false, ◌||◌, not, nat_le, if◌then◌else◌, List, [], ◌∷◌, ◌++◌, Option, Some, None, is_none, is_some, Result, Ok, Err, sum_by, pos, refl, ap, ◌∙◌, append_assoc, arith}
+use Rattle.std.proofs.lemmas.Bool.{or_parts}
 use Rattle.std.proofs.lemmas.Bool.Decides.{nat_tests}
 use Rattle.std.proofs.Math.Nat.{mul-le-mul_right}
 use Rattle.std.proofs.lemmas.List.Sums.{sum_by-cons}
@@ -181,11 +182,6 @@ some_unsold events [] some = cc
 some_unsold events (private ∷ list) some =
     rw sum_by-cons (one_unsold (is_none (owner_of events private)) private (first_unsold events list) (sum_by (λ private. one_unowned (owner_of events private)) list) some (some_unsold events list))
 
--- neither of two tests
-neither : (a b : Bool) → (a || b) ≡ false → (a ≡ false) × (b ≡ false)
-neither true b none = cc
-neither false b none = (refl, none)
-
 -- not all have passed
 not_all : (seats passes : ℕ) → nat_le seats passes ≡ false → passes < seats
 not_all seats passes going = grind (arith, nat_tests)
@@ -193,7 +189,7 @@ not_all seats passes going = grind (arith, nat_tests)
 -- a turn that is taken leaves fewer to come
 turn_less : (seats : ℕ) (play : InPlay) → turns_over seats play ≡ false → turns_left seats (after_turn seats play) + 1 ≤ turns_left seats play
 turn_less seats play going =
-    let both = neither (is_none (cheapest_of play.events)) (nat_le seats play.passes) going in
+    let both = or_parts (is_none (cheapest_of play.events)) (nat_le seats play.passes) going in
     let start : InTurn = record { events = play.events; bought = false } in
     let group : List Numbered = next_group (groups_at play.groups play.seat) in
     let turn : InTurn = after_lines seats (seat_at play.seat) start group in

@@ -21,31 +21,8 @@ use Rattle.order_grammar.specs.declared.order.Order.TheVariants.{BuyPrivate}
 use Rattle.privates.specs.Judgement.{is_the, price_of, purchase_ruling, reading_ruling, refusal_of}
 use Rattle.privates.specs.Turn.{bought_by}
 use Rattle.tables.specs.declared.roster.Private.{Private}
-use Rattle.tables.specs.declared.roster.Private.TheVariants.{SchuylkillValley, ChamplainStLawrence, DelawareHudson, MohawkHudson, CamdenAmboy, BaltimoreOhio}
+use Rattle.tables.specs.declared.roster.Private.TheVariants.{SchuylkillValley}
 use Rattle.tables.specs.declared.seat.Seat.{Seat}
-
--- SV's price is small
-pub sv_price_most : (game : Game) → IsSound game → sv_price_of game.events ≤ 20
-sv_price_most game sound =
-    elim sound.price [
-      | inl e ↦ omega arith
-      | inr rest ↦ elim rest [
-        | inl e ↦ omega arith
-        | inr rest ↦ elim rest [
-          | inl e ↦ omega arith
-          | inr rest ↦ elim rest [ inl e ↦ omega arith | inr e ↦ omega arith ]
-        ]
-      ]
-    ]
-
--- each price is small
-pub price_most : (game : Game) (private : Private) → IsSound game → price_of game.events private ≤ 1000000
-price_most game SchuylkillValley sound = let most = sv_price_most game sound in omega arith
-price_most game ChamplainStLawrence sound = omega arith
-price_most game DelawareHudson sound = omega arith
-price_most game MohawkHudson sound = omega arith
-price_most game CamdenAmboy sound = omega arith
-price_most game BaltimoreOhio sound = omega arith
 
 -- a private that had an owner has one
 owned_after : (later earlier : Option Party) → IsSome earlier → IsSome (or_earlier later earlier)

@@ -26,7 +26,7 @@ abbrev pub price_of : List Event → Private → ℕ
 price_of events SchuylkillValley = sv_price_of events
 price_of events private = face_of private
 
--- the private is the one
+-- there is such a private, and it is this one
 abbrev pub is_the : Private → Option Private → Bool
 is_the private None = false
 is_the private (Some other) = same_private private other

@@ -23,11 +23,12 @@ abbrev pub in_play : List Event → ℕ → ℕ → List Unruled → InPlay
 in_play events seat passes unruled =
     record { events = events; seat = seat; passes = passes; groups = map groups_left unruled }
 
--- the lines of all that is left
+-- how many lines of all sheets are still to come, heads of groups among them
 abbrev pub total_left : List Unruled → ℕ
 total_left unruled = sum_by (λ one. length one.lines) unruled
 
--- the most turns that are still to come
+-- a bound on the turns that are still to come: no rule of the game, but the measure by which the turns
+-- are seen to end
 abbrev pub turns_most : ℕ → List Unruled → ℕ
 turns_most passes unruled = total_left unruled * (length unruled + 1) + (length unruled - passes)
 

@@ -70,7 +70,7 @@ after_passing seats events =
     then after_fall seats events (sv_price_of events - 5)
     else after_revenues seats events privates
 
--- after the turns: nothing more happens once all privates are sold
+-- after the turns: once all privates are sold nothing falls and nothing is paid
 abbrev pub closed : ℕ → List Event → List Event
 closed seats events = if all_sold events then events else after_passing seats events
 

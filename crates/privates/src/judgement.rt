@@ -1,5 +1,5 @@
 ghost use Rattle.std.specs.Prelude.{◌≡◌};
-ghost use Rattle.privates.specs.Judgement.{is_the as is_that_private, price_of as asked_price, refusal_of};
+ghost use Rattle.privates.specs.Judgement.{price_of as asked_price, refusal_of};
 
 use history::{Party, Past, Refusal};
 use tables::{Amount, Money, Private, Seat, face};
@@ -15,14 +15,14 @@ pub(crate) fn price_of(past: &Past, private: Private) -> Amount
 }
 
 /// The first rule that a purchase of a private by a seat breaks, in a turn that has bought before
-/// or not.
+/// or not; `None` if it breaks none.
 pub fn judge(past: &Past, seat: Seat, private: Private, turn_used: bool) -> Option<Refusal>
     ensures { result ≡ refusal_of past.now.seats past.now.events.now seat private turn_used }
 {
     if past.owner(private).is_some() {
         return Some(Refusal::Sold);
     }
-    if !is_the(private, past.cheapest_unsold()) {
+    if past.cheapest_unsold() != Some(private) {
         return Some(Refusal::NotCheapest);
     }
     if past.cash(Party::Seat(seat)) < Money::from(price_of(past, private)) {
@@ -32,14 +32,4 @@ pub fn judge(past: &Past, seat: Seat, private: Private, turn_used: bool) -> Opti
         return Some(Refusal::TurnUsed);
     }
     None
-}
-
-/// Whether the private is the one.
-fn is_the(private: Private, one: Option<Private>) -> bool
-    ensures { result ≡ is_that_private private one }
-{
-    match one {
-        None => false,
-        Some(other) => private == other,
-    }
 }

@@ -1,14 +1,16 @@
+//! Laws of the definitions, each the contract of a function that does nothing.
 ghost use Rattle.std.specs.Prelude.{◌≡◌, ◌*◌, ◌≤◌, ℕ, List};
 ghost use Rattle.history.specs.LookBack.{Game};
 ghost use Rattle.privates.specs.Opening.{IsOpeningRound};
 ghost use Rattle.tables.specs.declared.round.Round.{Round};
 
-/// There is one opening round: the sheets and the game before it say what the game after it is.
+/// An opening round has at most one outcome: the sheets and the game before it say what the game
+/// after it is.
 pub fn one_opening_round()
     ensures { (file : List ℕ) (round : Round) (old : Game) (a : Game) (b : Game) → IsOpeningRound file round old a → IsOpeningRound file round old b → a ≡ b }
 {}
 
-/// Each opening round ends, whatever the sheets say.
+/// An opening round has an outcome: its turns come to an end, whatever the sheets say.
 pub fn opening_round_ends()
     ensures { (file : List ℕ) (round : Round) (old : Game) → (new : Game) × IsOpeningRound file round old new }
 {}

@@ -4,7 +4,7 @@
 //! when all privates are sold, or when all seats have passed in succession; then SV falls by 5 if it
 //! is unsold, and at 0 goes to the holder of priority for nothing, or else each sold private pays.
 //!
-//! Reading order: `judge` (the rules that an order may break), `tell`, `turn`, `opening`,
+//! Reading order: `judgement` (the rules that a purchase may break), `tell`, `turn`, `opening`,
 //! `laws` (what holds of every opening round).
 #![tactic(auto)]
 

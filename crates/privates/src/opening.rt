@@ -23,7 +23,7 @@ const FALL: u32 = 5;
 /// What is still to come of each seat's sheet, by seat.
 type Unruled<'a> = ArrayVec<Lines<'a>, PLAYERS_MOST>;
 
-/// Plays an opening round. An `Err` drops the game.
+/// Plays an opening round. An `Err` comes from want of memory alone, and the game is dropped.
 pub fn play_opening(
     mut history: History,
     sheets: &Sheets,

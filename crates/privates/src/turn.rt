@@ -1,4 +1,4 @@
-ghost use Rattle.std.specs.Prelude.{◌≡◌, ◌<◌, ◌≤◌, ◌||◌, ◌++◌, ◌∷◌, [], IfOk, OnOk, drop, false, length, map, pos, true, ◌≤ℤ◌};
+ghost use Rattle.std.specs.Prelude.{◌≡◌, ◌<◌, ◌≤◌, ◌||◌, ◌++◌, ◌∷◌, [], Err, IfOk, MatchResult, Ok, OnOk, drop, false, length, map, pos, true, ◌≤ℤ◌};
 ghost use Rattle.history.specs.LookBack.{cash_of};
 ghost use Rattle.history.specs.Sound.{IsSound};
 ghost use Rattle.history.specs.declared.event.Event.TheVariants as event;
@@ -23,12 +23,20 @@ pub(crate) const LINES_MOST: u32 = 512;
 pub(crate) fn opens_group(line: &NumberedLine) -> bool
     ensures { result ≡ is_turn (reading_where line.now) }
 {
+    matches!(standing_reading(line), Ok(Order::Turn))
+}
+
+/// The order of a line where it stands in its sheet, or its first fault: a line past the last that
+/// may be an order has that fault before any other.
+fn standing_reading<'a>(line: &'a NumberedLine) -> Result<&'a Order, Fault>
+    ensures { MatchResult result (λ order. reading_where line.now ≡ Ok order.now) (λ fault. reading_where line.now ≡ Err fault) }
+{
     if line.number > LINES_MOST {
-        return false;
+        return Err(Fault::PastLastLine);
     }
     match &line.reading {
-        Ok(read) => matches!(read.order, Order::Turn),
-        Err(_) => false,
+        Ok(read) => Ok(&read.order),
+        Err(fault) => Err(*fault),
     }
 }
 
@@ -60,12 +68,9 @@ pub(crate) fn rule_standing(
 fn standing_fault(line: &NumberedLine) -> Fault
     ensures { result ≡ fault_outside (reading_where line.now) }
 {
-    if line.number > LINES_MOST {
-        return Fault::PastLastLine;
-    }
-    match &line.reading {
+    match standing_reading(line) {
         Ok(_) => Fault::OutOfPlace,
-        Err(fault) => *fault,
+        Err(fault) => fault,
     }
 }
 
@@ -174,15 +179,10 @@ fn sell(
 fn ruling_of(history: &History, seat: Seat, line: &NumberedLine, turn_used: bool) -> Ruling
     ensures { result ≡ reading_ruling history.now.seats history.now.events seat turn_used (reading_where line.now) }
 {
-    if line.number > LINES_MOST {
-        return Ruling::Faulty(Fault::PastLastLine);
-    }
-    match &line.reading {
-        Err(fault) => Ruling::Faulty(*fault),
-        Ok(read) => match read.order {
-            Order::BuyPrivate(private) => purchase_ruling(history, seat, private, turn_used),
-            _ => Ruling::Faulty(Fault::OutOfPlace),
-        },
+    match standing_reading(line) {
+        Ok(Order::BuyPrivate(private)) => purchase_ruling(history, seat, *private, turn_used),
+        Ok(_) => Ruling::Faulty(Fault::OutOfPlace),
+        Err(fault) => Ruling::Faulty(fault),
     }
 }
 
