@@ -23,7 +23,7 @@ use Rattle.tables.specs.declared.seat.Seat.{Seat}
 abbrev pub seat_parts : List ℕ → Round → ℕ → Parts
 seat_parts file round seat = parts_of (unwrap_or (sheet_of file seat round) [])
 
--- the rulings of the lines before the first group of a seat's sheet
+-- the events of the lines before the first group of a seat's sheet
 abbrev pub outside_events : List ℕ → Round → ℕ → List Event
 outside_events file round seat =
     map (outside_event (seat_at seat)) (seat_parts file round seat).before

@@ -1,5 +1,5 @@
--- The one game of a file: whole rounds in their sequence, each with a sheet of every seat, until a seat
--- has none for the next round or nothing comes next.
+-- The one game of a file: whole opening rounds in their sequence, each with a sheet of every seat, until a
+-- seat has none for the next round, or that is no opening, or nothing comes next.
 use Rattle.std.specs.Prelude.{◌≡◌, ℕ, zero, suc, Bool, true, false, List, [], length, is_some}
 use Rattle.std.specs.List.{list_all, range_with_len}
 use Rattle.history.specs.LookBack.{Game}

@@ -16,7 +16,7 @@ use tables::{Round, Seat};
 /// Why play stopped.
 #[derive(Clone, Copy, Debug, PartialEq, Eq)]
 pub enum End {
-    /// Some seat has no sheet for this round.
+    /// This round comes next, and some seat has no sheet for it or it is no opening.
     Awaiting(Round),
     /// The bank is broken and its set of rounds is over.
     Bank,
@@ -99,7 +99,8 @@ fn end_of(upcoming: Next) -> End
     }
 }
 
-/// The round that comes next, if it can be played: an opening for which every seat has a sheet.
+/// The round that comes next, if it can be played: if it is an opening for which every seat has a
+/// sheet.
 fn playable(sheets: &Sheets, upcoming: Next) -> Option<Round>
     ensures can { IsSome result ↔ (can_play sheets.now upcoming ≡ true) }
     ensures is_next { IfSome result (λ round. upcoming ≡ Next.Round round) }

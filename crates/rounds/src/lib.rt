@@ -1,7 +1,8 @@
 //! The sequence of rounds, and the one game of an order file.
 //!
 //! A game is played by whole rounds, each once every seat has a sheet for it, until a sheet is
-//! missing or the game is over.
+//! missing or the game is over. Of the rounds, the openings are played; what follows the last of
+//! them is awaited.
 //!
 //! Reading order: `following`, `sequence` (`next`), `game` (`Game`, `play`), `laws`.
 #![tactic(auto)]
