@@ -79,7 +79,8 @@ pub fn play<'a>(alloc: Global, sheets: &'a Sheets<'a>) -> Result<Game<'a>, Alloc
     while let Some(round) = playable(sheets, upcoming) {
         history = play_opening(history, sheets, round)?;
         let all_sold = history.now().cheapest_unsold().is_none();
-        // Neither the length of a set nor a broken bank decides what follows an opening.
+        // Only openings are played: neither the length of a set, here the least, nor a broken bank
+        // decides what follows one.
         upcoming = next(round, 1, all_sold, false);
     }
     Ok(Game {
