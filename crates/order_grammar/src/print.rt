@@ -15,8 +15,8 @@ pub fn print_line(alloc: Global, order: &Order) -> Result<Vec<u8>, AllocError>
     Ok(text)
 }
 
-/// Adds the spelling of an order to a text: upper case, single spaces, no leading zeros. Where memory
-/// is refused, the text is what it was, with a front of the spelling after it.
+/// Adds the spelling of an order: upper case, single spaces, no leading zeros. At want of memory a
+/// front of that may have been added.
 pub fn print_order(text: &mut Vec<u8>, order: &Order) -> Result<(), AllocError>
     ensures { OnOk result (text.new.items ≡ text.old.items ++ spelling_of order.now) }
 {
