@@ -10,18 +10,14 @@ use Rattle.report.specs.Laws.{ArrivalChangesNoReport}
 use Rattle.report.specs.Line.{event_text, party_text}
 use Rattle.report.specs.Report.{IsReportOf, end_text, header, name_owing, owing, report_text, rounds_text}
 use Rattle.report.specs.Statement.{player_line, statement}
-use Rattle.rounds.specs.Play.{Between, Plays, end_of}
+use Rattle.rounds.specs.Arrival.{ArrivalChangesNoGame}
+use Rattle.rounds.specs.Play.{end_of}
 use Rattle.rounds.specs.declared.game.End.{End}
 use Rattle.rounds.specs.declared.game.End.TheVariants.{Awaiting, Bank}
 use Rattle.sheets.specs.File.{Content, content_of, players_of, sheet_of, unread_of}
 use Rattle.sheets.specs.Laws.{ArrivalChangesNothing, SentTheSame}
 use Rattle.sheets.specs.declared.fault.FileFault.{FileFault}
 use Rattle.tables.specs.declared.round.Round as table
-
--- files of the same players, in which each sent the same, have the same game
-abbrev ArrivalChangesNoGame : Type 0
-ArrivalChangesNoGame =
-    (f g : List ℕ) → players_of f ≡ players_of g → SentTheSame f g → (last : Between) → Plays f last → Plays g last
 
 -- the same holder is printed the same
 party_same : (f g : List ℕ) (holder : Party) → players_of f ≡ players_of g → party_text f holder ≡ party_text g holder

@@ -1,8 +1,10 @@
 //! Laws of the definitions, each the contract of a function that does nothing.
+ghost use Rattle.report.specs.Laws.{ArrivalChangesNoReport};
 ghost use Rattle.report.specs.Report.{IsReport};
 ghost use Rattle.std.specs.Prelude.{◌≡◌, ℕ, List};
 
-use rounds::{one_game, some_game};
+use rounds::{arrival_changes_no_game, one_game, some_game};
+use sheets::arrival_changes_nothing;
 
 /// A file has at most one report.
 pub fn one_report()
@@ -16,4 +18,12 @@ pub fn some_report()
     ensures { (file : List ℕ) → (text : List ℕ) × IsReport file text }
 {
     some_game()
+}
+
+/// In which order the sheets of different players arrive changes nothing in the report.
+pub fn arrival_changes_no_report()
+    ensures { ArrivalChangesNoReport }
+{
+    arrival_changes_no_game();
+    arrival_changes_nothing()
 }
