@@ -129,6 +129,7 @@ pub(crate) fn left_of(seat: Seat, seats: usize) -> Seat
     }
 }
 
+/// What a party begins with.
 fn start_of(seats: usize, party: Party) -> Amount
     ensures { result ≡ start_of seats party }
 {
