@@ -1,11 +1,11 @@
--- Laws of reports.
+-- Laws of reports: in which order the sheets of different players arrive changes nothing in the report.
 use Rattle.std.specs.Prelude.{◌≡◌, ℕ, List}
 use Rattle.report.specs.Report.{IsReport}
 use Rattle.sheets.specs.File.{IsAccepted, players_of, unread_of}
 use Rattle.sheets.specs.Laws.{SentTheSame}
 
--- in which order the sheets of different players arrive changes nothing in the report: it is the same for
--- files of the same players, in which each sent the same sheets and the same lines are in no sheet
+-- files of the same players have the same report, where each sent the same sheets in the same order and
+-- the same faults stand in no sheet
 abbrev pub ArrivalChangesNoReport : Type 0
 ArrivalChangesNoReport =
     (f g : List ℕ)
