@@ -179,6 +179,20 @@ impl Write for Sink {
     }
 }
 
+/// Takes all and cannot be flushed.
+#[derive(Drop)]
+struct Stuck;
+
+impl Write for Stuck {
+    fn write(&mut self, bytes: &[u8]) -> io::Result<usize> {
+        Ok(bytes.len())
+    }
+
+    fn flush(&mut self) -> io::Result<()> {
+        Err(io::Error::from(io::ErrorKind::BrokenPipe))
+    }
+}
+
 fn giving(text: &str, most: usize, bad: Option<usize>) -> Source<'_> {
     Source {
         text: text.as_bytes(),
@@ -381,4 +395,12 @@ fn stops_at_a_failed_write(rt: HostRuntime) {
             assert!(rt; !run.read_failed && run.write_failed, "at {bad}");
         }
     }
+}
+
+#[test]
+fn passes_a_flush_on(rt: HostRuntime) {
+    let mut writer = Watched::new(Stuck);
+    assert!(rt; !writer.failed());
+    assert!(rt; writer.flush().is_err());
+    assert!(rt; writer.failed());
 }
