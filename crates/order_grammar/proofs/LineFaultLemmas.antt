@@ -1,15 +1,15 @@
 -- The fault of a line is what it is read as.
-use Rattle.std.proofs.Common.{◌≡◌, ℕ, suc, ◌<◌, ◌≤◌, Bool, true, false, ltb, nat_lt, cond, fold, ◌⊎◌, inl, inr, List, [], ◌∷◌, Some, None, lit≤, Result, Ok, Err, Any, Contains, codes, length, drop, refl, sym, ap, subst, ◌∙◌, arith}
+use Rattle.std.proofs.Common.{◌≡◌, ℕ, suc, ◌≤◌, true, false, ltb, fold, ◌⊎◌, inl, inr, List, [], ◌∷◌, Some, None, lit≤, Result, Ok, Err, Any, Contains, codes, length, drop, refl, sym, ap, subst, ◌∙◌, arith}
 use Rattle.std.specs.List.{list_all}
-use Rattle.std.proofs.lemmas.Bool.{cases_Bool, cases_lt, le-ltb, lt-ltb, ltb-false, and_cases}
+use Rattle.std.proofs.lemmas.Bool.{cases_Bool, cases_lt, le-ltb, lt-ltb, and_cases}
 use Rattle.std.proofs.lemmas.List.Elements.{All-contains, All-from_recursion}
 use Rattle.std.proofs.lemmas.List.Folds.{list_all_at}
 use Rattle.order_grammar.specs.Class.{class_reading}
 use Rattle.order_grammar.specs.Form.{Row, row, forms, with_value, values_reading, nearness, nearer, order_of_values, row_reading, words_reading}
 use Rattle.order_grammar.specs.Line.{reading_of}
-use Rattle.order_grammar.specs.LineFault.{IsTooLong, HasStrayByte, first_words_of_forms, BeginsNoForm, HasUnknownWord, IsLooselySpelt, IsSpelt, IsFaultOf}
+use Rattle.order_grammar.specs.LineFault.{IsTooLong, HasStrayByte, first_words_of_forms, BeginsNoForm, IsFaultOf}
 use Rattle.order_grammar.specs.Order.{order_from}
-use Rattle.order_grammar.specs.Spells.{AreWordsFor, HasSmallNumbers, LooselySpells, Spells}
+use Rattle.order_grammar.specs.Spells.{AreWordsFor}
 use Rattle.order_grammar.specs.Words.{same_word, before_comment, is_printable, words_of}
 use Rattle.order_grammar.specs.declared.class.Class.{Class}
 use Rattle.order_grammar.specs.declared.class.Class.TheVariants as class

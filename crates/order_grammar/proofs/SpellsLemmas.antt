@@ -7,7 +7,7 @@ use Rattle.tables.specs.Roster.{code_of_private}
 use Rattle.tables.specs.declared.roster.Private.{Private}
 use Rattle.tables.specs.declared.round.Round.{Round}
 use Rattle.tables.specs.declared.round.Round.TheVariants.{Opening, Stock, Operating}
-use Rattle.order_grammar.specs.Class.{are_digits, value_of_digits, digits_reading, number_reading, round_number_reading, round_reading, class_reading, bought_alone}
+use Rattle.order_grammar.specs.Class.{are_digits, value_of_digits, digits_reading, round_number_reading, round_reading, class_reading, bought_alone}
 use Rattle.order_grammar.specs.Form.{Row, row, forms, with_value, values_reading, nearer, order_of_values, row_reading, words_reading}
 use Rattle.order_grammar.specs.Name.{is_name}
 use Rattle.order_grammar.specs.Order.{names_from}

@@ -1,6 +1,6 @@
 use Rattle.std.proofs.Common.{◌≡◌, ℕ, List, ◌++◌, Result, Ok, Err, OnErr, codes, decimal, ap, append_assoc, ◌∙◌}
 use Rattle.std.proofs.lemmas.Result.{on_err_weaker}
-use Rattle.order_grammar.specs.Print.{AddsFront, text_of_round}
+use Rattle.order_grammar.specs.Print.{text_of_round}
 use Rattle.order_grammar.proofs.print.print_round.Goals as goal
 
 -- what holds also holds at an error
