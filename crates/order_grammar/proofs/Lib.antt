@@ -8,3 +8,4 @@ pub mod SpellsLemmas
 pub mod SpellingLemmas
 pub mod ReadLemmas
 pub mod LineFaultLemmas
+pub mod FrontLemmas

@@ -18,7 +18,8 @@ pub fn print_line(alloc: Global, order: &Order) -> Result<Vec<u8>, AllocError>
 /// Adds the spelling of an order: upper case, single spaces, no leading zeros. At want of memory a
 /// front of that may have been added.
 pub fn print_order(text: &mut Vec<u8>, order: &Order) -> Result<(), AllocError>
-    ensures { OnOk result (text.new.items ≡ text.old.items ++ spelling_of order.now) }
+    ensures ok { OnOk result (text.new.items ≡ text.old.items ++ spelling_of order.now) }
+    ensures err { OnErr result (AddsFront text.old.items text.new.items (spelling_of order.now)) }
 {
     match order {
         Order::Blank => Ok(()),
@@ -45,7 +46,8 @@ pub fn print_order(text: &mut Vec<u8>, order: &Order) -> Result<(), AllocError>
 
 /// Adds the players line.
 fn print_players(text: &mut Vec<u8>, names: &[Name]) -> Result<(), AllocError>
-    ensures { OnOk result (text.new.items ≡ text.old.items ++ codes "PLAYERS" ++ spaced names.now) }
+    ensures ok { OnOk result (text.new.items ≡ text.old.items ++ codes "PLAYERS" ++ spaced names.now) }
+    ensures err { OnErr result (AddsFront text.old.items text.new.items (codes "PLAYERS" ++ spaced names.now)) }
 {
     text.extend_from_slice(b"PLAYERS")?;
     for name in names {

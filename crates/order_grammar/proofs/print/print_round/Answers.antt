@@ -1,16 +1,8 @@
-use Rattle.std.proofs.Common.{◌≡◌, ℕ, List, ◌++◌, Result, Ok, Err, OnErr, codes, decimal, ap, append_assoc, ◌∙◌}
+use Rattle.std.proofs.Common.{◌++◌, codes, decimal, ap, append_assoc, ◌∙◌}
 use Rattle.std.proofs.lemmas.Result.{on_err_weaker}
 use Rattle.order_grammar.specs.Print.{text_of_round}
+use Rattle.order_grammar.proofs.FrontLemmas.{at_error, two_added}
 use Rattle.order_grammar.proofs.print.print_round.Goals as goal
-
--- what holds also holds at an error
-at_error : {T E P : Type 0} (r : Result T E) → P → OnErr r P
-at_error (Ok x) p = tt
-at_error (Err e) p = p
-
--- what was added after another piece
-two_added : (old new first second : List ℕ) → new ≡ old ++ first → new ++ second ≡ old ++ (first ++ second)
-two_added old new first second e = ap (λ (text : List ℕ). text ++ second) e ∙ append_assoc old first second
 
 pub returns-in_ok-extend_from_slice-in-Opening-clause-err : goal.returns-in_ok-extend_from_slice-in-Opening-clause-err
 returns-in_ok-extend_from_slice-in-Opening-clause-err c =
