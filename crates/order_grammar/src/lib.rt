@@ -3,7 +3,7 @@
 //!
 //! A line's words are parted by spaces and end before the first `#`; letters of either case are
 //! equal. The forms of lines stand in one table; a line spells the order of the row that its words
-//! fit. Nothing here takes memory but `print_line`, for its answer.
+//! fit. Reading takes no memory; printing takes it for its text alone.
 //!
 //! Reading order: `name`, `fault`, `words` (a line and its words), `order` (orders and their
 //! parts), `class` (the texts of each class of words), `form` (the table), `read`, `print`, `laws`.
@@ -23,7 +23,7 @@ pub use fault::Fault;
 pub use laws::{faulty_where_it_has_one, read_where_spelt, spelling_is_read_again};
 pub use name::{NAME_MOST, Name};
 pub use order::Order;
-pub use print::{print_line, print_name, print_order, print_round};
+pub use print::{print_line, print_order, print_round};
 pub use read::{LINE_MOST, Line, read_line};
 pub use words::{Span, Token, WORDS_MOST, Words, begins_with_word, has_word};
 

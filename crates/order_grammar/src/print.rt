@@ -58,7 +58,7 @@ fn print_players(text: &mut Vec<u8>, names: &[Name]) -> Result<(), AllocError>
 }
 
 /// Adds a name. At want of memory the text is as it was.
-pub fn print_name(text: &mut Vec<u8>, name: &Name) -> Result<(), AllocError>
+fn print_name(text: &mut Vec<u8>, name: &Name) -> Result<(), AllocError>
     ensures ok { OnOk result (text.new.items ≡ text.old.items ++ name.now) }
     ensures err { OnErr result (text.new.items ≡ text.old.items) }
 {
