@@ -3,9 +3,9 @@ use Rattle.std.proofs.Common.{◌≡◌, ℕ, ◌<◌, ◌≤◌, ◌⊎◌, inl
 use Rattle.std.specs.Prelude.{Option, Some, None, Result, Ok, Err, IfSome, IsOk}
 use Rattle.std.specs.Io.KnownBytes.{Appends}
 use Rattle.std.specs.Result.{result_err}
-use Rattle.std.proofs.lemmas.Grind.{common_steps}
 use Rattle.std.proofs.lemmas.List.{take_all, length-take-le}
 use Rattle.report.specs.Report.{IsReport, IsReportOf, refusal_line}
+use Rattle.sheets.proofs.ContentLemmas.{too_long}
 use Rattle.sheets.specs.File.{Content, IsAccepted, content_of}
 use Rattle.sheets.specs.declared.fault.FileFault.{FileFault}
 use Rattle.sheets.specs.declared.fault.FileFault.TheVariants.{TooLong}
@@ -13,11 +13,6 @@ use Rattle.umpire.specs.Failure.{AppendsFront}
 use Rattle.umpire.specs.Run.{IsReported, IsRefused, IsCutShort, IsFileOf, Stops, as_read}
 use Rattle.umpire.specs.declared.fault.Fault.{Fault}
 use Rattle.umpire.specs.declared.fault.Fault.TheVariants.{Write}
-
--- a file of over 4,194,304 bytes is too long
-too_long : (file : List ℕ) → 4194304 < length file → content_of file ≡ Err TooLong
-unfolding content_of
-too_long file over = grind (arith, common_steps)
 
 -- all of a file was read, or it is too long and so is what was read of it
 read_or_long : (bytes file : List ℕ) → file ≡ as_read bytes → (length bytes ≤ 4194304) ⊎ (4194304 < length bytes) → (bytes ≡ file) ⊎ ((content_of bytes ≡ Err TooLong) × (content_of file ≡ Err TooLong))

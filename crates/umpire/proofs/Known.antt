@@ -1,23 +1,16 @@
 -- The known bytes of a reader and a writer over several calls.
-use Rattle.std.proofs.Common.{◌≡◌, ℕ, ◌+◌, ◌≤◌, List, [], ◌++◌, length, take, drop, append_assoc, arith}
+use Rattle.std.proofs.Common.{◌≡◌, ℕ, ◌+◌, ◌≤◌, List, [], ◌++◌, length, take, drop, arith}
 use Rattle.std.specs.Prelude.{Option, Some, None, IfSome}
 use Rattle.std.specs.Io.KnownBytes.{Appends, Consumes, IsAtEnd}
-use Rattle.std.proofs.KnownBytes.{Consumes-trans}
+use Rattle.std.proofs.KnownBytes.{Appends-trans, Consumes-trans}
 use Rattle.std.proofs.Math.Seq.{take-add}
 use Rattle.std.proofs.lemmas.Grind.{common_steps}
 use Rattle.umpire.specs.Failure.{TakesWithin}
 
--- bytes that are added after others are added with them
-pub appends_more : (old mid new : Option (List ℕ)) (xs ys : List ℕ) → Appends old mid xs → Appends mid new ys → Appends old new (xs ++ ys)
-appends_more None mid new xs ys before after = tt
-appends_more (Some held) None new xs ys before after = elim before [ ]
-appends_more (Some held) (Some more) None xs ys before after = elim after [ ]
-appends_more (Some held) (Some more) (Some now) xs ys before after = grind (arith, append_assoc)
-
 -- a further part of a text is added
 pub appends_part : (old mid new : Option (List ℕ)) (text rest : List ℕ) (done count : ℕ) → rest ≡ drop done text → Appends old mid (take done text) → Appends mid new (take count rest) → Appends old new (take (done + count) text)
 appends_part old mid new text rest done count is_rest before after =
-    rw (take-add done count text, ← is_rest) (appends_more old mid new (take done text) (take count rest) before after)
+    rw (take-add done count text, ← is_rest) (Appends-trans old mid new (take done text) (take count rest) before after)
 
 -- all bytes were taken: no more came
 pub all_taken : (old mid new : Option (List ℕ)) (xs ys : List ℕ) (most : ℕ) → Consumes old mid xs → Consumes mid new ys → ys ≡ [] → IsAtEnd new → length xs ≤ most → IfSome old (λ bytes. xs ≡ take most bytes)
