@@ -1,0 +1,9 @@
+pub mod Hex
+pub mod Side
+pub mod Border
+pub mod Place
+pub mod Track
+pub mod Tile
+pub mod Print
+pub mod Lay
+pub mod Home

@@ -1,0 +1,241 @@
+-- What is printed on the hexes of the map: of each group of hexes with the same print its kind, the
+-- cost of its terrain, its stops with their value and the tokens that they take, and its track.
+use Rattle.std.specs.Prelude.{ℕ, Bool, true, false, ◌||◌, if◌then◌else◌, List, [], ◌∷◌, ◌++◌}
+use Rattle.map_tables.specs.declared.hex.Hex.{Hex}
+use Rattle.map_tables.specs.declared.hex.Hex.TheVariants.{
+  A9,
+  A11,
+  A17,
+  A19,
+  B10,
+  B12,
+  B14,
+  B16,
+  B18,
+  B20,
+  B22,
+  B24,
+  C7,
+  C9,
+  C11,
+  C13,
+  C15,
+  C17,
+  C19,
+  C21,
+  C23,
+  D2,
+  D4,
+  D6,
+  D8,
+  D10,
+  D12,
+  D14,
+  D16,
+  D18,
+  D20,
+  D22,
+  D24,
+  E3,
+  E5,
+  E7,
+  E9,
+  E11,
+  E13,
+  E15,
+  E17,
+  E19,
+  E21,
+  E23,
+  F2,
+  F4,
+  F6,
+  F8,
+  F10,
+  F12,
+  F14,
+  F16,
+  F18,
+  F20,
+  F22,
+  F24,
+  G3,
+  G5,
+  G7,
+  G9,
+  G11,
+  G13,
+  G15,
+  G17,
+  G19,
+  H2,
+  H4,
+  H6,
+  H8,
+  H10,
+  H12,
+  H14,
+  H16,
+  H18,
+  I1,
+  I3,
+  I5,
+  I7,
+  I9,
+  I11,
+  I13,
+  I15,
+  I17,
+  I19,
+  J2,
+  J4,
+  J6,
+  J8,
+  J10,
+  J12,
+  J14,
+  K13,
+  K15,
+}
+use Rattle.map_tables.specs.declared.print.HexKind.{HexKind}
+use Rattle.map_tables.specs.declared.print.HexKind.TheVariants.{Open, Grey, Red}
+use Rattle.map_tables.specs.declared.print.PrintedValue.{PrintedValue}
+use Rattle.map_tables.specs.declared.tiles.TileKind.{TileKind}
+use Rattle.map_tables.specs.declared.tiles.TileKind.TheVariants.{Plain, Town, TwoTowns, City, CityB, CitiesNY, CitiesOO}
+use Rattle.map_tables.specs.declared.tiles.Colour.{Colour}
+use Rattle.map_tables.specs.declared.tiles.Colour.TheVariants.{White, Yellow}
+use Rattle.map_tables.specs.declared.track.Segment.{Segment}
+use Rattle.map_tables.specs.declared.track.Link.{Link}
+use Rattle.map_tables.specs.Hex.{same_hex}
+use Rattle.map_tables.specs.Track.{in_order, through, city_track, two_city_track, links_in}
+use Rattle.map_tables.specs.Tile.{stops_of_kind}
+
+-- the print of a hex
+pub record Print : Type 0 where
+  pub kind : HexKind
+  pub cost : ℕ
+  pub colour : Colour
+  pub stops : ℕ
+  pub slots : ℕ
+  pub value : PrintedValue
+  pub track : List Segment
+
+-- the value of a stop that does not change with the phase, and of one that does
+abbrev pub always : ℕ → PrintedValue
+always value = record { before_phase_five = value; from_phase_five = value }
+
+abbrev pub at_first_and_later : ℕ → ℕ → PrintedValue
+at_first_and_later before from = record { before_phase_five = before; from_phase_five = from }
+
+-- how many tokens a city takes by its print; towns take none
+abbrev slots_of_kind : TileKind → ℕ
+slots_of_kind Plain = 0
+slots_of_kind Town = 0
+slots_of_kind TwoTowns = 0
+slots_of_kind City = 1
+slots_of_kind CityB = 1
+slots_of_kind CitiesNY = 1
+slots_of_kind CitiesOO = 1
+
+abbrev red : ℕ → ℕ → List ℕ → Print
+red before from sides =
+    record { kind = Red; cost = 0; colour = White; stops = 1; slots = 0; value = at_first_and_later before from; track = in_order (city_track sides) }
+
+abbrev grey_city_and_track : ℕ → List ℕ → List Segment → Print
+grey_city_and_track value sides track =
+    record { kind = Grey; cost = 0; colour = White; stops = 1; slots = 1; value = always value; track = in_order (city_track sides ++ track) }
+
+abbrev grey_city : ℕ → List ℕ → Print
+grey_city value sides = grey_city_and_track value sides []
+
+abbrev grey_town : ℕ → List ℕ → Print
+grey_town value sides =
+    record { kind = Grey; cost = 0; colour = White; stops = 1; slots = 0; value = always value; track = in_order (city_track sides) }
+
+abbrev grey_track : List Segment → Print
+grey_track track =
+    record { kind = Grey; cost = 0; colour = White; stops = 0; slots = 0; value = always 0; track = in_order track }
+
+abbrev yellow : TileKind → ℕ → ℕ → List Segment → Print
+yellow kind cost value track =
+    record { kind = Open kind; cost = cost; colour = Yellow; stops = stops_of_kind kind; slots = slots_of_kind kind; value = always value; track = in_order track }
+
+abbrev yellow_city : TileKind → ℕ → List ℕ → Print
+yellow_city kind value sides = yellow kind 0 value (city_track sides)
+
+abbrev yellow_cities : TileKind → ℕ → ℕ → List ℕ → List ℕ → Print
+yellow_cities kind cost value first second = yellow kind cost value (two_city_track first second)
+
+-- a hex without track, whose stops are worth nothing until a tile lies
+abbrev white : TileKind → ℕ → Print
+white kind cost =
+    record { kind = Open kind; cost = cost; colour = White; stops = stops_of_kind kind; slots = slots_of_kind kind; value = always 0; track = [] }
+
+-- the hexes that have a print
+pub record Group : Type 0 where
+  pub hexes : List Hex
+  pub print : Print
+
+abbrev for_hexes : List Hex → Print → Group
+for_hexes hexes print = record { hexes = hexes; print = print }
+
+-- the prints of the map
+unfoldable pub groups : List Group
+groups =
+    -- red areas: the value before and from phase 5, and the sides
+    for_hexes (F2 ∷ []) (red 40 70 (3 ∷ 4 ∷ 5 ∷ [])) ∷
+    for_hexes (J2 ∷ []) (red 30 60 (3 ∷ 4 ∷ [])) ∷
+    for_hexes (I1 ∷ []) (red 30 60 (4 ∷ [])) ∷
+    for_hexes (A11 ∷ []) (red 30 50 (5 ∷ 0 ∷ [])) ∷
+    for_hexes (A9 ∷ []) (red 30 50 (5 ∷ [])) ∷
+    for_hexes (K13 ∷ []) (red 30 40 (2 ∷ 3 ∷ [])) ∷
+    for_hexes (B24 ∷ []) (red 20 30 (1 ∷ 0 ∷ [])) ∷
+    -- grey: cities and towns with their values and sides, and track
+    for_hexes (D2 ∷ []) (grey_city 20 (5 ∷ 4 ∷ [])) ∷
+    for_hexes (F6 ∷ []) (grey_city 30 (5 ∷ 0 ∷ [])) ∷
+    for_hexes (E9 ∷ []) (grey_track (through 2 3 ∷ [])) ∷
+    for_hexes (H12 ∷ []) (grey_city_and_track 10 (1 ∷ 4 ∷ []) (through 1 4 ∷ [])) ∷
+    for_hexes (D14 ∷ []) (grey_city 20 (1 ∷ 4 ∷ 0 ∷ [])) ∷
+    for_hexes (C15 ∷ []) (grey_town 10 (1 ∷ 3 ∷ [])) ∷
+    for_hexes (K15 ∷ []) (grey_city 20 (2 ∷ [])) ∷
+    for_hexes (A17 ∷ []) (grey_track (through 0 5 ∷ [])) ∷
+    for_hexes (A19 ∷ []) (grey_city 40 (5 ∷ 0 ∷ [])) ∷
+    for_hexes (I19 ∷ F24 ∷ []) (grey_town 10 (1 ∷ 2 ∷ [])) ∷
+    for_hexes (D24 ∷ []) (grey_track (through 1 0 ∷ [])) ∷
+    -- yellow print: kind, cost of terrain, value of each city, and the sides of each
+    for_hexes (I15 ∷ []) (yellow_city CityB 30 (4 ∷ 0 ∷ [])) ∷
+    for_hexes (E23 ∷ []) (yellow_city CityB 30 (3 ∷ 5 ∷ [])) ∷
+    for_hexes (G19 ∷ []) (yellow_cities CitiesNY 80 40 (3 ∷ []) (0 ∷ [])) ∷
+    for_hexes (E5 ∷ D10 ∷ []) (yellow_cities CitiesOO 80 0 [] []) ∷
+    for_hexes (E11 ∷ H18 ∷ []) (yellow_cities CitiesOO 0 0 [] []) ∷
+    -- white, without track: the kind, and the cost of terrain
+    for_hexes (E19 ∷ H4 ∷ B10 ∷ H10 ∷ H16 ∷ B16 ∷ []) (white City 0) ∷
+    for_hexes (F4 ∷ J14 ∷ F22 ∷ []) (white City 80) ∷
+    for_hexes (F16 ∷ []) (white City 120) ∷
+    for_hexes (E7 ∷ B20 ∷ D4 ∷ F10 ∷ []) (white Town 0) ∷
+    for_hexes (G7 ∷ G17 ∷ F20 ∷ []) (white TwoTowns 0) ∷
+    for_hexes (
+    I13 ∷ D18 ∷ B12 ∷ B14 ∷ B22 ∷ C7 ∷ C9 ∷ C11 ∷ C13 ∷ C23 ∷ D8 ∷ D12 ∷ D16 ∷ D20 ∷ E3 ∷
+    E13 ∷ E15 ∷ F8 ∷ F12 ∷ F14 ∷ F18 ∷ G3 ∷ G5 ∷ G9 ∷ G11 ∷ H2 ∷ H6 ∷ H8 ∷ H14 ∷ I3 ∷ I5 ∷
+    I7 ∷ I9 ∷ J4 ∷ J6 ∷ J8 ∷ []
+    ) (white Plain 0) ∷
+    for_hexes (G15 ∷ C17 ∷ C21 ∷ D22 ∷ E17 ∷ E21 ∷ G13 ∷ I11 ∷ J10 ∷ J12 ∷ []) (white Plain 120) ∷
+    for_hexes (D6 ∷ I17 ∷ B18 ∷ C19 ∷ []) (white Plain 80) ∷
+    []
+
+-- whether a hex is among some
+abbrev pub is_one_of : Hex → List Hex → Bool
+is_one_of hex [] = false
+is_one_of hex (h ∷ hs) = same_hex h hex || is_one_of hex hs
+
+-- the print of a hex: that of the group in which it stands
+abbrev pub print_among : List Group → Hex → Print
+print_among [] hex = white Plain 0
+print_among (g ∷ gs) hex = if is_one_of hex g.hexes then g.print else print_among gs hex
+
+unfoldable pub print_of : Hex → Print
+print_of hex = print_among groups hex
+
+-- the links that the print gives a hex
+unfoldable pub printed_links_of : Hex → List Link
+printed_links_of hex = links_in hex (print_of hex).track

@@ -1,0 +1,64 @@
+-- The sides of a hex, in order round it, and how a tile is turned.
+use Rattle.std.specs.Prelude.{ℕ, zero, suc, Option, None, Some, ◌==◌, if◌then◌else◌, List, [], ◌∷◌}
+use Rattle.map_tables.specs.declared.side.Side.{Side}
+use Rattle.map_tables.specs.declared.side.Side.TheVariants.{SouthWest, West, NorthWest, NorthEast, East, SouthEast}
+use Rattle.map_tables.specs.declared.side.Rotation.{Rotation}
+use Rattle.map_tables.specs.declared.side.Rotation.TheVariants.{Zero, One, Two, Three, Four, Five}
+
+-- the sides, in order
+abbrev pub sides : List Side
+sides = SouthWest ∷ West ∷ NorthWest ∷ NorthEast ∷ East ∷ SouthEast ∷ []
+
+-- the number of a side
+abbrev pub number_of : Side → ℕ
+number_of SouthWest = 0
+number_of West = 1
+number_of NorthWest = 2
+number_of NorthEast = 3
+number_of East = 4
+number_of SouthEast = 5
+
+-- the next side, clockwise
+abbrev pub next_side : Side → Side
+next_side SouthWest = West
+next_side West = NorthWest
+next_side NorthWest = NorthEast
+next_side NorthEast = East
+next_side East = SouthEast
+next_side SouthEast = SouthWest
+
+-- the side that comes so many sides later
+abbrev pub sides_on : ℕ → Side → Side
+sides_on zero side = side
+sides_on (suc n) side = next_side (sides_on n side)
+
+-- the side of this number, from 0
+abbrev pub side : ℕ → Side
+side n = sides_on n SouthWest
+
+-- the side of the neighbour that lies at this side: it has the number that is greater by three, modulo six
+abbrev pub facing_of : Side → Side
+facing_of s = sides_on 3 s
+
+-- by how many sixths of a turn a tile is turned
+abbrev pub turns_of : Rotation → ℕ
+turns_of Zero = 0
+turns_of One = 1
+turns_of Two = 2
+turns_of Three = 3
+turns_of Four = 4
+turns_of Five = 5
+
+-- the rotations, in order
+abbrev pub rotations : List Rotation
+rotations = Zero ∷ One ∷ Two ∷ Three ∷ Four ∷ Five ∷ []
+
+-- the rotation by so many sixths of a turn, if it is under a full turn
+abbrev pub rotation_of : ℕ → Option Rotation
+rotation_of turns =
+    if turns == 0 then Some Zero else if turns == 1 then Some One else if turns == 2 then Some Two else
+    if turns == 3 then Some Three else if turns == 4 then Some Four else if turns == 5 then Some Five else None
+
+-- a side of a tile that is turned: each turn adds one to its number, modulo six
+abbrev pub turned_side : Rotation → Side → Side
+turned_side rotation s = sides_on (turns_of rotation) s

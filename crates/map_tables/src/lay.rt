@@ -1,0 +1,37 @@
+ghost use Rattle.std.specs.Prelude.{◌≡◌};
+ghost use Rattle.map_tables.specs.Lay.{laid_links_of, laid_track_of};
+
+use crate::hex::Hex;
+use crate::side::Rotation;
+use crate::tiles::{TileNo, tile_track};
+use crate::track::{Links, Track, links_in, swapped, turned};
+
+/// A tile as it lies, or is to be laid, on a hex.
+#[derive(Clone, Copy, Debug, PartialEq, Eq, Hash)]
+pub struct Lay {
+    pub hex: Hex,
+    pub tile: TileNo,
+    /// How far the tile is turned.
+    pub rot: Rotation,
+    /// Whether stop 0 of the hex is the tile's stop 1, and stop 1 its stop 0.
+    pub swap: bool,
+}
+
+/// The links that a tile gives its hex, in order.
+pub fn laid_links(lay: Lay) -> Links
+    ensures { result.items ≡ laid_links_of lay }
+{
+    links_in(lay.hex, laid_track(lay).as_slice())
+}
+
+/// The track of a tile as it lies.
+fn laid_track(lay: Lay) -> Track
+    ensures { result.items ≡ laid_track_of lay }
+{
+    let track = turned(tile_track(lay.tile), lay.rot);
+    if lay.swap {
+        swapped(track.as_slice())
+    } else {
+        track
+    }
+}

@@ -1,0 +1,36 @@
+//! The map and the tiles of 1830 as they are played here, as tables.
+//!
+//! Each call answers its entry of a table, in a few steps and without memory. `specs/` has each
+//! table once, in the order and the words in which the rules print it.
+//!
+//! Reading order: `hex` (the hexes of the map), `side` (sides and rotations), `border` (which hexes
+//! are neighbours), `place` (stops), `track` (what joins sides and stops), `print` (what is printed
+//! on the map), `tiles`, `lay` (a tile on a hex), `run` (the places of a run), `homes` (what the
+//! roster says of the map), `laws` (what holds of all these tables).
+#![tactic(auto)]
+
+mod border;
+mod hex;
+mod homes;
+mod lay;
+mod place;
+mod print;
+mod run;
+mod segments;
+mod side;
+mod tiles;
+mod track;
+
+pub use border::neighbour;
+pub use hex::{HEXES, Hex};
+pub use homes::{home, private_hexes, token_price, tokens};
+pub use lay::{Lay, laid_links};
+pub use place::{Place, Stop, StopNumber, joined_stop};
+pub use print::{
+    HexKind, PrintedValue, hex_kind, printed_colour, printed_links, printed_slots, printed_stops,
+    printed_value, terrain_cost,
+};
+pub use run::{RUN_LEAST, RUN_MOST, Run};
+pub use side::{Rotation, Side};
+pub use tiles::{Colour, TILES, TileEntry, TileKind, TileNo, tile, tile_track};
+pub use track::{End, LINKS_MOST, Link, Links, Segment, Track, turned};

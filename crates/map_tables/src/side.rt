@@ -1,0 +1,101 @@
+ghost use Rattle.std.specs.Prelude.{◌≡◌, ◌<◌};
+ghost use Rattle.map_tables.specs.Side.{facing_of, number_of, rotation_of, turned_side, turns_of};
+ghost use Rattle.std.specs.Prelude.{None, Some, if◌then◌else◌};
+
+/// A side of a hex, in order round the hex from 0 to 5.
+#[derive(Clone, Copy, Debug, PartialEq, Eq, Hash)]
+pub enum Side {
+    SouthWest,
+    West,
+    NorthWest,
+    NorthEast,
+    East,
+    SouthEast,
+}
+
+impl Side {
+    /// The six sides, in order.
+    pub const ALL: [Side; 6] = [
+        Side::SouthWest,
+        Side::West,
+        Side::NorthWest,
+        Side::NorthEast,
+        Side::East,
+        Side::SouthEast,
+    ];
+
+    /// The number of the side, from 0 to 5.
+    pub fn number(self) -> usize
+        ensures value { result ≡ number_of self }
+        ensures bound { result < 6 }
+    {
+        self as usize
+    }
+
+    /// The side of the neighbour at which this side lies: three sides on.
+    pub fn facing(self) -> Side
+        ensures { result ≡ facing_of self }
+    {
+        match self {
+            Side::SouthWest => Side::NorthEast,
+            Side::West => Side::East,
+            Side::NorthWest => Side::SouthEast,
+            Side::NorthEast => Side::SouthWest,
+            Side::East => Side::West,
+            Side::SouthEast => Side::NorthWest,
+        }
+    }
+
+    /// The side that this side of a tile becomes when the tile is turned.
+    pub fn turned(self, rotation: Rotation) -> Side
+        ensures { result ≡ turned_side rotation self }
+    {
+        Side::ALL[(self.number() + rotation.turns()) % 6]
+    }
+}
+
+/// How far a tile is turned: by so many sixths of a full turn, clockwise.
+#[derive(Clone, Copy, Debug, PartialEq, Eq, Hash)]
+pub enum Rotation {
+    Zero,
+    One,
+    Two,
+    Three,
+    Four,
+    Five,
+}
+
+impl Rotation {
+    /// The six rotations, in order.
+    pub const ALL: [Rotation; 6] = [
+        Rotation::Zero,
+        Rotation::One,
+        Rotation::Two,
+        Rotation::Three,
+        Rotation::Four,
+        Rotation::Five,
+    ];
+
+    /// How many sixths of a turn it is, from 0 to 5.
+    pub fn turns(self) -> usize
+        ensures value { result ≡ turns_of self }
+        ensures bound { result < 6 }
+    {
+        self as usize
+    }
+
+    /// The rotation by so many sixths of a turn; `None` for six or more.
+    pub fn from_turns(turns: usize) -> Option<Rotation>
+        ensures { result ≡ rotation_of turns }
+    {
+        match turns {
+            0 => Some(Rotation::Zero),
+            1 => Some(Rotation::One),
+            2 => Some(Rotation::Two),
+            3 => Some(Rotation::Three),
+            4 => Some(Rotation::Four),
+            5 => Some(Rotation::Five),
+            _ => None,
+        }
+    }
+}
