@@ -5,5 +5,6 @@ pub mod Place
 pub mod Track
 pub mod Tile
 pub mod Print
+pub mod PrintedHex
 pub mod Lay
 pub mod Home

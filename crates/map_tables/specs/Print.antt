@@ -3,99 +3,11 @@
 use Rattle.std.specs.Prelude.{ℕ, Bool, true, false, ◌||◌, if◌then◌else◌, List, [], ◌∷◌, ◌++◌}
 use Rattle.map_tables.specs.declared.hex.Hex.{Hex}
 use Rattle.map_tables.specs.declared.hex.Hex.TheVariants.{
-  A9,
-  A11,
-  A17,
-  A19,
-  B10,
-  B12,
-  B14,
-  B16,
-  B18,
-  B20,
-  B22,
-  B24,
-  C7,
-  C9,
-  C11,
-  C13,
-  C15,
-  C17,
-  C19,
-  C21,
-  C23,
-  D2,
-  D4,
-  D6,
-  D8,
-  D10,
-  D12,
-  D14,
-  D16,
-  D18,
-  D20,
-  D22,
-  D24,
-  E3,
-  E5,
-  E7,
-  E9,
-  E11,
-  E13,
-  E15,
-  E17,
-  E19,
-  E21,
-  E23,
-  F2,
-  F4,
-  F6,
-  F8,
-  F10,
-  F12,
-  F14,
-  F16,
-  F18,
-  F20,
-  F22,
-  F24,
-  G3,
-  G5,
-  G7,
-  G9,
-  G11,
-  G13,
-  G15,
-  G17,
-  G19,
-  H2,
-  H4,
-  H6,
-  H8,
-  H10,
-  H12,
-  H14,
-  H16,
-  H18,
-  I1,
-  I3,
-  I5,
-  I7,
-  I9,
-  I11,
-  I13,
-  I15,
-  I17,
-  I19,
-  J2,
-  J4,
-  J6,
-  J8,
-  J10,
-  J12,
-  J14,
-  K13,
-  K15,
+  A9, A11, A17, A19, B10, B12, B14, B16, B18, B20, B22, B24, C7, C9, C11, C13, C15, C17, C19,
+  C21, C23, D2, D4, D6, D8, D10, D12, D14, D16, D18, D20, D22, D24, E3, E5, E7, E9, E11, E13,
+  E15, E17, E19, E21, E23, F2, F4, F6, F8, F10, F12, F14, F16, F18, F20, F22, F24, G3, G5, G7,
+  G9, G11, G13, G15, G17, G19, H2, H4, H6, H8, H10, H12, H14, H16, H18, I1, I3, I5, I7, I9,
+  I11, I13, I15, I17, I19, J2, J4, J6, J8, J10, J12, J14, K13, K15,
 }
 use Rattle.map_tables.specs.declared.print.HexKind.{HexKind}
 use Rattle.map_tables.specs.declared.print.HexKind.TheVariants.{Open, Grey, Red}
@@ -128,7 +40,7 @@ abbrev pub at_first_and_later : ℕ → ℕ → PrintedValue
 at_first_and_later before from = record { before_phase_five = before; from_phase_five = from }
 
 -- how many tokens a city takes by its print; towns take none
-abbrev slots_of_kind : TileKind → ℕ
+abbrev pub slots_of_kind : TileKind → ℕ
 slots_of_kind Plain = 0
 slots_of_kind Town = 0
 slots_of_kind TwoTowns = 0
@@ -137,37 +49,44 @@ slots_of_kind CityB = 1
 slots_of_kind CitiesNY = 1
 slots_of_kind CitiesOO = 1
 
+-- a red area, whose stop takes no token
+abbrev pub red_of : ℕ → ℕ → List Segment → Print
+red_of before from track =
+    record { kind = Red; cost = 0; colour = White; stops = 1; slots = 0; value = at_first_and_later before from; track = track }
+
 abbrev red : ℕ → ℕ → List ℕ → Print
-red before from sides =
-    record { kind = Red; cost = 0; colour = White; stops = 1; slots = 0; value = at_first_and_later before from; track = in_order (city_track sides) }
+red before from sides = red_of before from (in_order (city_track sides))
+
+-- a grey hex
+abbrev pub grey_of : ℕ → ℕ → ℕ → List Segment → Print
+grey_of stops slots value track =
+    record { kind = Grey; cost = 0; colour = White; stops = stops; slots = slots; value = always value; track = track }
 
 abbrev grey_city_and_track : ℕ → List ℕ → List Segment → Print
-grey_city_and_track value sides track =
-    record { kind = Grey; cost = 0; colour = White; stops = 1; slots = 1; value = always value; track = in_order (city_track sides ++ track) }
+grey_city_and_track value sides track = grey_of 1 1 value (in_order (city_track sides ++ track))
 
 abbrev grey_city : ℕ → List ℕ → Print
-grey_city value sides = grey_city_and_track value sides []
+grey_city value sides = grey_of 1 1 value (in_order (city_track sides))
 
 abbrev grey_town : ℕ → List ℕ → Print
-grey_town value sides =
-    record { kind = Grey; cost = 0; colour = White; stops = 1; slots = 0; value = always value; track = in_order (city_track sides) }
+grey_town value sides = grey_of 1 0 value (in_order (city_track sides))
 
 abbrev grey_track : List Segment → Print
-grey_track track =
-    record { kind = Grey; cost = 0; colour = White; stops = 0; slots = 0; value = always 0; track = in_order track }
+grey_track track = grey_of 0 0 0 (in_order track)
 
-abbrev yellow : TileKind → ℕ → ℕ → List Segment → Print
-yellow kind cost value track =
-    record { kind = Open kind; cost = cost; colour = Yellow; stops = stops_of_kind kind; slots = slots_of_kind kind; value = always value; track = in_order track }
+-- a hex whose print is a yellow tile
+abbrev pub yellow_of : TileKind → ℕ → ℕ → List Segment → Print
+yellow_of kind cost value track =
+    record { kind = Open kind; cost = cost; colour = Yellow; stops = stops_of_kind kind; slots = slots_of_kind kind; value = always value; track = track }
 
 abbrev yellow_city : TileKind → ℕ → List ℕ → Print
-yellow_city kind value sides = yellow kind 0 value (city_track sides)
+yellow_city kind value sides = yellow_of kind 0 value (in_order (city_track sides))
 
 abbrev yellow_cities : TileKind → ℕ → ℕ → List ℕ → List ℕ → Print
-yellow_cities kind cost value first second = yellow kind cost value (two_city_track first second)
+yellow_cities kind cost value first second = yellow_of kind cost value (in_order (two_city_track first second))
 
 -- a hex without track, whose stops are worth nothing until a tile lies
-abbrev white : TileKind → ℕ → Print
+abbrev pub white : TileKind → ℕ → Print
 white kind cost =
     record { kind = Open kind; cost = cost; colour = White; stops = stops_of_kind kind; slots = slots_of_kind kind; value = always 0; track = [] }
 
@@ -215,9 +134,9 @@ groups =
     for_hexes (E7 ∷ B20 ∷ D4 ∷ F10 ∷ []) (white Town 0) ∷
     for_hexes (G7 ∷ G17 ∷ F20 ∷ []) (white TwoTowns 0) ∷
     for_hexes (
-    I13 ∷ D18 ∷ B12 ∷ B14 ∷ B22 ∷ C7 ∷ C9 ∷ C11 ∷ C13 ∷ C23 ∷ D8 ∷ D12 ∷ D16 ∷ D20 ∷ E3 ∷
-    E13 ∷ E15 ∷ F8 ∷ F12 ∷ F14 ∷ F18 ∷ G3 ∷ G5 ∷ G9 ∷ G11 ∷ H2 ∷ H6 ∷ H8 ∷ H14 ∷ I3 ∷ I5 ∷
-    I7 ∷ I9 ∷ J4 ∷ J6 ∷ J8 ∷ []
+        I13 ∷ D18 ∷ B12 ∷ B14 ∷ B22 ∷ C7 ∷ C9 ∷ C11 ∷ C13 ∷ C23 ∷ D8 ∷ D12 ∷ D16 ∷ D20 ∷ E3 ∷
+        E13 ∷ E15 ∷ F8 ∷ F12 ∷ F14 ∷ F18 ∷ G3 ∷ G5 ∷ G9 ∷ G11 ∷ H2 ∷ H6 ∷ H8 ∷ H14 ∷ I3 ∷ I5 ∷
+        I7 ∷ I9 ∷ J4 ∷ J6 ∷ J8 ∷ []
     ) (white Plain 0) ∷
     for_hexes (G15 ∷ C17 ∷ C21 ∷ D22 ∷ E17 ∷ E21 ∷ G13 ∷ I11 ∷ J10 ∷ J12 ∷ []) (white Plain 120) ∷
     for_hexes (D6 ∷ I17 ∷ B18 ∷ C19 ∷ []) (white Plain 80) ∷

@@ -1,5 +1,5 @@
 ghost use Rattle.std.specs.Prelude.{◌≡◌};
-ghost use Rattle.map_tables.specs.Border.{closed_of, neighbour_of, shifted_column, shifted_row};
+ghost use Rattle.map_tables.specs.Border.{closed_of, neighbour_of};
 
 use crate::hex::Hex;
 use crate::side::Side;

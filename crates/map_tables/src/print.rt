@@ -1,11 +1,15 @@
 ghost use Rattle.std.specs.Prelude.{◌≡◌};
-ghost use Rattle.map_tables.specs.Print.{always, at_first_and_later, print_of, printed_links_of};
+ghost use Rattle.map_tables.specs.Print.{always, grey_of, print_of, printed_links_of, red_of, slots_of_kind, white, yellow_of};
+ghost use Rattle.map_tables.specs.PrintedHex.{print_seen};
+
+use tables::Amount;
 
 use crate::hex::Hex;
-use crate::segments::{E_0, NE_0, NW_0, NW_NE, SE_0, SW_0, SW_1, SW_SE, SW_W, W_0, W_E};
+use crate::segments::{
+    SW_W, SW_SE, SW_0, SW_1, W_E, W_0, NW_NE, NW_0, NE_0, E_0, SE_0,
+};
 use crate::tiles::{Colour, TileKind};
 use crate::track::{Links, Segment, links_in};
-use tables::Amount;
 
 /// What a hex is for those who lay tiles.
 #[derive(Clone, Copy, Debug, PartialEq, Eq, Hash)]
@@ -29,219 +33,206 @@ pub struct PrintedValue {
 pub fn hex_kind(hex: Hex) -> HexKind
     ensures { result ≡ (print_of hex).kind }
 {
-    match hex {
-        Hex::A9 | Hex::A11 | Hex::B24 | Hex::F2 | Hex::I1 | Hex::J2 | Hex::K13 => HexKind::Red,
-        Hex::A17
-        | Hex::A19
-        | Hex::C15
-        | Hex::D2
-        | Hex::D14
-        | Hex::D24
-        | Hex::E9
-        | Hex::F6
-        | Hex::F24
-        | Hex::H12
-        | Hex::I19
-        | Hex::K15 => HexKind::Grey,
-        Hex::B10
-        | Hex::B16
-        | Hex::E19
-        | Hex::F4
-        | Hex::F16
-        | Hex::F22
-        | Hex::H4
-        | Hex::H10
-        | Hex::H16
-        | Hex::J14 => HexKind::Open(TileKind::City),
-        Hex::B20 | Hex::D4 | Hex::E7 | Hex::F10 => HexKind::Open(TileKind::Town),
-        Hex::D10 | Hex::E5 | Hex::E11 | Hex::H18 => HexKind::Open(TileKind::CitiesOO),
-        Hex::E23 | Hex::I15 => HexKind::Open(TileKind::CityB),
-        Hex::F20 | Hex::G7 | Hex::G17 => HexKind::Open(TileKind::TwoTowns),
-        Hex::G19 => HexKind::Open(TileKind::CitiesNY),
-        _ => HexKind::Open(TileKind::Plain),
-    }
+    print(hex).kind
 }
 
 /// What the terrain of a hex costs, paid with its first tile, in dollars.
 pub fn terrain_cost(hex: Hex) -> Amount
     ensures { result ≡ (print_of hex).cost }
 {
-    match hex {
-        Hex::B18
-        | Hex::C19
-        | Hex::D6
-        | Hex::D10
-        | Hex::E5
-        | Hex::F4
-        | Hex::F22
-        | Hex::G19
-        | Hex::I17
-        | Hex::J14 => 80,
-        Hex::C17
-        | Hex::C21
-        | Hex::D22
-        | Hex::E17
-        | Hex::E21
-        | Hex::F16
-        | Hex::G13
-        | Hex::G15
-        | Hex::I11
-        | Hex::J10
-        | Hex::J12 => 120,
-        _ => 0,
-    }
+    print(hex).cost
 }
 
 /// The colour of a hex on which no tile lies. Grey and red hexes, on which none ever does, are white.
 pub fn printed_colour(hex: Hex) -> Colour
     ensures { result ≡ (print_of hex).colour }
 {
-    match hex {
-        Hex::D10 | Hex::E5 | Hex::E11 | Hex::E23 | Hex::G19 | Hex::H18 | Hex::I15 => Colour::Yellow,
-        _ => Colour::White,
-    }
+    print(hex).colour
 }
 
-/// How many stops a hex has, from 0 to 2.
+/// How many stops a hex has, from 0 to 2; tiles do not change it.
 pub fn printed_stops(hex: Hex) -> usize
     ensures { result ≡ (print_of hex).stops }
 {
-    match hex {
-        Hex::A9
-        | Hex::A11
-        | Hex::A19
-        | Hex::B10
-        | Hex::B16
-        | Hex::B20
-        | Hex::B24
-        | Hex::C15
-        | Hex::D2
-        | Hex::D4
-        | Hex::D14
-        | Hex::E7
-        | Hex::E19
-        | Hex::E23
-        | Hex::F2
-        | Hex::F4
-        | Hex::F6
-        | Hex::F10
-        | Hex::F16
-        | Hex::F22
-        | Hex::F24
-        | Hex::H4
-        | Hex::H10
-        | Hex::H12
-        | Hex::H16
-        | Hex::I1
-        | Hex::I15
-        | Hex::I19
-        | Hex::J2
-        | Hex::J14
-        | Hex::K13
-        | Hex::K15 => 1,
-        Hex::D10 | Hex::E5 | Hex::E11 | Hex::F20 | Hex::G7 | Hex::G17 | Hex::G19 | Hex::H18 => 2,
-        _ => 0,
-    }
+    print(hex).stops
 }
 
 /// How many tokens each stop of a hex takes until a tile lies.
 pub fn printed_slots(hex: Hex) -> u8
     ensures { result ≡ (print_of hex).slots }
 {
-    match hex {
-        Hex::A19
-        | Hex::B10
-        | Hex::B16
-        | Hex::D2
-        | Hex::D10
-        | Hex::D14
-        | Hex::E5
-        | Hex::E11
-        | Hex::E19
-        | Hex::E23
-        | Hex::F4
-        | Hex::F6
-        | Hex::F16
-        | Hex::F22
-        | Hex::G19
-        | Hex::H4
-        | Hex::H10
-        | Hex::H12
-        | Hex::H16
-        | Hex::H18
-        | Hex::I15
-        | Hex::J14
-        | Hex::K15 => 1,
-        _ => 0,
-    }
+    print(hex).slots
 }
 
 /// What each stop of a hex is worth until a tile lies.
 pub fn printed_value(hex: Hex) -> PrintedValue
     ensures { result ≡ (print_of hex).value }
 {
-    match hex {
-        Hex::A9 | Hex::A11 => by_phase(30, 50),
-        Hex::A19 | Hex::G19 => always(40),
-        Hex::B24 => by_phase(20, 30),
-        Hex::C15 | Hex::F24 | Hex::H12 | Hex::I19 => always(10),
-        Hex::D2 | Hex::D14 | Hex::K15 => always(20),
-        Hex::E23 | Hex::F6 | Hex::I15 => always(30),
-        Hex::F2 => by_phase(40, 70),
-        Hex::I1 | Hex::J2 => by_phase(30, 60),
-        Hex::K13 => by_phase(30, 40),
-        _ => always(0),
-    }
-}
-
-/// A value that does not change.
-fn always(value: Amount) -> PrintedValue
-    ensures { result ≡ always value }
-{
-    by_phase(value, value)
-}
-
-/// A value before phase 5, and from then on.
-fn by_phase(before_phase_five: Amount, from_phase_five: Amount) -> PrintedValue
-    ensures { result ≡ at_first_and_later before_phase_five from_phase_five }
-{
-    PrintedValue {
-        before_phase_five,
-        from_phase_five,
-    }
+    print(hex).value
 }
 
 /// The links that are printed on a hex, in order.
 pub fn printed_links(hex: Hex) -> Links
     ensures { result.items ≡ printed_links_of hex }
 {
-    links_in(hex, printed_track(hex))
+    links_in(hex, print(hex).track)
 }
 
-/// The track that is printed on a hex, in order.
-fn printed_track(hex: Hex) -> &'static [Segment]
-    ensures { result.now ≡ (print_of hex).track }
+/// What is printed on a hex.
+#[derive(Clone, Copy)]
+struct PrintedHex {
+    kind: HexKind,
+    cost: Amount,
+    colour: Colour,
+    stops: usize,
+    slots: u8,
+    value: PrintedValue,
+    track: &'static [Segment],
+}
+
+/// The print of a hex.
+fn print(hex: Hex) -> PrintedHex
+    ensures { print_seen result ≡ print_of hex }
 {
     match hex {
-        Hex::A9 => &[SE_0],
-        Hex::A11 | Hex::A19 | Hex::F6 => &[SW_0, SE_0],
-        Hex::A17 => &[SW_SE],
-        Hex::B24 => &[SW_0, W_0],
-        Hex::C15 => &[W_0, NE_0],
-        Hex::D2 => &[E_0, SE_0],
-        Hex::D14 => &[SW_0, W_0, E_0],
-        Hex::D24 => &[SW_W],
-        Hex::E9 => &[NW_NE],
-        Hex::E23 => &[NE_0, SE_0],
-        Hex::F2 => &[NE_0, E_0, SE_0],
-        Hex::F24 | Hex::I19 => &[W_0, NW_0],
-        Hex::G19 => &[SW_1, NE_0],
-        Hex::H12 => &[W_E, W_0, E_0],
-        Hex::I1 => &[E_0],
-        Hex::I15 => &[SW_0, E_0],
-        Hex::J2 => &[NE_0, E_0],
-        Hex::K13 => &[NW_0, NE_0],
-        Hex::K15 => &[NW_0],
-        _ => &[],
+        // Red areas.
+        Hex::F2 => red(40, 70, &[NE_0, E_0, SE_0]),
+        Hex::J2 => red(30, 60, &[NE_0, E_0]),
+        Hex::I1 => red(30, 60, &[E_0]),
+        Hex::A11 => red(30, 50, &[SW_0, SE_0]),
+        Hex::A9 => red(30, 50, &[SE_0]),
+        Hex::K13 => red(30, 40, &[NW_0, NE_0]),
+        Hex::B24 => red(20, 30, &[SW_0, W_0]),
+        // Grey.
+        Hex::D2 => grey_city(20, &[E_0, SE_0]),
+        Hex::F6 => grey_city(30, &[SW_0, SE_0]),
+        Hex::E9 => grey_track(&[NW_NE]),
+        Hex::H12 => grey_city(10, &[W_E, W_0, E_0]),
+        Hex::D14 => grey_city(20, &[SW_0, W_0, E_0]),
+        Hex::C15 => grey_town(10, &[W_0, NE_0]),
+        Hex::K15 => grey_city(20, &[NW_0]),
+        Hex::A17 => grey_track(&[SW_SE]),
+        Hex::A19 => grey_city(40, &[SW_0, SE_0]),
+        Hex::I19 | Hex::F24 => grey_town(10, &[W_0, NW_0]),
+        Hex::D24 => grey_track(&[SW_W]),
+        // Yellow print.
+        Hex::I15 => yellow(TileKind::CityB, 0, 30, &[SW_0, E_0]),
+        Hex::E23 => yellow(TileKind::CityB, 0, 30, &[NE_0, SE_0]),
+        Hex::G19 => yellow(TileKind::CitiesNY, 80, 40, &[SW_1, NE_0]),
+        Hex::E5 | Hex::D10 => yellow(TileKind::CitiesOO, 80, 0, &[]),
+        Hex::E11 | Hex::H18 => yellow(TileKind::CitiesOO, 0, 0, &[]),
+        // White, without track.
+        Hex::E19 | Hex::H4 | Hex::B10 | Hex::H10 | Hex::H16 | Hex::B16 => white(TileKind::City, 0),
+        Hex::F4 | Hex::J14 | Hex::F22 => white(TileKind::City, 80),
+        Hex::F16 => white(TileKind::City, 120),
+        Hex::E7 | Hex::B20 | Hex::D4 | Hex::F10 => white(TileKind::Town, 0),
+        Hex::G7 | Hex::G17 | Hex::F20 => white(TileKind::TwoTowns, 0),
+        Hex::I13 | Hex::D18 | Hex::B12 | Hex::B14 | Hex::B22 | Hex::C7 | Hex::C9 | Hex::C11 | Hex::C13 | Hex::C23 | Hex::D8 | Hex::D12 | Hex::D16 | Hex::D20 | Hex::E3 | Hex::E13 | Hex::E15 | Hex::F8 | Hex::F12 | Hex::F14 | Hex::F18 | Hex::G3 | Hex::G5 | Hex::G9 | Hex::G11 | Hex::H2 | Hex::H6 | Hex::H8 | Hex::H14 | Hex::I3 | Hex::I5 | Hex::I7 | Hex::I9 | Hex::J4 | Hex::J6 | Hex::J8 => white(TileKind::Plain, 0),
+        Hex::G15 | Hex::C17 | Hex::C21 | Hex::D22 | Hex::E17 | Hex::E21 | Hex::G13 | Hex::I11 | Hex::J10 | Hex::J12 => white(TileKind::Plain, 120),
+        Hex::D6 | Hex::I17 | Hex::B18 | Hex::C19 => white(TileKind::Plain, 80),
+    }
+}
+
+/// A red area, whose one stop takes no token.
+fn red(before: Amount, from: Amount, track: &'static [Segment]) -> PrintedHex
+    ensures { print_seen result ≡ red_of before from track.now }
+{
+    PrintedHex {
+        kind: HexKind::Red,
+        cost: 0,
+        colour: Colour::White,
+        stops: 1,
+        slots: 0,
+        value: PrintedValue {
+            before_phase_five: before,
+            from_phase_five: from,
+        },
+        track,
+    }
+}
+
+/// A grey hex with a city, which takes one token.
+fn grey_city(value: Amount, track: &'static [Segment]) -> PrintedHex
+    ensures { print_seen result ≡ grey_of 1 1 value track.now }
+{
+    grey(1, 1, value, track)
+}
+
+/// A grey hex with a town.
+fn grey_town(value: Amount, track: &'static [Segment]) -> PrintedHex
+    ensures { print_seen result ≡ grey_of 1 0 value track.now }
+{
+    grey(1, 0, value, track)
+}
+
+/// A grey hex without a stop.
+fn grey_track(track: &'static [Segment]) -> PrintedHex
+    ensures { print_seen result ≡ grey_of 0 0 0 track.now }
+{
+    grey(0, 0, 0, track)
+}
+
+/// A grey hex with so many stops, and so many tokens that each takes.
+fn grey(stops: usize, slots: u8, value: Amount, track: &'static [Segment]) -> PrintedHex
+    ensures { print_seen result ≡ grey_of stops slots value track.now }
+{
+    PrintedHex {
+        kind: HexKind::Grey,
+        cost: 0,
+        colour: Colour::White,
+        stops,
+        slots,
+        value: always(value),
+        track,
+    }
+}
+
+/// A hex whose print is a yellow tile with cities.
+fn yellow(kind: TileKind, cost: Amount, value: Amount, track: &'static [Segment]) -> PrintedHex
+    ensures { print_seen result ≡ yellow_of kind cost value track.now }
+{
+    PrintedHex {
+        kind: HexKind::Open(kind),
+        cost,
+        colour: Colour::Yellow,
+        stops: kind.stops(),
+        slots: slots(kind),
+        value: always(value),
+        track,
+    }
+}
+
+/// A hex without track, whose stops are worth nothing until a tile lies.
+fn white(kind: TileKind, cost: Amount) -> PrintedHex
+    ensures { print_seen result ≡ white kind cost }
+{
+    PrintedHex {
+        kind: HexKind::Open(kind),
+        cost,
+        colour: Colour::White,
+        stops: kind.stops(),
+        slots: slots(kind),
+        value: always(0),
+        track: &[],
+    }
+}
+
+/// How many tokens each stop of a printed hex of a kind takes.
+fn slots(kind: TileKind) -> u8
+    ensures { result ≡ slots_of_kind kind }
+{
+    match kind {
+        TileKind::Plain | TileKind::Town | TileKind::TwoTowns => 0,
+        TileKind::City | TileKind::CityB | TileKind::CitiesNY | TileKind::CitiesOO => 1,
+    }
+}
+
+/// A value that is the same in all phases.
+fn always(value: Amount) -> PrintedValue
+    ensures { result ≡ always value }
+{
+    PrintedValue {
+        before_phase_five: value,
+        from_phase_five: value,
     }
 }

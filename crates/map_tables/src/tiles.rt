@@ -199,6 +199,7 @@ pub struct TileEntry {
 }
 
 /// The entry of a tile in the manifest.
+#[tactic(auto, unfolding(crate::specs::Tile::printed))]
 pub fn tile(tile: TileNo) -> TileEntry
     ensures { result ≡ entry_of tile }
 {
@@ -253,6 +254,7 @@ pub fn tile(tile: TileNo) -> TileEntry
 }
 
 /// The track of a tile that is not turned, in order.
+#[tactic(auto, unfolding(crate::specs::Tile::printed))]
 pub fn tile_track(tile: TileNo) -> &'static [Segment]
     ensures { result.now ≡ tile_track_of tile }
 {

@@ -1,0 +1,2 @@
+mod HexTables
+mod TileTables
