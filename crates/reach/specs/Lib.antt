@@ -1,0 +1,5 @@
+pub mod Position
+pub mod Lawful
+pub mod Walk
+pub mod Reached
+pub mod Search

@@ -1,0 +1,59 @@
+ghost use Rattle.std.specs.Prelude.{◌≡◌, IsTrue, ◌↔◌, IfOk};
+ghost use Rattle.reach.specs.Position.{IsAmong};
+ghost use Rattle.reach.specs.Reached.{IsReach};
+
+use crate::network::Network;
+use crate::search::{Marks, reached_links, reached_stops, search};
+use map_tables::{Link, Stop};
+use std::alloc::{AllocError, Global};
+use std::marker::Model;
+use tables::Company;
+
+/// What a company reaches: stops and links.
+#[derive(Drop)]
+pub struct Reach {
+    stops: Vec<Stop>,
+    links: Vec<Link>,
+}
+
+impl Model for Reach {
+    ghost use Rattle.reach.specs.Reached.{Reaching};
+
+    ghost Value = { Reaching };
+
+    ghost view = { λ r. record { stops = r.stops.items; links = r.links.items } };
+}
+
+impl Reach {
+    /// The stops that are reached, in the order of the map. A stop that lies in two hexes stands once,
+    /// as the one that names it.
+    pub fn stops(&self) -> &[Stop]
+        ensures { result.now ≡ self.now.stops }
+    {
+        self.stops.as_slice()
+    }
+
+    /// Whether a link is reached.
+    pub fn touches(&self, link: &Link) -> bool
+        ensures { IsTrue result ↔ IsAmong link.now self.now.links }
+    {
+        self.links.contains(link)
+    }
+}
+
+/// What a company reaches: whatever a walk from one of its tokens touches that passes no city full for
+/// it. The only error is want of memory.
+pub fn reached<N: Network>(
+    alloc: Global,
+    network: &N,
+    company: Company,
+) -> Result<Reach, AllocError>
+    ensures { IfOk result (IsReach (N.position network.now) company) }
+{
+    network.keeps_laws();
+    let marks = search(network, company);
+    Ok(Reach {
+        stops: reached_stops(alloc, &marks)?,
+        links: reached_links(alloc, network, company, &marks)?,
+    })
+}

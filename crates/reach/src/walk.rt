@@ -1,0 +1,81 @@
+ghost use Rattle.std.specs.Prelude.{◌≡◌};
+ghost use Rattle.reach.specs.Walk.{across, entered_at, left_at, stop_of};
+
+use map_tables::{End, Hex, Link, Stop, joined_stop, neighbour};
+
+/// An end in a hex: one of its sides, or one of its stops.
+#[derive(Clone, Copy, Debug, PartialEq, Eq, Hash)]
+pub struct Spot {
+    pub hex: Hex,
+    pub end: End,
+}
+
+impl Spot {
+    /// The stop there, if it is one; the stop that names it, where it lies in two hexes.
+    pub fn stop(self) -> Option<Stop>
+        ensures { result ≡ stop_of self }
+    {
+        match self.end {
+            End::Side(_) => None,
+            End::Stop(number) => Some(joined_stop(Stop {
+                hex: self.hex,
+                number,
+            })),
+        }
+    }
+
+    /// The other side of the border, if it is a side at one: not off the map, nor where the border is
+    /// closed.
+    pub fn across(self) -> Option<Spot>
+        ensures { result ≡ across self }
+    {
+        match self.end {
+            End::Side(side) => {
+                let hex = neighbour(self.hex, side)?;
+                Some(Spot {
+                    hex,
+                    end: End::Side(side.facing()),
+                })
+            }
+            End::Stop(_) => None,
+        }
+    }
+}
+
+/// A link as a walk takes it: from its first end to its second, or turned, from its second to its
+/// first.
+#[derive(Clone, Copy, Debug, PartialEq, Eq, Hash)]
+pub struct Step {
+    pub link: Link,
+    pub turned: bool,
+}
+
+impl Step {
+    /// Where the step enters its link.
+    pub fn entered(self) -> Spot
+        ensures { result ≡ entered_at self }
+    {
+        Spot {
+            hex: self.link.hex,
+            end: if self.turned {
+                self.link.b
+            } else {
+                self.link.a
+            },
+        }
+    }
+
+    /// Where the step leaves its link.
+    pub fn left(self) -> Spot
+        ensures { result ≡ left_at self }
+    {
+        Spot {
+            hex: self.link.hex,
+            end: if self.turned {
+                self.link.a
+            } else {
+                self.link.b
+            },
+        }
+    }
+}
