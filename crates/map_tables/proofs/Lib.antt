@@ -1,2 +1,4 @@
 mod HexTables
+mod Ordering
 mod TileTables
+mod Turning

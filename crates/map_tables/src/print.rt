@@ -91,6 +91,7 @@ struct PrintedHex {
 }
 
 /// The print of a hex.
+#[tactic(auto, unfolding(crate::specs::Hex::index_of, crate::specs::Print::groups, crate::specs::Print::print_of))]
 fn print(hex: Hex) -> PrintedHex
     ensures { print_seen result ≡ print_of hex }
 {
