@@ -1,4 +1,5 @@
 pub mod Hex
+pub mod Guess
 pub mod Side
 pub mod Border
 pub mod Place

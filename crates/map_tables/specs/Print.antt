@@ -98,6 +98,13 @@ pub record Group : Type 0 where
 abbrev for_hexes : List Hex → Print → Group
 for_hexes hexes print = record { hexes = hexes; print = print }
 
+-- the plain hexes without cost of terrain
+unfoldable pub plain_hexes : List Hex
+plain_hexes =
+    I13 ∷ D18 ∷ B12 ∷ B14 ∷ B22 ∷ C7 ∷ C9 ∷ C11 ∷ C13 ∷ C23 ∷ D8 ∷ D12 ∷ D16 ∷ D20 ∷ E3 ∷ E13 ∷
+    E15 ∷ F8 ∷ F12 ∷ F14 ∷ F18 ∷ G3 ∷ G5 ∷ G9 ∷ G11 ∷ H2 ∷ H6 ∷ H8 ∷ H14 ∷ I3 ∷ I5 ∷ I7 ∷ I9 ∷
+    J4 ∷ J6 ∷ J8 ∷ []
+
 -- the prints of the map
 unfoldable pub groups : List Group
 groups =
@@ -133,11 +140,7 @@ groups =
     for_hexes (F16 ∷ []) (white City 120) ∷
     for_hexes (E7 ∷ B20 ∷ D4 ∷ F10 ∷ []) (white Town 0) ∷
     for_hexes (G7 ∷ G17 ∷ F20 ∷ []) (white TwoTowns 0) ∷
-    for_hexes (
-        I13 ∷ D18 ∷ B12 ∷ B14 ∷ B22 ∷ C7 ∷ C9 ∷ C11 ∷ C13 ∷ C23 ∷ D8 ∷ D12 ∷ D16 ∷ D20 ∷ E3 ∷
-        E13 ∷ E15 ∷ F8 ∷ F12 ∷ F14 ∷ F18 ∷ G3 ∷ G5 ∷ G9 ∷ G11 ∷ H2 ∷ H6 ∷ H8 ∷ H14 ∷ I3 ∷ I5 ∷
-        I7 ∷ I9 ∷ J4 ∷ J6 ∷ J8 ∷ []
-    ) (white Plain 0) ∷
+    for_hexes plain_hexes (white Plain 0) ∷
     for_hexes (G15 ∷ C17 ∷ C21 ∷ D22 ∷ E17 ∷ E21 ∷ G13 ∷ I11 ∷ J10 ∷ J12 ∷ []) (white Plain 120) ∷
     for_hexes (D6 ∷ I17 ∷ B18 ∷ C19 ∷ []) (white Plain 80) ∷
     []

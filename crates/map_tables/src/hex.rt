@@ -1,5 +1,6 @@
-ghost use Rattle.std.specs.Prelude.{◌≡◌, ◌<◌};
-ghost use Rattle.map_tables.specs.Hex.{column_of, hex_at, index_of, row_of};
+ghost use Rattle.std.specs.Prelude.{◌≡◌, ◌<◌, ◌≤◌};
+ghost use Rattle.map_tables.specs.Guess.{first_at, guess_at};
+ghost use Rattle.map_tables.specs.Hex.{column_of, hex_at, index_of, row_of, same_hex};
 
 /// A hex of the map, named by the letter of its row and the number of its column. Hexes are ordered
 /// by row, then by column.
@@ -221,9 +222,18 @@ impl Hex {
         self as usize
     }
 
+    /// Whether it is the same hex.
+    pub fn is(self, other: Hex) -> bool
+        ensures { result ≡ same_hex self other }
+    {
+        self.index() == other.index()
+    }
+
     /// The letter of the row, from `b'A'` in the north to `b'K'` in the south.
     pub fn row(self) -> u8
-        ensures { result ≡ row_of self }
+        ensures value { result ≡ row_of self }
+        ensures least { 65 ≤ result }
+        ensures most { result ≤ 75 }
     {
         ROWS[self.index()]
     }
@@ -231,7 +241,9 @@ impl Hex {
     /// The number of the column, from 1 in the west to 24 in the east. The next hex of a row is two
     /// columns farther.
     pub fn column(self) -> u8
-        ensures { result ≡ column_of self }
+        ensures value { result ≡ column_of self }
+        ensures least { 1 ≤ result }
+        ensures most { result ≤ 24 }
     {
         COLUMNS[self.index()]
     }
@@ -240,8 +252,47 @@ impl Hex {
     pub fn at(row: u8, column: u8) -> Option<Hex>
         ensures { result ≡ hex_at row column }
     {
-        Hex::ALL
-            .into_iter()
-            .find(|hex| hex.row() == row && hex.column() == column)
+        let hex = guess(row, column)?;
+        if hex.row() == row && hex.column() == column {
+            Some(hex)
+        } else {
+            None
+        }
+    }
+}
+
+/// The one hex that may be the one in this row and column; `None` where no hex may be.
+#[tactic(auto, unfolding(crate::specs::Hex::hexes))]
+fn guess(row: u8, column: u8) -> Option<Hex>
+    ensures { result ≡ guess_at row column }
+{
+    let first = first_of_row(row, column)?;
+    let steps = column.saturating_sub(first.column()) / 2;
+    let place = first.index() + usize::from(steps);
+    if place < HEXES {
+        Some(Hex::ALL[place])
+    } else {
+        None
+    }
+}
+
+/// The first hex of a row, which has no gap between it and the column. Row A has a gap in the middle.
+fn first_of_row(row: u8, column: u8) -> Option<Hex>
+    ensures { result ≡ first_at row column }
+{
+    match row {
+        b'A' if column < 17 => Some(Hex::A9),
+        b'A' => Some(Hex::A17),
+        b'B' => Some(Hex::B10),
+        b'C' => Some(Hex::C7),
+        b'D' => Some(Hex::D2),
+        b'E' => Some(Hex::E3),
+        b'F' => Some(Hex::F2),
+        b'G' => Some(Hex::G3),
+        b'H' => Some(Hex::H2),
+        b'I' => Some(Hex::I1),
+        b'J' => Some(Hex::J2),
+        b'K' => Some(Hex::K13),
+        _ => None,
     }
 }

@@ -1,4 +1,4 @@
-ghost use Rattle.std.specs.Prelude.{◌≡◌};
+ghost use Rattle.std.specs.Prelude.{◌≡◌, ◌≤◌, length};
 ghost use Rattle.map_tables.specs.Lay.{laid_links_of, laid_track_of};
 
 use crate::hex::Hex;
@@ -18,6 +18,7 @@ pub struct Lay {
 }
 
 /// The links that a tile gives its hex, in order.
+#[tactic(auto, unfolding(crate::specs::Lay::laid_links_of))]
 pub fn laid_links(lay: Lay) -> Links
     ensures { result.items ≡ laid_links_of lay }
 {
@@ -25,8 +26,10 @@ pub fn laid_links(lay: Lay) -> Links
 }
 
 /// The track of a tile as it lies.
+#[tactic(auto, unfolding(crate::specs::Lay::laid_track_of))]
 fn laid_track(lay: Lay) -> Track
-    ensures { result.items ≡ laid_track_of lay }
+    ensures track { result.items ≡ laid_track_of lay }
+    ensures few { length result.items ≤ 6 }
 {
     let track = turned(tile_track(lay.tile), lay.rot);
     if lay.swap {

@@ -72,6 +72,7 @@ pub fn printed_value(hex: Hex) -> PrintedValue
 }
 
 /// The links that are printed on a hex, in order.
+#[tactic(auto, unfolding(crate::specs::Print::printed_links_of))]
 pub fn printed_links(hex: Hex) -> Links
     ensures { result.items ≡ printed_links_of hex }
 {
@@ -91,7 +92,7 @@ struct PrintedHex {
 }
 
 /// The print of a hex.
-#[tactic(auto, unfolding(crate::specs::Hex::index_of, crate::specs::Print::groups, crate::specs::Print::print_of))]
+#[tactic(auto, unfolding(crate::specs::Hex::index_of, crate::specs::Print::groups, crate::specs::Print::plain_hexes, crate::specs::Print::print_of))]
 fn print(hex: Hex) -> PrintedHex
     ensures { print_seen result ≡ print_of hex }
 {

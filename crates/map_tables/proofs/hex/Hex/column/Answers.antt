@@ -1,5 +1,11 @@
-use Rattle.map_tables.proofs.HexTables.{column_at}
+use Rattle.map_tables.proofs.HexTables.{column_at, column_within}
 use Rattle.map_tables.proofs.hex.Hex.column.Goals as goal
 
-pub returns : goal.returns
-returns c = rw c.index.ensures.value (column_at c.args.self)
+pub returns-clause-value : goal.returns-clause-value
+returns-clause-value c = rw c.index.ensures.value (column_at c.args.self)
+
+pub returns-clause-least : goal.returns-clause-least
+returns-clause-least c = rw (returns-clause-value c) (column_within c.args.self).0
+
+pub returns-clause-most : goal.returns-clause-most
+returns-clause-most c = rw (returns-clause-value c) (column_within c.args.self).1
