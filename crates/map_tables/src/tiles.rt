@@ -181,7 +181,10 @@ impl TileNo {
     pub fn from_number(number: u8) -> Option<TileNo>
         ensures { result ≡ tile_numbered number }
     {
-        TileNo::ALL.into_iter().find(|tile| tile.number() == number)
+        TileNo::ALL
+            .iter()
+            .find(|tile| tile.number() == number)
+            .copied()
     }
 }
 
