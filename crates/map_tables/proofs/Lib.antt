@@ -1,7 +1,12 @@
+mod BordersPair
 mod FewPieces
 mod HexAt
 mod HexTables
+mod LinksInOrder
 mod Ordering
 mod SamePrint
+mod StandOnce
 mod TileTables
 mod Turning
+mod Turns
+mod Values

@@ -9,3 +9,4 @@ pub mod Print
 pub mod PrintedHex
 pub mod Lay
 pub mod Home
+pub mod Laws

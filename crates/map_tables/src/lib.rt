@@ -12,6 +12,7 @@
 mod border;
 mod hex;
 mod homes;
+mod laws;
 mod lay;
 mod place;
 mod print;
@@ -24,6 +25,11 @@ mod track;
 pub use border::neighbour;
 pub use hex::{HEXES, Hex};
 pub use homes::{home, private_hexes, token_price, tokens};
+pub use laws::{
+    hexes_stand_once, homes_take_tokens, laid_links_are_in_order, neighbours_pair,
+    printed_links_are_in_order, prints_stand_once, red_areas_are_joined, six_turns_are_none,
+    tiles_stand_once, turns_add_up, values_are_at_most_80,
+};
 pub use lay::{Lay, laid_links};
 pub use place::{Place, Stop, StopNumber, joined_stop};
 pub use print::{

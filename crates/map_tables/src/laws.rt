@@ -1,0 +1,72 @@
+//! What holds of the tables: each law is the contract of a function that does nothing.
+ghost use Rattle.map_tables.specs.Laws.{
+  HomesTakeTokens,
+  HexesStandOnce,
+  LaidLinksAreInOrder,
+  NeighboursPair,
+  PrintedLinksAreInOrder,
+  PrintsStandOnce,
+  RedAreasAreJoined,
+  SixTurnsAreNone,
+  TilesStandOnce,
+  TurnsAddUp,
+  ValuesAreAtMost80,
+};
+
+/// Borders pair: the neighbour of a hex over a side has that hex as its neighbour over the facing side;
+/// so a closed border is closed from both its hexes.
+pub fn neighbours_pair()
+    ensures { NeighboursPair }
+{}
+
+/// Each hex stands once in the list of hexes, at its index, and is the one hex of its row and column.
+pub fn hexes_stand_once()
+    ensures { HexesStandOnce }
+{}
+
+/// Each tile stands once in the list of tiles, at its index, and is the one tile of its number.
+pub fn tiles_stand_once()
+    ensures { TilesStandOnce }
+{}
+
+/// Each hex of the map has one print.
+pub fn prints_stand_once()
+    ensures { PrintsStandOnce }
+{}
+
+/// A tile that is turned six times by a sixth is as it was.
+pub fn six_turns_are_none()
+    ensures { SixTurnsAreNone }
+{}
+
+/// A tile that is turned by some sixths is the tile turned by one sixth as often.
+pub fn turns_add_up()
+    ensures { TurnsAddUp }
+{}
+
+/// The links of each print stand in order without repeats; of each the first end comes first, and it is
+/// a side.
+pub fn printed_links_are_in_order()
+    ensures { PrintedLinksAreInOrder }
+{}
+
+/// The links of each tile, however it lies, stand in order without repeats; of each the first end comes
+/// first, and it is a side.
+pub fn laid_links_are_in_order()
+    ensures { LaidLinksAreInOrder }
+{}
+
+/// No stop is worth more than 80.
+pub fn values_are_at_most_80()
+    ensures { ValuesAreAtMost80 }
+{}
+
+/// A stop whose name is another stop's too is red, and so is that stop.
+pub fn red_areas_are_joined()
+    ensures { RedAreasAreJoined }
+{}
+
+/// Each company's home takes a token by its print.
+pub fn homes_take_tokens()
+    ensures { HomesTakeTokens }
+{}
