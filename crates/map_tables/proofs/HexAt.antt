@@ -1,11 +1,11 @@
 -- The hex in a row and a column.
-use Rattle.std.proofs.Common.{◌≡◌, ℕ, ◌==◌, ◌&&◌, Bool, true, false, cond, List, [], ◌∷◌, Option, Some, None, refl}
+use Rattle.std.proofs.Common.{◌≡◌, ℕ, ◌==◌, ◌&&◌, Bool, true, false, cond, List, [], ◌∷◌, Some, None, refl}
 use Rattle.std.proofs.lemmas.Bool.{and_parts, eqb-true}
 use Rattle.std.specs.List.{find}
 use Rattle.map_tables.specs.declared.hex.Hex.{Hex}
 use Rattle.map_tables.specs.declared.hex.Hex.TheVariants.{A9}
 use Rattle.map_tables.specs.Hex.{hexes, index_of, site_of, row_of, column_of, hex_at}
-use Rattle.map_tables.specs.Guess.{first_at, hex_from, guess_at}
+use Rattle.map_tables.specs.Guess.{guess_at}
 
 -- each hex is the one at its row and column
 pub hex_at-site : (hex : Hex) → hex_at (row_of hex) (column_of hex) ≡ Some hex

@@ -1,5 +1,5 @@
 -- The tables of the code, hex by hex and tile by tile, are the tables of the definitions.
-use Rattle.std.proofs.Common.{◌≡◌, ◌≤◌, ℕ, true, leb, ◌&&◌, List, get_or, refl, ap, ◌∙◌, sym, eqb}
+use Rattle.std.proofs.Common.{◌≡◌, ◌≤◌, true, leb, get_or, refl, ap, ◌∙◌, sym}
 use Rattle.std.proofs.lemmas.Bool.{leb-true, eqb-true, eq-eqb}
 use Rattle.map_tables.specs.declared.hex.Hex.{Hex}
 use Rattle.map_tables.specs.declared.hex.Hex.TheVariants.{A9}

@@ -1,5 +1,5 @@
 -- Each hex, tile and print stands once in its table.
-use Rattle.std.proofs.Common.{◌≡◌, ◌<◌, ℕ, true, ltb, length, Some, refl}
+use Rattle.std.proofs.Common.{◌≡◌, true, ltb, length, Some, refl}
 use Rattle.std.specs.Prelude.{slice_get, count_by}
 use Rattle.std.proofs.lemmas.Bool.{ltb-true}
 use Rattle.map_tables.specs.declared.hex.Hex.{Hex}

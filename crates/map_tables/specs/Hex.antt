@@ -1,13 +1,101 @@
 -- The hexes of the map. A hex is named by the letter of its row, A in the north to K in the south,
 -- and the number of its column, which grows to the east. Hexes are ordered by row, then by column.
-use Rattle.std.specs.Prelude.{ℕ, Bool, ◌==◌, ◌&&◌, List, [], ◌∷◌, ◌++◌, Option, find}
+use Rattle.std.specs.Prelude.{ℕ, Bool, ◌==◌, ◌&&◌, List, [], ◌∷◌, Option, find}
 use Rattle.map_tables.specs.declared.hex.Hex.{Hex}
 use Rattle.map_tables.specs.declared.hex.Hex.TheVariants.{
-  A9, A11, A17, A19, B10, B12, B14, B16, B18, B20, B22, B24, C7, C9, C11, C13, C15, C17, C19,
-  C21, C23, D2, D4, D6, D8, D10, D12, D14, D16, D18, D20, D22, D24, E3, E5, E7, E9, E11, E13,
-  E15, E17, E19, E21, E23, F2, F4, F6, F8, F10, F12, F14, F16, F18, F20, F22, F24, G3, G5, G7,
-  G9, G11, G13, G15, G17, G19, H2, H4, H6, H8, H10, H12, H14, H16, H18, I1, I3, I5, I7, I9,
-  I11, I13, I15, I17, I19, J2, J4, J6, J8, J10, J12, J14, K13, K15,
+  A9,
+  A11,
+  A17,
+  A19,
+  B10,
+  B12,
+  B14,
+  B16,
+  B18,
+  B20,
+  B22,
+  B24,
+  C7,
+  C9,
+  C11,
+  C13,
+  C15,
+  C17,
+  C19,
+  C21,
+  C23,
+  D2,
+  D4,
+  D6,
+  D8,
+  D10,
+  D12,
+  D14,
+  D16,
+  D18,
+  D20,
+  D22,
+  D24,
+  E3,
+  E5,
+  E7,
+  E9,
+  E11,
+  E13,
+  E15,
+  E17,
+  E19,
+  E21,
+  E23,
+  F2,
+  F4,
+  F6,
+  F8,
+  F10,
+  F12,
+  F14,
+  F16,
+  F18,
+  F20,
+  F22,
+  F24,
+  G3,
+  G5,
+  G7,
+  G9,
+  G11,
+  G13,
+  G15,
+  G17,
+  G19,
+  H2,
+  H4,
+  H6,
+  H8,
+  H10,
+  H12,
+  H14,
+  H16,
+  H18,
+  I1,
+  I3,
+  I5,
+  I7,
+  I9,
+  I11,
+  I13,
+  I15,
+  I17,
+  I19,
+  J2,
+  J4,
+  J6,
+  J8,
+  J10,
+  J12,
+  J14,
+  K13,
+  K15,
 }
 
 -- the hexes of the map, in order
@@ -123,24 +211,34 @@ pub record Site : Type 0 where
 
 abbrev row_a : ℕ → Site
 row_a column = record { row = 65; column = column }
+
 abbrev row_b : ℕ → Site
 row_b column = record { row = 66; column = column }
+
 abbrev row_c : ℕ → Site
 row_c column = record { row = 67; column = column }
+
 abbrev row_d : ℕ → Site
 row_d column = record { row = 68; column = column }
+
 abbrev row_e : ℕ → Site
 row_e column = record { row = 69; column = column }
+
 abbrev row_f : ℕ → Site
 row_f column = record { row = 70; column = column }
+
 abbrev row_g : ℕ → Site
 row_g column = record { row = 71; column = column }
+
 abbrev row_h : ℕ → Site
 row_h column = record { row = 72; column = column }
+
 abbrev row_i : ℕ → Site
 row_i column = record { row = 73; column = column }
+
 abbrev row_j : ℕ → Site
 row_j column = record { row = 74; column = column }
+
 abbrev row_k : ℕ → Site
 row_k column = record { row = 75; column = column }
 

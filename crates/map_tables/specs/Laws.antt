@@ -1,5 +1,5 @@
 -- What holds of the tables.
-use Rattle.std.specs.Prelude.{◌≡◌, ℕ, ◌+◌, ◌*◌, ◌<◌, ◌≤◌, Bool, true, ◌&&◌, nat_lt, Option, Some, List, [], ◌∷◌, length, slice_get, count_by, ◌⊎◌}
+use Rattle.std.specs.Prelude.{◌≡◌, ℕ, ◌+◌, ◌*◌, ◌<◌, ◌≤◌, Bool, true, ◌&&◌, nat_lt, Some, List, [], ◌∷◌, length, slice_get, count_by, ◌⊎◌}
 use Rattle.tables.specs.Steps.{iterate}
 use Rattle.tables.specs.declared.roster.Company.{Company}
 use Rattle.map_tables.specs.declared.hex.Hex.{Hex}

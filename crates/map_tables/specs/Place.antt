@@ -1,6 +1,6 @@
 -- Stops and places. A place is a hex, or one of its stops, which are numbered 0 and 1 in the order
 -- in which the map or the tile prints them. Two red areas lie in two hexes each and are one stop.
-use Rattle.std.specs.Prelude.{ℕ, Option, None, Some, option_map}
+use Rattle.std.specs.Prelude.{ℕ, Option, Some, option_map}
 use Rattle.map_tables.specs.declared.hex.Hex.{Hex}
 use Rattle.map_tables.specs.declared.hex.Hex.TheVariants.{A9, A11, I1, J2}
 use Rattle.map_tables.specs.declared.place.StopNumber.{StopNumber}

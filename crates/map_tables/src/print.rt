@@ -2,14 +2,11 @@ ghost use Rattle.std.specs.Prelude.{◌≡◌};
 ghost use Rattle.map_tables.specs.Print.{always, grey_of, print_of, printed_links_of, red_of, slots_of_kind, white, yellow_of};
 ghost use Rattle.map_tables.specs.PrintedHex.{print_seen};
 
-use tables::Amount;
-
 use crate::hex::Hex;
-use crate::segments::{
-    SW_W, SW_SE, SW_0, SW_1, W_E, W_0, NW_NE, NW_0, NE_0, E_0, SE_0,
-};
+use crate::segments::{E_0, NE_0, NW_0, NW_NE, SE_0, SW_0, SW_1, SW_SE, SW_W, W_0, W_E};
 use crate::tiles::{Colour, TileKind};
 use crate::track::{Links, Segment, links_in};
+use tables::Amount;
 
 /// What a hex is for those who lay tiles.
 #[derive(Clone, Copy, Debug, PartialEq, Eq, Hash)]
@@ -129,8 +126,52 @@ fn print(hex: Hex) -> PrintedHex
         Hex::F16 => white(TileKind::City, 120),
         Hex::E7 | Hex::B20 | Hex::D4 | Hex::F10 => white(TileKind::Town, 0),
         Hex::G7 | Hex::G17 | Hex::F20 => white(TileKind::TwoTowns, 0),
-        Hex::I13 | Hex::D18 | Hex::B12 | Hex::B14 | Hex::B22 | Hex::C7 | Hex::C9 | Hex::C11 | Hex::C13 | Hex::C23 | Hex::D8 | Hex::D12 | Hex::D16 | Hex::D20 | Hex::E3 | Hex::E13 | Hex::E15 | Hex::F8 | Hex::F12 | Hex::F14 | Hex::F18 | Hex::G3 | Hex::G5 | Hex::G9 | Hex::G11 | Hex::H2 | Hex::H6 | Hex::H8 | Hex::H14 | Hex::I3 | Hex::I5 | Hex::I7 | Hex::I9 | Hex::J4 | Hex::J6 | Hex::J8 => white(TileKind::Plain, 0),
-        Hex::G15 | Hex::C17 | Hex::C21 | Hex::D22 | Hex::E17 | Hex::E21 | Hex::G13 | Hex::I11 | Hex::J10 | Hex::J12 => white(TileKind::Plain, 120),
+        Hex::I13
+        | Hex::D18
+        | Hex::B12
+        | Hex::B14
+        | Hex::B22
+        | Hex::C7
+        | Hex::C9
+        | Hex::C11
+        | Hex::C13
+        | Hex::C23
+        | Hex::D8
+        | Hex::D12
+        | Hex::D16
+        | Hex::D20
+        | Hex::E3
+        | Hex::E13
+        | Hex::E15
+        | Hex::F8
+        | Hex::F12
+        | Hex::F14
+        | Hex::F18
+        | Hex::G3
+        | Hex::G5
+        | Hex::G9
+        | Hex::G11
+        | Hex::H2
+        | Hex::H6
+        | Hex::H8
+        | Hex::H14
+        | Hex::I3
+        | Hex::I5
+        | Hex::I7
+        | Hex::I9
+        | Hex::J4
+        | Hex::J6
+        | Hex::J8 => white(TileKind::Plain, 0),
+        Hex::G15
+        | Hex::C17
+        | Hex::C21
+        | Hex::D22
+        | Hex::E17
+        | Hex::E21
+        | Hex::G13
+        | Hex::I11
+        | Hex::J10
+        | Hex::J12 => white(TileKind::Plain, 120),
         Hex::D6 | Hex::I17 | Hex::B18 | Hex::C19 => white(TileKind::Plain, 80),
     }
 }

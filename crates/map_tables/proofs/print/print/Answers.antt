@@ -1,4 +1,4 @@
-use Rattle.std.proofs.Common.{◌≡◌, ◌∙◌, sym, ap, refl, drop}
+use Rattle.std.proofs.Common.{◌∙◌, sym, refl, drop}
 use Rattle.map_tables.specs.declared.hex.Hex.TheVariants.{I13}
 use Rattle.map_tables.specs.Hex.{index_of}
 use Rattle.map_tables.specs.Print.{groups, plain_hexes, print_of}

@@ -14,8 +14,8 @@ returns-then-column c =
 pub returns-else-row : goal.returns-else-row
 returns-else-row c =
     sym (hex_at-none c.args.row c.args.column (λ hex guessed r k.
-      let same : hex ≡ c.in_ok-hex.hex = cc (c.in_ok-hex.was, c.guess.ensures) in
-      elim c.else-row.branch [
-        | else-row-via-then-row+else-column w ↦ w.if-column.false (cc (w.column.ensures.value))
-        | else-row-via-else-row w ↦ w.if-row.false (cc (c.row.ensures.value))
-      ]))
+    let same : hex ≡ c.in_ok-hex.hex = cc (c.in_ok-hex.was, c.guess.ensures) in
+    elim c.else-row.branch [
+      | else-row-via-then-row+else-column w ↦ w.if-column.false (cc (w.column.ensures.value))
+      | else-row-via-else-row w ↦ w.if-row.false (cc (c.row.ensures.value))
+    ]))

@@ -1,4 +1,3 @@
-
 use Rattle.map_tables.proofs.HexTables.{row_at, row_within}
 use Rattle.map_tables.proofs.hex.Hex.row.Goals as goal
 

@@ -1,4 +1,4 @@
-use Rattle.std.proofs.Common.{◌≡◌, ◌∙◌, ◌==◌, rules, tests}
+use Rattle.std.proofs.Common.{◌∙◌, ◌==◌, rules, tests}
 use Rattle.std.proofs.lemmas.Iterator.{YieldsList-from_slice}
 use Rattle.std.proofs.lemmas.Iterator.Search.{find_from_yields_List}
 use Rattle.map_tables.specs.Tile.{tiles, number_of_tile, tile_numbered}
