@@ -1,13 +1,13 @@
 -- What a company reaches. A walk from a stop with a token of the company reaches what it touches. It
 -- may end in a city that is full for the company, and may not pass one; it may pass a red stop. The
 -- stop of a token is always reached.
-use Rattle.std.specs.Prelude.{◌≡◌, ◌↔◌, ℕ, ◌+◌, ◌*◌, ◌⊎◌, List}
+use Rattle.std.specs.Prelude.{◌≡◌, ◌↔◌, ℕ, ◌+◌, ◌*◌, ◌<◌, ◌⊎◌, List, [], ◌∷◌}
+use Rattle.std.specs.List.{AllByRecursion}
 use Rattle.map_tables.specs.Hex.{index_of}
 use Rattle.map_tables.specs.Place.{joined_stop_of, stop_index_of}
 use Rattle.map_tables.specs.declared.place.Stop.{Stop}
 use Rattle.map_tables.specs.declared.track.Link.{Link}
 use Rattle.reach.specs.Position.{Position, HasToken, IsAmong, IsFull}
-use Rattle.reach.specs.Lawful.{StandInOrder}
 use Rattle.reach.specs.Walk.{IsWalk, BeginsAt, PassesOnly, TouchesLink, TouchesStop}
 use Rattle.reach.specs.declared.walk.Step.{Step}
 use Rattle.tables.specs.declared.roster.Company.{Company}
@@ -31,6 +31,11 @@ ReachesStop position company stop =
 -- the place of a stop in the order of the map: by its hex, and then by its number
 abbrev pub stop_order : Stop → ℕ
 stop_order stop = 2 * index_of stop.hex + stop_index_of stop.number
+
+-- things stand in order, each before all that come later, and so none twice
+abbrev pub StandInOrder : {A : Type 0} → (A → ℕ) → List A → Type 0
+StandInOrder order [] = Unit {0}
+StandInOrder order (thing ∷ later) = AllByRecursion (λ other. order thing < order other) later × StandInOrder order later
 
 -- what is said to be reached: stops and links
 pub record Reaching : Type 0 where

@@ -1,6 +1,6 @@
 -- What the search for what a company reaches keeps: for each end in each hex, whether some walk of the
 -- company arrives there.
-use Rattle.std.specs.Prelude.{◌≡◌, ℕ, ◌+◌, ◌*◌, ◌<◌, Bool, true, false, ◌⊎◌, List, [], ◌∷◌, Some, get_or, count_by}
+use Rattle.std.specs.Prelude.{◌≡◌, ℕ, ◌+◌, ◌*◌, ◌<◌, Bool, true, false, ◌⊎◌, List, [], ◌∷◌, Some, length, get_or, count_by}
 use Rattle.map_tables.specs.Hex.{index_of}
 use Rattle.map_tables.specs.Place.{joined_stop_of, stop_at, stop_index_of}
 use Rattle.map_tables.specs.Side.{number_of}
@@ -64,9 +64,10 @@ IsClosed position company P marks =
 abbrev pub marked : List Bool → ℕ
 marked marks = count_by (λ mark. mark) marks
 
--- what it is to follow such steps once: what is marked stays so, walks still arrive at all of it, and
--- either there is more of it, or it is the same and these steps lead to no more
+-- What it is to follow such steps once: what is marked stays so, walks still arrive at all of it, and
+-- either there is more of it, or it is the same and these steps lead to no more.
 pub record Follows (position : Position) (company : Company) (P : Step → Type 0) (old new : List Bool) (added : Bool) : Type 0 where
+  pub length_kept : length new ≡ length old
   pub kept : (spot : Spot) → IsMarked old spot → IsMarked new spot
   pub arrive : AllArrive position company old → AllArrive position company new
   pub more : added ≡ true → marked old < marked new

@@ -9,7 +9,7 @@ use std::alloc::{AllocError, Global};
 use std::marker::Model;
 use tables::Company;
 
-/// What a company reaches: stops and links.
+/// What a company reaches: stops and links. To a contract it is the two lists.
 #[derive(Drop)]
 pub struct Reach {
     stops: Vec<Stop>,
@@ -41,8 +41,9 @@ impl Reach {
     }
 }
 
-/// What a company reaches: whatever a walk from one of its tokens touches that passes no city full for
-/// it. The only error is want of memory.
+/// What a company reaches: the stops with a token of it, and each stop and link that a walk from there
+/// touches. Such a walk may end in a city that is full for the company and may not pass one; it may pass a
+/// red stop. The only error is want of memory, for the lists of the answer.
 pub fn reached<N: Network>(
     alloc: Global,
     network: &N,

@@ -1,37 +1,38 @@
-ghost use Rattle.std.specs.Prelude.{◌≡◌, IsTrue, ◌↔◌};
+ghost use Rattle.std.specs.Prelude.{◌≡◌, ◌↔◌, IsTrue};
 ghost use Rattle.reach.specs.Lawful.{IsLawful};
 ghost use Rattle.reach.specs.Position.{HasToken, IsFull, Position, is_red, links_of, value_of};
-ghost use Rattle.reach.specs.Reached.{ReachesLink, ReachesStop};
 
 use map_tables::{Hex, Links, Stop};
 use tables::{Amount, Company};
 
-/// A position.
+/// What keeps a position: the track on the map, and the stops with their tokens. Its calls take no
+/// memory. A stop that lies in two hexes may be named by either of its names.
 pub trait Network {
-    /// The position that the network keeps.
+    /// The position that is kept. All that a contract says of a network, it says of this.
     ghost position: { Self → Position };
 
-    /// The links.
+    /// The links of a hex, in order, none twice.
     fn links(&self, hex: Hex) -> Links
         ensures { result.items ≡ links_of (position self.now) hex };
 
-    /// The value.
+    /// What a stop is worth in this phase, in dollars, 80 at most; 0 where there is no such stop.
     fn value(&self, stop: Stop) -> Amount
         ensures { result ≡ value_of (position self.now) stop };
 
-    /// Red.
+    /// Whether a stop is red.
     fn red(&self, stop: Stop) -> bool
         ensures { result ≡ is_red (position self.now) stop };
 
-    /// Full.
+    /// Whether a stop is a city that is full for a company: it has slots, and all of them hold tokens of
+    /// others.
     fn full(&self, stop: Stop, company: Company) -> bool
         ensures { IsTrue result ↔ IsFull (position self.now) stop company };
 
-    /// Token.
+    /// Whether a company has a token at a stop.
     fn token(&self, stop: Stop, company: Company) -> bool
         ensures { IsTrue result ↔ HasToken (position self.now) stop company };
 
-    /// Laws.
+    /// The laws that every position keeps. It does nothing: call it where a proof needs them.
     fn keeps_laws(&self)
         ensures { IsLawful (position self.now) };
 }

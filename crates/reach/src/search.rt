@@ -1,10 +1,10 @@
-ghost use Rattle.std.specs.Prelude.{◌≡◌, ℕ, ◌<◌, IsTrue, ◌↔◌, IfOk, false, true, not, slice_index_or, slice_set, replicate};
+ghost use Rattle.std.specs.Prelude.{◌≡◌, ◌<◌, length, ◌⊎◌, IsTrue, ◌↔◌, IfOk, OnOk, false, true, not, slice_index_or, slice_set, replicate};
 ghost use Rattle.map_tables.specs.Hex.{index_of};
 ghost use Rattle.map_tables.specs.Place.{joined_stop_of};
 ghost use Rattle.map_tables.specs.declared.track.End.TheVariants.{Stop as AtStop};
-ghost use Rattle.reach.specs.Lawful.{IsLawful, StandInOrder};
+ghost use Rattle.reach.specs.Lawful.{IsLawful};
 ghost use Rattle.reach.specs.Position.{IsAmong, links_of};
-ghost use Rattle.reach.specs.Reached.{stop_order};
+ghost use Rattle.reach.specs.Reached.{StandInOrder, stop_order};
 ghost use Rattle.reach.specs.Search.{AllArrive, CanEnter, CanEnterEither, CanTake, Follows, HasAllTokens, IsClosed, IsMarked, marked, spot_number};
 ghost use Rattle.reach.specs.Walk.{IsTrack, entered_at, left_at, spot_at};
 ghost use Rattle.map_tables.specs.declared.place.Stop.{Stop};
@@ -19,14 +19,14 @@ use tables::Company;
 /// How many ends the hexes of the map have: six sides and two stops each.
 const SPOTS: usize = 8 * HEXES;
 
-/// The ends at which some walk of the company has arrived.
+/// The ends of the map's hexes at which some walk of the company has arrived, or may begin.
 #[derive(Drop)]
 pub(crate) struct Marks {
     marks: [bool; SPOTS],
 }
 
 impl Marks {
-    /// No walk has arrived anywhere.
+    /// No walk has arrived anywhere yet.
     fn none() -> Marks
         ensures { result.marks ≡ replicate 744 false }
     {
@@ -44,6 +44,7 @@ impl Marks {
 
     /// Marks a spot, and says whether it was not marked before.
     fn mark(&mut self, spot: Spot) -> bool
+        ensures low { spot_number spot < length self.old.marks }
         ensures marked { self.new.marks ≡ slice_set self.old.marks (spot_number spot) true }
         ensures new { result ≡ not (slice_index_or self.old.marks (spot_number spot) false) }
     {
@@ -107,7 +108,7 @@ fn can_enter<N: Network>(network: &N, company: Company, marks: &Marks, spot: Spo
     }
 }
 
-/// Follows a link in one direction.
+/// Follows a link in one direction, and says whether that marks anything new.
 fn follow<N: Network>(network: &N, company: Company, step: Step, marks: &mut Marks) -> bool
     requires lawful { IsLawful (N.position network.now) }
     requires track { IsTrack (N.position network.now) step }
@@ -116,7 +117,7 @@ fn follow<N: Network>(network: &N, company: Company, step: Step, marks: &mut Mar
     can_enter(network, company, marks, step.entered()) && marks.mark(step.left())
 }
 
-/// Follows a link in both directions.
+/// Follows a link in both directions, and says whether that marks anything new.
 fn follow_both<N: Network>(network: &N, company: Company, link: Link, marks: &mut Marks) -> bool
     requires lawful { IsLawful (N.position network.now) }
     requires track { IsAmong link (links_of (N.position network.now) link.hex) }
@@ -132,19 +133,20 @@ fn follow_both<N: Network>(network: &N, company: Company, link: Link, marks: &mu
     added
 }
 
-/// Follows the links of a hex.
+/// Follows the links of a hex, and says whether that marks anything new.
 fn follow_hex<N: Network>(network: &N, company: Company, hex: Hex, marks: &mut Marks) -> bool
     requires { IsLawful (N.position network.now) }
     ensures { Follows (N.position network.now) company (λ taken. IsAmong taken.link (links_of (N.position network.now) hex)) marks.old.marks marks.new.marks result }
 {
+    let links = network.links(hex);
     let mut added = false;
-    for link in &network.links(hex) {
+    for link in links.as_slice() {
         added |= follow_both(network, company, *link, marks);
     }
     added
 }
 
-/// Follows each link of the map once.
+/// Follows the links of each hex, in order, and says whether that marks anything new.
 fn follow_all<N: Network>(network: &N, company: Company, marks: &mut Marks) -> bool
     requires { IsLawful (N.position network.now) }
     ensures { Follows (N.position network.now) company (IsTrack (N.position network.now)) marks.old.marks marks.new.marks result }
@@ -156,7 +158,7 @@ fn follow_all<N: Network>(network: &N, company: Company, marks: &mut Marks) -> b
     added
 }
 
-/// Marks the stops with a token of the company.
+/// The marks of the stops with a token of the company, where its walks begin.
 fn mark_tokens<N: Network>(network: &N, company: Company) -> Marks
     ensures arrive { AllArrive (N.position network.now) company result.marks }
     ensures tokens { HasAllTokens (N.position network.now) company result.marks }
@@ -206,7 +208,7 @@ pub(crate) fn reached_stops(alloc: Global, marks: &Marks) -> Result<Vec<Stop>, A
     Ok(stops)
 }
 
-/// The links that a walk may enter at one of their ends.
+/// The links that a walk which has arrived where the marks say may take.
 pub(crate) fn reached_links<N: Network>(
     alloc: Global,
     network: &N,
@@ -218,13 +220,30 @@ pub(crate) fn reached_links<N: Network>(
 {
     let mut links = Vec::new(alloc);
     for index in 0..HEXES {
-        for link in &network.links(hex_at(index)) {
-            if can_take(network, company, marks, *link) {
-                links.push(*link)?;
-            }
-        }
+        push_links(network, company, marks, hex_at(index), &mut links)?;
     }
     Ok(links)
+}
+
+/// Appends those links of a hex that such a walk may take.
+fn push_links<N: Network>(
+    network: &N,
+    company: Company,
+    marks: &Marks,
+    hex: Hex,
+    links: &mut Vec<Link>,
+) -> Result<(), AllocError>
+    ensures before { OnOk result ((link : Link) → IsAmong link links.old.items → IsAmong link links.new.items) }
+    ensures added { OnOk result ((link : Link) → IsAmong link (links_of (N.position network.now) hex) → CanEnterEither (N.position network.now) company marks.now.marks link → IsAmong link links.new.items) }
+    ensures only { OnOk result ((link : Link) → IsAmong link links.new.items → IsAmong link links.old.items ⊎ (IsAmong link (links_of (N.position network.now) hex) × CanEnterEither (N.position network.now) company marks.now.marks link)) }
+{
+    let here = network.links(hex);
+    for link in here.as_slice() {
+        if can_take(network, company, marks, *link) {
+            links.push(*link)?;
+        }
+    }
+    Ok(())
 }
 
 /// Whether a walk that has arrived where the marks say may enter a link at one of its ends.

@@ -1,0 +1,187 @@
+-- Marking tokens, stop by stop, and collecting what is marked, stop by stop and link by link.
+use Rattle.std.proofs.Common.{◌≡◌, ◌≢◌, ℕ, zero, suc, ◌+◌, ◌<◌, ◌≤◌, Bool, true, false, Some, None, ◌⊎◌, inl, inr, List, [], ◌∷◌, ◌++◌, length, get_or, take, set, replicate, refl, ap, sym, ◌∙◌, subst, arith, get_or-set_same}
+use Rattle.std.specs.List.{AllByRecursion}
+use Rattle.std.proofs.lemmas.Bool.{cases_eq}
+use Rattle.std.proofs.lemmas.List.{take_all}
+use Rattle.std.proofs.lemmas.List.Elements.{recursion_from_All}
+use Rattle.map_tables.specs.Hex.{index_of}
+use Rattle.map_tables.specs.Place.{joined_stop_of, stop_at}
+use Rattle.map_tables.specs.declared.hex.Hex.{Hex}
+use Rattle.map_tables.specs.declared.place.Stop.{Stop}
+use Rattle.map_tables.specs.declared.track.End.{End}
+use Rattle.map_tables.specs.declared.track.End.TheVariants.{Side as AtSide, Stop as AtStop}
+use Rattle.map_tables.specs.declared.track.Link.{Link}
+use Rattle.reach.specs.Lawful.{IsLawful}
+use Rattle.reach.specs.Position.{Position, HasToken, IsAmong, links_of}
+use Rattle.reach.specs.Reached.{StandInOrder, stop_order}
+use Rattle.reach.specs.Search.{spot_number, IsMarked, Arrives, AllArrive, HasAllTokens}
+use Rattle.reach.specs.Walk.{spot_at, stop_at_end, stop_of, IsTrack}
+use Rattle.reach.specs.declared.walk.Spot.{Spot}
+use Rattle.reach.specs.declared.walk.Step.{Step}
+use Rattle.reach.proofs.Hexes.{same_index}
+use Rattle.reach.proofs.Lists.{among_end, among_before, among_cases, among_next, next_among, among_sooner, holds_of, all_push, order_push}
+use Rattle.reach.proofs.Marking.{set_cases, set_keeps}
+use Rattle.reach.proofs.Spots.{are_one, same_order, order_low}
+use Rattle.tables.specs.declared.roster.Company.{Company}
+
+-- the spot of a stop
+abbrev pub spot_of : Stop → Spot
+spot_of stop = spot_at stop.hex (AtStop stop.number)
+
+-- nothing is marked at first
+pub none_marked : (n i : ℕ) → get_or (replicate n false) i false ≡ false
+none_marked zero i = refl
+none_marked (suc n) zero = refl
+none_marked (suc n) (suc i) = none_marked n i
+
+-- the stops before a place in the order of the map are marked where they have a token
+abbrev pub TokensBefore : Position → Company → List Bool → ℕ → Type 0
+TokensBefore position company marks place =
+    (stop : Stop) → stop_order stop < place → HasToken position (joined_stop_of stop) company → IsMarked marks (spot_of stop)
+
+module _ (position : Position) (company : Company) (old : List Bool) (stop : Stop) (place : ℕ) (here : stop_order stop ≡ place) where
+  -- walks arrive at a stop with a token
+  pub token_arrives : HasToken position (joined_stop_of stop) company → AllArrive position company old → (new : List Bool) → new ≡ set old (spot_number (spot_of stop)) true → AllArrive position company new
+  token_arrives token arrive new new_is spot is =
+      elim (set_cases old (spot_number (spot_of stop)) (spot_number spot) (subst (λ marks. IsMarked marks spot) new_is is)) [
+        | inl same ↦ inl (joined_stop_of stop, sym (are_one (spot_of stop) spot same).0, token)
+        | inr before ↦ arrive spot before
+      ]
+
+  -- a stop with a token is marked
+  pub token_marked : spot_number (spot_of stop) < length old → TokensBefore position company old place → (new : List Bool) → new ≡ set old (spot_number (spot_of stop)) true → TokensBefore position company new (place + 1)
+  token_marked low tokens new new_is other before token =
+      subst (λ marks. IsMarked marks (spot_of other)) (sym new_is)
+      (elim (cases_eq (stop_order other) place) [
+        | inl same ↦ subst (λ (s : Stop). IsMarked (set old (spot_number (spot_of stop)) true) (spot_of s)) (same_order stop other (here ∙ sym same))
+            (get_or-set_same old (spot_number (spot_of stop)) true false low)
+        | inr different ↦ set_keeps old (spot_number (spot_of stop)) (spot_number (spot_of other)) low (tokens other (omega arith) token)
+      ])
+
+  -- a stop without a token is passed over
+  pub token_passed : ¬ HasToken position (joined_stop_of stop) company → TokensBefore position company old place → TokensBefore position company old (place + 1)
+  token_passed none tokens other before token =
+      elim (cases_eq (stop_order other) place) [
+        | inl same ↦ absurd (none (subst (λ (s : Stop). HasToken position (joined_stop_of s) company) (same_order other stop (same ∙ sym here)) token))
+        | inr different ↦ tokens other (omega arith) token
+      ]
+
+token_at : (position : Position) (company : Company) (marks : List Bool) → TokensBefore position company marks 186 → (hex : Hex) (end : End) (stop : Stop) → stop_at_end hex end ≡ Some stop → HasToken position stop company → IsMarked marks (spot_at hex end)
+token_at position company marks tokens hex (AtSide side) stop is token = absurd (let nowhere : None ≡ Some stop = is in cc)
+token_at position company marks tokens hex (AtStop number) stop is token =
+    let same : joined_stop_of (stop_at hex number) ≡ stop = cc in
+    tokens (stop_at hex number) (order_low (stop_at hex number)) (subst (λ s. HasToken position s company) (sym same) token)
+
+-- the stops of the whole map
+pub all_tokens : (position : Position) (company : Company) (marks : List Bool) (place : ℕ) → 186 ≤ place → TokensBefore position company marks place → HasAllTokens position company marks
+all_tokens position company marks place all tokens spot stop is token =
+    token_at position company marks (λ other low has. tokens other (omega arith) has) spot.hex spot.end stop is token
+
+-- the stops before a place in the order of the map, those that are marked
+pub record StopsBefore (marks : List Bool) (stops : List Stop) (place : ℕ) : Type 0 where
+  pub in_order : StandInOrder stop_order stops
+  pub before : AllByRecursion (λ stop. stop_order stop < place) stops
+  pub named : (stop : Stop) → IsAmong stop stops → (joined_stop_of stop ≡ stop) × IsMarked marks (spot_of stop)
+  pub all : (stop : Stop) → stop_order stop < place → joined_stop_of stop ≡ stop → IsMarked marks (spot_of stop) → IsAmong stop stops
+
+-- what is under a number is under the next
+below_next : (stops : List Stop) (place : ℕ) → AllByRecursion (λ stop. stop_order stop < place) stops → AllByRecursion (λ stop. stop_order stop < place + 1) stops
+below_next [] place all = tt
+below_next (stop ∷ stops) place all = (omega (arith, all.0), below_next stops place all.1)
+
+-- what is under a number is under that of a stop there
+below_stop : (stops : List Stop) (place : ℕ) (here : Stop) → stop_order here ≡ place → AllByRecursion (λ stop. stop_order stop < place) stops → AllByRecursion (λ stop. stop_order stop < stop_order here) stops
+below_stop [] place here is all = tt
+below_stop (stop ∷ stops) place here is all = (omega (arith, all.0), below_stop stops place here is all.1)
+
+module _ (marks : List Bool) (stops : List Stop) (stop : Stop) (place : ℕ) (here : stop_order stop ≡ place) (so_far : StopsBefore marks stops place) where
+  -- a stop that is marked is pushed
+  pub stop_pushed : joined_stop_of stop ≡ stop → IsMarked marks (spot_of stop) → StopsBefore marks (stops ++ stop ∷ []) (place + 1)
+  stop_pushed named is_marked =
+      record {
+        in_order = order_push stop_order stops stop so_far.in_order (below_stop stops place stop here so_far.before);
+        before = all_push (λ s. stop_order s < place + 1) stops stop (below_next stops place so_far.before) (omega arith);
+        named = λ other among. elim (among_cases stops other stop among) [
+          | inl earlier ↦ so_far.named other earlier
+          | inr same ↦ subst (λ (s : Stop). (joined_stop_of s ≡ s) × IsMarked marks (spot_of s)) same (named, is_marked)
+        ];
+        all = λ other low other_named other_marked. elim (cases_eq (stop_order other) place) [
+          | inl same ↦ subst (λ s. IsAmong s (stops ++ stop ∷ [])) (same_order stop other (here ∙ sym same)) (among_end stops stop)
+          | inr different ↦ among_before stops other stop (so_far.all other (omega arith) other_named other_marked)
+        ];
+      }
+
+  -- another is passed over
+  pub stop_passed : ¬ ((joined_stop_of stop ≡ stop) × IsMarked marks (spot_of stop)) → StopsBefore marks stops (place + 1)
+  stop_passed not_here =
+      record {
+        in_order = so_far.in_order;
+        before = below_next stops place so_far.before;
+        named = so_far.named;
+        all = λ other low other_named other_marked. elim (cases_eq (stop_order other) place) [
+          | inl same ↦ absurd (not_here (subst (λ (s : Stop). (joined_stop_of s ≡ s) × IsMarked marks (spot_of s)) (same_order other stop (same ∙ sym here)) (other_named, other_marked)))
+          | inr different ↦ so_far.all other (omega arith) other_named other_marked
+        ];
+      }
+
+-- a link of the first hexes and one more is of those hexes, or of that hex
+pub hexes_more : (position : Position) (hex : Hex) (index : ℕ) → index_of hex ≡ index → (link : Link) → index_of link.hex < index + 1 → IsAmong link (links_of position link.hex) → (index_of link.hex < index) ⊎ IsAmong link (links_of position hex)
+hexes_more position hex index is link low track =
+    elim (cases_eq (index_of link.hex) index) [
+      | inl same ↦ inr (subst (λ h. IsAmong link (links_of position h)) (same_index link.hex hex (same ∙ sym is)) track)
+      | inr different ↦ inl (omega arith)
+    ]
+
+-- a link among those of a hex is among those of its own hex
+pub own_hex : (position : Position) → IsLawful position → (hex : Hex) (link : Link) → IsAmong link (links_of position hex) → IsAmong link (links_of position link.hex)
+own_hex position lawful hex link among =
+    let here : AllByRecursion (λ (l : Link). l.hex ≡ hex) (links_of position hex) = recursion_from_All (λ l. l.hex ≡ hex) (links_of position hex) (lawful.links hex).here in
+    let is : link.hex ≡ hex = holds_of (λ l. l.hex ≡ hex) (links_of position hex) link here among in
+    subst (λ h. IsAmong link (links_of position h)) (sym is) among
+
+-- the links collected so far: those that were there first, and of those that came the ones that pass
+pub record LinksUpTo (P : Link → Type 0) (first links came : List Link) : Type 0 where
+  pub before : (link : Link) → IsAmong link first → IsAmong link links
+  pub added : (link : Link) → IsAmong link came → P link → IsAmong link links
+  pub only : (link : Link) → IsAmong link links → IsAmong link first ⊎ (IsAmong link came × P link)
+
+module _ (P : Link → Type 0) (first links all : List Link) (i : ℕ) (d : Link) (low : i < length all) (so_far : LinksUpTo P first links (take i all)) where
+  -- the next link passes, and is pushed
+  pub link_pushed : P (get_or all i d) → (new : List Link) → new ≡ links ++ get_or all i d ∷ [] → LinksUpTo P first new (take (i + 1) all)
+  link_pushed passes new new_is =
+      let pushed : LinksUpTo P first (links ++ get_or all i d ∷ []) (take (i + 1) all) =
+      record {
+        before = λ link among. among_before links link (get_or all i d) (so_far.before link among);
+        added = λ link among link_passes. elim (among_next all i link d low among) [
+          | inl earlier ↦ among_before links link (get_or all i d) (so_far.added link earlier link_passes)
+          | inr here ↦ subst (λ l. IsAmong l (links ++ get_or all i d ∷ [])) (sym here) (among_end links (get_or all i d))
+        ];
+        only = λ link among. elim (among_cases links link (get_or all i d) among) [
+          | inl earlier ↦ elim (so_far.only link earlier) [
+            | inl there ↦ inl there
+            | inr came ↦ inr (among_sooner all i link d low came.0, came.1)
+          ]
+          | inr here ↦ inr (subst (λ l. IsAmong l (take (i + 1) all) × P l) here (next_among all i d low, passes))
+        ];
+      }
+      in subst (λ ls. LinksUpTo P first ls (take (i + 1) all)) (sym new_is) pushed
+
+  -- it does not, and is passed over
+  pub link_passed : ¬ P (get_or all i d) → LinksUpTo P first links (take (i + 1) all)
+  link_passed fails =
+      record {
+        before = so_far.before;
+        added = λ link among link_passes. elim (among_next all i link d low among) [
+          | inl earlier ↦ so_far.added link earlier link_passes
+          | inr here ↦ absurd (fails (subst P here link_passes))
+        ];
+        only = λ link among. elim (so_far.only link among) [
+          | inl there ↦ inl there
+          | inr came ↦ inr (among_sooner all i link d low came.0, came.1)
+        ];
+      }
+
+-- all links have come
+pub all_links : (P : Link → Type 0) (first links all : List Link) (i : ℕ) → length all ≤ i → LinksUpTo P first links (take i all) → LinksUpTo P first links all
+all_links P first links all i come so_far =
+    subst (λ ls. LinksUpTo P first links ls) (take_all i all come) so_far

@@ -1,0 +1,24 @@
+-- What is marked at the end is what is reached.
+use Rattle.reach.proofs.Reaching.{link_marked, link_reached, stop_marked, stop_reached}
+use Rattle.reach.proofs.answer.reached.Goals as goal
+
+pub returns : goal.returns
+returns g c =
+    let position = g.N.Network.position c.args.network.now in
+    let company = c.args.company in
+    let lawful = c.keeps_laws.ensures in
+    let marks = c.search-marks.result.marks in
+    let arrive = c.search-marks.ensures.arrive in
+    let tokens = c.search-marks.ensures.tokens in
+    let closed = c.search-marks.ensures.closed in
+    record {
+      stops = λ stop. (
+        λ among. stop_reached position company lawful marks arrive tokens closed stop ((c.in_ok-reached_stops.ensures.marked stop).0 among),
+        λ reaches. (c.in_ok-reached_stops.ensures.marked stop).1 (stop_marked position company lawful marks arrive tokens closed stop reaches),
+      );
+      in_order = c.in_ok-reached_stops.ensures.in_order;
+      links = λ link. (
+        λ among. link_reached position company lawful marks arrive tokens closed link ((c.in_ok-reached_links.ensures link).0 among),
+        λ reaches. (c.in_ok-reached_links.ensures link).1 (link_marked position company lawful marks arrive tokens closed link reaches),
+      );
+    }

@@ -1,0 +1,12 @@
+-- Walks arrive at all that is marked, and the stops before the next one are marked where they have a
+-- token.
+use Rattle.reach.specs.Search.{AllArrive}
+use Rattle.reach.proofs.Collected.{TokensBefore}
+use Rattle.reach.proofs.search.mark_tokens.Given as goal
+
+abbrev pub invariant-loop-place : goal.invariant-loop-place
+invariant-loop-place g l =
+    record {
+      arrive : AllArrive (g.N.Network.position l.network) l.company l.marks.marks;
+      tokens : TokensBefore (g.N.Network.position l.network) l.company l.marks.marks l.place;
+    }
