@@ -1,16 +1,17 @@
 -- Each hex, tile and print stands once in its table.
-use Rattle.std.proofs.Common.{◌≡◌, true, ltb, length, Some, refl}
+use Rattle.std.proofs.Common.{◌≡◌, ◌↔◌, true, ltb, length, Some, refl}
 use Rattle.std.specs.Prelude.{slice_get, count_by}
 use Rattle.std.proofs.lemmas.Bool.{ltb-true}
 use Rattle.map_tables.specs.declared.hex.Hex.{Hex}
 use Rattle.map_tables.specs.declared.hex.Hex.TheVariants.{A9}
 use Rattle.map_tables.specs.declared.tiles.TileNo.{TileNo}
 use Rattle.map_tables.specs.declared.tiles.TileNo.TheVariants.{T1}
-use Rattle.map_tables.specs.Hex.{hexes, index_of}
+use Rattle.map_tables.specs.Hex.{hexes, index_of, same_hex}
 use Rattle.map_tables.specs.Tile.{tiles, tile_index_of, number_of_tile, tile_numbered}
 use Rattle.map_tables.specs.Print.{groups, plain_hexes, is_one_of}
 use Rattle.map_tables.specs.Laws.{HexStands, TileStands}
 use Rattle.map_tables.proofs.HexAt.{hex_at-site}
+use Rattle.map_tables.proofs.HexTables.{same_hex-true, same_hex-same}
 
 hex_below : (hex : Hex) → ltb (index_of hex) 93 ≡ true
 unfolding index_of
@@ -28,6 +29,9 @@ hexes_are_93 = refl
 
 pub hex_stands : (hex : Hex) → HexStands hex
 hex_stands hex = record { below = ltb-true (index_of hex) 93 (hex_below hex); there = hex_there hex; found = hex_at-site hex }
+
+pub hexes_told_apart : (a b : Hex) → (same_hex a b ≡ true) ↔ (a ≡ b)
+hexes_told_apart a b = (same_hex-true a b, same_hex-same a b)
 
 tile_below : (tile : TileNo) → ltb (tile_index_of tile) 46 ≡ true
 unfolding tile_index_of

@@ -1,5 +1,5 @@
 -- What holds of the tables.
-use Rattle.std.specs.Prelude.{◌≡◌, ℕ, ◌+◌, ◌*◌, ◌<◌, ◌≤◌, Bool, true, ◌&&◌, nat_lt, Some, List, [], ◌∷◌, length, slice_get, count_by, ◌⊎◌}
+use Rattle.std.specs.Prelude.{◌≡◌, ℕ, ◌+◌, ◌*◌, ◌<◌, ◌≤◌, Bool, true, ◌&&◌, nat_lt, Some, List, [], ◌∷◌, length, slice_get, count_by, ◌⊎◌, ◌↔◌}
 use Rattle.tables.specs.Steps.{iterate}
 use Rattle.tables.specs.declared.roster.Company.{Company}
 use Rattle.map_tables.specs.declared.hex.Hex.{Hex}
@@ -11,7 +11,7 @@ use Rattle.map_tables.specs.declared.print.HexKind.TheVariants.{Red}
 use Rattle.map_tables.specs.declared.tiles.TileNo.{TileNo}
 use Rattle.map_tables.specs.declared.lay.Lay.{Lay}
 use Rattle.map_tables.specs.declared.track.Link.{Link}
-use Rattle.map_tables.specs.Hex.{hexes, index_of, row_of, column_of, hex_at}
+use Rattle.map_tables.specs.Hex.{hexes, index_of, row_of, column_of, same_hex, hex_at}
 use Rattle.map_tables.specs.Side.{facing_of, turns_of}
 use Rattle.map_tables.specs.Border.{neighbour_of}
 use Rattle.map_tables.specs.Place.{joined_stop_of}
@@ -34,6 +34,10 @@ pub record HexStands (hex : Hex) : Type 0 where
 
 abbrev pub HexesStandOnce : Type 0
 HexesStandOnce = (length hexes ≡ 93) × ((hex : Hex) → HexStands hex)
+
+-- hexes pass for one exactly where they are one
+abbrev pub HexesAreToldApart : Type 0
+HexesAreToldApart = (a b : Hex) → (same_hex a b ≡ true) ↔ (a ≡ b)
 
 -- the list of tiles has 46, each at its index, which is below 46; and each is the tile of its number
 pub record TileStands (tile : TileNo) : Type 0 where

@@ -223,7 +223,7 @@ impl Hex {
     }
 
     /// Whether it is the same hex.
-    pub fn is(self, other: Hex) -> bool
+    pub(crate) fn is(self, other: Hex) -> bool
         ensures { result ≡ same_hex self other }
     {
         self.index() == other.index()

@@ -1,6 +1,9 @@
 //! What holds of the tables: each law is the contract of a function that does nothing.
+ghost use Rattle.std.specs.Prelude.{◌≡◌};
+ghost use Rattle.map_tables.specs.Hex.{hexes};
 ghost use Rattle.map_tables.specs.Laws.{
   HomesTakeTokens,
+  HexesAreToldApart,
   HexesStandOnce,
   LaidLinksAreInOrder,
   NeighboursPair,
@@ -12,6 +15,12 @@ ghost use Rattle.map_tables.specs.Laws.{
   TurnsAddUp,
   ValuesAreAtMost80,
 };
+ghost use Rattle.map_tables.specs.Side.{rotations, sides};
+ghost use Rattle.map_tables.specs.Tile.{tiles};
+
+use crate::hex::Hex;
+use crate::side::{Rotation, Side};
+use crate::tiles::TileNo;
 
 /// Borders pair: the neighbour of a hex over a side has that hex as its neighbour over the facing side;
 /// so a closed border is closed from both its hexes.
@@ -21,17 +30,30 @@ pub fn neighbours_pair()
 
 /// Each hex stands once in the list of hexes, at its index, and is the one hex of its row and column.
 pub fn hexes_stand_once()
-    ensures { HexesStandOnce }
+    ensures all { Hex.ALL ≡ hexes }
+    ensures once { HexesStandOnce }
+{}
+
+/// The test by which the definitions tell hexes apart does so.
+pub fn hexes_are_told_apart()
+    ensures { HexesAreToldApart }
 {}
 
 /// Each tile stands once in the list of tiles, at its index, and is the one tile of its number.
 pub fn tiles_stand_once()
-    ensures { TilesStandOnce }
+    ensures all { TileNo.ALL ≡ tiles }
+    ensures once { TilesStandOnce }
 {}
 
 /// Each hex of the map has one print.
 pub fn prints_stand_once()
     ensures { PrintsStandOnce }
+{}
+
+/// The lists of sides and of rotations are those of the definitions.
+pub fn sides_and_rotations_are_all()
+    ensures sides { Side.ALL ≡ sides }
+    ensures rotations { Rotation.ALL ≡ rotations }
 {}
 
 /// A tile that is turned six times by a sixth is as it was.

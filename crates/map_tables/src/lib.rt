@@ -5,7 +5,8 @@
 //!
 //! Reading order: `hex` (the hexes of the map), `side` (sides and rotations), `border` (which hexes
 //! are neighbours), `place` (stops), `track` (what joins sides and stops), `print` (what is printed
-//! on the map), `tiles`, `lay` (a tile on a hex), `run` (the places of a run), `homes` (what the
+//! on the map), `tiles`, `segments` (each piece of
+//! track by its ends), `lay` (a tile on a hex), `run` (the places of a run), `homes` (what the
 //! roster says of the map), `laws` (what holds of all these tables).
 #![tactic(auto)]
 
@@ -26,9 +27,10 @@ pub use border::neighbour;
 pub use hex::{HEXES, Hex};
 pub use homes::{home, private_hexes, token_price, tokens};
 pub use laws::{
-    hexes_stand_once, homes_take_tokens, laid_links_are_in_order, neighbours_pair,
-    printed_links_are_in_order, prints_stand_once, red_areas_are_joined, six_turns_are_none,
-    tiles_stand_once, turns_add_up, values_are_at_most_80,
+    hexes_are_told_apart, hexes_stand_once, homes_take_tokens, laid_links_are_in_order,
+    neighbours_pair, printed_links_are_in_order, prints_stand_once, red_areas_are_joined,
+    sides_and_rotations_are_all, six_turns_are_none, tiles_stand_once, turns_add_up,
+    values_are_at_most_80,
 };
 pub use lay::{Lay, laid_links};
 pub use place::{Place, Stop, StopNumber, joined_stop};

@@ -1,6 +1,5 @@
+ghost use Rattle.std.specs.Prelude.{◌≡◌, ◌<◌, None};
 ghost use Rattle.map_tables.specs.declared.hex.Hex.TheVariants.{A9};
-ghost use Rattle.std.specs.Prelude.{None};
-ghost use Rattle.std.specs.Prelude.{◌≡◌, ◌<◌};
 ghost use Rattle.map_tables.specs.Place.{joined_stop_of, other_stop, place_of, stop_index_of, stop_of};
 
 use crate::hex::Hex;

@@ -1,6 +1,5 @@
 ghost use Rattle.std.specs.Prelude.{◌≡◌, ◌<◌};
 ghost use Rattle.map_tables.specs.Side.{facing_of, number_of, rotation_of, turned_side, turns_of};
-ghost use Rattle.std.specs.Prelude.{None, Some, if◌then◌else◌};
 
 /// A side of a hex, in order round the hex from 0 to 5.
 #[derive(Clone, Copy, Debug, PartialEq, Eq, Hash)]

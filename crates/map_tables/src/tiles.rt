@@ -50,7 +50,6 @@ impl TileKind {
     }
 }
 
-// ---- made ----
 /// A tile by its number.
 #[derive(Clone, Copy, Debug, PartialEq, Eq, Hash)]
 pub enum TileNo {
@@ -259,7 +258,8 @@ pub fn tile(tile: TileNo) -> TileEntry
 /// The track of a tile that is not turned, in order.
 #[tactic(auto, unfolding(crate::specs::Tile::printed))]
 pub fn tile_track(tile: TileNo) -> &'static [Segment]
-    ensures { result.now ≡ tile_track_of tile }
+    ensures track { result.now ≡ tile_track_of tile }
+    ensures few { length result.now ≤ 6 }
 {
     match tile {
         TileNo::T1 => &[SW_1, W_0, NE_0, E_1],
