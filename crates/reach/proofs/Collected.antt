@@ -3,7 +3,7 @@ use Rattle.std.proofs.Common.{◌≡◌, ◌≢◌, ℕ, zero, suc, ◌+◌, ◌
 use Rattle.std.specs.List.{AllByRecursion}
 use Rattle.std.proofs.lemmas.Bool.{cases_eq}
 use Rattle.std.proofs.lemmas.List.{take_all}
-use Rattle.std.proofs.lemmas.List.Elements.{recursion_from_All}
+use Rattle.map_tables.specs.Laws.{LieIn}
 use Rattle.map_tables.specs.Hex.{index_of}
 use Rattle.map_tables.specs.Place.{joined_stop_of, stop_at}
 use Rattle.map_tables.specs.declared.hex.Hex.{Hex}
@@ -14,12 +14,12 @@ use Rattle.map_tables.specs.declared.track.Link.{Link}
 use Rattle.reach.specs.Lawful.{IsLawful}
 use Rattle.reach.specs.Position.{Position, HasToken, IsAmong, links_of}
 use Rattle.reach.specs.Reached.{StandInOrder, stop_order}
-use Rattle.reach.specs.Search.{spot_number, IsMarked, Arrives, AllArrive, HasAllTokens}
+use Rattle.reach.specs.Search.{spot_number, IsMarked, IsMarkedStop, Collects, Arrives, AllArrive, HasAllTokens}
 use Rattle.reach.specs.Walk.{spot_at, stop_at_end, stop_of, IsTrack}
 use Rattle.reach.specs.declared.walk.Spot.{Spot}
 use Rattle.reach.specs.declared.walk.Step.{Step}
 use Rattle.reach.proofs.Hexes.{same_index}
-use Rattle.reach.proofs.Lists.{among_end, among_before, among_cases, among_next, next_among, among_sooner, holds_of, all_push, order_push}
+use Rattle.reach.proofs.Lists.{among_end, among_before, among_cases, among_next, next_among, among_sooner, all_push, order_push}
 use Rattle.reach.proofs.Marking.{set_cases, set_keeps}
 use Rattle.reach.proofs.Spots.{are_one, same_order, order_low}
 use Rattle.tables.specs.declared.roster.Company.{Company}
@@ -81,7 +81,7 @@ all_tokens position company marks place all tokens spot stop is token =
 pub record StopsBefore (marks : List Bool) (stops : List Stop) (place : ℕ) : Type 0 where
   pub in_order : StandInOrder stop_order stops
   pub before : AllByRecursion (λ stop. stop_order stop < place) stops
-  pub named : (stop : Stop) → IsAmong stop stops → (joined_stop_of stop ≡ stop) × IsMarked marks (spot_of stop)
+  pub named : (stop : Stop) → IsAmong stop stops → IsMarkedStop marks stop
   pub all : (stop : Stop) → stop_order stop < place → joined_stop_of stop ≡ stop → IsMarked marks (spot_of stop) → IsAmong stop stops
 
 -- what is under a number is under the next
@@ -132,24 +132,23 @@ hexes_more position hex index is link low track =
       | inr different ↦ inl (omega arith)
     ]
 
+-- each of the links that lie in a hex lies there
+lies_there : (hex : Hex) (links : List Link) (link : Link) → LieIn hex links → IsAmong link links → link.hex ≡ hex
+lies_there hex [] link lie among = absurd among
+lies_there hex (first ∷ rest) link lie (inl is) = subst (λ (l : Link). l.hex ≡ hex) is lie.0
+lies_there hex (first ∷ rest) link lie (inr later) = lies_there hex rest link lie.1 later
+
 -- a link among those of a hex is among those of its own hex
 pub own_hex : (position : Position) → IsLawful position → (hex : Hex) (link : Link) → IsAmong link (links_of position hex) → IsAmong link (links_of position link.hex)
 own_hex position lawful hex link among =
-    let here : AllByRecursion (λ (l : Link). l.hex ≡ hex) (links_of position hex) = recursion_from_All (λ l. l.hex ≡ hex) (links_of position hex) (lawful.links hex).here in
-    let is : link.hex ≡ hex = holds_of (λ l. l.hex ≡ hex) (links_of position hex) link here among in
+    let is : link.hex ≡ hex = lies_there hex (links_of position hex) link (lawful.links hex).here among in
     subst (λ h. IsAmong link (links_of position h)) (sym is) among
 
--- the links collected so far: those that were there first, and of those that came the ones that pass
-pub record LinksUpTo (P : Link → Type 0) (first links came : List Link) : Type 0 where
-  pub before : (link : Link) → IsAmong link first → IsAmong link links
-  pub added : (link : Link) → IsAmong link came → P link → IsAmong link links
-  pub only : (link : Link) → IsAmong link links → IsAmong link first ⊎ (IsAmong link came × P link)
-
-module _ (P : Link → Type 0) (first links all : List Link) (i : ℕ) (d : Link) (low : i < length all) (so_far : LinksUpTo P first links (take i all)) where
+module _ (P : Link → Type 0) (first links all : List Link) (i : ℕ) (d : Link) (low : i < length all) (so_far : Collects P first (take i all) links) where
   -- the next link passes, and is pushed
-  pub link_pushed : P (get_or all i d) → (new : List Link) → new ≡ links ++ get_or all i d ∷ [] → LinksUpTo P first new (take (i + 1) all)
+  pub link_pushed : P (get_or all i d) → (new : List Link) → new ≡ links ++ get_or all i d ∷ [] → Collects P first (take (i + 1) all) new
   link_pushed passes new new_is =
-      let pushed : LinksUpTo P first (links ++ get_or all i d ∷ []) (take (i + 1) all) =
+      let pushed : Collects P first (take (i + 1) all) (links ++ get_or all i d ∷ []) =
       record {
         before = λ link among. among_before links link (get_or all i d) (so_far.before link among);
         added = λ link among link_passes. elim (among_next all i link d low among) [
@@ -164,10 +163,10 @@ module _ (P : Link → Type 0) (first links all : List Link) (i : ℕ) (d : Link
           | inr here ↦ inr (subst (λ l. IsAmong l (take (i + 1) all) × P l) here (next_among all i d low, passes))
         ];
       }
-      in subst (λ ls. LinksUpTo P first ls (take (i + 1) all)) (sym new_is) pushed
+      in subst (λ ls. Collects P first (take (i + 1) all) ls) (sym new_is) pushed
 
   -- it does not, and is passed over
-  pub link_passed : ¬ P (get_or all i d) → LinksUpTo P first links (take (i + 1) all)
+  pub link_passed : ¬ P (get_or all i d) → Collects P first (take (i + 1) all) links
   link_passed fails =
       record {
         before = so_far.before;
@@ -182,6 +181,6 @@ module _ (P : Link → Type 0) (first links all : List Link) (i : ℕ) (d : Link
       }
 
 -- all links have come
-pub all_links : (P : Link → Type 0) (first links all : List Link) (i : ℕ) → length all ≤ i → LinksUpTo P first links (take i all) → LinksUpTo P first links all
+pub all_links : (P : Link → Type 0) (first links all : List Link) (i : ℕ) → length all ≤ i → Collects P first (take i all) links → Collects P first all links
 all_links P first links all i come so_far =
-    subst (λ ls. LinksUpTo P first links ls) (take_all i all come) so_far
+    subst (λ ls. Collects P first ls links) (take_all i all come) so_far

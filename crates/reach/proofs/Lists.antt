@@ -52,12 +52,6 @@ among_at [] i d low = absurd (omega arith)
 among_at (x ∷ xs) zero d low = inl refl
 among_at (x ∷ xs) (suc i) d low = inr (among_at xs i d (omega arith))
 
--- what holds of all holds of each
-pub holds_of : {A : Type 0} (P : A → Type 0) (xs : List A) (x : A) → AllByRecursion P xs → IsAmong x xs → P x
-holds_of P [] x all h = absurd h
-holds_of P (y ∷ ys) x all (inl here) = subst P here all.0
-holds_of P (y ∷ ys) x all (inr later) = holds_of P ys x all.1 later
-
 -- all, and one more
 pub all_push : {A : Type 0} (P : A → Type 0) (xs : List A) (x : A) → AllByRecursion P xs → P x → AllByRecursion P (xs ++ x ∷ [])
 all_push P [] x all here = (here, tt)

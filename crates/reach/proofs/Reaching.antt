@@ -9,18 +9,13 @@ use Rattle.map_tables.specs.declared.track.Link.{Link}
 use Rattle.reach.specs.Lawful.{IsLawful}
 use Rattle.reach.specs.Position.{Position, HasToken, IsAmong, links_of}
 use Rattle.reach.specs.Reached.{IsWalkOf, ReachesLink, ReachesStop}
-use Rattle.reach.specs.Search.{spot_number, IsMarked, CanEnterAt, CanEnter, CanEnterEither, CanTake, AllArrive, IsClosed, HasAllTokens}
+use Rattle.reach.specs.Search.{spot_number, IsMarked, IsMarkedStop, CanEnterAt, CanEnter, CanEnterEither, CanTake, AllArrive, IsClosed, HasAllTokens}
 use Rattle.reach.specs.Walk.{spot_at, entered_at, left_at, stop_at_end, stop_of, IsTrack, EndsAt, TouchesLink, TouchesStop}
 use Rattle.reach.specs.declared.walk.Spot.{Spot}
 use Rattle.reach.specs.declared.walk.Step.{Step}
 use Rattle.reach.proofs.Following.{walk_by, may_enter}
 use Rattle.reach.proofs.Spots.{are_one, stop_number, names_itself}
 use Rattle.tables.specs.declared.roster.Company.{Company}
-
--- a stop stands under its own name, and is marked
-abbrev IsMarkedStop : List Bool → Stop → Type 0
-IsMarkedStop marks stop =
-    (joined_stop_of stop ≡ stop) × IsMarked marks (spot_at stop.hex (AtStop stop.number))
 
 -- a spot that is marked and is a stop
 marked_stop : (marks : List Bool) (spot : Spot) (stop : Stop) → stop_of spot ≡ Some stop → IsMarked marks spot → IsMarkedStop marks stop

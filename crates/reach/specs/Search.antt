@@ -1,6 +1,6 @@
 -- What the search for what a company reaches keeps: for each end in each hex, whether some walk of the
 -- company arrives there.
-use Rattle.std.specs.Prelude.{◌≡◌, ℕ, ◌+◌, ◌*◌, ◌<◌, Bool, true, false, ◌⊎◌, List, [], ◌∷◌, Some, length, get_or, count_by}
+use Rattle.std.specs.Prelude.{◌≡◌, ◌↔◌, ℕ, ◌+◌, ◌*◌, ◌<◌, Bool, true, false, ◌⊎◌, List, [], ◌∷◌, Some, length, get_or, count_by}
 use Rattle.map_tables.specs.Hex.{index_of}
 use Rattle.map_tables.specs.Place.{joined_stop_of, stop_at, stop_index_of}
 use Rattle.map_tables.specs.Side.{number_of}
@@ -29,6 +29,15 @@ spot_number spot = number_at spot.hex spot.end
 -- a spot is marked
 abbrev pub IsMarked : List Bool → Spot → Type 0
 IsMarked marks spot = get_or marks (spot_number spot) false ≡ true
+
+-- a stop stands under its own name, and is marked
+abbrev pub IsMarkedStop : List Bool → Stop → Type 0
+IsMarkedStop marks stop =
+    (joined_stop_of stop ≡ stop) × IsMarked marks (spot_at stop.hex (AtStop stop.number))
+
+-- these are all such stops
+abbrev pub AreMarkedStops : List Bool → List Stop → Type 0
+AreMarkedStops marks stops = (stop : Stop) → IsAmong stop stops ↔ IsMarkedStop marks stop
 
 -- A walk that arrives where the marks say may enter a link at this spot: at a stop that is marked, and
 -- not full; at a side of a border whose other side is marked.
@@ -83,3 +92,14 @@ CanEnterEither position company marks link =
 abbrev pub CanTake : Position → Company → List Bool → Link → Type 0
 CanTake position company marks link =
     IsAmong link (links_of position link.hex) × CanEnterEither position company marks link
+
+-- these are all links of the position that such a walk may take
+abbrev pub AreTaken : Position → Company → List Bool → List Link → Type 0
+AreTaken position company marks links =
+    (link : Link) → IsAmong link links ↔ CanTake position company marks link
+
+-- links are collected: those that were there first, and of those that come the ones that pass
+pub record Collects (P : Link → Type 0) (first came links : List Link) : Type 0 where
+  pub before : (link : Link) → IsAmong link first → IsAmong link links
+  pub added : (link : Link) → IsAmong link came → P link → IsAmong link links
+  pub only : (link : Link) → IsAmong link links → IsAmong link first ⊎ (IsAmong link came × P link)

@@ -25,8 +25,8 @@ impl Model for Reach {
 }
 
 impl Reach {
-    /// The stops that are reached, in the order of the map. A stop that lies in two hexes stands once,
-    /// as the one that names it.
+    /// The stops that are reached, in the order of the map. A stop that lies in two hexes stands
+    /// once, as the one that names it.
     pub fn stops(&self) -> &[Stop]
         ensures { result.now ≡ self.now.stops }
     {
@@ -41,9 +41,9 @@ impl Reach {
     }
 }
 
-/// What a company reaches: the stops with a token of it, and each stop and link that a walk from there
-/// touches. Such a walk may end in a city that is full for the company and may not pass one; it may pass a
-/// red stop. The only error is want of memory, for the lists of the answer.
+/// What a company reaches: the stops with a token of it, and each stop and link that a walk from
+/// there touches. Such a walk may end in a city that is full for the company and may not pass
+/// one; it may pass a red stop. The only error is want of memory, for the lists of the answer.
 pub fn reached<N: Network>(
     alloc: Global,
     network: &N,

@@ -5,8 +5,8 @@ ghost use Rattle.reach.specs.Position.{HasToken, IsFull, Position, is_red, links
 use map_tables::{Hex, Links, Stop};
 use tables::{Amount, Company};
 
-/// What keeps a position: the track on the map, and the stops with their tokens. Its calls take no
-/// memory. A stop that lies in two hexes may be named by either of its names.
+/// What keeps a position: the track on the map, and the stops with their tokens. Its calls take
+/// no memory. A stop that lies in two hexes may be named by either of its names.
 pub trait Network {
     /// The position that is kept. All that a contract says of a network, it says of this.
     ghost position: { Self → Position };
@@ -23,8 +23,8 @@ pub trait Network {
     fn red(&self, stop: Stop) -> bool
         ensures { result ≡ is_red (position self.now) stop };
 
-    /// Whether a stop is a city that is full for a company: it has slots, and all of them hold tokens of
-    /// others.
+    /// Whether a stop is a city that is full for a company: it has slots, and all of them hold
+    /// tokens of others.
     fn full(&self, stop: Stop, company: Company) -> bool
         ensures { IsTrue result ↔ IsFull (position self.now) stop company };
 

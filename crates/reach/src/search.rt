@@ -1,14 +1,11 @@
-ghost use Rattle.std.specs.Prelude.{◌≡◌, ◌<◌, length, ◌⊎◌, IsTrue, ◌↔◌, IfOk, OnOk, false, true, not, slice_index_or, slice_set, replicate};
+ghost use Rattle.std.specs.Prelude.{◌≡◌, ◌<◌, ◌↔◌, length, IsTrue, IfOk, OnOk, false, true, not, slice_index_or, slice_set, replicate};
 ghost use Rattle.map_tables.specs.Hex.{index_of};
-ghost use Rattle.map_tables.specs.Place.{joined_stop_of};
-ghost use Rattle.map_tables.specs.declared.track.End.TheVariants.{Stop as AtStop};
 ghost use Rattle.reach.specs.Lawful.{IsLawful};
 ghost use Rattle.reach.specs.Position.{IsAmong, links_of};
 ghost use Rattle.reach.specs.Reached.{StandInOrder, stop_order};
-ghost use Rattle.reach.specs.Search.{AllArrive, CanEnter, CanEnterEither, CanTake, Follows, HasAllTokens, IsClosed, IsMarked, marked, spot_number};
-ghost use Rattle.reach.specs.Walk.{IsTrack, entered_at, left_at, spot_at};
-ghost use Rattle.map_tables.specs.declared.place.Stop.{Stop};
-ghost use Rattle.map_tables.specs.declared.track.Link.{Link};
+ghost use Rattle.reach.specs.Search.{AllArrive, AreMarkedStops, AreTaken, CanEnter, CanEnterEither, Collects, Follows, HasAllTokens, IsClosed, spot_number};
+ghost use Rattle.reach.specs.Walk.{IsTrack};
+ghost use Rattle.reach.specs.declared.walk.Step.{Step};
 
 use crate::network::Network;
 use crate::walk::{Spot, Step};
@@ -112,7 +109,8 @@ fn can_enter<N: Network>(network: &N, company: Company, marks: &Marks, spot: Spo
 fn follow<N: Network>(network: &N, company: Company, step: Step, marks: &mut Marks) -> bool
     requires lawful { IsLawful (N.position network.now) }
     requires track { IsTrack (N.position network.now) step }
-    ensures { Follows (N.position network.now) company (λ taken. taken ≡ step) marks.old.marks marks.new.marks result }
+    ensures { let position = N.position network.now in
+        Follows position company (λ (taken : Step). taken ≡ step) marks.old.marks marks.new.marks result }
 {
     can_enter(network, company, marks, step.entered()) && marks.mark(step.left())
 }
@@ -121,7 +119,9 @@ fn follow<N: Network>(network: &N, company: Company, step: Step, marks: &mut Mar
 fn follow_both<N: Network>(network: &N, company: Company, link: Link, marks: &mut Marks) -> bool
     requires lawful { IsLawful (N.position network.now) }
     requires track { IsAmong link (links_of (N.position network.now) link.hex) }
-    ensures { Follows (N.position network.now) company (λ taken. taken.link ≡ link) marks.old.marks marks.new.marks result }
+    ensures { let position = N.position network.now in
+        let takes = λ (taken : Step). taken.link ≡ link in
+        Follows position company takes marks.old.marks marks.new.marks result }
 {
     let forward = Step {
         link,
@@ -136,7 +136,9 @@ fn follow_both<N: Network>(network: &N, company: Company, link: Link, marks: &mu
 /// Follows the links of a hex, and says whether that marks anything new.
 fn follow_hex<N: Network>(network: &N, company: Company, hex: Hex, marks: &mut Marks) -> bool
     requires { IsLawful (N.position network.now) }
-    ensures { Follows (N.position network.now) company (λ taken. IsAmong taken.link (links_of (N.position network.now) hex)) marks.old.marks marks.new.marks result }
+    ensures { let position = N.position network.now in
+        let takes = λ (taken : Step). IsAmong taken.link (links_of position hex) in
+        Follows position company takes marks.old.marks marks.new.marks result }
 {
     let links = network.links(hex);
     let mut added = false;
@@ -149,7 +151,8 @@ fn follow_hex<N: Network>(network: &N, company: Company, hex: Hex, marks: &mut M
 /// Follows the links of each hex, in order, and says whether that marks anything new.
 fn follow_all<N: Network>(network: &N, company: Company, marks: &mut Marks) -> bool
     requires { IsLawful (N.position network.now) }
-    ensures { Follows (N.position network.now) company (IsTrack (N.position network.now)) marks.old.marks marks.new.marks result }
+    ensures { let position = N.position network.now in
+        Follows position company (IsTrack position) marks.old.marks marks.new.marks result }
 {
     let mut added = false;
     for index in 0..HEXES {
@@ -176,13 +179,14 @@ fn mark_tokens<N: Network>(network: &N, company: Company) -> Marks
     marks
 }
 
-/// Finds all spots at which walks of the company arrive: from its tokens on, the links of the map are
-/// followed until nothing is added.
+/// Finds all spots at which walks of the company arrive: from its tokens on, the links of the map
+/// are followed until nothing is added.
 pub(crate) fn search<N: Network>(network: &N, company: Company) -> Marks
     requires { IsLawful (N.position network.now) }
     ensures arrive { AllArrive (N.position network.now) company result.marks }
     ensures tokens { HasAllTokens (N.position network.now) company result.marks }
-    ensures closed { IsClosed (N.position network.now) company (IsTrack (N.position network.now)) result.marks }
+    ensures closed { let position = N.position network.now in
+        IsClosed position company (IsTrack position) result.marks }
 {
     let mut marks = mark_tokens(network, company);
     while follow_all(network, company, &mut marks) {}
@@ -191,7 +195,7 @@ pub(crate) fn search<N: Network>(network: &N, company: Company) -> Marks
 
 /// The stops that are marked, in the order of the map.
 pub(crate) fn reached_stops(alloc: Global, marks: &Marks) -> Result<Vec<Stop>, AllocError>
-    ensures marked { IfOk result (λ stops. (stop : Stop) → IsAmong stop stops.items ↔ ((joined_stop_of stop ≡ stop) × IsMarked marks.now.marks (spot_at stop.hex (AtStop stop.number)))) }
+    ensures marked { IfOk result (λ stops. AreMarkedStops marks.now.marks stops.items) }
     ensures in_order { IfOk result (λ stops. StandInOrder stop_order stops.items) }
 {
     let mut stops = Vec::new(alloc);
@@ -216,7 +220,8 @@ pub(crate) fn reached_links<N: Network>(
     marks: &Marks,
 ) -> Result<Vec<Link>, AllocError>
     requires { IsLawful (N.position network.now) }
-    ensures { IfOk result (λ links. (link : Link) → IsAmong link links.items ↔ CanTake (N.position network.now) company marks.now.marks link) }
+    ensures { let position = N.position network.now in
+        IfOk result (λ links. AreTaken position company marks.now.marks links.items) }
 {
     let mut links = Vec::new(alloc);
     for index in 0..HEXES {
@@ -233,9 +238,9 @@ fn push_links<N: Network>(
     hex: Hex,
     links: &mut Vec<Link>,
 ) -> Result<(), AllocError>
-    ensures before { OnOk result ((link : Link) → IsAmong link links.old.items → IsAmong link links.new.items) }
-    ensures added { OnOk result ((link : Link) → IsAmong link (links_of (N.position network.now) hex) → CanEnterEither (N.position network.now) company marks.now.marks link → IsAmong link links.new.items) }
-    ensures only { OnOk result ((link : Link) → IsAmong link links.new.items → IsAmong link links.old.items ⊎ (IsAmong link (links_of (N.position network.now) hex) × CanEnterEither (N.position network.now) company marks.now.marks link)) }
+    ensures { let position = N.position network.now in
+        let takes = CanEnterEither position company marks.now.marks in
+        OnOk result (Collects takes links.old.items (links_of position hex) links.new.items) }
 {
     let here = network.links(hex);
     for link in here.as_slice() {

@@ -24,8 +24,8 @@ impl Spot {
         }
     }
 
-    /// The other side of the border, if it is a side at one: not off the map, nor where the border is
-    /// closed.
+    /// The other side of the border, if it is a side at one: not off the map, nor where the
+    /// border is closed.
     pub fn across(self) -> Option<Spot>
         ensures { result ≡ across self }
     {
