@@ -9,6 +9,11 @@ const CS: Private = Private::ChamplainStLawrence;
 
 const DH: Private = Private::DelawareHudson;
 
+/// The player of a seat, who pays and is paid.
+fn player(seat: u8) -> Party {
+    Party::Seat(Seat(seat))
+}
+
 fn sold(private: Private, seat: u8, price: u32) -> Event {
     Event::Sold {
         private,
@@ -20,7 +25,7 @@ fn sold(private: Private, seat: u8, price: u32) -> Event {
 fn paid(private: Private, seat: u8, amount: u32) -> Event {
     Event::Revenue {
         private,
-        owner: Party::Seat(Seat(seat)),
+        owner: player(seat),
         amount,
     }
 }
@@ -43,7 +48,7 @@ fn add(rt: &impl Abort, history: &mut History, event: Event) -> Result<(), Alloc
 fn starts_with_money_for_each(rt: HostRuntime) {
     for (seats, money) in [(3, 800), (4, 600), (5, 480), (6, 400)] {
         let history = History::start(rt.alloc(), seats);
-        assert_eq!(rt; history.cash(Party::Seat(Seat(0))), money, "at {seats}");
+        assert_eq!(rt; history.cash(player(0)), money, "at {seats}");
         assert_eq!(rt; history.cash(Party::Bank), 9_600, "at {seats}");
     }
 }
@@ -53,8 +58,8 @@ fn counts_a_sale_and_a_revenue(rt: HostRuntime) -> Result<(), AllocError> {
     let mut history = History::start(rt.alloc(), 4);
     add(&rt, &mut history, sold(CS, 1, 40))?;
     add(&rt, &mut history, paid(CS, 1, 10))?;
-    assert_eq!(rt; history.cash(Party::Seat(Seat(1))), 570);
-    assert_eq!(rt; history.cash(Party::Seat(Seat(0))), 600);
+    assert_eq!(rt; history.cash(player(1)), 570);
+    assert_eq!(rt; history.cash(player(0)), 600);
     assert_eq!(rt; history.cash(Party::Bank), 9_630);
     Ok(())
 }
@@ -68,7 +73,7 @@ fn lets_the_bank_go_under_0(rt: HostRuntime) -> Result<(), AllocError> {
     add(&rt, &mut history, Event::Broken)?;
     assert!(rt; history.broken());
     assert_eq!(rt; history.cash(Party::Bank), -2);
-    assert_eq!(rt; history.cash(Party::Seat(Seat(2))), 10_402);
+    assert_eq!(rt; history.cash(player(2)), 10_402);
     Ok(())
 }
 
@@ -87,7 +92,7 @@ fn knows_owners_price_and_priority(rt: HostRuntime) -> Result<(), AllocError> {
     add(&rt, &mut history, sold(DH, 0, 70))?;
     add(&rt, &mut history, bought(3, DH))?;
     add(&rt, &mut history, Event::Price { price: 10 })?;
-    assert!(rt; history.owner(SV) == Some(Party::Seat(Seat(2))));
+    assert!(rt; history.owner(SV) == Some(player(2)));
     assert!(rt; history.owner(CS).is_none());
     assert!(rt; history.now().cheapest_unsold() == Some(CS));
     assert_eq!(rt; history.sv_price(), 10);
@@ -103,9 +108,9 @@ fn has_room_for_a_million_and_no_more(rt: HostRuntime) -> Result<(), AllocError>
     add(&rt, &mut history, Event::Price { price: 1_000_000 })?;
     assert_eq!(rt; history.seats(), 5);
     assert_eq!(rt; history.events().len(), 2);
-    assert_eq!(rt; history.cash(Party::Seat(Seat(4))), 440);
+    assert_eq!(rt; history.cash(player(4)), 440);
     assert_eq!(rt; history.sv_price(), 1_000_000);
-    assert!(rt; history.owner(CS) == Some(Party::Seat(Seat(4))));
+    assert!(rt; history.owner(CS) == Some(player(4)));
     Ok(())
 }
 
@@ -116,6 +121,6 @@ fn grows_past_any_round_number_of_events(rt: HostRuntime) -> Result<(), AllocErr
         add(&rt, &mut history, Event::Passes(Seat(1)))?;
         assert_eq!(rt; history.events().len(), count);
     }
-    assert!(rt; history.events().last() == Some(&Event::Passes(Seat(1))));
+    assert!(rt; matches!(history.events().last(), Some(Event::Passes(Seat(1)))));
     Ok(())
 }

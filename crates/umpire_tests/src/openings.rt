@@ -9,10 +9,14 @@ use tables::{Private, Round, Seat};
 fn plays_one_round(rt: HostRuntime) -> Result<(), Fail> {
     let sheets = collect(rt.alloc(), FIRST.as_bytes())?;
     let start = History::start(rt.alloc(), sheets.seats());
-    let round = Round::Opening(1);
-    let played = play_opening(start, &sheets, round)?;
+    let played = play_opening(start, &sheets, Round::Opening(1))?;
     assert_eq!(rt; played.events().len(), 7);
-    assert!(rt; played.events()[0] == Event::Round(round));
+    assert!(rt;
+        matches!(
+            played.events().first(),
+            Some(Event::Round(Round::Opening(1)))
+        )
+    );
     assert_eq!(rt; played.cash(Party::Seat(Seat(0))), 785);
     assert_eq!(rt; played.now().priority().0, 1);
     Ok(())
