@@ -14,8 +14,6 @@ mod laws;
 mod list;
 mod look_back;
 mod ruling;
-#[cfg(test)]
-mod tests;
 
 pub use event::{Event, Party, Payment, SUM_MOST, Sale};
 pub use laws::first_is_cheapest;

@@ -26,6 +26,3 @@ pub use order::Order;
 pub use print::{print_line, print_order, print_round};
 pub use read::{LINE_MOST, Line, read_line};
 pub use words::{Span, Token, WORDS_MOST, Words, begins_with_word, has_word};
-
-#[cfg(test)]
-mod tests;

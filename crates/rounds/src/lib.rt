@@ -11,8 +11,6 @@ mod following;
 mod game;
 mod laws;
 mod sequence;
-#[cfg(test)]
-mod tests;
 
 pub use following::Next;
 pub use game::{End, Game, play};

@@ -25,6 +25,3 @@ pub use fault::FileFault;
 pub use file::{FILE_MOST, Sheets, collect};
 pub use laws::{arrival_changes_nothing, last_sheet_counts};
 pub use sheet::{Lines, NumberedLine, Sheet};
-
-#[cfg(test)]
-mod tests;

@@ -12,8 +12,6 @@ mod laws;
 mod roster;
 mod round;
 mod seat;
-#[cfg(test)]
-mod tests;
 
 pub use laws::one_end;
 pub use roster::{Company, Private, face, revenue};

@@ -1,6 +1,7 @@
-use crate::{LINE_MOST, print_line, read_line};
+use order_grammar::{LINE_MOST, Order, print_line, print_order, print_round, read_line};
 use std::alloc::{AllocError, Global};
 use std::test::Fail;
+use tables::{Private, Round};
 
 /// The spelling of a line's order, or the code of its fault.
 fn answer(alloc: Global, line: &[u8]) -> Result<Vec<u8>, AllocError> {
@@ -86,5 +87,30 @@ fn a_line_has_at_most_1024_bytes(rt: HostRuntime) -> Result<(), Fail> {
     line.push(b'x')?;
     let text = answer(rt.alloc(), line.as_slice())?;
     assert_eq!(rt; text.as_slice(), b"G1".as_slice());
+    Ok(())
+}
+
+#[test]
+fn words_stand_where_they_are_written(rt: HostRuntime) -> Result<(), Fail> {
+    let line = b"  Buy  sV # a comment".as_slice();
+    let read = read_line(line)?;
+    let words = read.words.as_slice();
+    assert_eq!(rt; words.len(), 2);
+    assert_eq!(rt; words[0].text, b"Buy".as_slice());
+    assert_eq!(rt; (words[0].span.start, words[0].span.end), (2, 5));
+    assert_eq!(rt; words[1].text, b"sV".as_slice());
+    assert_eq!(rt; (words[1].span.start, words[1].span.end), (7, 9));
+    let again = read.order.duplicate();
+    assert_eq!(rt; again, Order::BuyPrivate(Private::SchuylkillValley));
+    Ok(())
+}
+
+#[test]
+fn texts_grow_at_the_end(rt: HostRuntime) -> Result<(), Fail> {
+    let mut text = Vec::from_slice(rt.alloc(), b"at ")?;
+    print_round(&mut text, &Round::Operating { set: 12, number: 3 })?;
+    text.push(b' ')?;
+    print_order(&mut text, &Order::BuyPrivate(Private::DelawareHudson))?;
+    assert_eq!(rt; text.as_slice(), b"at OR12.3 BUY DH".as_slice());
     Ok(())
 }

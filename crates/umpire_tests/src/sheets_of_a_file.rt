@@ -1,50 +1,81 @@
-use crate::{FILE_MOST, FileFault, NumberedLine, SHEETS_MOST, Sheet, collect};
 use order_grammar::{Fault, Line, Order};
-use std::test::*;
+use sheets::{FILE_MOST, FileFault, NumberedLine, SHEETS_MOST, Sheet, Sheets, collect};
+use std::alloc::{AllocError, Global};
+use std::test::Fail;
 use tables::{Private, Round, Seat};
 
 const FILE: &[u8] =
     b"\n# a game\nGAME 1830 1\r\nplayers Ann Bob cy\nHELLO\nSHEET ann PR1\nTURN\n\nBUY SV\nSHEET BOB pr1\r\nTURN\r\n\r\n  # none\r\nBUY XX\r\nSHEET DAN PR1\nTURN\nSHEET ANN PR1\nBUY DH\r";
 
-/// The orders of a sheet, by the codes of their privates or faults; `-` for another order.
-fn spelled(rt: HostRuntime, sheet: &Sheet) -> Result<String, Fail> {
-    let mut text = String::new(rt.alloc());
-    for line in sheet.lines() {
-        text.push_str(match &line.reading {
-            Ok(read) => match &read.order {
-                Order::BuyPrivate(private) => private.code(),
-                _ => "-",
+/// A line's private, by its code, or its fault; `-` for another order.
+fn code_of(line: &NumberedLine) -> &'static str {
+    match &line.reading {
+        Ok(
+            Line {
+                order: Order::BuyPrivate(private),
+                ..
             },
-            Err(fault) => fault.code(),
-        })?;
+        ) => private.code(),
+        Ok(_) => "-",
+        Err(fault) => fault.code(),
+    }
+}
+
+/// The lines of a sheet by their codes, each with a space behind it.
+fn spelled(alloc: Global, sheet: &Sheet) -> Result<String, AllocError> {
+    let mut text = String::new(alloc);
+    for line in sheet.lines() {
+        text.push_str(code_of(&line))?;
         text.push(' ')?;
     }
     Ok(text)
 }
 
+/// What a seat orders in a round, in the same way; `none` where it has no sheet for it.
+fn orders_of(
+    alloc: Global,
+    sheets: &Sheets,
+    seat: Seat,
+    round: Round,
+) -> Result<String, AllocError> {
+    match sheets.sheet(seat, &round) {
+        Some(sheet) => spelled(alloc, sheet),
+        None => String::from_str(alloc, "none"),
+    }
+}
+
 #[test]
-fn small_file(rt: HostRuntime) -> Result<(), Fail> {
-    let sheets = collect(rt.alloc(), FILE)
-        .ok()
-        .ok_or("the file is collected")?;
+fn names_the_players(rt: HostRuntime) -> Result<(), Fail> {
+    let sheets = collect(rt.alloc(), FILE)?;
     assert_eq!(rt; sheets.seats(), 3);
     for (seat, name) in [(0, b"ANN".as_slice()), (1, b"BOB"), (2, b"CY")] {
         assert_eq!(rt; sheets.name(Seat(seat)), Some(name));
     }
     assert_eq!(rt; sheets.name(Seat(3)), None);
+    Ok(())
+}
+
+#[test]
+fn keeps_the_unread_lines(rt: HostRuntime) -> Result<(), Fail> {
+    let sheets = collect(rt.alloc(), FILE)?;
     let unread = [Fault::UnknownWord, Fault::UnknownPlayer, Fault::OutOfPlace];
     assert_eq!(rt; sheets.unread(), unread.as_slice());
-    let ann = sheets
-        .sheet(Seat(0), &Round::Opening(1))
-        .ok_or("Ann sent a sheet")?;
-    assert_eq!(rt; spelled(rt, ann)?.as_str(), "G2 ");
-    let bob = sheets
-        .sheet(Seat(1), &Round::Opening(1))
-        .ok_or("Bob sent a sheet")?;
-    assert_eq!(rt; spelled(rt, bob)?.as_str(), "- G4 ");
-    assert!(rt; sheets.sheet(Seat(2), &Round::Opening(1)).is_none());
-    assert!(rt; sheets.sheet(Seat(0), &Round::Opening(2)).is_none());
-    assert!(rt; sheets.sheet(Seat(0), &Round::Stock(1)).is_none());
+    Ok(())
+}
+
+#[test]
+fn keeps_the_last_sheet_for_a_round(rt: HostRuntime) -> Result<(), Fail> {
+    let sheets = collect(rt.alloc(), FILE)?;
+    for (seat, round, orders) in [
+        (0, Round::Opening(1), "G2 "),
+        (1, Round::Opening(1), "- G4 "),
+        (2, Round::Opening(1), "none"),
+        (0, Round::Opening(2), "none"),
+        (0, Round::Stock(1), "none"),
+    ] {
+        let found = orders_of(rt.alloc(), &sheets, Seat(seat), round)?;
+        assert_eq!(rt; found.as_str(), orders, "at seat {seat}");
+    }
     Ok(())
 }
 
