@@ -8,8 +8,6 @@ mod fault;
 mod input;
 mod output;
 mod program;
-#[cfg(test)]
-mod tests;
 mod watched;
 
 pub use fault::{Fault, status, word};
