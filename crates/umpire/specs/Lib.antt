@@ -1,3 +1,4 @@
+pub mod Watched
 pub mod Fault
 pub mod Failure
 pub mod Run

@@ -12,6 +12,10 @@ use Rattle.umpire.specs.declared.fault.Fault.TheVariants.{Read, Write, Memory, F
 unfoldable pub as_read : List ℕ → List ℕ
 as_read bytes = take 4194305 bytes
 
+-- what was read of the bytes that a reader gives, where they are known
+abbrev pub IsAsRead : Option (List ℕ) → List ℕ → Type 0
+IsAsRead given file = IfSome given (λ bytes. file ≡ as_read bytes)
+
 -- why reading stopped early: a call failed, or memory ran out
 abbrev pub IsReadFault : Bool → Fault → Type 0
 IsReadFault failed Read = failed ≡ true

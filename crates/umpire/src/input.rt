@@ -1,7 +1,8 @@
 ghost use Rattle.std.specs.Io.KnownBytes.{Consumes};
 ghost use Rattle.std.specs.Prelude.{◌≡◌, false, IfOk, IfErr, OnOk, IfSome};
 ghost use Rattle.umpire.specs.Failure.{TakesWithin};
-ghost use Rattle.umpire.specs.Run.{IsReadFault, as_read};
+ghost use Rattle.umpire.specs.Run.{IsAsRead, IsReadFault};
+ghost use Rattle.umpire.specs.Watched.{has_failed, inside};
 
 use crate::fault::Fault;
 use crate::watched::Watched;
@@ -14,12 +15,13 @@ const PIECE: usize = 65_536;
 
 /// Reads the order file to its end, or to the first byte past the greatest size of a file.
 pub(crate) fn read_file<R: Read>(alloc: Global, reader: &mut Watched<R>) -> Result<Vec<u8>, Fault>
-    requires { reader.old.failed ≡ false }
-    ensures file { IfOk result (λ file. IfSome (R.remaining reader.old.inner) (λ bytes. file.items ≡ as_read bytes)) }
-    ensures limit { TakesWithin (R.remaining reader.old.inner) (R.remaining reader.new.inner) }
-    ensures taken { IfOk result (λ file. Consumes (R.remaining reader.old.inner) (R.remaining reader.new.inner) file.items) }
-    ensures ok { OnOk result (reader.new.failed ≡ false) }
-    ensures err { IfErr result (IsReadFault reader.new.failed) }
+    requires { has_failed reader.old ≡ false }
+    ensures file { IfOk result (λ file. IsAsRead (R.remaining (inside reader.old)) file.items) }
+    ensures limit { TakesWithin (R.remaining (inside reader.old)) (R.remaining (inside reader.new)) }
+    ensures taken { IfOk result (λ file. Consumes (R.remaining (inside reader.old))
+        (R.remaining (inside reader.new)) file.items) }
+    ensures ok { OnOk result (has_failed reader.new ≡ false) }
+    ensures err { IfErr result (IsReadFault (has_failed reader.new)) }
 {
     let mut file = Vec::new(alloc);
     let mut buffer = [0; PIECE];

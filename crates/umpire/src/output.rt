@@ -2,6 +2,7 @@ ghost use Rattle.std.specs.Io.KnownBytes.{Appends};
 ghost use Rattle.std.specs.Prelude.{◌≡◌, true, false, IfErr, OnErr, OnOk};
 ghost use Rattle.umpire.specs.Failure.{AppendsFront};
 ghost use Rattle.umpire.specs.declared.fault.Fault.TheVariants as fault;
+ghost use Rattle.umpire.specs.Watched.{has_failed, inside};
 
 use crate::fault::Fault;
 use crate::watched::Watched;
@@ -9,12 +10,14 @@ use std::io::Write;
 
 /// Writes all the bytes.
 pub(crate) fn write_text<W: Write>(writer: &mut Watched<W>, text: &[u8]) -> Result<(), Fault>
-    requires { writer.old.failed ≡ false }
-    ensures ok { OnOk result (Appends (W.contents writer.old.inner) (W.contents writer.new.inner) text.now) }
-    ensures unfailed { OnOk result (writer.new.failed ≡ false) }
+    requires { has_failed writer.old ≡ false }
+    ensures ok { OnOk result (Appends (W.contents (inside writer.old))
+        (W.contents (inside writer.new)) text.now) }
+    ensures unfailed { OnOk result (has_failed writer.new ≡ false) }
     ensures fault { IfErr result (λ error. error ≡ fault.Write) }
-    ensures failed { OnErr result (writer.new.failed ≡ true) }
-    ensures front { OnErr result (AppendsFront (W.contents writer.old.inner) (W.contents writer.new.inner) text.now) }
+    ensures failed { OnErr result (has_failed writer.new ≡ true) }
+    ensures front { OnErr result (AppendsFront (W.contents (inside writer.old))
+        (W.contents (inside writer.new)) text.now) }
 {
     let mut done = 0;
     while done < text.len() {

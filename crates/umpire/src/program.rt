@@ -4,6 +4,7 @@ ghost use Rattle.std.specs.Prelude.{◌≡◌, false, IfErr, IfOk, OnOk};
 ghost use Rattle.std.specs.Result.{result_err};
 ghost use Rattle.umpire.specs.Failure.{TakesWithin};
 ghost use Rattle.umpire.specs.Run.{IsReported, Stops};
+ghost use Rattle.umpire.specs.Watched.{has_failed, inside};
 
 use crate::fault::Fault;
 use crate::input::read_file;
@@ -28,12 +29,15 @@ pub fn run<R: Read, W: Write>(
     reader: &mut Watched<R>,
     writer: &mut Watched<W>,
 ) -> Result<(), Fault>
-    requires reader { reader.old.failed ≡ false }
-    requires writer { writer.old.failed ≡ false }
-    ensures ok { OnOk result (IsReported (R.remaining reader.old.inner) (W.contents writer.old.inner) (W.contents writer.new.inner)) }
-    ensures unfailed { OnOk result ((reader.new.failed ≡ false) × (writer.new.failed ≡ false)) }
-    ensures limit { TakesWithin (R.remaining reader.old.inner) (R.remaining reader.new.inner) }
-    ensures err { IfErr result (Stops (R.remaining reader.old.inner) (W.contents writer.old.inner) (W.contents writer.new.inner) reader.new.failed writer.new.failed) }
+    requires reader { has_failed reader.old ≡ false }
+    requires writer { has_failed writer.old ≡ false }
+    ensures ok { OnOk result (IsReported (R.remaining (inside reader.old))
+        (W.contents (inside writer.old)) (W.contents (inside writer.new))) }
+    ensures unfailed { OnOk result ((has_failed reader.new ≡ false) × (has_failed writer.new ≡ false)) }
+    ensures limit { TakesWithin (R.remaining (inside reader.old)) (R.remaining (inside reader.new)) }
+    ensures err { IfErr result (Stops (R.remaining (inside reader.old))
+        (W.contents (inside writer.old)) (W.contents (inside writer.new))
+        (has_failed reader.new) (has_failed writer.new)) }
 {
     let file = read_file(alloc, reader)?;
     let answer = answer_to(alloc, file.as_slice())?;

@@ -2,6 +2,7 @@ ghost use Rattle.std.specs.Io.{ReadsAtMost, WritesAtMost};
 ghost use Rattle.std.specs.Io.KnownBytes.{Keeps, ReadConsumes, WriteAppends};
 ghost use Rattle.std.specs.Prelude.{◌≡◌, ◌||◌, false, is_err};
 ghost use Rattle.umpire.specs.Failure.{took_none};
+ghost use Rattle.umpire.specs.Watched.{has_failed, inside};
 
 use std::io;
 use std::io::{Read, Write};
@@ -16,8 +17,8 @@ pub struct Watched<S> {
 impl<S> Watched<S> {
     /// Watches a reader or a writer, of which no call has failed yet.
     pub fn new(inner: S) -> Watched<S>
-        ensures inner { result.inner ≡ inner }
-        ensures failed { result.failed ≡ false }
+        ensures inner { inside result ≡ inner }
+        ensures failed { has_failed result ≡ false }
     {
         Watched {
             inner,
@@ -27,7 +28,7 @@ impl<S> Watched<S> {
 
     /// Whether a call failed, or a write of one or more bytes took none.
     pub fn failed(&self) -> bool
-        ensures { result ≡ self.now.failed }
+        ensures { result ≡ has_failed self.now }
     {
         self.failed
     }
@@ -38,8 +39,9 @@ impl<R: Read> Read for Watched<R> {
 
     fn read(&mut self, buffer: &mut [u8]) -> io::Result<usize>
         ensures bound { ReadsAtMost result buffer.new }
-        ensures bytes { ReadConsumes (R.remaining self.old.inner) (R.remaining self.new.inner) result buffer.new }
-        ensures failed { self.new.failed ≡ (self.old.failed || is_err result) }
+        ensures bytes { ReadConsumes (R.remaining (inside self.old))
+            (R.remaining (inside self.new)) result buffer.new }
+        ensures failed { has_failed self.new ≡ (has_failed self.old || is_err result) }
     {
         let result = self.inner.read(buffer);
         if result.is_err() {
@@ -54,8 +56,10 @@ impl<W: Write> Write for Watched<W> {
 
     fn write(&mut self, bytes: &[u8]) -> io::Result<usize>
         ensures bound { WritesAtMost result bytes.now }
-        ensures bytes { WriteAppends (W.contents self.old.inner) (W.contents self.new.inner) result bytes.now }
-        ensures failed { self.new.failed ≡ (self.old.failed || is_err result || took_none result bytes.now) }
+        ensures bytes { WriteAppends (W.contents (inside self.old))
+            (W.contents (inside self.new)) result bytes.now }
+        ensures failed { has_failed self.new ≡
+            (has_failed self.old || is_err result || took_none result bytes.now) }
     {
         let result = self.inner.write(bytes);
         match &result {
@@ -67,8 +71,8 @@ impl<W: Write> Write for Watched<W> {
     }
 
     fn flush(&mut self) -> io::Result<()>
-        ensures bytes { Keeps (W.contents self.old.inner) (W.contents self.new.inner) }
-        ensures failed { self.new.failed ≡ (self.old.failed || is_err result) }
+        ensures bytes { Keeps (W.contents (inside self.old)) (W.contents (inside self.new)) }
+        ensures failed { has_failed self.new ≡ (has_failed self.old || is_err result) }
     {
         let result = self.inner.flush();
         if result.is_err() {
