@@ -2,6 +2,7 @@
 ghost use Rattle.std.specs.Prelude.{◌≡◌, Bool, map};
 ghost use Rattle.std.specs.List.{range_with_len};
 ghost use Rattle.tables.specs.Roster.{companies, place_of_company, place_of_private, privates};
+ghost use Rattle.tables.specs.Round.{RoundsAreInOrder};
 ghost use Rattle.tables.specs.Steps.{Ends};
 
 use crate::roster::{Company, Private};
@@ -17,4 +18,9 @@ pub fn rosters_in_order()
     ensures company_places { map place_of_company companies ≡ range_with_len 0 8 }
     ensures privates { Private.ALL ≡ privates }
     ensures private_places { map place_of_private privates ≡ range_with_len 0 6 }
+{}
+
+/// Rounds are in order: the openings, then each stock round followed by the operating rounds of its set.
+pub fn rounds_in_order()
+    ensures { RoundsAreInOrder }
 {}

@@ -13,7 +13,7 @@ mod roster;
 mod round;
 mod seat;
 
-pub use laws::{one_end, rosters_in_order};
+pub use laws::{one_end, rosters_in_order, rounds_in_order};
 pub use roster::{Company, Private, face, revenue};
-pub use round::Round;
+pub use round::{NUMBER_MOST, OPERATING_MOST, Round};
 pub use seat::{Amount, Money, PLAYERS_LEAST, PLAYERS_MOST, Seat, bank_start, start_money};
