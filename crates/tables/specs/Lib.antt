@@ -1,3 +1,5 @@
 pub mod Roster
+pub mod Seat
+pub mod Round
 pub mod Steps
 pub mod Rules

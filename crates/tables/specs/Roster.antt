@@ -1,8 +1,60 @@
--- The roster: each private's code, face value and revenue, and the money that the players and the
--- bank begin with.
-use Rattle.std.specs.Prelude.{ℕ, ◌-◌, ◌*◌, ◌==◌, if◌then◌else◌, List, codes}
+-- The roster: the companies and the private companies in order, their codes, each private's face
+-- value and revenue, and the money that the players and the bank begin with.
+use Rattle.std.specs.Prelude.{ℕ, ◌-◌, ◌*◌, ◌==◌, Bool, if◌then◌else◌, List, [], ◌∷◌, codes}
+use Rattle.tables.specs.declared.roster.Company.{Company}
+use Rattle.tables.specs.declared.roster.Company.TheVariants as company
 use Rattle.tables.specs.declared.roster.Private.{Private}
 use Rattle.tables.specs.declared.roster.Private.TheVariants.{SchuylkillValley, ChamplainStLawrence, DelawareHudson, MohawkHudson, CamdenAmboy, BaltimoreOhio}
+
+-- the companies in roster order
+abbrev pub companies : List Company
+companies =
+    company.Pennsylvania ∷ company.NewYorkCentral ∷ company.CanadianPacific ∷ company.BaltimoreOhio
+    ∷ company.ChesapeakeOhio ∷ company.Erie ∷ company.NewHaven ∷ company.BostonMaine ∷ []
+
+-- the place of a company in the roster
+abbrev pub place_of_company : Company → ℕ
+place_of_company company.Pennsylvania = 0
+place_of_company company.NewYorkCentral = 1
+place_of_company company.CanadianPacific = 2
+place_of_company company.BaltimoreOhio = 3
+place_of_company company.ChesapeakeOhio = 4
+place_of_company company.Erie = 5
+place_of_company company.NewHaven = 6
+place_of_company company.BostonMaine = 7
+
+-- two companies are the same
+abbrev pub same_company : Company → Company → Bool
+same_company a b = place_of_company a == place_of_company b
+
+-- the code of a company
+abbrev pub code_of_company : Company → List ℕ
+code_of_company company.Pennsylvania = codes "PRR"
+code_of_company company.NewYorkCentral = codes "NYC"
+code_of_company company.CanadianPacific = codes "CPR"
+code_of_company company.BaltimoreOhio = codes "BO"
+code_of_company company.ChesapeakeOhio = codes "CO"
+code_of_company company.Erie = codes "ERIE"
+code_of_company company.NewHaven = codes "NYNH"
+code_of_company company.BostonMaine = codes "BM"
+
+-- the privates in roster order
+abbrev pub privates : List Private
+privates =
+    SchuylkillValley ∷ ChamplainStLawrence ∷ DelawareHudson ∷ MohawkHudson ∷ CamdenAmboy ∷ BaltimoreOhio ∷ []
+
+-- the place of a private in the roster
+abbrev pub place_of_private : Private → ℕ
+place_of_private SchuylkillValley = 0
+place_of_private ChamplainStLawrence = 1
+place_of_private DelawareHudson = 2
+place_of_private MohawkHudson = 3
+place_of_private CamdenAmboy = 4
+place_of_private BaltimoreOhio = 5
+
+-- two privates are the same
+abbrev pub same_private : Private → Private → Bool
+same_private a b = place_of_private a == place_of_private b
 
 -- the code of a private
 abbrev pub code_of_private : Private → List ℕ

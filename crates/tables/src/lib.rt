@@ -12,10 +12,8 @@ mod laws;
 mod roster;
 mod round;
 mod seat;
-#[cfg(test)]
-mod tests;
 
-pub use laws::one_end;
+pub use laws::{one_end, rosters_in_order, rounds_in_order};
 pub use roster::{Company, Private, face, revenue};
-pub use round::Round;
+pub use round::{NUMBER_MOST, OPERATING_MOST, Round};
 pub use seat::{Amount, Money, PLAYERS_LEAST, PLAYERS_MOST, Seat, bank_start, start_money};
