@@ -1,2 +1,1 @@
 pub mod EventAtEnd
-pub mod Cheapest

@@ -3,5 +3,3 @@ pub mod Kept
 pub mod Event
 pub mod LookBack
 pub mod Tell
-pub mod Sound
-pub mod Laws

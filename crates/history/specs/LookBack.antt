@@ -12,8 +12,7 @@ use Rattle.history.specs.declared.event.Ownership.{Ownership}
 use Rattle.history.specs.declared.event.Party.{Party}
 use Rattle.history.specs.declared.event.Party.TheVariants as party
 use Rattle.history.specs.declared.event.Payment.{Payment}
-use Rattle.tables.specs.Roster.{start_money_of, bank_start_of, face_of, place_of_company, place_of_private, privates}
-use Rattle.tables.specs.Seats.{left_of}
+use Rattle.tables.specs.Roster.{start_money_of, bank_start_of, face_of, privates, same_company, same_private}
 use Rattle.tables.specs.declared.roster.Company.{Company}
 use Rattle.tables.specs.declared.roster.Private.{Private}
 use Rattle.tables.specs.declared.roster.Private.TheVariants.{SchuylkillValley}
@@ -40,14 +39,6 @@ in_round says event = if is_some (round_of event) then Some None else option_map
 -- a start, with all that came in, less all that went out
 abbrev pub balance : ℕ → (Event → ℕ) → (Event → ℕ) → List Event → ℤ
 balance start brings takes events = pos (start + sum_by brings events) -ℤ pos (sum_by takes events)
-
--- two privates are the same
-abbrev pub same_private : Private → Private → Bool
-same_private a b = place_of_private a == place_of_private b
-
--- two companies are the same
-abbrev pub same_company : Company → Company → Bool
-same_company a b = place_of_company a == place_of_company b
 
 -- two holders are the same
 abbrev pub same_holder : Holder → Holder → Bool
@@ -113,6 +104,10 @@ actor_by (Some obeyed) = if is_opening_act obeyed.order then Some obeyed.seat el
 -- the seat that acted in its own turn by this event
 abbrev pub actor_of : Event → Option Seat
 actor_of event = actor_by (obeyed_of event)
+
+-- the seat at the left of a seat; seats are numbered from 0 to 255 at most
+abbrev pub left_of : ℕ → Seat → Seat
+left_of seats seat = if nat_lt (seat.0 + 1) (min seats 256) then record { 0 = seat.0 + 1 } else record { 0 = 0 }
 
 -- the seat at the left of the last that acted; at first seat 0
 abbrev pub left_of_actor : ℕ → Option Seat → Seat

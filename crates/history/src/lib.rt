@@ -9,16 +9,11 @@
 //! `list` (`History`), `laws`.
 #![tactic(auto)]
 
+mod aspect;
 mod event;
-mod laws;
-mod list;
 mod look_back;
 mod ruling;
-#[cfg(test)]
-mod tests;
 
-pub use event::{Event, Party, Payment, SUM_MOST, Sale};
-pub use laws::first_is_cheapest;
-pub use list::History;
+pub use event::{Event, Holder, Ownership, Party, Payment, SUM_MOST};
 pub use look_back::Past;
-pub use ruling::{KeptOrder, Refusal, Ruling};
+pub use ruling::{KeptOrder, OpeningRule, Refusal, Ruling};
