@@ -2,4 +2,5 @@ pub mod Roster
 pub mod Seat
 pub mod Round
 pub mod Steps
+pub mod Turns
 pub mod Rules
