@@ -1,12 +1,11 @@
 -- An event has a few aspects: the payment that it makes, what it says of a private's owner, the price
 -- of SV that it sets, the round that it begins, the order of a seat that was obeyed, and whether it
 -- tells that the bank is broken. Every fact about a game looks back over one of them.
-use Rattle.std.specs.Prelude.{ℕ, Bool, true, false, ◌&&◌, List, codes, Option, Some, None, is_none}
+use Rattle.std.specs.Prelude.{◌≡◌, ℕ, Bool, true, false, List, codes, Option, Some, None}
 use Rattle.order_grammar.specs.declared.order.Order.{Order}
 use Rattle.order_grammar.specs.declared.order.Order.TheVariants as order
 use Rattle.history.specs.declared.event.Event.{Event}
 use Rattle.history.specs.declared.event.Event.TheVariants.{Round, Ruled, Sold, Price, Revenue, Broken}
-use Rattle.history.specs.declared.event.Holder.{Holder}
 use Rattle.history.specs.declared.event.Holder.TheVariants as holder
 use Rattle.history.specs.declared.event.Ownership.{Ownership}
 use Rattle.history.specs.declared.event.Party.{Party}
@@ -80,8 +79,10 @@ is_opening_act (order.BuyPrivate private) = true
 is_opening_act other = false
 
 -- an event says nothing of what parties have and own, or of SV's price
-abbrev pub is_quiet : Event → Bool
-is_quiet event = is_none (payment_of event) && is_none (ownership_of event) && is_none (sv_price_set event)
+pub record IsQuiet (event : Event) : Type 0 where
+  pub payment : payment_of event ≡ None
+  pub ownership : ownership_of event ≡ None
+  pub sv_price : sv_price_set event ≡ None
 
 -- the code of a rule of the opening
 abbrev pub code_of_opening_rule : OpeningRule → List ℕ

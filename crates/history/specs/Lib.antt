@@ -3,3 +3,5 @@ pub mod Kept
 pub mod Event
 pub mod LookBack
 pub mod Tell
+pub mod Sound
+pub mod Laws

@@ -1,9 +1,8 @@
 -- What a list of events, oldest first, says when it is looked back over. There are two ways: what the
 -- last event about a thing says, and a start with all that came in less all that went out.
-use Rattle.std.specs.Prelude.{ℕ, ◌+◌, ◌==◌, Bool, true, false, nat_lt, min, if◌then◌else◌, List, [], ◌∷◌, Option, Some, None, sum_by, pos, ◌-ℤ◌, ℤ, is_none, is_some, unwrap_or}
+use Rattle.std.specs.Prelude.{ℕ, ◌+◌, ◌==◌, Bool, true, false, if◌then◌else◌, List, [], ◌∷◌, ◌++◌, Option, Some, None, sum_by, pos, ◌-ℤ◌, ℤ, is_some, unwrap_or, slice_index_or}
 use Rattle.std.specs.List.{list_any}
 use Rattle.std.specs.Option.{option_or, option_flatten, option_map}
-use Rattle.order_grammar.specs.declared.order.Order.{Order}
 use Rattle.history.specs.Event.{Obeyance, obeyed_of, is_opening_act, ownership_of, payment_of, round_of, sv_price_set, tells_broken}
 use Rattle.history.specs.declared.event.Event.{Event}
 use Rattle.history.specs.declared.event.Holder.{Holder}
@@ -12,8 +11,9 @@ use Rattle.history.specs.declared.event.Ownership.{Ownership}
 use Rattle.history.specs.declared.event.Party.{Party}
 use Rattle.history.specs.declared.event.Party.TheVariants as party
 use Rattle.history.specs.declared.event.Payment.{Payment}
-use Rattle.tables.specs.Roster.{start_money_of, bank_start_of, face_of, privates, same_company, same_private}
-use Rattle.tables.specs.declared.roster.Company.{Company}
+use Rattle.history.specs.declared.owners.Owners.{Owners}
+use Rattle.tables.specs.Roster.{start_money_of, bank_start_of, face_of, place_of_private, privates, same_company, same_private}
+use Rattle.tables.specs.Seat.{left_of, seat_at}
 use Rattle.tables.specs.declared.roster.Private.{Private}
 use Rattle.tables.specs.declared.roster.Private.TheVariants.{SchuylkillValley}
 use Rattle.tables.specs.declared.seat.Seat.{Seat}
@@ -22,6 +22,10 @@ use Rattle.tables.specs.declared.seat.Seat.{Seat}
 pub record Game : Type 0 where
   pub seats : ℕ
   pub events : List Event
+
+-- a game with one more event
+abbrev pub with_event : Game → Event → Game
+with_event game event = record { seats = game.seats; events = game.events ++ event ∷ [] }
 
 -- what the last event that says something of this kind says
 abbrev pub last_said : {A : Type 0} → (Event → Option A) → List Event → Option A
@@ -105,13 +109,9 @@ actor_by (Some obeyed) = if is_opening_act obeyed.order then Some obeyed.seat el
 abbrev pub actor_of : Event → Option Seat
 actor_of event = actor_by (obeyed_of event)
 
--- the seat at the left of a seat; seats are numbered from 0 to 255 at most
-abbrev pub left_of : ℕ → Seat → Seat
-left_of seats seat = if nat_lt (seat.0 + 1) (min seats 256) then record { 0 = seat.0 + 1 } else record { 0 = 0 }
-
 -- the seat at the left of the last that acted; at first seat 0
 abbrev pub left_of_actor : ℕ → Option Seat → Seat
-left_of_actor seats None = record { 0 = 0 }
+left_of_actor seats None = seat_at 0
 left_of_actor seats (Some actor) = left_of seats actor
 
 -- the holder of priority
@@ -119,10 +119,22 @@ abbrev pub priority_of : ℕ → List Event → Seat
 priority_of seats events = left_of_actor seats (last_said actor_of events)
 
 -- the first of these privates that is unsold
-abbrev pub first_unsold : List Event → List Private → Option Private
-first_unsold events [] = None
-first_unsold events (private ∷ others) = if is_sold events private then first_unsold events others else Some private
+abbrev pub first_unsold : (Private → Bool) → List Private → Option Private
+first_unsold sold [] = None
+first_unsold sold (private ∷ others) = if sold private then first_unsold sold others else Some private
 
 -- the cheapest private that is unsold
 abbrev pub cheapest_of : List Event → Option Private
-cheapest_of events = first_unsold events privates
+cheapest_of events = first_unsold (is_sold events) privates
+
+-- the owner of a private, by what was said last of each
+abbrev pub owner_in : Owners → Private → Option Holder
+owner_in owners private = option_flatten (slice_index_or owners.said (place_of_private private) None)
+
+-- a private has been sold, by what was said last of each
+abbrev pub is_sold_in : Owners → Private → Bool
+is_sold_in owners private = is_some (slice_index_or owners.said (place_of_private private) None)
+
+-- the cheapest private that is unsold, by what was said last of each
+abbrev pub cheapest_in : Owners → Option Private
+cheapest_in owners = first_unsold (is_sold_in owners) privates

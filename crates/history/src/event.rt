@@ -1,6 +1,5 @@
 ghost use Rattle.std.specs.Prelude.{◌≡◌};
-ghost use Rattle.std.specs.Option.{option_map};
-ghost use Rattle.history.specs.Event.{is_quiet, ownership_of, party_at, payment_of, round_of, sum_of, sv_price_set};
+ghost use Rattle.history.specs.Event.{ownership_of, party_at, payment_of, round_of, sum_of, sv_price_set};
 ghost use Rattle.history.specs.LookBack.{actor_of};
 ghost use Rattle.history.specs.declared.event.Holder.TheVariants as holder;
 ghost use Rattle.history.specs.declared.event.Party.TheVariants as party;

@@ -1,5 +1,4 @@
 //! The things of which events speak, and the accounts that they change.
-ghost use Rattle.std.specs.Option.{option_map};
 ghost use Rattle.history.specs.Event.{ownership_of, payment_of, sv_price_set};
 ghost use Rattle.history.specs.LookBack.{actor_of, owner_said, paid_by, paid_to};
 

@@ -1,0 +1,65 @@
+-- The first private in roster order that is unsold costs least of those that are.
+use Rattle.std.proofs.Common.{◌≡◌, ℕ, ◌≤◌, ◌⊎◌, Bool, true, false, cond, List, [], ◌∷◌, ◌++◌, Option, Some, subst, arith}
+use Rattle.history.specs.Laws.{AreAsked, FirstIsCheapest}
+use Rattle.history.specs.LookBack.{Game, is_sold, sv_price_of, first_unsold, cheapest_of}
+use Rattle.history.specs.Sound.{IsSound}
+use Rattle.history.specs.declared.event.Event.{Event}
+use Rattle.tables.specs.declared.roster.Private.{Private}
+use Rattle.tables.specs.declared.roster.Private.TheVariants.{SchuylkillValley, ChamplainStLawrence, DelawareHudson, MohawkHudson, CamdenAmboy, BaltimoreOhio}
+
+module _ (events : List Event) (price : Private → ℕ) where
+  -- each of these privates costs no more
+  abbrev AllAtMost : ℕ → List Private → Type 0
+  AllAtMost most [] = Unit {0}
+  AllAtMost most (private ∷ privates) = (price private ≤ most) × AllAtMost most privates
+
+  -- either this private is the first, or a later one is
+  this_or_later : (sold : Bool) (this first : Private) (later : Option Private) (most : ℕ) → cond sold later (Some this) ≡ Some first → price this ≤ most → (later ≡ Some first → price first ≤ most) → price first ≤ most
+  this_or_later false this first later most is low later_low = let same : this ≡ first = cc in subst (λ private. price private ≤ most) same low
+  this_or_later true this first later most is low later_low = later_low is
+
+  -- the first that is unsold comes before an unsold one, or is that one
+  first_before : (front : List Private) (other : Private) (rest : List Private) (first : Private) → is_sold events other ≡ false → AllAtMost (price other) front → first_unsold (is_sold events) (front ++ other ∷ rest) ≡ Some first → price first ≤ price other
+  first_before [] other rest first unsold low is =
+      let here : Some other ≡ Some first = subst (λ sold. cond sold (first_unsold (is_sold events) rest) (Some other) ≡ Some first) unsold is in
+      let same : other ≡ first = cc in
+      subst (λ private. price private ≤ price other) same (omega arith)
+  first_before (private ∷ front) other rest first unsold low is =
+      this_or_later (is_sold events private) private first (first_unsold (is_sold events) (front ++ other ∷ rest)) (price other) is low.0 (first_before front other rest first unsold low.1)
+
+-- SV costs no more than its face
+sv_low : (game : Game) → IsSound game → sv_price_of game.events ≤ 20
+sv_low game sound = let price : (sv_price_of game.events ≡ 20) ⊎ (sv_price_of game.events ≡ 15) ⊎ (sv_price_of game.events ≡ 10) ⊎ (sv_price_of game.events ≡ 5) ⊎ (sv_price_of game.events ≡ 0) = sound.price in omega arith
+
+-- the prices of the roster
+module _ (game : Game) (price : Private → ℕ) (sound : IsSound game) (asked : AreAsked game price) where
+  sv : price SchuylkillValley ≤ 20
+  sv = omega (arith, asked.of_sv, sv_low game sound)
+
+  cs : price ChamplainStLawrence ≡ 40
+  cs = asked.of_others ChamplainStLawrence (λ same. cc)
+
+  dh : price DelawareHudson ≡ 70
+  dh = asked.of_others DelawareHudson (λ same. cc)
+
+  mh : price MohawkHudson ≡ 110
+  mh = asked.of_others MohawkHudson (λ same. cc)
+
+  ca : price CamdenAmboy ≡ 160
+  ca = asked.of_others CamdenAmboy (λ same. cc)
+
+  bop : price BaltimoreOhio ≡ 220
+  bop = asked.of_others BaltimoreOhio (λ same. cc)
+
+  -- by the place of the other private
+  by_place : (first other : Private) → cheapest_of game.events ≡ Some first → is_sold game.events other ≡ false → price first ≤ price other
+  by_place first SchuylkillValley is unsold = first_before game.events price [] SchuylkillValley (ChamplainStLawrence ∷ DelawareHudson ∷ MohawkHudson ∷ CamdenAmboy ∷ BaltimoreOhio ∷ []) first unsold tt is
+  by_place first ChamplainStLawrence is unsold = first_before game.events price (SchuylkillValley ∷ []) ChamplainStLawrence (DelawareHudson ∷ MohawkHudson ∷ CamdenAmboy ∷ BaltimoreOhio ∷ []) first unsold (omega (arith, sv, cs), tt) is
+  by_place first DelawareHudson is unsold = first_before game.events price (SchuylkillValley ∷ ChamplainStLawrence ∷ []) DelawareHudson (MohawkHudson ∷ CamdenAmboy ∷ BaltimoreOhio ∷ []) first unsold (omega (arith, sv, dh), (omega (arith, cs, dh), tt)) is
+  by_place first MohawkHudson is unsold = first_before game.events price (SchuylkillValley ∷ ChamplainStLawrence ∷ DelawareHudson ∷ []) MohawkHudson (CamdenAmboy ∷ BaltimoreOhio ∷ []) first unsold (omega (arith, sv, mh), (omega (arith, cs, mh), (omega (arith, dh, mh), tt))) is
+  by_place first CamdenAmboy is unsold = first_before game.events price (SchuylkillValley ∷ ChamplainStLawrence ∷ DelawareHudson ∷ MohawkHudson ∷ []) CamdenAmboy (BaltimoreOhio ∷ []) first unsold (omega (arith, sv, ca), (omega (arith, cs, ca), (omega (arith, dh, ca), (omega (arith, mh, ca), tt)))) is
+  by_place first BaltimoreOhio is unsold = first_before game.events price (SchuylkillValley ∷ ChamplainStLawrence ∷ DelawareHudson ∷ MohawkHudson ∷ CamdenAmboy ∷ []) BaltimoreOhio [] first unsold (omega (arith, sv, bop), (omega (arith, cs, bop), (omega (arith, dh, bop), (omega (arith, mh, bop), (omega (arith, ca, bop), tt))))) is
+
+-- the law of the cheapest private
+pub first_is_cheapest_law : FirstIsCheapest
+first_is_cheapest_law game price first other sound asked is unsold = by_place game price sound asked first other is unsold
