@@ -4,3 +4,5 @@ pub mod Round
 pub mod Steps
 pub mod Turns
 pub mod Rules
+pub mod Train
+pub mod Chart

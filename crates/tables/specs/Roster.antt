@@ -1,5 +1,6 @@
--- The roster: the companies and the private companies in order, their codes, each private's face
--- value and revenue, and the money that the players and the bank begin with.
+-- The roster: the companies and the private companies in order, their codes and tokens, each private's
+-- face value and revenue, the money that the players and the bank begin with, and the limit of
+-- certificates.
 use Rattle.std.specs.Prelude.{ℕ, ◌-◌, ◌*◌, ◌==◌, Bool, if◌then◌else◌, List, [], ◌∷◌, codes}
 use Rattle.tables.specs.declared.roster.Company.{Company}
 use Rattle.tables.specs.declared.roster.Company.TheVariants as company
@@ -91,3 +92,24 @@ start_money_of players =
 -- what the bank begins with: 12,000 less what the players are paid
 abbrev pub bank_start_of : ℕ → ℕ
 bank_start_of players = 12000 - players * start_money_of players
+
+-- how many certificates a player may hold that count
+abbrev pub certificate_limit_of : ℕ → ℕ
+certificate_limit_of players =
+    if players == 3 then 20 else if players == 4 then 16 else if players == 5 then 13 else if players == 6 then 11 else 0
+
+-- how many tokens a company has, its home token among them
+abbrev pub tokens_of : Company → ℕ
+tokens_of company.Pennsylvania = 4
+tokens_of company.NewYorkCentral = 4
+tokens_of company.CanadianPacific = 4
+tokens_of company.BaltimoreOhio = 3
+tokens_of company.ChesapeakeOhio = 3
+tokens_of company.Erie = 3
+tokens_of company.NewHaven = 2
+tokens_of company.BostonMaine = 2
+
+-- the price of a company's next token when so many lie: the home token is free, the second costs 40 and
+-- each later one 100
+abbrev pub token_price_of : ℕ → ℕ
+token_price_of laid = if laid == 0 then 0 else if laid == 1 then 40 else 100

@@ -5,16 +5,20 @@ ghost use Rattle.tables.specs.Roster.{companies, place_of_company, place_of_priv
 ghost use Rattle.tables.specs.Round.{RoundsAreInOrder};
 ghost use Rattle.tables.specs.Rules.{AreKept, BreaksFirst, Rule, first_broken};
 ghost use Rattle.tables.specs.Steps.{Ends};
+ghost use Rattle.tables.specs.Train.{kinds, place_of_kind};
 ghost use Rattle.tables.specs.Turns.{CanBegin, EndSoon, InPlay, IsIdleWithoutLines, Play, TurnsEnd, after_turn, turns_most, turns_over};
 
+use crate::rolling_stock::Kind;
 use crate::roster::{Company, Private};
 
-/// The lists of all companies and of all privates are in roster order: each stands at its place.
+/// The lists of all companies, privates and kinds of trains are in order: each stands at its place.
 pub fn rosters_in_order()
     ensures companies { Company.ALL ≡ companies }
     ensures company_places { map place_of_company companies ≡ range_with_len 0 8 }
     ensures privates { Private.ALL ≡ privates }
     ensures private_places { map place_of_private privates ≡ range_with_len 0 6 }
+    ensures kinds { Kind.ALL ≡ kinds }
+    ensures kind_places { map place_of_kind kinds ≡ range_with_len 0 6 }
 {}
 
 /// Rounds are in order: the openings, then each stock round followed by the operating rounds of its set.

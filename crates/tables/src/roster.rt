@@ -1,5 +1,5 @@
 ghost use Rattle.std.specs.Prelude.{◌≡◌, ◌<◌, codes};
-ghost use Rattle.tables.specs.Roster.{code_of_company, code_of_private, face_of, place_of_company, place_of_private, revenue_of};
+ghost use Rattle.tables.specs.Roster.{code_of_company, code_of_private, face_of, place_of_company, place_of_private, revenue_of, token_price_of, tokens_of};
 
 use crate::seat::Amount;
 
@@ -154,5 +154,28 @@ pub fn revenue(private: Private) -> Amount
         Private::MohawkHudson => 20,
         Private::CamdenAmboy => 25,
         Private::BaltimoreOhio => 30,
+    }
+}
+
+/// How many tokens a company has, its home token among them.
+pub fn tokens(company: Company) -> usize
+    ensures { result ≡ tokens_of company }
+{
+    match company {
+        Company::Pennsylvania | Company::NewYorkCentral | Company::CanadianPacific => 4,
+        Company::BaltimoreOhio | Company::ChesapeakeOhio | Company::Erie => 3,
+        Company::NewHaven | Company::BostonMaine => 2,
+    }
+}
+
+/// What a company pays for its next token when so many of its tokens lie: nothing for the home token,
+/// 40 for the second and 100 for each later one.
+pub fn token_price(laid: usize) -> Amount
+    ensures { result ≡ token_price_of laid }
+{
+    match laid {
+        0 => 0,
+        1 => 40,
+        _ => 100,
     }
 }

@@ -1,5 +1,5 @@
 ghost use Rattle.std.specs.Prelude.{◌≡◌, ◌<◌};
-ghost use Rattle.tables.specs.Roster.{bank_start_of, start_money_of};
+ghost use Rattle.tables.specs.Roster.{bank_start_of, certificate_limit_of, start_money_of};
 ghost use Rattle.tables.specs.Seat.{left_of, seat_at};
 
 /// Money that is added up: wide enough for every list of events that memory can hold.
@@ -69,5 +69,19 @@ pub fn bank_start(players: usize) -> Amount
     match players {
         3..=6 => 9_600,
         _ => 12_000,
+    }
+}
+
+/// How many certificates a player may hold that count: 20, 16, 13 or 11 for 3, 4, 5 or 6 players, and 0
+/// for any other number, with which nobody plays.
+pub fn certificate_limit(players: usize) -> usize
+    ensures { result ≡ certificate_limit_of players }
+{
+    match players {
+        3 => 20,
+        4 => 16,
+        5 => 13,
+        6 => 11,
+        _ => 0,
     }
 }
