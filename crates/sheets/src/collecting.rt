@@ -3,6 +3,7 @@ ghost use Rattle.std.specs.HashMap.{get};
 ghost use Rattle.order_grammar.specs.Line.{order_of, reading_of};
 ghost use Rattle.sheets.specs.Collecting.{Reaches, StopsBy, closed, IsBegun};
 ghost use Rattle.sheets.specs.File.{is_sheet_line, post_begun, fault_of_reading, same_post, sheet_in, unread_in, good_lines};
+ghost use Rattle.sheets.specs.Limits.{file_most, sheets_most};
 ghost use Rattle.sheets.specs.Text.{BeginsWith, written_lines};
 ghost use Rattle.sheets.specs.declared.post.Post.{Post};
 
@@ -35,10 +36,10 @@ pub(crate) fn collect_body<'a>(
     body: &'a [u8],
 ) -> Result<Collection<'a>, FileFault>
     requires few { length players.now ≤ 6 }
-    requires short { length body.now ≤ 4194304 }
+    requires short { length body.now ≤ file_most }
     ensures sheets { IfOk result (λ c. (post : Post) → get same_post c.sheets post ≡ sheet_in players.now (written_lines body.now) post) }
     ensures unread { IfOk result (λ c. c.unread.items ≡ unread_in players.now false (written_lines body.now)) }
-    ensures good { OnOk result (good_lines players.now (written_lines body.now) ≤ 4096) }
+    ensures good { OnOk result (good_lines players.now (written_lines body.now) ≤ sheets_most) }
     ensures err { IfErr result (StopsBy (good_lines players.now (written_lines body.now))) }
 {
     let mut collection = Collection {
@@ -65,7 +66,7 @@ impl<'a> Collection<'a> {
         piece: Piece<'a>,
     ) -> Result<(), FileFault>
         requires few { length players.now ≤ 6 }
-        requires short { length piece.rest.now ≤ 4194304 }
+        requires short { length piece.rest.now ≤ file_most }
         requires lines { written_lines text.now ≡ piece.line.now ∷ written_lines piece.rest.now }
         requires first { (front : List ℕ) × BeginsWith front (piece.line.now ∷ []) piece.rest.now text.now }
         ensures ok { OnOk result ((body : List (List ℕ)) →
@@ -104,13 +105,13 @@ impl<'a> Collection<'a> {
     /// Takes a SHEET line where no sheet is open.
     fn begin(&mut self, players: &Players, piece: Piece<'a>) -> Result<(), FileFault>
         requires few { length players.now ≤ 6 }
-        requires short { length piece.rest.now ≤ 4194304 }
+        requires short { length piece.rest.now ≤ file_most }
         requires none { self.old.current ≡ None }
         ensures sheets { self.new.sheets ≡ self.old.sheets }
         ensures ok { OnOk result (MatchOption (post_begun players.now (reading_of piece.entry.line.now))
             ((self.new.current ≡ None) × (self.new.good ≡ self.old.good) × (self.new.unread.items ≡ self.old.unread.items ++ fault_of_reading (reading_of piece.entry.line.now) ∷ []))
-            (λ post. IsBegun post piece.entry.rest.now self.new.current × (self.old.good < 4096) × (self.new.good ≡ self.old.good + 1) × (self.new.unread.items ≡ self.old.unread.items))) }
-        ensures err { IfErr result (λ fault. MatchOption (post_begun players.now (reading_of piece.entry.line.now)) (fault ≡ FileFault.Memory) (λ _. (fault ≡ FileFault.TooManySheets) × (4096 ≤ self.old.good))) }
+            (λ post. IsBegun post piece.entry.rest.now self.new.current × (self.old.good < sheets_most) × (self.new.good ≡ self.old.good + 1) × (self.new.unread.items ≡ self.old.unread.items))) }
+        ensures err { IfErr result (λ fault. MatchOption (post_begun players.now (reading_of piece.entry.line.now)) (fault ≡ FileFault.Memory) (λ _. (fault ≡ FileFault.TooManySheets) × (sheets_most ≤ self.old.good))) }
     {
         let reading = read_line(piece.line);
         match post_begun(players, &reading) {

@@ -1,14 +1,15 @@
 ghost use Rattle.std.specs.Prelude.{◌≡◌, ℕ, ◌≤◌, List, length, MatchResult, IfOk, OnOk, option_copied, option_map, slice_get, Err};
 ghost use Rattle.order_grammar.specs.Line.{reading_of};
-ghost use Rattle.sheets.specs.Collecting.{Fails};
-ghost use Rattle.sheets.specs.File.{IsAccepted, body_content, content_of, is_header, lines_content, players_content, players_of, sheet_of, unread_of};
+ghost use Rattle.sheets.specs.File.{Fails, IsAccepted, body_content, content_of, is_header, lines_content, players_content, players_of, sheet_of, unread_of};
+ghost use Rattle.sheets.specs.Part.{parts_for};
 ghost use Rattle.sheets.specs.Text.{written_lines};
 
 use crate::collecting::collect_body;
 use crate::fault::FileFault;
+use crate::parts::PartsLeft;
 use crate::players::{Players, players_named};
 use crate::post::Post;
-use crate::sheet::Sheet;
+use crate::sheet::{Lines, Sheet};
 use crate::text::first_written;
 use order_grammar::{Fault, Order, read_line};
 use std::alloc::Global;
@@ -59,6 +60,17 @@ impl<'a> Sheets<'a> {
             round: *round,
         };
         self.sheets.get(&post)
+    }
+
+    /// The parts of the sheet of this seat for this round; without a sheet there are none.
+    pub fn parts(&self, seat: Seat, round: Round) -> PartsLeft<'a>
+        ensures { result ≡ parts_for self.now round seat.0 }
+    {
+        let lines = match self.sheet(seat, &round) {
+            Some(sheet) => sheet.lines(),
+            None => Lines::none(),
+        };
+        PartsLeft::of(lines, round)
     }
 
     /// The codes of the unread lines, in order.

@@ -15,6 +15,7 @@ mod fault;
 mod file;
 mod laws;
 mod open_sheet;
+mod parts;
 mod players;
 mod post;
 mod sheet;
@@ -24,7 +25,5 @@ pub use collecting::SHEETS_MOST;
 pub use fault::FileFault;
 pub use file::{FILE_MOST, Sheets, collect};
 pub use laws::{arrival_changes_nothing, last_sheet_counts};
-pub use sheet::{Lines, NumberedLine, Sheet};
-
-#[cfg(test)]
-mod tests;
+pub use parts::PartsLeft;
+pub use sheet::{LINES_MOST, Lines, NumberedLine, Sheet};
