@@ -24,6 +24,9 @@ mod text;
 pub use collecting::SHEETS_MOST;
 pub use fault::FileFault;
 pub use file::{FILE_MOST, Sheets, collect};
-pub use laws::{arrival_changes_nothing, last_sheet_counts};
+pub use laws::{
+    arrival_changes_nothing, last_sheet_counts, long_file_is_refused, sheets_are_numbered,
+    three_to_six_play,
+};
 pub use parts::PartsLeft;
 pub use sheet::{LINES_MOST, Lines, NumberedLine, Sheet};
