@@ -1,5 +1,5 @@
 -- How far the sheets of a file are collected: what is kept, what is open, and what is left to read.
-use Rattle.std.specs.Prelude.{◌≡◌, ℕ, ◌+◌, ◌-◌, ◌<◌, ◌≤◌, false, if◌then◌else◌, List, ◌++◌, length, take, Option, Some, None, is_some}
+use Rattle.std.specs.Prelude.{◌≡◌, ℕ, ◌+◌, ◌-◌, ◌<◌, ◌≤◌, false, if◌then◌else◌, List, [], ◌∷◌, ◌++◌, length, take, Option, Some, None, is_some}
 use Rattle.std.specs.Option.{option_or}
 use Rattle.order_grammar.specs.declared.fault.Fault.{Fault}
 use Rattle.sheets.specs.File.{same_post, block, sheet_in, good_lines, unread_in, players_of, unread_of, sheet_of, IsAccepted}
@@ -57,6 +57,20 @@ closed (Some sheet) rest sheets post =
 abbrev pub IsBegun : Post → List ℕ → Option OpenSheet → Type 0
 IsBegun post rest None = ⊥
 IsBegun post rest (Some sheet) = (sheet.post ≡ post) × (sheet.text.now ≡ rest)
+
+-- A SHEET line came where no sheet was open and so many good ones had come: it begins the sheet of this
+-- post, or it has a fault.
+abbrev pub HasBegun : List ℕ → Fault → ℕ → List Fault → Option Post → Option OpenSheet → ℕ → List Fault → Type 0
+HasBegun rest fault good unread None sheet count codes =
+    (sheet ≡ None) × (count ≡ good) × (codes ≡ unread ++ fault ∷ [])
+HasBegun rest fault good unread (Some post) sheet count codes =
+    IsBegun post rest sheet × (good < sheets_most) × (count ≡ good + 1) × (codes ≡ unread)
+
+-- why reading stops at a SHEET line that would begin the sheet of this post, where so many good ones
+-- had come
+abbrev pub StopsAt : ℕ → Option Post → FileFault → Type 0
+StopsAt good None fault = fault ≡ Memory
+StopsAt good (Some post) fault = (fault ≡ TooManySheets) × (sheets_most ≤ good)
 
 -- why reading stops, where there are so many good SHEET lines
 abbrev pub StopsBy : ℕ → FileFault → Type 0

@@ -15,10 +15,10 @@ pub enum FileFault {
     /// F2: the next line that is not blank does not name 3 to 6 different players.
     #[error("no line after the header names 3 to 6 different players")]
     Players,
-    /// F3: the file has over 4,194,304 bytes.
+    /// F3: the file has over `FILE_MOST` bytes.
     #[error("the file has over 4,194,304 bytes")]
     TooLong,
-    /// F4: the file has over 4,096 good SHEET lines.
+    /// F4: the file has over `SHEETS_MOST` good SHEET lines.
     #[error("the file has over 4,096 good SHEET lines")]
     TooManySheets,
     /// F5: memory was refused. No report prints this code, since the file itself is not refused.

@@ -46,12 +46,14 @@ impl<'a> Model for Sheets<'a> {
 
     ghost view = { λ sheets. sheets.file.now };
 
-    ghost invariant = { λ sheets. IsCollected sheets.file.now sheets.players (get same_post sheets.sheets) sheets.unread.items };
+    ghost invariant = { λ sheets.
+        IsCollected sheets.file.now sheets.players
+        (get same_post sheets.sheets) sheets.unread.items };
 }
 
 impl<'a> Sheets<'a> {
-    /// What the player of this seat last sent for this round; `None` where the player sent no sheet for
-    /// it, or nobody has the seat.
+    /// What the player of this seat last sent for this round; `None` where the player sent no sheet
+    /// for it, or nobody has the seat.
     pub fn sheet(&self, seat: Seat, round: &Round) -> Option<&Sheet<'a>>
         ensures { option_copied result ≡ sheet_of self.now seat.0 round.now }
     {
@@ -103,7 +105,9 @@ impl<'a> Sheets<'a> {
 ///
 /// Refused in this order: `TooLong`, `Header`, `Players`, `TooManySheets`; `Memory` at any point.
 pub fn collect(alloc: Global, file: &[u8]) -> Result<Sheets<'_>, FileFault>
-    ensures file { MatchResult result (λ sheets. sheets ≡ file.now) (λ fault. Fails fault (content_of file.now)) }
+    ensures file { MatchResult result
+        (λ sheets. sheets ≡ file.now)
+        (λ fault. Fails fault (content_of file.now)) }
     ensures accepted { OnOk result (IsAccepted file.now) }
 {
     if file.len() > FILE_MOST {
@@ -158,7 +162,8 @@ fn read_players(alloc: Global, text: &[u8]) -> Result<(Players, &[u8]), FileFaul
     ensures least { IfOk result (λ read. 3 ≤ length read.0) }
     ensures most { IfOk result (λ read. length read.0 ≤ 6) }
     ensures content { MatchResult result
-        (λ read. players_content (written_lines text.now) ≡ body_content (written_lines read.1.now) (Some read.0))
+        (λ read. players_content (written_lines text.now)
+        ≡ body_content (written_lines read.1.now) (Some read.0))
         (λ fault. Fails fault (players_content (written_lines text.now))) }
 {
     let Some(piece) = first_written(text) else {

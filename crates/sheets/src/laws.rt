@@ -9,14 +9,14 @@ pub fn last_sheet_counts()
     ensures { LastSheetCounts }
 {}
 
-/// The order in which the sheets of different players arrive changes no player's sheet: two files in
-/// which each player sent the same sheets in the same order have the same sheet for each player and
-/// round. Of the unread lines it says nothing: their codes stand in the order of the file.
+/// The order in which the sheets of different players arrive changes no player's sheet: two files
+/// in which each player sent the same sheets in the same order have the same sheet for each player
+/// and round. Of the unread lines it says nothing: their codes stand in the order of the file.
 pub fn arrival_changes_nothing()
     ensures { ArrivalChangesNothing }
 {}
 
-/// A file of over 4,194,304 bytes is refused as too long, whatever it says.
+/// A file of over `FILE_MOST` bytes is refused as too long, whatever it says.
 pub fn long_file_is_refused()
     ensures { LongFileIsRefused }
 {}

@@ -9,7 +9,8 @@ use tables::Round;
 /// What is still to be taken up of a sheet: the lines before the next head, and then group after
 /// group, or block after block, each with its head.
 ///
-/// A TURN line up to line 512 is a head in the sheet of an opening or a stock round.
+/// In the sheet of an opening or a stock round a TURN line up to line `LINES_MOST` is a head. In
+/// that of an operating round no line is one yet.
 #[derive(Debug, Drop)]
 pub struct PartsLeft<'a> {
     lines: Lines<'a>,

@@ -63,7 +63,7 @@ pub struct NumberedLine<'a> {
 impl<'a> NumberedLine<'a> {
     /// The order of the line where it stands in its sheet.
     ///
-    /// `PastLastLine`: it is past line 512, whatever it says; else the first fault that it has by
+    /// `PastLastLine`: its number is over `LINES_MOST`, whatever it says; else the first fault that it has by
     /// itself.
     pub fn order(&self) -> Result<&Order, Fault>
         ensures { MatchResult result
@@ -96,7 +96,8 @@ impl<'a> Model for Lines<'a> {
 
     ghost Value = { Unruled };
 
-    ghost view = { λ lines. record { number = lines.number; lines = written_lines lines.rest.now } };
+    ghost view = { λ lines.
+        record { number = lines.number; lines = written_lines lines.rest.now } };
 
     ghost invariant = { λ lines. lines.number + length lines.rest.now ≤ file_most };
 }
