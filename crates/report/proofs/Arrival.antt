@@ -7,8 +7,8 @@ use Rattle.history.specs.declared.event.Event.TheVariants.{Round, Ruled, Passes,
 use Rattle.history.specs.declared.event.Party.{Party}
 use Rattle.history.specs.declared.event.Party.TheVariants as party
 use Rattle.report.specs.Laws.{ArrivalChangesNoReport}
-use Rattle.report.specs.Line.{event_text, party_text}
-use Rattle.report.specs.Report.{IsReportOf, end_text, header, name_owing, owing, report_text, rounds_text}
+use Rattle.report.specs.Line.{event_line, event_text, party_text}
+use Rattle.report.specs.Report.{IsReportOf, end_text, header, name_owing, owing, report_text, rounds_in, texts_of_rounds}
 use Rattle.report.specs.Statement.{player_line, statement}
 use Rattle.rounds.specs.Arrival.{ArrivalChangesNoGame}
 use Rattle.rounds.specs.Play.{end_of}
@@ -40,11 +40,16 @@ statement_same : (f g : List ℕ) (seats : ℕ) (events : List Event) → player
 unfolding statement player_line
 statement_same f g seats events players = rw players
 
+-- the same events are printed the same
+events_same : (f g : List ℕ) (events : List Event) → players_of f ≡ players_of g → flat_map (event_line f) events ≡ flat_map (event_line g) events
+events_same f g [] players = refl
+events_same f g (event ∷ events) players = rw (event_same f g event players, events_same f g events players)
+
 -- the same rounds are printed the same
-rounds_same : (f g : List ℕ) (seats : ℕ) (before events : List Event) → players_of f ≡ players_of g → rounds_text f seats before events ≡ rounds_text g seats before events
+rounds_same : (f g : List ℕ) (seats : ℕ) (before : List Event) (rounds : List (List Event)) → players_of f ≡ players_of g → texts_of_rounds f seats before rounds ≡ texts_of_rounds g seats before rounds
 rounds_same f g seats before [] players = refl
-rounds_same f g seats before (event ∷ events) players =
-    rw (event_same f g event players, statement_same f g seats (before ++ event ∷ []) players, rounds_same f g seats (before ++ event ∷ []) events players)
+rounds_same f g seats before (round ∷ rounds) players =
+    rw (events_same f g round players, statement_same f g seats (before ++ round) players, rounds_same f g seats (before ++ round) rounds players)
 
 -- the same players are printed the same
 header_same : (f g : List ℕ) → players_of f ≡ players_of g → header f ≡ header g
@@ -71,7 +76,7 @@ end_same f g Bank players sheets = refl
 -- the same game is reported the same
 report_same : (f g : List ℕ) (seats : ℕ) (events : List Event) (end : End) → players_of f ≡ players_of g → ((seat : ℕ) (round : table.Round) → sheet_of f seat round ≡ sheet_of g seat round) → unread_of f ≡ unread_of g → report_text f seats events end ≡ report_text g seats events end
 report_same f g seats events end players sheets unread =
-    rw (header_same f g players, rounds_same f g seats [] events players, unread, end_same f g end players sheets)
+    rw (header_same f g players, rounds_same f g seats [] (rounds_in events) players, unread, end_same f g end players sheets)
 
 -- a report is that of the other file too
 report_carried : ArrivalChangesNoGame → ArrivalChangesNothing → (f g : List ℕ) (of_f of_g : Result Content FileFault) → IsOk of_f → IsOk of_g → players_of f ≡ players_of g → SentTheSame f g → unread_of f ≡ unread_of g → (text : List ℕ) → IsReportOf f of_f text → IsReportOf g of_g text

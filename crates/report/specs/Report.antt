@@ -24,43 +24,58 @@ refusal_line fault = codes "FILE REFUSED " ++ code_of_file_fault fault ++ 10 ∷
 unfoldable pub header : List ℕ → List ℕ
 header file = codes "GAME 1830 1" ++ 10 ∷ codes "PLAYERS" ++ spaced (players_of file) ++ 10 ∷ []
 
--- the list of events that follow ends a round here: the next begins, or there is none
+-- a later round begins before these events, or nothing follows
 abbrev pub ends_round : List Event → Bool
 ends_round [] = true
 ends_round ((Round round) ∷ events) = true
 ends_round (other ∷ events) = false
 
--- the lines of events with those before them, and after each round its statement
-abbrev pub rounds_text : List ℕ → ℕ → List Event → List Event → List ℕ
-rounds_text file seats before [] = []
-rounds_text file seats before (event ∷ events) =
-    event_line file event
-    ++ (if ends_round events then statement file seats (before ++ event ∷ []) else [])
-    ++ rounds_text file seats (before ++ event ∷ []) events
+-- an event in front of rounds: of the first of them, or a round by itself where that ends with it
+abbrev pub with_event : Event → Bool → List (List Event) → List (List Event)
+with_event event false (round ∷ rounds) = (event ∷ round) ∷ rounds
+with_event event ended rounds = (event ∷ []) ∷ rounds
 
--- the lines of a round from one of its events on, and its statement
-abbrev pub round_lines : List ℕ → ℕ → List Event → List Event → List ℕ
-round_lines file seats before [] = []
-round_lines file seats before (event ∷ events) =
-    event_line file event
-    ++ (if ends_round events then statement file seats (before ++ event ∷ []) else round_lines file seats (before ++ event ∷ []) events)
+-- the list of events, cut in front of each that begins a round
+abbrev pub rounds_in : List Event → List (List Event)
+rounds_in [] = []
+rounds_in (event ∷ events) = with_event event (ends_round events) (rounds_in events)
+
+-- the lines of a round's events, and the statement as it stands after them
+abbrev pub lines_of_round : List ℕ → ℕ → List Event → List Event → List ℕ
+lines_of_round file seats before events =
+    flat_map (event_line file) events ++ statement file seats (before ++ events)
+
+-- the texts of some rounds, in order
+abbrev pub texts_of_rounds : List ℕ → ℕ → List Event → List (List Event) → List ℕ
+texts_of_rounds file seats before [] = []
+texts_of_rounds file seats before (round ∷ rounds) =
+    lines_of_round file seats before round ++ texts_of_rounds file seats (before ++ round) rounds
+
+-- the text of a game's rounds
+abbrev pub rounds_text : List ℕ → ℕ → List Event → List ℕ
+rounds_text file seats events = texts_of_rounds file seats [] (rounds_in events)
 
 -- the event begins this round
 abbrev pub begins_round : round.Round → Event → Bool
 begins_round round (Round other) = same_round other round
 begins_round round other = false
 
--- the text of a round, nothing where it was not played
-abbrev pub round_text_in : List ℕ → ℕ → round.Round → List Event → List Event → List ℕ
-round_text_in file seats round before [] = []
-round_text_in file seats round before (event ∷ events) =
-    if begins_round round event
-    then round_lines file seats before (event ∷ events)
-    else round_text_in file seats round (before ++ event ∷ []) events
+-- the events are those of this round
+abbrev pub is_round : round.Round → List Event → Bool
+is_round round [] = false
+is_round round (event ∷ events) = begins_round round event
+
+-- the text of one of some rounds, nothing where it is not among them
+abbrev pub text_of_one : List ℕ → ℕ → round.Round → List Event → List (List Event) → List ℕ
+text_of_one file seats round before [] = []
+text_of_one file seats round before (events ∷ rounds) =
+    if is_round round events
+    then lines_of_round file seats before events
+    else text_of_one file seats round (before ++ events) rounds
 
 -- the text of a round of a game that was played
 abbrev pub round_text_of : Played → round.Round → List ℕ
-round_text_of played round = round_text_in played.file played.game.seats round [] played.game.events
+round_text_of played round = text_of_one played.file played.game.seats round [] (rounds_in played.game.events)
 
 -- the unread lines, of which so many came before
 abbrev pub unread_lines : ℕ → List Fault → List ℕ
@@ -84,7 +99,7 @@ end_text file Bank = codes "END BANK" ++ 10 ∷ []
 -- the report of a file whose game has these events and this end
 abbrev pub report_text : List ℕ → ℕ → List Event → End → List ℕ
 report_text file seats events end =
-    header file ++ rounds_text file seats [] events ++ unread_lines 0 (unread_of file) ++ end_text file end
+    header file ++ rounds_text file seats events ++ unread_lines 0 (unread_of file) ++ end_text file end
 
 -- the report of a game that was played
 abbrev pub report_of : Played → List ℕ

@@ -1,7 +1,6 @@
-ghost use Rattle.std.specs.Prelude.{◌≡◌, ◌∷◌, ◌++◌, [], ◌+◌, Bool, ◌≤◌, codes, IfOk, OnOk, length, take};
+ghost use Rattle.std.specs.Prelude.{◌≡◌, ◌∷◌, ◌++◌, [], ◌+◌, ◌≤◌, codes, IfOk, OnOk, length, take, drop, slice_range};
 ghost use Rattle.order_grammar.specs.Print.{text_of_round};
-ghost use Rattle.report.specs.Report.{begins_round, end_text, ends_round as ends_a_round, header, name_owing, owing, refusal_line, report_of, round_text_of, rounds_text, unread_lines};
-ghost use Rattle.report.specs.Statement.{statement};
+ghost use Rattle.report.specs.Report.{end_text, ends_round as ends_a_round, header, is_round as is_the_round, lines_of_round, name_owing, owing, refusal_line, report_of, round_text_of, rounds_in, rounds_text, unread_lines};
 ghost use Rattle.sheets.specs.File.{unread_of};
 
 use crate::column::push_number;
@@ -36,16 +35,14 @@ pub fn round_text(alloc: Global, game: &Game, round: Round) -> Result<Vec<u8>, A
     let mut out = Vec::new(alloc);
     let history = game.history();
     let events = history.events();
-    let mut begun = false;
-    for (i, event) in events.iter().enumerate() {
-        begun = begun || begins(event, &round);
-        if begun {
-            push_event(&mut out, game.sheets(), event)?;
-            if ends_round(&events[i + 1..]) {
-                push_statement_after(&mut out, game, i + 1)?;
-                return Ok(out);
-            }
+    let mut begun = 0;
+    while begun < events.len() {
+        let end = begun + length_of_round(&events[begun..]);
+        if is_round(&events[begun..end], &round) {
+            push_round(&mut out, game, begun, end)?;
+            return Ok(out);
         }
+        begun = end;
     }
     Ok(out)
 }
@@ -75,41 +72,60 @@ fn push_header(out: &mut Vec<u8>, sheets: &Sheets) -> Result<(), AllocError>
     Ok(())
 }
 
-/// Adds the lines of all events, and after each round its statement.
+/// Adds the text of each round.
 fn push_rounds(out: &mut Vec<u8>, game: &Game) -> Result<(), AllocError>
-    ensures { OnOk result (out.new.items ≡ out.old.items ++ rounds_text game.now.file game.now.game.seats [] game.now.game.events) }
+    ensures { OnOk result (out.new.items ≡ out.old.items ++ rounds_text game.now.file game.now.game.seats game.now.game.events) }
 {
     let history = game.history();
     let events = history.events();
-    for (i, event) in events.iter().enumerate() {
-        push_event(out, game.sheets(), event)?;
-        if ends_round(&events[i + 1..]) {
-            push_statement_after(out, game, i + 1)?;
-        }
+    let mut begun = 0;
+    while begun < events.len() {
+        let end = begun + length_of_round(&events[begun..]);
+        push_round(out, game, begun, end)?;
+        begun = end;
     }
     Ok(())
 }
 
-/// Adds the statement as it stood after the first events.
-fn push_statement_after(out: &mut Vec<u8>, game: &Game, count: usize) -> Result<(), AllocError>
-    requires { count ≤ length game.now.game.events }
-    ensures { OnOk result (out.new.items ≡ out.old.items ++ statement game.now.file game.now.game.seats (take count game.now.game.events)) }
+/// Adds the text of the round whose events stand from `begun` up to `end`: their lines, and the
+/// statement after them.
+fn push_round(out: &mut Vec<u8>, game: &Game, begun: usize, end: usize) -> Result<(), AllocError>
+    requires ordered { begun ≤ end }
+    requires within { end ≤ length game.now.game.events }
+    ensures { OnOk result (out.new.items ≡ out.old.items ++ lines_of_round game.now.file game.now.game.seats (take begun game.now.game.events) (slice_range game.now.game.events begun end)) }
 {
     let history = game.history();
     let events = history.events();
+    for event in &events[begun..end] {
+        push_event(out, game.sheets(), event)?;
+    }
     let past = Past {
         seats: history.seats(),
-        events: &events[..count],
+        events: &events[..end],
     };
     push_statement(out, game.sheets(), &past)
 }
 
-/// Whether the event begins this round.
-fn begins(event: &Event, round: &Round) -> bool
-    ensures { result ≡ begins_round round.now event.now }
+/// How many events the first of these rounds has.
+fn length_of_round(events: &[Event]) -> usize
+    requires { 1 ≤ length events.now }
+    ensures some { 1 ≤ result }
+    ensures within { result ≤ length events.now }
+    ensures first { rounds_in events.now ≡ take result events.now ∷ rounds_in (drop result events.now) }
 {
-    match event {
-        Event::Round(other) => *other == *round,
+    let mut length = 1;
+    while !ends_round(&events[length..]) {
+        length += 1;
+    }
+    length
+}
+
+/// Whether these are the events of this round.
+fn is_round(events: &[Event], round: &Round) -> bool
+    ensures { result ≡ is_the_round round.now events.now }
+{
+    match events {
+        [Event::Round(begun), ..] => *begun == *round,
         _ => false,
     }
 }
