@@ -1,5 +1,6 @@
 -- An event as a line of the report, without its LF.
-use Rattle.std.specs.Prelude.{ℕ, List, [], ◌∷◌, ◌++◌, codes, decimal, unwrap_or, slice_get}
+use Rattle.std.specs.Global.{Global}
+use Rattle.std.specs.Prelude.{ℕ, List, [], ◌∷◌, ◌++◌, Vec, codes, decimal, unwrap_or, slice_get}
 use Rattle.history.specs.Event.{order_kept, code_of_refusal}
 use Rattle.history.specs.declared.event.Event.{Event}
 use Rattle.history.specs.declared.event.Event.TheVariants.{Round, Ruled, Passes, Left, Sold, Price, Revenue, Broken}
@@ -9,6 +10,7 @@ use Rattle.history.specs.declared.ruling.Ruling.{Ruling}
 use Rattle.history.specs.declared.ruling.Ruling.TheVariants.{Obeyed, Refused, Faulty}
 use Rattle.order_grammar.specs.Fault.{code_of as code_of_fault}
 use Rattle.order_grammar.specs.Print.{spelling_of, text_of_round}
+use Rattle.report.specs.Column.{Adds}
 use Rattle.sheets.specs.File.{players_of}
 use Rattle.tables.specs.Roster.{code_of_private}
 use Rattle.tables.specs.declared.seat.Seat.{Seat}
@@ -42,3 +44,7 @@ event_text file Broken = codes "BROKEN"
 -- with its LF
 abbrev pub event_line : List ℕ → Event → List ℕ
 event_line file event = event_text file event ++ 10 ∷ []
+
+-- an event is told at the end of what was written, without its LF
+abbrev pub Tells : List ℕ → Vec ℕ Global → Vec ℕ Global → Event → Type 0
+Tells file old new event = Adds old new (event_text file event)

@@ -1,6 +1,6 @@
 -- The report of a file: for a refused file its one line; else the header, each round's events and its
 -- statement, the unread lines, and the end.
-use Rattle.std.specs.Prelude.{◌≡◌, ℕ, ◌+◌, Bool, true, false, if◌then◌else◌, List, [], ◌∷◌, ◌++◌, length, codes, decimal, is_none, Result, Ok, Err}
+use Rattle.std.specs.Prelude.{◌≡◌, ℕ, ◌+◌, Bool, true, false, if◌then◌else◌, List, [], ◌∷◌, ◌++◌, length, take, drop, slice_range, codes, decimal, is_none, Result, Ok, Err}
 use Rattle.std.specs.List.{flat_map, range_with_len}
 use Rattle.history.specs.declared.event.Event.{Event}
 use Rattle.history.specs.declared.event.Event.TheVariants.{Round}
@@ -55,6 +55,19 @@ texts_of_rounds file seats before (round ∷ rounds) =
 abbrev pub rounds_text : List ℕ → ℕ → List Event → List ℕ
 rounds_text file seats events = texts_of_rounds file seats [] (rounds_in events)
 
+-- the same, of a game that was played
+abbrev pub rounds_text_of : Played → List ℕ
+rounds_text_of played = rounds_text played.file played.game.seats played.game.events
+
+-- the text of the round whose events stand at these places of a game
+abbrev pub text_between : Played → ℕ → ℕ → List ℕ
+text_between played begun end =
+    lines_of_round played.file played.game.seats (take begun played.game.events) (slice_range played.game.events begun end)
+
+-- so many of the events are those of their first round
+abbrev pub IsLengthOfRound : List Event → ℕ → Type 0
+IsLengthOfRound events count = rounds_in events ≡ take count events ∷ rounds_in (drop count events)
+
 -- the event begins this round
 abbrev pub begins_round : round.Round → Event → Bool
 begins_round round (Round other) = same_round other round
@@ -91,9 +104,13 @@ name_owing file round seat = if is_none (sheet_of file seat round) then 32 ∷ n
 unfoldable pub owing : List ℕ → round.Round → List ℕ
 owing file round = flat_map (λ seat. name_owing file round seat) (range_with_len 0 (length (players_of file)))
 
+-- the round that is awaited, and who owes a sheet for it
+abbrev pub awaiting_text : List ℕ → round.Round → List ℕ
+awaiting_text file round = codes "AWAITING " ++ text_of_round round ++ owing file round ++ 10 ∷ []
+
 -- why play stopped
 abbrev pub end_text : List ℕ → End → List ℕ
-end_text file (Awaiting round) = codes "AWAITING " ++ text_of_round round ++ owing file round ++ 10 ∷ []
+end_text file (Awaiting round) = awaiting_text file round
 end_text file Bank = codes "END BANK" ++ 10 ∷ []
 
 -- the report of a file whose game has these events and this end

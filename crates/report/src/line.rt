@@ -1,8 +1,9 @@
 ghost use Rattle.std.specs.Prelude.{◌≡◌, ◌++◌, OnOk, codes, decimal};
+ghost use Rattle.report.specs.Column.{Adds};
 ghost use Rattle.history.specs.Event.{order_kept};
 ghost use Rattle.history.specs.declared.event.Event.TheVariants.{Left, Passes, Revenue, Ruled, Sold};
 ghost use Rattle.order_grammar.specs.Print.{spelling_of};
-ghost use Rattle.report.specs.Line.{event_line, event_text, name_of, party_text, ruling_text};
+ghost use Rattle.report.specs.Line.{Tells, event_line, name_of, party_text, ruling_text};
 
 use crate::column::push_number;
 use history::{Event, KeptOrder, Party, Ruling};
@@ -17,7 +18,7 @@ pub(crate) fn push_event(
     sheets: &Sheets,
     event: &Event,
 ) -> Result<(), AllocError>
-    ensures { OnOk result (out.new.items ≡ out.old.items ++ event_line sheets.now event.now) }
+    ensures { OnOk result (Adds out.old out.new (event_line sheets.now event.now)) }
 {
     match event {
         Event::Round(round) => {
@@ -52,7 +53,7 @@ fn push_ruled(
     line: u32,
     ruling: &Ruling,
 ) -> Result<(), AllocError>
-    ensures { OnOk result (out.new.items ≡ out.old.items ++ event_text sheets.now (Ruled seat line ruling.now)) }
+    ensures { OnOk result (Tells sheets.now out.old out.new (Ruled seat line ruling.now)) }
 {
     push_name(out, sheets, seat)?;
     out.push(b' ')?;
@@ -62,7 +63,7 @@ fn push_ruled(
 
 /// Adds that a seat passes.
 fn push_passes(out: &mut Vec<u8>, sheets: &Sheets, seat: Seat) -> Result<(), AllocError>
-    ensures { OnOk result (out.new.items ≡ out.old.items ++ event_text sheets.now (Passes seat)) }
+    ensures { OnOk result (Tells sheets.now out.old out.new (Passes seat)) }
 {
     push_name(out, sheets, seat)?;
     out.extend_from_slice(b" PASSES")
@@ -75,7 +76,7 @@ fn push_left_lines(
     seat: Seat,
     lines: u32,
 ) -> Result<(), AllocError>
-    ensures { OnOk result (out.new.items ≡ out.old.items ++ event_text sheets.now (Left seat lines)) }
+    ensures { OnOk result (Tells sheets.now out.old out.new (Left seat lines)) }
 {
     out.extend_from_slice(b"LEFT ")?;
     push_name(out, sheets, seat)?;
@@ -91,7 +92,7 @@ fn push_sold(
     seat: Seat,
     price: Amount,
 ) -> Result<(), AllocError>
-    ensures { OnOk result (out.new.items ≡ out.old.items ++ event_text sheets.now (Sold private seat price)) }
+    ensures { OnOk result (Tells sheets.now out.old out.new (Sold private seat price)) }
 {
     out.extend_from_slice(b"SOLD ")?;
     out.extend_from_slice(private.code().as_bytes())?;
@@ -103,7 +104,7 @@ fn push_sold(
 
 /// Adds the new price of the Schuylkill Valley.
 fn push_price(out: &mut Vec<u8>, price: Amount) -> Result<(), AllocError>
-    ensures { OnOk result (out.new.items ≡ out.old.items ++ codes "PRICE SV " ++ decimal price) }
+    ensures { OnOk result (Adds out.old out.new (codes "PRICE SV " ++ decimal price)) }
 {
     out.extend_from_slice(b"PRICE SV ")?;
     push_number(out, price)
@@ -117,7 +118,7 @@ fn push_revenue(
     owner: &Party,
     amount: Amount,
 ) -> Result<(), AllocError>
-    ensures { OnOk result (out.new.items ≡ out.old.items ++ event_text sheets.now (Revenue private owner.now amount)) }
+    ensures { OnOk result (Tells sheets.now out.old out.new (Revenue private owner.now amount)) }
 {
     out.extend_from_slice(b"REVENUE ")?;
     out.extend_from_slice(private.code().as_bytes())?;
@@ -129,7 +130,7 @@ fn push_revenue(
 
 /// Adds the name of a seat's player.
 pub(crate) fn push_name(out: &mut Vec<u8>, sheets: &Sheets, seat: Seat) -> Result<(), AllocError>
-    ensures { OnOk result (out.new.items ≡ out.old.items ++ name_of sheets.now seat) }
+    ensures { OnOk result (Adds out.old out.new (name_of sheets.now seat)) }
 {
     out.extend_from_slice(name(sheets, seat))
 }
@@ -142,7 +143,7 @@ pub(crate) fn name<'a>(sheets: &'a Sheets, seat: Seat) -> &'a [u8]
 }
 
 fn push_party(out: &mut Vec<u8>, sheets: &Sheets, party: &Party) -> Result<(), AllocError>
-    ensures { OnOk result (out.new.items ≡ out.old.items ++ party_text sheets.now party.now) }
+    ensures { OnOk result (Adds out.old out.new (party_text sheets.now party.now)) }
 {
     match party {
         Party::Bank => out.extend_from_slice(b"BANK"),
@@ -151,7 +152,7 @@ fn push_party(out: &mut Vec<u8>, sheets: &Sheets, party: &Party) -> Result<(), A
 }
 
 fn push_ruling(out: &mut Vec<u8>, ruling: &Ruling) -> Result<(), AllocError>
-    ensures { OnOk result (out.new.items ≡ out.old.items ++ ruling_text ruling.now) }
+    ensures { OnOk result (Adds out.old out.new (ruling_text ruling.now)) }
 {
     match ruling {
         Ruling::Obeyed(order) => {
@@ -172,7 +173,7 @@ fn push_ruling(out: &mut Vec<u8>, ruling: &Ruling) -> Result<(), AllocError>
 }
 
 fn push_order(out: &mut Vec<u8>, order: &KeptOrder) -> Result<(), AllocError>
-    ensures { OnOk result (out.new.items ≡ out.old.items ++ spelling_of (order_kept order.now)) }
+    ensures { OnOk result (Adds out.old out.new (spelling_of (order_kept order.now))) }
 {
     print_order(out, &order.order())
 }

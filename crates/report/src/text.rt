@@ -1,6 +1,6 @@
-ghost use Rattle.std.specs.Prelude.{◌≡◌, ◌∷◌, ◌++◌, [], ◌+◌, ◌≤◌, codes, IfOk, OnOk, length, take, drop, slice_range};
-ghost use Rattle.order_grammar.specs.Print.{text_of_round};
-ghost use Rattle.report.specs.Report.{end_text, ends_round as ends_a_round, header, is_round as is_the_round, lines_of_round, name_owing, owing, refusal_line, report_of, round_text_of, rounds_in, rounds_text, unread_lines};
+ghost use Rattle.std.specs.Prelude.{◌≡◌, ◌≤◌, IfOk, OnOk, length};
+ghost use Rattle.report.specs.Column.{Adds};
+ghost use Rattle.report.specs.Report.{IsLengthOfRound, awaiting_text, end_text, ends_round as ends_a_round, header, is_round as is_the_round, name_owing, refusal_line, report_of, round_text_of, rounds_text_of, text_between, unread_lines};
 ghost use Rattle.sheets.specs.File.{unread_of};
 
 use crate::column::push_number;
@@ -61,7 +61,7 @@ pub fn report(alloc: Global, game: &Game) -> Result<Vec<u8>, AllocError>
 
 #[tactic(auto, unfolding(crate::specs::Report::header))]
 fn push_header(out: &mut Vec<u8>, sheets: &Sheets) -> Result<(), AllocError>
-    ensures { OnOk result (out.new.items ≡ out.old.items ++ header sheets.now) }
+    ensures { OnOk result (Adds out.old out.new (header sheets.now)) }
 {
     out.extend_from_slice(HEAD)?;
     for seat in 0..sheets.seats() {
@@ -74,7 +74,7 @@ fn push_header(out: &mut Vec<u8>, sheets: &Sheets) -> Result<(), AllocError>
 
 /// Adds the text of each round.
 fn push_rounds(out: &mut Vec<u8>, game: &Game) -> Result<(), AllocError>
-    ensures { OnOk result (out.new.items ≡ out.old.items ++ rounds_text game.now.file game.now.game.seats game.now.game.events) }
+    ensures { OnOk result (Adds out.old out.new (rounds_text_of game.now)) }
 {
     let history = game.history();
     let events = history.events();
@@ -92,7 +92,7 @@ fn push_rounds(out: &mut Vec<u8>, game: &Game) -> Result<(), AllocError>
 fn push_round(out: &mut Vec<u8>, game: &Game, begun: usize, end: usize) -> Result<(), AllocError>
     requires ordered { begun ≤ end }
     requires within { end ≤ length game.now.game.events }
-    ensures { OnOk result (out.new.items ≡ out.old.items ++ lines_of_round game.now.file game.now.game.seats (take begun game.now.game.events) (slice_range game.now.game.events begun end)) }
+    ensures { OnOk result (Adds out.old out.new (text_between game.now begun end)) }
 {
     let history = game.history();
     let events = history.events();
@@ -111,7 +111,7 @@ fn length_of_round(events: &[Event]) -> usize
     requires { 1 ≤ length events.now }
     ensures some { 1 ≤ result }
     ensures within { result ≤ length events.now }
-    ensures first { rounds_in events.now ≡ take result events.now ∷ rounds_in (drop result events.now) }
+    ensures first { IsLengthOfRound events.now result }
 {
     let mut length = 1;
     while !ends_round(&events[length..]) {
@@ -138,7 +138,7 @@ fn ends_round(later: &[Event]) -> bool
 }
 
 fn push_unread(out: &mut Vec<u8>, unread: &[Fault]) -> Result<(), AllocError>
-    ensures { OnOk result (out.new.items ≡ out.old.items ++ unread_lines 0 unread.now) }
+    ensures { OnOk result (Adds out.old out.new (unread_lines 0 unread.now)) }
 {
     for (i, fault) in unread.iter().enumerate() {
         out.extend_from_slice(b"UNREAD ")?;
@@ -151,7 +151,7 @@ fn push_unread(out: &mut Vec<u8>, unread: &[Fault]) -> Result<(), AllocError>
 }
 
 fn push_end(out: &mut Vec<u8>, game: &Game) -> Result<(), AllocError>
-    ensures { OnOk result (out.new.items ≡ out.old.items ++ end_text game.now.file game.now.end) }
+    ensures { OnOk result (Adds out.old out.new (end_text game.now.file game.now.end)) }
 {
     match game.outcome() {
         End::Awaiting(round) => push_awaiting(out, game.sheets(), &round),
@@ -162,7 +162,7 @@ fn push_end(out: &mut Vec<u8>, game: &Game) -> Result<(), AllocError>
 /// Adds the line of the round that can't be played: the names of those who owe a sheet for it.
 #[tactic(auto, unfolding(crate::specs::Report::owing))]
 fn push_awaiting(out: &mut Vec<u8>, sheets: &Sheets, round: &Round) -> Result<(), AllocError>
-    ensures { OnOk result (out.new.items ≡ out.old.items ++ codes "AWAITING " ++ text_of_round round.now ++ owing sheets.now round.now ++ 10 ∷ []) }
+    ensures { OnOk result (Adds out.old out.new (awaiting_text sheets.now round.now)) }
 {
     out.extend_from_slice(b"AWAITING ")?;
     print_round(out, round)?;
@@ -180,7 +180,7 @@ fn push_owing(
     round: &Round,
     seat: Seat,
 ) -> Result<(), AllocError>
-    ensures { OnOk result (out.new.items ≡ out.old.items ++ name_owing sheets.now round.now seat.0) }
+    ensures { OnOk result (Adds out.old out.new (name_owing sheets.now round.now seat.0)) }
 {
     if sheets.sheet(seat, round).is_none() {
         out.push(b' ')?;
