@@ -3,11 +3,11 @@ use Rattle.std.proofs.Common.{◌≡◌, ℕ, List, [], ◌∷◌, ◌++◌, len
 use Rattle.std.specs.Prelude.{Result, Ok, Err, IsOk}
 use Rattle.std.specs.List.{flat_map, range_with_len}
 use Rattle.history.specs.declared.event.Event.{Event}
-use Rattle.history.specs.declared.event.Event.TheVariants.{Round, Ruled, Passes, Left, Sold, Price, Revenue, Broken}
-use Rattle.history.specs.declared.event.Party.{Party}
-use Rattle.history.specs.declared.event.Party.TheVariants as party
+use Rattle.history.specs.declared.event.Event.TheVariants.{Round, Ruled, Passes, Left, Sold, Bids, Price, Revenue, Given, Par, President, Broken}
+use Rattle.history.specs.declared.event.Holder.{Holder}
+use Rattle.history.specs.declared.event.Holder.TheVariants as holder
 use Rattle.report.specs.Laws.{ArrivalChangesNoReport}
-use Rattle.report.specs.Line.{event_line, event_text, party_text}
+use Rattle.report.specs.Line.{event_line, holder_text}
 use Rattle.report.specs.Report.{IsReportOf, end_text, header, name_owing, owing, report_text, rounds_in, texts_of_rounds}
 use Rattle.report.specs.Statement.{player_line, statement}
 use Rattle.rounds.specs.Arrival.{ArrivalChangesNoGame}
@@ -20,19 +20,23 @@ use Rattle.sheets.specs.declared.fault.FileFault.{FileFault}
 use Rattle.tables.specs.declared.round.Round as table
 
 -- the same holder is printed the same
-party_same : (f g : List ℕ) (holder : Party) → players_of f ≡ players_of g → party_text f holder ≡ party_text g holder
-party_same f g party.Bank players = refl
-party_same f g (party.Seat seat) players = rw players
+holder_same : (f g : List ℕ) (owner : Holder) → players_of f ≡ players_of g → holder_text f owner ≡ holder_text g owner
+holder_same f g (holder.Seat seat) players = rw players refl
+holder_same f g (holder.Company company) players = refl
 
 -- the same event is printed the same
-event_same : (f g : List ℕ) (event : Event) → players_of f ≡ players_of g → event_text f event ≡ event_text g event
+event_same : (f g : List ℕ) (event : Event) → players_of f ≡ players_of g → event_line f event ≡ event_line g event
 event_same f g (Round round) players = refl
-event_same f g (Ruled seat line ruling) players = rw players
-event_same f g (Passes seat) players = rw players
-event_same f g (Left seat lines) players = rw players
-event_same f g (Sold private seat price) players = rw players
+event_same f g (Ruled seat line ruling) players = rw players refl
+event_same f g (Passes seat) players = rw players refl
+event_same f g (Left seat lines) players = rw players refl
+event_same f g (Sold private seat price) players = rw players refl
+event_same f g (Bids private seat amount) players = rw players refl
 event_same f g (Price price) players = refl
-event_same f g (Revenue private owner amount) players = rw (party_same f g owner players)
+event_same f g (Revenue private owner amount) players = rw (holder_same f g owner players) refl
+event_same f g (Given company seat tenths) players = rw players refl
+event_same f g (Par company price) players = refl
+event_same f g (President company seat) players = rw players refl
 event_same f g Broken players = refl
 
 -- the same events give the same statement

@@ -3,8 +3,7 @@
 use Rattle.std.specs.Prelude.{◌≡◌, ℕ, false, List, [], ◌∷◌, ◌++◌}
 use Rattle.std.specs.List.{flat_map, list_any}
 use Rattle.history.specs.declared.event.Event.{Event}
-use Rattle.history.specs.declared.event.Event.TheVariants as event
-use Rattle.report.specs.Report.{IsReport, end_text, header, is_round, report_of, round_text_of, rounds_in, unread_lines}
+use Rattle.report.specs.Report.{IsReport, end_text, header, is_round, report_of, round_begun, round_text_of, rounds_in, unread_lines}
 use Rattle.rounds.specs.Play.{Played}
 use Rattle.sheets.specs.File.{IsAccepted, players_of, unread_of}
 use Rattle.sheets.specs.Laws.{SentTheSame}
@@ -24,21 +23,26 @@ ArrivalChangesNoReport =
     → IsReport f text
     → IsReport g text
 
--- the round that these events begin with
-abbrev pub round_begun : List Event → List Round
-round_begun ((event.Round round) ∷ events) = round ∷ []
-round_begun other = []
+-- a round in front of others, if there is one
+abbrev pub with_round : Option Round → List Round → List Round
+with_round None rounds = rounds
+with_round (Some round) rounds = round ∷ rounds
 
--- the rounds of a game, in order
+-- the rounds that these begin, in order
 abbrev pub rounds_of : List (List Event) → List Round
-rounds_of rounds = flat_map round_begun rounds
+rounds_of [] = []
+rounds_of (events ∷ rounds) = with_round (round_begun events) (rounds_of rounds)
+
+-- none of these is this round
+abbrev pub NoneIs : Round → List (List Event) → Type 0
+NoneIs round [] = Unit {0}
+NoneIs round (events ∷ rounds) = (is_round round events ≡ false) × NoneIs round rounds
 
 -- each of these begins a round, and no two the same
 abbrev pub BeginDifferentRounds : List (List Event) → Type 0
 BeginDifferentRounds [] = Unit {0}
 BeginDifferentRounds (events ∷ rounds) =
-    (round : Round) × (round_begun events ≡ round ∷ []) × (list_any (is_round round) rounds ≡ false)
-    × BeginDifferentRounds rounds
+    (round : Round) × (round_begun events ≡ Some round) × NoneIs round rounds × BeginDifferentRounds rounds
 
 -- the report of a game is its header, the text of each of its rounds, the unread lines and the end
 abbrev pub ReportIsItsParts : Type 0

@@ -1,9 +1,9 @@
 -- The report of a file: for a refused file its one line; else the header, each round's events and its
 -- statement, the unread lines, and the end.
-use Rattle.std.specs.Prelude.{◌≡◌, ℕ, ◌+◌, Bool, true, false, if◌then◌else◌, List, [], ◌∷◌, ◌++◌, length, take, drop, slice_range, codes, decimal, is_none, Result, Ok, Err}
+use Rattle.std.specs.Prelude.{◌≡◌, ℕ, ◌+◌, Bool, true, false, if◌then◌else◌, List, [], ◌∷◌, ◌++◌, length, take, drop, slice_range, codes, decimal, Option, Some, None, is_none, is_some, Result, Ok, Err}
 use Rattle.std.specs.List.{flat_map, range_with_len}
+use Rattle.history.specs.Event.{round_of}
 use Rattle.history.specs.declared.event.Event.{Event}
-use Rattle.history.specs.declared.event.Event.TheVariants.{Round}
 use Rattle.order_grammar.specs.Fault.{code_of as code_of_fault}
 use Rattle.order_grammar.specs.Print.{spaced, text_of_round}
 use Rattle.order_grammar.specs.declared.fault.Fault.{Fault}
@@ -12,8 +12,9 @@ use Rattle.report.specs.Statement.{statement}
 use Rattle.rounds.specs.Play.{Between, Played, Plays, end_of}
 use Rattle.rounds.specs.declared.game.End.{End}
 use Rattle.rounds.specs.declared.game.End.TheVariants.{Awaiting, Bank}
-use Rattle.sheets.specs.File.{Content, content_of, code_of_fault as code_of_file_fault, sheet_of, players_of, same_round, unread_of}
+use Rattle.sheets.specs.File.{Content, content_of, code_of_fault as code_of_file_fault, sheet_of, players_of, unread_of}
 use Rattle.sheets.specs.declared.fault.FileFault.{FileFault}
+use Rattle.tables.specs.Round.{same_round}
 use Rattle.tables.specs.declared.round.Round as round
 
 -- the line of a refused file
@@ -27,8 +28,7 @@ header file = codes "GAME 1830 1" ++ 10 ∷ codes "PLAYERS" ++ spaced (players_o
 -- a later round begins before these events, or nothing follows
 abbrev pub ends_round : List Event → Bool
 ends_round [] = true
-ends_round ((Round round) ∷ events) = true
-ends_round (other ∷ events) = false
+ends_round (event ∷ events) = is_some (round_of event)
 
 -- an event in front of rounds: of the first of them, or a round by itself where that ends with it
 abbrev pub with_event : Event → Bool → List (List Event) → List (List Event)
@@ -68,15 +68,19 @@ text_between played begun end =
 abbrev pub IsLengthOfRound : List Event → ℕ → Type 0
 IsLengthOfRound events count = rounds_in events ≡ take count events ∷ rounds_in (drop count events)
 
--- the event begins this round
-abbrev pub begins_round : round.Round → Event → Bool
-begins_round round (Round other) = same_round other round
-begins_round round other = false
+-- the round that these events begin
+abbrev pub round_begun : List Event → Option round.Round
+round_begun [] = None
+round_begun (event ∷ events) = round_of event
+
+-- it is this round
+abbrev pub is_the_round : round.Round → Option round.Round → Bool
+is_the_round round None = false
+is_the_round round (Some other) = same_round other round
 
 -- the events are those of this round
 abbrev pub is_round : round.Round → List Event → Bool
-is_round round [] = false
-is_round round (event ∷ events) = begins_round round event
+is_round round events = is_the_round round (round_begun events)
 
 -- the text of one of some rounds, nothing where it is not among them
 abbrev pub text_of_one : List ℕ → ℕ → round.Round → List Event → List (List Event) → List ℕ

@@ -125,8 +125,8 @@ fn is_round(events: &[Event], round: &Round) -> bool
     ensures { result ≡ is_the_round round.now events.now }
 {
     match events {
-        [Event::Round(begun), ..] => *begun == *round,
-        _ => false,
+        [] => false,
+        [event, ..] => event.round().is_some_and(|begun| begun == *round),
     }
 }
 
@@ -134,7 +134,7 @@ fn is_round(events: &[Event], round: &Round) -> bool
 fn ends_round(later: &[Event]) -> bool
     ensures { result ≡ ends_a_round later.now }
 {
-    matches!(later, [] | [Event::Round(_), ..])
+    later.first().is_none_or(|event| event.round().is_some())
 }
 
 fn push_unread(out: &mut Vec<u8>, unread: &[Fault]) -> Result<(), AllocError>
