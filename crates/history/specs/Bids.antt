@@ -41,10 +41,13 @@ tied_on events seat private = unwrap_or (bid_of events private seat) 0
 abbrev pub bids_of : List Event → Seat → ℕ
 bids_of events seat = sum_by (tied_on events seat) privates
 
+-- what a seat's standing bid on a private ties, where it is another private than this
+abbrev pub tied_elsewhere : List Event → Seat → Private → Private → ℕ
+tied_elsewhere events seat this other = if same_private other this then 0 else tied_on events seat other
+
 -- the sum of a seat's standing bids on other privates than one
 abbrev pub bids_elsewhere_of : List Event → Seat → Private → ℕ
-bids_elsewhere_of events seat private =
-    sum_by (λ other. if same_private other private then 0 else tied_on events seat other) privates
+bids_elsewhere_of events seat private = sum_by (tied_elsewhere events seat private) privates
 
 -- a seat's cash less its standing bids
 abbrev pub free_cash_of : ℕ → List Event → Seat → ℤ

@@ -1,6 +1,6 @@
 -- Shares of the companies, in tenths; their par values, squares and presidents. A company is started
 -- once it has a par value; its token then stands on the square of that par.
-use Rattle.std.specs.Prelude.{ℕ, ◌==◌, Bool, true, false, if◌then◌else◌, List, Option, Some, None, ℤ, is_some}
+use Rattle.std.specs.Prelude.{ℕ, ◌==◌, Bool, true, false, if◌then◌else◌, List, [], ◌∷◌, Option, Some, None, ℤ, pos, ◌+ℤ◌, is_some}
 use Rattle.history.specs.Event.{office_of, par_set, square_set, transfer_of}
 use Rattle.history.specs.LookBack.{balance, last_said}
 use Rattle.history.specs.declared.event.Event.{Event}
@@ -10,7 +10,9 @@ use Rattle.history.specs.declared.event.Placement.{Placement}
 use Rattle.history.specs.declared.event.Shareholder.{Shareholder}
 use Rattle.history.specs.declared.event.Shareholder.TheVariants.{InitialOffering, BankPool, Seat as OfSeat}
 use Rattle.history.specs.declared.event.Transfer.{Transfer}
+use Rattle.tables.specs.Chart.{par_square_of}
 use Rattle.tables.specs.Roster.{same_company}
+use Rattle.tables.specs.Seat.{all_seats}
 use Rattle.tables.specs.declared.roster.Company.{Company}
 use Rattle.tables.specs.declared.seat.Seat.{Seat}
 use Rattle.tables.specs.declared.squares.Square.{Square}
@@ -74,3 +76,17 @@ president_said company (Some office) = if same_company office.company company th
 -- a company's president
 abbrev pub president_of : List Event → Company → Option Seat
 president_of events company = last_said (λ event. president_said company (office_of event)) events
+
+-- a sum of money is one of the six par values
+abbrev pub is_par_value : ℕ → Bool
+is_par_value price = is_some (par_square_of price)
+
+-- the tenths of a company that these seats hold
+abbrev pub held_by : List Event → Company → List Seat → ℤ
+held_by events company [] = pos 0
+held_by events company (seat ∷ others) = shares_of events company (OfSeat seat) +ℤ held_by events company others
+
+-- the tenths of a company with the bank and at the table
+abbrev pub tenths_in_all : ℕ → List Event → Company → ℤ
+tenths_in_all seats events company =
+    (shares_of events company InitialOffering +ℤ shares_of events company BankPool) +ℤ held_by events company (all_seats seats)

@@ -1,9 +1,9 @@
 //! Standing bids.
-ghost use Rattle.std.specs.Prelude.{◌≡◌, ◌≤◌, option_map, pos};
+ghost use Rattle.std.specs.Prelude.{◌≡◌, ◌^◌, ◌<◌, ◌≤◌, option_map, pos};
 ghost use Rattle.history.specs.Bids.{bid_of, bids_elsewhere_of, bids_of, bids_on, free_cash_of, tied_on};
 
 use crate::aspect::last_said;
-use crate::event::{Bid, Party};
+use crate::event::{Bid, Holder, Party};
 use crate::look_back::Past;
 use crate::topics::BidOn;
 use arrayvec::ArrayVec;
@@ -41,7 +41,8 @@ impl Past<'_> {
 
     /// The sum of a seat's standing bids.
     pub fn bids_of(&self, seat: Seat) -> Money
-        ensures { result ≡ pos (bids_of self.now.events.now seat) }
+        ensures sum { result ≡ pos (bids_of self.now.events.now seat) }
+        ensures within { bids_of self.now.events.now seat < 2 ^ 35 }
     {
         let mut sum: u64 = 0;
         for private in Private::ALL {
@@ -54,20 +55,14 @@ impl Past<'_> {
     pub fn bids_elsewhere(&self, seat: Seat, private: Private) -> Money
         ensures { result ≡ pos (bids_elsewhere_of self.now.events.now seat private) }
     {
-        let mut sum: u64 = 0;
-        for other in Private::ALL {
-            if other != private {
-                sum += u64::from(self.tied_on(seat, other));
-            }
-        }
-        Money::from(sum)
+        self.bids_of(seat) - Money::from(self.tied_on(seat, private))
     }
 
     /// A seat's cash less its standing bids.
     pub fn free_cash(&self, seat: Seat) -> Money
         ensures { result ≡ free_cash_of self.now.seats self.now.events.now seat }
     {
-        self.cash(Party::of_seat(seat)) - self.bids_of(seat)
+        self.cash(Party::Holder(Holder::Seat(seat))) - self.bids_of(seat)
     }
 
     /// What a seat's standing bid on a private ties.

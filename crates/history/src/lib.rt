@@ -21,12 +21,15 @@ mod shares;
 mod tell;
 mod topics;
 
-pub use event::{Bid, Bidding, Event, Holder, Office, Ownership, ParValue, Party, Payment, Placement, SUM_MOST, Shareholder, Transfer};
+pub use event::{
+    Bid, Bidding, Event, Holder, Office, Ownership, ParValue, Party, Payment, Placement, SUM_MOST,
+    Shareholder, Transfer,
+};
 pub use laws::{
     cash_moves, first_is_cheapest, last_word_is_last, quiet_keeps_sound, quiet_says_the_same,
 };
 pub use list::History;
 pub use look_back::Past;
 pub use owners::Owners;
-pub use shares::Tenths;
 pub use ruling::{KeptOrder, OpeningRule, Refusal, Ruling};
+pub use shares::Tenths;
