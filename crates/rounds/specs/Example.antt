@@ -8,7 +8,6 @@ use Rattle.history.specs.declared.ruling.KeptOrder.TheVariants as kept
 use Rattle.history.specs.declared.ruling.Ruling.TheVariants.{Obeyed}
 use Rattle.privates.specs.Turn.{seat_at}
 use Rattle.rounds.specs.Play.{Between}
-use Rattle.rounds.specs.declared.following.Next.TheVariants as next
 use Rattle.tables.specs.declared.roster.Private.TheVariants.{SchuylkillValley}
 use Rattle.tables.specs.declared.round.Round.TheVariants.{Opening}
 
@@ -30,4 +29,4 @@ first_events =
 
 -- where its game ends
 abbrev pub first_end : Between
-first_end = record { game = record { seats = 3; events = first_events }; next = next.Round (Opening 2) }
+first_end = record { game = record { seats = 3; events = first_events }; in_set = 1; next = Opening 2 }
