@@ -14,8 +14,8 @@ use tables::{Kind, Round, Seat, rounds_in_set};
 /// Why play stopped.
 #[derive(Clone, Copy, Debug, PartialEq, Eq)]
 pub enum End {
-    /// This round comes next, and some seat has no sheet for it or rounds of its kind are not played
-    /// yet.
+    /// This round comes next, and some seat has no sheet for it, or rounds of its kind are not
+    /// played yet.
     Awaiting(Round),
 }
 
@@ -88,8 +88,8 @@ pub fn play<'a>(alloc: Global, sheets: &'a Sheets<'a>) -> Result<Game<'a>, Alloc
     })
 }
 
-/// Plays a round of a kind that is played, by its kind: as yet an opening round. An `Err` comes from
-/// want of memory alone, and the game is dropped.
+/// Plays a round of a kind that is played, by its kind: as yet an opening round. An `Err` comes
+/// from want of memory alone, and the game is dropped.
 fn play_round(history: History, sheets: &Sheets, round: Round) -> Result<History, AllocError>
     requires sound { IsSound history }
     requires seats { history.seats ≡ length (players_of sheets.now) }

@@ -9,8 +9,8 @@ use tables::Round;
 /// What comes after a round: opening rounds until all privates are sold, then sets of a stock round
 /// and one to three operating rounds, until a set has ended with the bank broken.
 ///
-/// `in_set` is the number of operating rounds of the set. Rounds are numbered up to 99,999, as those
-/// of every sheet are.
+/// `in_set` is the number of operating rounds of the set. Rounds are numbered up to `NUMBER_MOST`,
+/// as those of every sheet are.
 pub fn next(round: Round, in_set: u8, all_sold: bool, broken: bool) -> Next
     requires number { number_of round ≤ number_most }
     requires least { 1 ≤ in_set }
