@@ -13,7 +13,7 @@ use Rattle.report.specs.Statement.{player_line, statement}
 use Rattle.rounds.specs.Arrival.{ArrivalChangesNoGame}
 use Rattle.rounds.specs.Play.{end_of}
 use Rattle.rounds.specs.declared.game.End.{End}
-use Rattle.rounds.specs.declared.game.End.TheVariants.{Awaiting, Bank}
+use Rattle.rounds.specs.declared.game.End.TheVariants.{Awaiting}
 use Rattle.sheets.specs.File.{Content, content_of, players_of, sheet_of, unread_of}
 use Rattle.sheets.specs.Laws.{ArrivalChangesNothing, SentTheSame}
 use Rattle.sheets.specs.declared.fault.FileFault.{FileFault}
@@ -75,7 +75,6 @@ owing_same f g round players sheets =
 -- the same end is printed the same
 end_same : (f g : List ℕ) (end : End) → players_of f ≡ players_of g → ((seat : ℕ) (round : table.Round) → sheet_of f seat round ≡ sheet_of g seat round) → end_text f end ≡ end_text g end
 end_same f g (Awaiting round) players sheets = rw (owing_same f g round players sheets)
-end_same f g Bank players sheets = refl
 
 -- the same game is reported the same
 report_same : (f g : List ℕ) (seats : ℕ) (events : List Event) (end : End) → players_of f ≡ players_of g → ((seat : ℕ) (round : table.Round) → sheet_of f seat round ≡ sheet_of g seat round) → unread_of f ≡ unread_of g → report_text f seats events end ≡ report_text g seats events end

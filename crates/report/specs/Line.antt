@@ -13,6 +13,7 @@ use Rattle.report.specs.declared.line.Field.{Field}
 use Rattle.report.specs.declared.line.Field.TheVariants.{Word, Name, Holds, Number, OfRound, Spelt}
 use Rattle.sheets.specs.File.{players_of}
 use Rattle.tables.specs.Roster.{code_of_company, code_of_private}
+use Rattle.tables.specs.declared.roster.Private.{Private}
 use Rattle.tables.specs.declared.seat.Seat.{Seat}
 
 -- the name of a seat's player
@@ -34,16 +35,24 @@ ruling_words (Faulty fault) = codes "REFUSED" ∷ code_of_fault fault ∷ []
 abbrev pub line_of : List ℕ → List (List ℕ) → List ℕ
 line_of first words = first ++ spaced words ++ 10 ∷ []
 
+-- what became of a line of a seat's sheet, as its line of the report
+abbrev pub ruled_line : List ℕ → Seat → ℕ → Ruling → List ℕ
+ruled_line file seat line ruling = line_of (name_of file seat) (decimal line ∷ ruling_words ruling)
+
+-- a line that tells of a private, a holder and a sum
+abbrev pub private_line : List ℕ → List ℕ → Private → Holder → ℕ → List ℕ
+private_line file word private owner amount = line_of word (code_of_private private ∷ holder_text file owner ∷ decimal amount ∷ [])
+
 -- an event as its line
 abbrev pub event_line : List ℕ → Event → List ℕ
 event_line file (Round round) = line_of (codes "ROUND") (text_of_round round ∷ [])
-event_line file (Ruled seat line ruling) = line_of (name_of file seat) (decimal line ∷ ruling_words ruling)
+event_line file (Ruled seat line ruling) = ruled_line file seat line ruling
 event_line file (Passes seat) = line_of (name_of file seat) (codes "PASSES" ∷ [])
 event_line file (Left seat lines) = line_of (codes "LEFT") (name_of file seat ∷ decimal lines ∷ [])
-event_line file (Sold private seat price) = line_of (codes "SOLD") (code_of_private private ∷ name_of file seat ∷ decimal price ∷ [])
-event_line file (Bids private seat amount) = line_of (codes "BIDS") (code_of_private private ∷ name_of file seat ∷ decimal amount ∷ [])
+event_line file (Sold private seat price) = private_line file (codes "SOLD") private (holder.Seat seat) price
+event_line file (Bids private seat amount) = private_line file (codes "BIDS") private (holder.Seat seat) amount
 event_line file (Price price) = line_of (codes "PRICE") (codes "SV" ∷ decimal price ∷ [])
-event_line file (Revenue private owner amount) = line_of (codes "REVENUE") (code_of_private private ∷ holder_text file owner ∷ decimal amount ∷ [])
+event_line file (Revenue private owner amount) = private_line file (codes "REVENUE") private owner amount
 event_line file (Given company seat tenths) = line_of (codes "GIVEN") (code_of_company company ∷ name_of file seat ∷ decimal tenths ∷ [])
 event_line file (Par company price) = line_of (codes "PAR") (code_of_company company ∷ decimal price ∷ [])
 event_line file (President company seat) = line_of (codes "PRESIDENT") (code_of_company company ∷ name_of file seat ∷ [])
@@ -58,6 +67,14 @@ field_text file (Number number) = decimal number
 field_text file (OfRound round) = text_of_round round
 field_text file (Spelt order) = spelling_of order.now
 
+-- fields as their texts
+abbrev pub field_texts : List ℕ → List Field → List (List ℕ)
+field_texts file fields = map (field_text file) fields
+
 -- a line of these fields, with its LF
 abbrev pub line_of_fields : List ℕ → Field → List Field → List ℕ
-line_of_fields file first fields = line_of (field_text file first) (map (field_text file) fields)
+line_of_fields file first fields = line_of (field_text file first) (field_texts file fields)
+
+-- a line that begins with a player's name
+abbrev pub line_of_seat : List ℕ → Seat → List Field → List ℕ
+line_of_seat file seat fields = line_of (name_of file seat) (field_texts file fields)

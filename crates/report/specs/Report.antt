@@ -11,7 +11,7 @@ use Rattle.report.specs.Line.{name_of, event_line}
 use Rattle.report.specs.Statement.{statement}
 use Rattle.rounds.specs.Play.{Between, Played, Plays, end_of}
 use Rattle.rounds.specs.declared.game.End.{End}
-use Rattle.rounds.specs.declared.game.End.TheVariants.{Awaiting, Bank}
+use Rattle.rounds.specs.declared.game.End.TheVariants.{Awaiting}
 use Rattle.sheets.specs.File.{Content, content_of, code_of_fault as code_of_file_fault, sheet_of, players_of, unread_of}
 use Rattle.sheets.specs.declared.fault.FileFault.{FileFault}
 use Rattle.tables.specs.Round.{same_round}
@@ -115,7 +115,6 @@ awaiting_text file round = codes "AWAITING " ++ text_of_round round ++ owing fil
 -- why play stopped
 abbrev pub end_text : List ℕ → End → List ℕ
 end_text file (Awaiting round) = awaiting_text file round
-end_text file Bank = codes "END BANK" ++ 10 ∷ []
 
 -- the report of a file whose game has these events and this end
 abbrev pub report_text : List ℕ → ℕ → List Event → End → List ℕ

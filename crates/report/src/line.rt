@@ -1,14 +1,16 @@
 ghost use Rattle.std.specs.Prelude.{◌≡◌, OnOk};
 ghost use Rattle.report.specs.Column.{Adds};
-ghost use Rattle.report.specs.Line.{event_line, field_text, line_of_fields, name_of};
+ghost use Rattle.report.specs.Line.{event_line, field_text, field_texts, line_of, line_of_fields, line_of_seat, name_of, private_line, ruled_line};
 
+use crate::column::push_number;
 use history::{Event, Holder, KeptOrder, Ruling};
-use order_grammar::{print_number, print_order, print_round};
+use order_grammar::{print_order, print_round};
 use sheets::Sheets;
 use std::alloc::AllocError;
-use tables::{Round, Seat};
+use tables::{Amount, Private, Round, Seat};
 
 /// A field of a line of the report.
+#[derive(Clone, Copy)]
 pub(crate) enum Field<'a> {
     /// A word or a code.
     Word(&'a str),
@@ -25,74 +27,120 @@ pub(crate) enum Field<'a> {
 }
 
 /// Adds an event as its line.
-pub(crate) fn push_event(
-    out: &mut Vec<u8>,
-    sheets: &Sheets,
-    event: &Event,
-) -> Result<(), AllocError>
+pub(crate) fn push_event(out: &mut Vec<u8>, sheets: &Sheets, event: &Event) -> Result<(), AllocError>
     ensures { OnOk result (Adds out.old out.new (event_line sheets.now event.now)) }
 {
     match event {
-        Event::Round(round) => push_line(
-            out,
-            sheets,
-            &Field::Word("ROUND"),
-            &[Field::OfRound(*round)],
-        ),
+        Event::Round(round) => tell(out, sheets, "ROUND", &[Field::OfRound(*round)]),
         Event::Ruled { seat, line, ruling } => push_ruled(out, sheets, *seat, *line, ruling),
-        Event::Passes(seat) => {
-            push_line(out, sheets, &Field::Name(*seat), &[Field::Word("PASSES")])
+        Event::Passes(seat) => tell_of(out, sheets, *seat, &[Field::Word("PASSES")]),
+        Event::Left { seat, lines } => {
+            tell(
+                out,
+                sheets,
+                "LEFT",
+                &[Field::Name(*seat), Field::Number(*lines)],
+            )
         }
-        Event::Left { seat, lines } => push_line(
-            out,
-            sheets,
-            &Field::Word("LEFT"),
-            &[Field::Name(*seat), Field::Number(*lines)],
-        ),
-        Event::Broken => push_line(out, sheets, &Field::Word("BROKEN"), &[]),
-        Event::Sold { private, seat, price } => push_line(
-            out,
-            sheets,
-            &Field::Word("SOLD"),
-            &[Field::Word(private.code()), Field::Name(*seat), Field::Number(*price)],
-        ),
-        Event::Bids { private, seat, amount } => push_line(
-            out,
-            sheets,
-            &Field::Word("BIDS"),
-            &[Field::Word(private.code()), Field::Name(*seat), Field::Number(*amount)],
-        ),
-        Event::Price { price } => push_line(
-            out,
-            sheets,
-            &Field::Word("PRICE"),
-            &[Field::Word("SV"), Field::Number(*price)],
-        ),
-        Event::Revenue { private, owner, amount } => push_line(
-            out,
-            sheets,
-            &Field::Word("REVENUE"),
-            &[Field::Word(private.code()), Field::Holds(*owner), Field::Number(*amount)],
-        ),
-        Event::Given { company, seat, tenths } => push_line(
-            out,
-            sheets,
-            &Field::Word("GIVEN"),
-            &[Field::Word(company.code()), Field::Name(*seat), Field::Number(u32::from(*tenths))],
-        ),
-        Event::Par { company, price } => push_line(
-            out,
-            sheets,
-            &Field::Word("PAR"),
-            &[Field::Word(company.code()), Field::Number(*price)],
-        ),
-        Event::President { company, seat } => push_line(
-            out,
-            sheets,
-            &Field::Word("PRESIDENT"),
-            &[Field::Word(company.code()), Field::Name(*seat)],
-        ),
+        Event::Sold {
+            private,
+            seat,
+            price,
+        } => { tell_private(out, sheets, "SOLD", *private, Holder::Seat(*seat), *price) }
+        Event::Bids {
+            private,
+            seat,
+            amount,
+        } => { tell_private(out, sheets, "BIDS", *private, Holder::Seat(*seat), *amount) }
+        Event::Price { price } => {
+            tell(
+                out,
+                sheets,
+                "PRICE",
+                &[Field::Word("SV"), Field::Number(*price)],
+            )
+        }
+        Event::Revenue {
+            private,
+            owner,
+            amount,
+        } => { tell_private(out, sheets, "REVENUE", *private, *owner, *amount) }
+        Event::Given {
+            company,
+            seat,
+            tenths,
+        } => {
+            tell(
+                out,
+                sheets,
+                "GIVEN",
+                &[
+                    Field::Word(company.code()),
+                    Field::Name(*seat),
+                    Field::Number(u32::from(*tenths)),
+                ],
+            )
+        }
+        Event::Par { company, price } => {
+            tell(
+                out,
+                sheets,
+                "PAR",
+                &[Field::Word(company.code()), Field::Number(*price)],
+            )
+        }
+        Event::President { company, seat } => {
+            tell(
+                out,
+                sheets,
+                "PRESIDENT",
+                &[Field::Word(company.code()), Field::Name(*seat)],
+            )
+        }
+        Event::Broken => tell(out, sheets, "BROKEN", &[]),
     }
+}
+
+/// Adds a line that begins with a word.
+fn tell(out: &mut Vec<u8>, sheets: &Sheets, word: &str, fields: &[Field]) -> Result<(), AllocError>
+    ensures { OnOk result (Adds out.old out.new (line_of word.now (field_texts sheets.now fields.now))) }
+{
+    push_line(out, sheets, &Field::Word(word), fields)
+}
+
+/// Adds a line that begins with the name of a seat's player.
+fn tell_of(
+    out: &mut Vec<u8>,
+    sheets: &Sheets,
+    seat: Seat,
+    fields: &[Field],
+) -> Result<(), AllocError>
+    ensures { OnOk result (Adds out.old out.new (line_of_seat sheets.now seat fields.now)) }
+{
+    push_line(out, sheets, &Field::Name(seat), fields)
+}
+
+/// Adds a line of a private, a holder and a sum of money.
+fn tell_private(
+    out: &mut Vec<u8>,
+    sheets: &Sheets,
+    word: &str,
+    private: Private,
+    holder: Holder,
+    amount: Amount,
+) -> Result<(), AllocError>
+    ensures { OnOk result (Adds out.old out.new (private_line sheets.now word.now private holder amount)) }
+{
+    tell(
+        out,
+        sheets,
+        word,
+        &[
+            Field::Word(private.code()),
+            Field::Holds(holder),
+            Field::Number(amount),
+        ],
+    )
 }
 
 /// Adds a line of these fields, parted by single spaces, with its LF.
@@ -122,7 +170,7 @@ fn push_field(out: &mut Vec<u8>, sheets: &Sheets, field: &Field) -> Result<(), A
         Field::Name(seat) => push_name(out, sheets, *seat),
         Field::Holds(Holder::Seat(seat)) => push_name(out, sheets, *seat),
         Field::Holds(Holder::Company(company)) => out.extend_from_slice(company.code().as_bytes()),
-        Field::Number(number) => print_number(out, *number),
+        Field::Number(number) => push_number(out, *number),
         Field::OfRound(round) => print_round(out, round),
         Field::Spelt(order) => print_order(out, &order.order()),
     }
@@ -136,27 +184,39 @@ fn push_ruled(
     line: u32,
     ruling: &Ruling,
 ) -> Result<(), AllocError>
-    ensures { OnOk result (Adds out.old out.new (event_line sheets.now (Ruled seat line ruling.now))) }
+    ensures { OnOk result (Adds out.old out.new (ruled_line sheets.now seat line ruling.now)) }
 {
-    let (name, line) = (Field::Name(seat), Field::Number(line));
     match ruling {
-        Ruling::Obeyed(order) => push_line(
+        Ruling::Obeyed(order) => tell_of(
             out,
             sheets,
-            &name,
-            &[line, Field::Word("OBEYED"), Field::Spelt(order)],
+            seat,
+            &[
+                Field::Number(line),
+                Field::Word("OBEYED"),
+                Field::Spelt(order),
+            ],
         ),
-        Ruling::Refused(refusal, order) => push_line(
+        Ruling::Refused(refusal, order) => tell_of(
             out,
             sheets,
-            &name,
-            &[line, Field::Word("REFUSED"), Field::Word(refusal.code()), Field::Spelt(order)],
+            seat,
+            &[
+                Field::Number(line),
+                Field::Word("REFUSED"),
+                Field::Word(refusal.code()),
+                Field::Spelt(order),
+            ],
         ),
-        Ruling::Faulty(fault) => push_line(
+        Ruling::Faulty(fault) => tell_of(
             out,
             sheets,
-            &name,
-            &[line, Field::Word("REFUSED"), Field::Word(fault.code())],
+            seat,
+            &[
+                Field::Number(line),
+                Field::Word("REFUSED"),
+                Field::Word(fault.code()),
+            ],
         ),
     }
 }

@@ -153,10 +153,8 @@ fn push_unread(out: &mut Vec<u8>, unread: &[Fault]) -> Result<(), AllocError>
 fn push_end(out: &mut Vec<u8>, game: &Game) -> Result<(), AllocError>
     ensures { OnOk result (Adds out.old out.new (end_text game.now.file game.now.end)) }
 {
-    match game.outcome() {
-        End::Awaiting(round) => push_awaiting(out, game.sheets(), &round),
-        End::Bank => out.extend_from_slice(b"END BANK\n"),
-    }
+    let End::Awaiting(round) = game.outcome();
+    push_awaiting(out, game.sheets(), &round)
 }
 
 /// Adds the line of the round that can't be played: the names of those who owe a sheet for it.
