@@ -3,36 +3,40 @@ use Rattle.std.proofs.Common.{◌≡◌, ℕ, List, [], ◌∷◌, ◌++◌, len
 use Rattle.std.specs.Prelude.{Result, Ok, Err, IsOk}
 use Rattle.std.specs.List.{flat_map, range_with_len}
 use Rattle.history.specs.declared.event.Event.{Event}
-use Rattle.history.specs.declared.event.Event.TheVariants.{Round, Ruled, Passes, Left, Sold, Price, Revenue, Broken}
-use Rattle.history.specs.declared.event.Party.{Party}
-use Rattle.history.specs.declared.event.Party.TheVariants as party
+use Rattle.history.specs.declared.event.Event.TheVariants.{Round, Ruled, Passes, Left, Sold, Bids, Price, Revenue, Given, Par, President, Broken}
+use Rattle.history.specs.declared.event.Holder.{Holder}
+use Rattle.history.specs.declared.event.Holder.TheVariants as holder
 use Rattle.report.specs.Laws.{ArrivalChangesNoReport}
-use Rattle.report.specs.Line.{event_text, party_text}
-use Rattle.report.specs.Report.{IsReportOf, end_text, header, name_owing, owing, report_text, rounds_text}
+use Rattle.report.specs.Line.{event_line, holder_text}
+use Rattle.report.specs.Report.{IsReportOf, end_text, header, name_owing, owing, report_text, rounds_in, texts_of_rounds}
 use Rattle.report.specs.Statement.{player_line, statement}
 use Rattle.rounds.specs.Arrival.{ArrivalChangesNoGame}
 use Rattle.rounds.specs.Play.{end_of}
 use Rattle.rounds.specs.declared.game.End.{End}
-use Rattle.rounds.specs.declared.game.End.TheVariants.{Awaiting, Bank}
+use Rattle.rounds.specs.declared.game.End.TheVariants.{Awaiting}
 use Rattle.sheets.specs.File.{Content, content_of, players_of, sheet_of, unread_of}
 use Rattle.sheets.specs.Laws.{ArrivalChangesNothing, SentTheSame}
 use Rattle.sheets.specs.declared.fault.FileFault.{FileFault}
 use Rattle.tables.specs.declared.round.Round as table
 
 -- the same holder is printed the same
-party_same : (f g : List ℕ) (holder : Party) → players_of f ≡ players_of g → party_text f holder ≡ party_text g holder
-party_same f g party.Bank players = refl
-party_same f g (party.Seat seat) players = rw players
+holder_same : (f g : List ℕ) (owner : Holder) → players_of f ≡ players_of g → holder_text f owner ≡ holder_text g owner
+holder_same f g (holder.Seat seat) players = rw players refl
+holder_same f g (holder.Company company) players = refl
 
 -- the same event is printed the same
-event_same : (f g : List ℕ) (event : Event) → players_of f ≡ players_of g → event_text f event ≡ event_text g event
+event_same : (f g : List ℕ) (event : Event) → players_of f ≡ players_of g → event_line f event ≡ event_line g event
 event_same f g (Round round) players = refl
-event_same f g (Ruled seat line ruling) players = rw players
-event_same f g (Passes seat) players = rw players
-event_same f g (Left seat lines) players = rw players
-event_same f g (Sold private seat price) players = rw players
+event_same f g (Ruled seat line ruling) players = rw players refl
+event_same f g (Passes seat) players = rw players refl
+event_same f g (Left seat lines) players = rw players refl
+event_same f g (Sold private seat price) players = rw players refl
+event_same f g (Bids private seat amount) players = rw players refl
 event_same f g (Price price) players = refl
-event_same f g (Revenue private owner amount) players = rw (party_same f g owner players)
+event_same f g (Revenue private owner amount) players = rw (holder_same f g owner players) refl
+event_same f g (Given company seat tenths) players = rw players refl
+event_same f g (Par company price) players = refl
+event_same f g (President company seat) players = rw players refl
 event_same f g Broken players = refl
 
 -- the same events give the same statement
@@ -40,11 +44,16 @@ statement_same : (f g : List ℕ) (seats : ℕ) (events : List Event) → player
 unfolding statement player_line
 statement_same f g seats events players = rw players
 
+-- the same events are printed the same
+events_same : (f g : List ℕ) (events : List Event) → players_of f ≡ players_of g → flat_map (event_line f) events ≡ flat_map (event_line g) events
+events_same f g [] players = refl
+events_same f g (event ∷ events) players = rw (event_same f g event players, events_same f g events players)
+
 -- the same rounds are printed the same
-rounds_same : (f g : List ℕ) (seats : ℕ) (before events : List Event) → players_of f ≡ players_of g → rounds_text f seats before events ≡ rounds_text g seats before events
+rounds_same : (f g : List ℕ) (seats : ℕ) (before : List Event) (rounds : List (List Event)) → players_of f ≡ players_of g → texts_of_rounds f seats before rounds ≡ texts_of_rounds g seats before rounds
 rounds_same f g seats before [] players = refl
-rounds_same f g seats before (event ∷ events) players =
-    rw (event_same f g event players, statement_same f g seats (before ++ event ∷ []) players, rounds_same f g seats (before ++ event ∷ []) events players)
+rounds_same f g seats before (round ∷ rounds) players =
+    rw (events_same f g round players, statement_same f g seats (before ++ round) players, rounds_same f g seats (before ++ round) rounds players)
 
 -- the same players are printed the same
 header_same : (f g : List ℕ) → players_of f ≡ players_of g → header f ≡ header g
@@ -66,12 +75,11 @@ owing_same f g round players sheets =
 -- the same end is printed the same
 end_same : (f g : List ℕ) (end : End) → players_of f ≡ players_of g → ((seat : ℕ) (round : table.Round) → sheet_of f seat round ≡ sheet_of g seat round) → end_text f end ≡ end_text g end
 end_same f g (Awaiting round) players sheets = rw (owing_same f g round players sheets)
-end_same f g Bank players sheets = refl
 
 -- the same game is reported the same
 report_same : (f g : List ℕ) (seats : ℕ) (events : List Event) (end : End) → players_of f ≡ players_of g → ((seat : ℕ) (round : table.Round) → sheet_of f seat round ≡ sheet_of g seat round) → unread_of f ≡ unread_of g → report_text f seats events end ≡ report_text g seats events end
 report_same f g seats events end players sheets unread =
-    rw (header_same f g players, rounds_same f g seats [] events players, unread, end_same f g end players sheets)
+    rw (header_same f g players, rounds_same f g seats [] (rounds_in events) players, unread, end_same f g end players sheets)
 
 -- a report is that of the other file too
 report_carried : ArrivalChangesNoGame → ArrivalChangesNothing → (f g : List ℕ) (of_f of_g : Result Content FileFault) → IsOk of_f → IsOk of_g → players_of f ≡ players_of g → SentTheSame f g → unread_of f ≡ unread_of g → (text : List ℕ) → IsReportOf f of_f text → IsReportOf g of_g text

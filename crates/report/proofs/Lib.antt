@@ -1,3 +1,5 @@
 pub mod Arrival
 pub mod OneReport
 pub mod Seats
+pub mod Rounds
+pub mod Parts

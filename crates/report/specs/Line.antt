@@ -1,44 +1,80 @@
--- An event as a line of the report, without its LF.
-use Rattle.std.specs.Prelude.{ℕ, List, [], ◌∷◌, ◌++◌, codes, decimal, unwrap_or, slice_get}
-use Rattle.history.specs.Event.{order_kept, code_of_refusal}
+-- An event as a line of the report: its words, parted by single spaces, and its LF.
+use Rattle.std.specs.Prelude.{ℕ, List, [], ◌∷◌, ◌++◌, map, codes, decimal, unwrap_or, slice_get}
+use Rattle.history.specs.Event.{code_of_refusal}
 use Rattle.history.specs.declared.event.Event.{Event}
-use Rattle.history.specs.declared.event.Event.TheVariants.{Round, Ruled, Passes, Left, Sold, Price, Revenue, Broken}
-use Rattle.history.specs.declared.event.Party.{Party}
-use Rattle.history.specs.declared.event.Party.TheVariants as party
+use Rattle.history.specs.declared.event.Event.TheVariants.{Round, Ruled, Passes, Left, Sold, Bids, Price, Revenue, Given, Par, President, Broken}
+use Rattle.history.specs.declared.event.Holder.{Holder}
+use Rattle.history.specs.declared.event.Holder.TheVariants as holder
 use Rattle.history.specs.declared.ruling.Ruling.{Ruling}
 use Rattle.history.specs.declared.ruling.Ruling.TheVariants.{Obeyed, Refused, Faulty}
 use Rattle.order_grammar.specs.Fault.{code_of as code_of_fault}
-use Rattle.order_grammar.specs.Print.{spelling_of, text_of_round}
+use Rattle.order_grammar.specs.Print.{spaced, spelling_of, text_of_round}
+use Rattle.report.specs.declared.line.Field.{Field}
+use Rattle.report.specs.declared.line.Field.TheVariants.{Word, Name, Holds, Number, OfRound, Spelt}
 use Rattle.sheets.specs.File.{players_of}
-use Rattle.tables.specs.Roster.{code_of_private}
+use Rattle.tables.specs.Roster.{code_of_company, code_of_private}
+use Rattle.tables.specs.declared.roster.Private.{Private}
 use Rattle.tables.specs.declared.seat.Seat.{Seat}
 
 -- the name of a seat's player
 abbrev pub name_of : List ℕ → Seat → List ℕ
 name_of file seat = unwrap_or (slice_get (players_of file) seat.0) []
 
--- the holder of something: a player's name
-abbrev pub party_text : List ℕ → Party → List ℕ
-party_text file party.Bank = codes "BANK"
-party_text file (party.Seat seat) = name_of file seat
+-- the holder of something: a player's name or a company's code
+abbrev pub holder_text : List ℕ → Holder → List ℕ
+holder_text file (holder.Seat seat) = name_of file seat
+holder_text file (holder.Company company) = code_of_company company
 
 -- what became of a line
-abbrev pub ruling_text : Ruling → List ℕ
-ruling_text (Obeyed order) = codes " OBEYED " ++ spelling_of (order_kept order)
-ruling_text (Refused refusal order) = codes " REFUSED " ++ code_of_refusal refusal ++ 32 ∷ spelling_of (order_kept order)
-ruling_text (Faulty fault) = codes " REFUSED " ++ code_of_fault fault
+abbrev pub ruling_words : Ruling → List (List ℕ)
+ruling_words (Obeyed order) = codes "OBEYED" ∷ spelling_of order ∷ []
+ruling_words (Refused refusal order) = codes "REFUSED" ∷ code_of_refusal refusal ∷ spelling_of order ∷ []
+ruling_words (Faulty fault) = codes "REFUSED" ∷ code_of_fault fault ∷ []
 
--- an event
-abbrev pub event_text : List ℕ → Event → List ℕ
-event_text file (Round round) = codes "ROUND " ++ text_of_round round
-event_text file (Ruled seat line ruling) = name_of file seat ++ 32 ∷ decimal line ++ ruling_text ruling
-event_text file (Passes seat) = name_of file seat ++ codes " PASSES"
-event_text file (Left seat lines) = codes "LEFT " ++ name_of file seat ++ 32 ∷ decimal lines
-event_text file (Sold private seat price) = codes "SOLD " ++ code_of_private private ++ 32 ∷ name_of file seat ++ 32 ∷ decimal price
-event_text file (Price price) = codes "PRICE SV " ++ decimal price
-event_text file (Revenue private owner amount) = codes "REVENUE " ++ code_of_private private ++ 32 ∷ party_text file owner ++ 32 ∷ decimal amount
-event_text file Broken = codes "BROKEN"
+-- a line of these words, with its LF
+abbrev pub line_of : List ℕ → List (List ℕ) → List ℕ
+line_of first words = first ++ spaced words ++ 10 ∷ []
 
--- with its LF
+-- what became of a line of a seat's sheet, as its line of the report
+abbrev pub ruled_line : List ℕ → Seat → ℕ → Ruling → List ℕ
+ruled_line file seat line ruling = line_of (name_of file seat) (decimal line ∷ ruling_words ruling)
+
+-- a line that tells of a private, a holder and a sum
+abbrev pub private_line : List ℕ → List ℕ → Private → Holder → ℕ → List ℕ
+private_line file word private owner amount = line_of word (code_of_private private ∷ holder_text file owner ∷ decimal amount ∷ [])
+
+-- an event as its line
 abbrev pub event_line : List ℕ → Event → List ℕ
-event_line file event = event_text file event ++ 10 ∷ []
+event_line file (Round round) = line_of (codes "ROUND") (text_of_round round ∷ [])
+event_line file (Ruled seat line ruling) = ruled_line file seat line ruling
+event_line file (Passes seat) = line_of (name_of file seat) (codes "PASSES" ∷ [])
+event_line file (Left seat lines) = line_of (codes "LEFT") (name_of file seat ∷ decimal lines ∷ [])
+event_line file (Sold private seat price) = private_line file (codes "SOLD") private (holder.Seat seat) price
+event_line file (Bids private seat amount) = private_line file (codes "BIDS") private (holder.Seat seat) amount
+event_line file (Price price) = line_of (codes "PRICE") (codes "SV" ∷ decimal price ∷ [])
+event_line file (Revenue private owner amount) = private_line file (codes "REVENUE") private owner amount
+event_line file (Given company seat tenths) = line_of (codes "GIVEN") (code_of_company company ∷ name_of file seat ∷ decimal tenths ∷ [])
+event_line file (Par company price) = line_of (codes "PAR") (code_of_company company ∷ decimal price ∷ [])
+event_line file (President company seat) = line_of (codes "PRESIDENT") (code_of_company company ∷ name_of file seat ∷ [])
+event_line file Broken = line_of (codes "BROKEN") []
+
+-- a field of a line as its text
+abbrev pub field_text : List ℕ → Field → List ℕ
+field_text file (Word word) = word.now
+field_text file (Name seat) = name_of file seat
+field_text file (Holds holder) = holder_text file holder
+field_text file (Number number) = decimal number
+field_text file (OfRound round) = text_of_round round
+field_text file (Spelt order) = spelling_of order.now
+
+-- fields as their texts
+abbrev pub field_texts : List ℕ → List Field → List (List ℕ)
+field_texts file fields = map (field_text file) fields
+
+-- a line of these fields, with its LF
+abbrev pub line_of_fields : List ℕ → Field → List Field → List ℕ
+line_of_fields file first fields = line_of (field_text file first) (field_texts file fields)
+
+-- a line that begins with a player's name
+abbrev pub line_of_seat : List ℕ → Seat → List Field → List ℕ
+line_of_seat file seat fields = line_of (name_of file seat) (field_texts file fields)

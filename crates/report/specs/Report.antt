@@ -1,9 +1,9 @@
 -- The report of a file: for a refused file its one line; else the header, each round's events and its
 -- statement, the unread lines, and the end.
-use Rattle.std.specs.Prelude.{◌≡◌, ℕ, ◌+◌, Bool, true, false, if◌then◌else◌, List, [], ◌∷◌, ◌++◌, length, codes, decimal, is_none, Result, Ok, Err}
+use Rattle.std.specs.Prelude.{◌≡◌, ℕ, ◌+◌, Bool, true, false, if◌then◌else◌, List, [], ◌∷◌, ◌++◌, length, take, drop, slice_range, codes, decimal, Option, Some, None, is_none, is_some, Result, Ok, Err}
 use Rattle.std.specs.List.{flat_map, range_with_len}
+use Rattle.history.specs.Event.{round_of}
 use Rattle.history.specs.declared.event.Event.{Event}
-use Rattle.history.specs.declared.event.Event.TheVariants.{Round}
 use Rattle.order_grammar.specs.Fault.{code_of as code_of_fault}
 use Rattle.order_grammar.specs.Print.{spaced, text_of_round}
 use Rattle.order_grammar.specs.declared.fault.Fault.{Fault}
@@ -11,9 +11,10 @@ use Rattle.report.specs.Line.{name_of, event_line}
 use Rattle.report.specs.Statement.{statement}
 use Rattle.rounds.specs.Play.{Between, Played, Plays, end_of}
 use Rattle.rounds.specs.declared.game.End.{End}
-use Rattle.rounds.specs.declared.game.End.TheVariants.{Awaiting, Bank}
-use Rattle.sheets.specs.File.{Content, content_of, code_of_fault as code_of_file_fault, sheet_of, players_of, same_round, unread_of}
+use Rattle.rounds.specs.declared.game.End.TheVariants.{Awaiting}
+use Rattle.sheets.specs.File.{Content, content_of, code_of_fault as code_of_file_fault, sheet_of, players_of, unread_of}
 use Rattle.sheets.specs.declared.fault.FileFault.{FileFault}
+use Rattle.tables.specs.Round.{same_round}
 use Rattle.tables.specs.declared.round.Round as round
 
 -- the line of a refused file
@@ -24,43 +25,74 @@ refusal_line fault = codes "FILE REFUSED " ++ code_of_file_fault fault ++ 10 ∷
 unfoldable pub header : List ℕ → List ℕ
 header file = codes "GAME 1830 1" ++ 10 ∷ codes "PLAYERS" ++ spaced (players_of file) ++ 10 ∷ []
 
--- the list of events that follow ends a round here: the next begins, or there is none
+-- a later round begins before these events, or nothing follows
 abbrev pub ends_round : List Event → Bool
 ends_round [] = true
-ends_round ((Round round) ∷ events) = true
-ends_round (other ∷ events) = false
+ends_round (event ∷ events) = is_some (round_of event)
 
--- the lines of events with those before them, and after each round its statement
-abbrev pub rounds_text : List ℕ → ℕ → List Event → List Event → List ℕ
-rounds_text file seats before [] = []
-rounds_text file seats before (event ∷ events) =
-    event_line file event
-    ++ (if ends_round events then statement file seats (before ++ event ∷ []) else [])
-    ++ rounds_text file seats (before ++ event ∷ []) events
+-- an event in front of rounds: of the first of them, or a round by itself where that ends with it
+abbrev pub with_event : Event → Bool → List (List Event) → List (List Event)
+with_event event false (round ∷ rounds) = (event ∷ round) ∷ rounds
+with_event event ended rounds = (event ∷ []) ∷ rounds
 
--- the lines of a round from one of its events on, and its statement
-abbrev pub round_lines : List ℕ → ℕ → List Event → List Event → List ℕ
-round_lines file seats before [] = []
-round_lines file seats before (event ∷ events) =
-    event_line file event
-    ++ (if ends_round events then statement file seats (before ++ event ∷ []) else round_lines file seats (before ++ event ∷ []) events)
+-- the list of events, cut in front of each that begins a round
+abbrev pub rounds_in : List Event → List (List Event)
+rounds_in [] = []
+rounds_in (event ∷ events) = with_event event (ends_round events) (rounds_in events)
 
--- the event begins this round
-abbrev pub begins_round : round.Round → Event → Bool
-begins_round round (Round other) = same_round other round
-begins_round round other = false
+-- the lines of a round's events, and the statement as it stands after them
+abbrev pub lines_of_round : List ℕ → ℕ → List Event → List Event → List ℕ
+lines_of_round file seats before events =
+    flat_map (event_line file) events ++ statement file seats (before ++ events)
 
--- the text of a round, nothing where it was not played
-abbrev pub round_text_in : List ℕ → ℕ → round.Round → List Event → List Event → List ℕ
-round_text_in file seats round before [] = []
-round_text_in file seats round before (event ∷ events) =
-    if begins_round round event
-    then round_lines file seats before (event ∷ events)
-    else round_text_in file seats round (before ++ event ∷ []) events
+-- the texts of some rounds, in order
+abbrev pub texts_of_rounds : List ℕ → ℕ → List Event → List (List Event) → List ℕ
+texts_of_rounds file seats before [] = []
+texts_of_rounds file seats before (round ∷ rounds) =
+    lines_of_round file seats before round ++ texts_of_rounds file seats (before ++ round) rounds
+
+-- the text of a game's rounds
+abbrev pub rounds_text : List ℕ → ℕ → List Event → List ℕ
+rounds_text file seats events = texts_of_rounds file seats [] (rounds_in events)
+
+-- the same, of a game that was played
+abbrev pub rounds_text_of : Played → List ℕ
+rounds_text_of played = rounds_text played.file played.game.seats played.game.events
+
+-- the text of the round whose events stand at these places of a game
+abbrev pub text_between : Played → ℕ → ℕ → List ℕ
+text_between played begun end =
+    lines_of_round played.file played.game.seats (take begun played.game.events) (slice_range played.game.events begun end)
+
+-- so many of the events are those of their first round
+abbrev pub IsLengthOfRound : List Event → ℕ → Type 0
+IsLengthOfRound events count = rounds_in events ≡ take count events ∷ rounds_in (drop count events)
+
+-- the round that these events begin
+abbrev pub round_begun : List Event → Option round.Round
+round_begun [] = None
+round_begun (event ∷ events) = round_of event
+
+-- it is this round
+abbrev pub is_the_round : round.Round → Option round.Round → Bool
+is_the_round round None = false
+is_the_round round (Some other) = same_round other round
+
+-- the events are those of this round
+abbrev pub is_round : round.Round → List Event → Bool
+is_round round events = is_the_round round (round_begun events)
+
+-- the text of one of some rounds, nothing where it is not among them
+abbrev pub text_of_one : List ℕ → ℕ → round.Round → List Event → List (List Event) → List ℕ
+text_of_one file seats round before [] = []
+text_of_one file seats round before (events ∷ rounds) =
+    if is_round round events
+    then lines_of_round file seats before events
+    else text_of_one file seats round (before ++ events) rounds
 
 -- the text of a round of a game that was played
 abbrev pub round_text_of : Played → round.Round → List ℕ
-round_text_of played round = round_text_in played.file played.game.seats round [] played.game.events
+round_text_of played round = text_of_one played.file played.game.seats round [] (rounds_in played.game.events)
 
 -- the unread lines, of which so many came before
 abbrev pub unread_lines : ℕ → List Fault → List ℕ
@@ -76,15 +108,18 @@ name_owing file round seat = if is_none (sheet_of file seat round) then 32 ∷ n
 unfoldable pub owing : List ℕ → round.Round → List ℕ
 owing file round = flat_map (λ seat. name_owing file round seat) (range_with_len 0 (length (players_of file)))
 
+-- the round that is awaited, and who owes a sheet for it
+abbrev pub awaiting_text : List ℕ → round.Round → List ℕ
+awaiting_text file round = codes "AWAITING " ++ text_of_round round ++ owing file round ++ 10 ∷ []
+
 -- why play stopped
 abbrev pub end_text : List ℕ → End → List ℕ
-end_text file (Awaiting round) = codes "AWAITING " ++ text_of_round round ++ owing file round ++ 10 ∷ []
-end_text file Bank = codes "END BANK" ++ 10 ∷ []
+end_text file (Awaiting round) = awaiting_text file round
 
 -- the report of a file whose game has these events and this end
 abbrev pub report_text : List ℕ → ℕ → List Event → End → List ℕ
 report_text file seats events end =
-    header file ++ rounds_text file seats [] events ++ unread_lines 0 (unread_of file) ++ end_text file end
+    header file ++ rounds_text file seats events ++ unread_lines 0 (unread_of file) ++ end_text file end
 
 -- the report of a game that was played
 abbrev pub report_of : Played → List ℕ

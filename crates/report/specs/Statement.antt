@@ -6,6 +6,7 @@ use Rattle.history.specs.LookBack.{cash_of, owner_of, privates, same_party}
 use Rattle.history.specs.declared.event.Event.{Event}
 use Rattle.history.specs.declared.event.Party.{Party}
 use Rattle.history.specs.declared.event.Party.TheVariants as party
+use Rattle.history.specs.declared.look_back.Past.{Past}
 use Rattle.report.specs.Column.{at_left, at_right}
 use Rattle.report.specs.Line.{name_of}
 use Rattle.tables.specs.Roster.{code_of_private}
@@ -40,6 +41,10 @@ player_line file seats events seat =
     ++ at_right 3 (decimal (counted events seat)) ++ holdings
     ++ codes_owned events seat ++ 10 ∷ []
 
+-- the same, as a game stood
+abbrev pub player_line_at : List ℕ → Past → Seat → List ℕ
+player_line_at file past seat = player_line file past.seats past.events.now seat
+
 -- the bank's line
 unfoldable pub bank_line : ℕ → List Event → List ℕ
 bank_line seats events = codes "BANK " ++ at_right 6 (signed_decimal (cash_of seats events party.Bank)) ++ 10 ∷ []
@@ -48,3 +53,7 @@ bank_line seats events = codes "BANK " ++ at_right 6 (signed_decimal (cash_of se
 unfoldable pub statement : List ℕ → ℕ → List Event → List ℕ
 statement file seats events =
     flat_map (λ seat. player_line file seats events (record { 0 = seat })) (range_with_len 0 seats) ++ bank_line seats events
+
+-- the same, as a game stood
+abbrev pub statement_at : List ℕ → Past → List ℕ
+statement_at file past = statement file past.seats past.events.now

@@ -1,5 +1,5 @@
 ghost use Rattle.std.specs.Prelude.{◌≡◌, ◌++◌, OnOk, replicate};
-ghost use Rattle.report.specs.Column.{at_left, at_right};
+ghost use Rattle.report.specs.Column.{Adds, at_left, at_right};
 
 use itoa::Integer;
 use std::alloc::AllocError;
@@ -7,7 +7,7 @@ use std::alloc::AllocError;
 /// Adds a text at the left of a column, filled up with spaces. A wider text is printed whole.
 #[tactic(auto, unfolding(crate::specs::Column::at_left))]
 pub(crate) fn push_left(out: &mut Vec<u8>, text: &[u8], width: usize) -> Result<(), AllocError>
-    ensures { OnOk result (out.new.items ≡ out.old.items ++ at_left width text.now) }
+    ensures { OnOk result (Adds out.old out.new (at_left width text.now)) }
 {
     out.extend_from_slice(text)?;
     push_spaces(out, width.saturating_sub(text.len()))
@@ -20,7 +20,7 @@ pub(crate) fn push_right<I: Integer>(
     number: I,
     width: usize,
 ) -> Result<(), AllocError>
-    ensures { OnOk result (out.new.items ≡ out.old.items ++ at_right width (I.text number)) }
+    ensures { OnOk result (Adds out.old out.new (at_right width (I.text number))) }
 {
     let mut buffer = itoa::Buffer::new();
     let digits = buffer.format(number).as_bytes();
@@ -30,14 +30,14 @@ pub(crate) fn push_right<I: Integer>(
 
 /// Adds a number as it is.
 pub(crate) fn push_number<I: Integer>(out: &mut Vec<u8>, number: I) -> Result<(), AllocError>
-    ensures { OnOk result (out.new.items ≡ out.old.items ++ I.text number) }
+    ensures { OnOk result (Adds out.old out.new (I.text number)) }
 {
     let mut buffer = itoa::Buffer::new();
     out.extend_from_slice(buffer.format(number).as_bytes())
 }
 
 fn push_spaces(out: &mut Vec<u8>, count: usize) -> Result<(), AllocError>
-    ensures { OnOk result (out.new.items ≡ out.old.items ++ replicate count 32) }
+    ensures { OnOk result (Adds out.old out.new (replicate count 32)) }
 {
     for _ in 0..count {
         out.push(b' ')?;

@@ -1,5 +1,5 @@
 //! Laws of the definitions, each the contract of a function that does nothing.
-ghost use Rattle.report.specs.Laws.{ArrivalChangesNoReport};
+ghost use Rattle.report.specs.Laws.{ArrivalChangesNoReport, ReportIsItsParts};
 ghost use Rattle.report.specs.Report.{IsReport};
 ghost use Rattle.std.specs.Prelude.{◌≡◌, ℕ, List};
 
@@ -27,3 +27,9 @@ pub fn arrival_changes_no_report()
     arrival_changes_no_game();
     arrival_changes_nothing()
 }
+
+/// The report of a game, whose rounds differ, is its header, the text of each of its rounds, the unread
+/// lines and the end, one after the other.
+pub fn report_is_its_parts()
+    ensures { ReportIsItsParts }
+{}

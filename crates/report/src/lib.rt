@@ -16,5 +16,5 @@ mod line;
 mod statement;
 mod text;
 
-pub use laws::{arrival_changes_no_report, one_report, some_report};
+pub use laws::{arrival_changes_no_report, one_report, report_is_its_parts, some_report};
 pub use text::{refusal_text, report, round_text};

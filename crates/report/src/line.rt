@@ -1,50 +1,182 @@
-ghost use Rattle.std.specs.Prelude.{◌≡◌, ◌++◌, OnOk, codes, decimal};
-ghost use Rattle.history.specs.Event.{order_kept};
-ghost use Rattle.history.specs.declared.event.Event.TheVariants.{Left, Passes, Revenue, Ruled, Sold};
-ghost use Rattle.order_grammar.specs.Print.{spelling_of};
-ghost use Rattle.report.specs.Line.{event_line, event_text, name_of, party_text, ruling_text};
+ghost use Rattle.std.specs.Prelude.{◌≡◌, OnOk};
+ghost use Rattle.report.specs.Column.{Adds};
+ghost use Rattle.report.specs.Line.{event_line, field_text, field_texts, line_of, line_of_fields, line_of_seat, name_of, private_line, ruled_line};
 
 use crate::column::push_number;
-use history::{Event, KeptOrder, Party, Ruling};
+use history::{Event, Holder, KeptOrder, Ruling};
 use order_grammar::{print_order, print_round};
 use sheets::Sheets;
 use std::alloc::AllocError;
-use tables::{Amount, Private, Seat};
+use tables::{Amount, Private, Round, Seat};
+
+/// A field of a line of the report.
+#[derive(Clone, Copy)]
+pub(crate) enum Field<'a> {
+    /// A word or a code.
+    Word(&'a str),
+    /// The name of a seat's player.
+    Name(Seat),
+    /// A player's name or a company's code.
+    Holds(Holder),
+    /// A number.
+    Number(u32),
+    /// A round.
+    OfRound(Round),
+    /// The spelling of an order.
+    Spelt(&'a KeptOrder),
+}
 
 /// Adds an event as its line.
-pub(crate) fn push_event(
-    out: &mut Vec<u8>,
-    sheets: &Sheets,
-    event: &Event,
-) -> Result<(), AllocError>
-    ensures { OnOk result (out.new.items ≡ out.old.items ++ event_line sheets.now event.now) }
+pub(crate) fn push_event(out: &mut Vec<u8>, sheets: &Sheets, event: &Event) -> Result<(), AllocError>
+    ensures { OnOk result (Adds out.old out.new (event_line sheets.now event.now)) }
 {
     match event {
-        Event::Round(round) => {
-            out.extend_from_slice(b"ROUND ")?;
-            print_round(out, round)?;
+        Event::Round(round) => tell(out, sheets, "ROUND", &[Field::OfRound(*round)]),
+        Event::Ruled { seat, line, ruling } => push_ruled(out, sheets, *seat, *line, ruling),
+        Event::Passes(seat) => tell_of(out, sheets, *seat, &[Field::Word("PASSES")]),
+        Event::Left { seat, lines } => {
+            tell(
+                out,
+                sheets,
+                "LEFT",
+                &[Field::Name(*seat), Field::Number(*lines)],
+            )
         }
-        Event::Ruled { seat, line, ruling } => push_ruled(out, sheets, *seat, *line, ruling)?,
-        Event::Passes(seat) => push_passes(out, sheets, *seat)?,
-        Event::Left { seat, lines } => push_left_lines(out, sheets, *seat, *lines)?,
         Event::Sold {
             private,
             seat,
             price,
-        } => push_sold(out, sheets, *private, *seat, *price)?,
-        Event::Price { price } => push_price(out, *price)?,
+        } => { tell_private(out, sheets, "SOLD", *private, Holder::Seat(*seat), *price) }
+        Event::Bids {
+            private,
+            seat,
+            amount,
+        } => { tell_private(out, sheets, "BIDS", *private, Holder::Seat(*seat), *amount) }
+        Event::Price { price } => {
+            tell(
+                out,
+                sheets,
+                "PRICE",
+                &[Field::Word("SV"), Field::Number(*price)],
+            )
+        }
         Event::Revenue {
             private,
             owner,
             amount,
-        } => push_revenue(out, sheets, *private, owner, *amount)?,
-        Event::Broken => out.extend_from_slice(b"BROKEN")?,
+        } => { tell_private(out, sheets, "REVENUE", *private, *owner, *amount) }
+        Event::Given {
+            company,
+            seat,
+            tenths,
+        } => {
+            tell(
+                out,
+                sheets,
+                "GIVEN",
+                &[
+                    Field::Word(company.code()),
+                    Field::Name(*seat),
+                    Field::Number(u32::from(*tenths)),
+                ],
+            )
+        }
+        Event::Par { company, price } => {
+            tell(
+                out,
+                sheets,
+                "PAR",
+                &[Field::Word(company.code()), Field::Number(*price)],
+            )
+        }
+        Event::President { company, seat } => {
+            tell(
+                out,
+                sheets,
+                "PRESIDENT",
+                &[Field::Word(company.code()), Field::Name(*seat)],
+            )
+        }
+        Event::Broken => tell(out, sheets, "BROKEN", &[]),
+    }
+}
+
+/// Adds a line that begins with a word.
+fn tell(out: &mut Vec<u8>, sheets: &Sheets, word: &str, fields: &[Field]) -> Result<(), AllocError>
+    ensures { OnOk result (Adds out.old out.new (line_of word.now (field_texts sheets.now fields.now))) }
+{
+    push_line(out, sheets, &Field::Word(word), fields)
+}
+
+/// Adds a line that begins with the name of a seat's player.
+fn tell_of(
+    out: &mut Vec<u8>,
+    sheets: &Sheets,
+    seat: Seat,
+    fields: &[Field],
+) -> Result<(), AllocError>
+    ensures { OnOk result (Adds out.old out.new (line_of_seat sheets.now seat fields.now)) }
+{
+    push_line(out, sheets, &Field::Name(seat), fields)
+}
+
+/// Adds a line of a private, a holder and a sum of money.
+fn tell_private(
+    out: &mut Vec<u8>,
+    sheets: &Sheets,
+    word: &str,
+    private: Private,
+    holder: Holder,
+    amount: Amount,
+) -> Result<(), AllocError>
+    ensures { OnOk result (Adds out.old out.new (private_line sheets.now word.now private holder amount)) }
+{
+    tell(
+        out,
+        sheets,
+        word,
+        &[
+            Field::Word(private.code()),
+            Field::Holds(holder),
+            Field::Number(amount),
+        ],
+    )
+}
+
+/// Adds a line of these fields, parted by single spaces, with its LF.
+fn push_line(
+    out: &mut Vec<u8>,
+    sheets: &Sheets,
+    first: &Field,
+    fields: &[Field],
+) -> Result<(), AllocError>
+    ensures { OnOk result (Adds out.old out.new (line_of_fields sheets.now first.now fields.now)) }
+{
+    push_field(out, sheets, first)?;
+    for field in fields {
+        out.push(b' ')?;
+        push_field(out, sheets, field)?;
     }
     out.push(b'\n')?;
     Ok(())
 }
 
-/// Adds what became of a line.
+/// Adds a field.
+fn push_field(out: &mut Vec<u8>, sheets: &Sheets, field: &Field) -> Result<(), AllocError>
+    ensures { OnOk result (Adds out.old out.new (field_text sheets.now field.now)) }
+{
+    match field {
+        Field::Word(word) => out.extend_from_slice(word.as_bytes()),
+        Field::Name(seat) => push_name(out, sheets, *seat),
+        Field::Holds(Holder::Seat(seat)) => push_name(out, sheets, *seat),
+        Field::Holds(Holder::Company(company)) => out.extend_from_slice(company.code().as_bytes()),
+        Field::Number(number) => push_number(out, *number),
+        Field::OfRound(round) => print_round(out, round),
+        Field::Spelt(order) => print_order(out, &order.order()),
+    }
+}
+
+/// Adds what became of a line of a seat's sheet.
 fn push_ruled(
     out: &mut Vec<u8>,
     sheets: &Sheets,
@@ -52,84 +184,46 @@ fn push_ruled(
     line: u32,
     ruling: &Ruling,
 ) -> Result<(), AllocError>
-    ensures { OnOk result (out.new.items ≡ out.old.items ++ event_text sheets.now (Ruled seat line ruling.now)) }
+    ensures { OnOk result (Adds out.old out.new (ruled_line sheets.now seat line ruling.now)) }
 {
-    push_name(out, sheets, seat)?;
-    out.push(b' ')?;
-    push_number(out, line)?;
-    push_ruling(out, ruling)
-}
-
-/// Adds that a seat passes.
-fn push_passes(out: &mut Vec<u8>, sheets: &Sheets, seat: Seat) -> Result<(), AllocError>
-    ensures { OnOk result (out.new.items ≡ out.old.items ++ event_text sheets.now (Passes seat)) }
-{
-    push_name(out, sheets, seat)?;
-    out.extend_from_slice(b" PASSES")
-}
-
-/// Adds how many lines of a seat were not taken up.
-fn push_left_lines(
-    out: &mut Vec<u8>,
-    sheets: &Sheets,
-    seat: Seat,
-    lines: u32,
-) -> Result<(), AllocError>
-    ensures { OnOk result (out.new.items ≡ out.old.items ++ event_text sheets.now (Left seat lines)) }
-{
-    out.extend_from_slice(b"LEFT ")?;
-    push_name(out, sheets, seat)?;
-    out.push(b' ')?;
-    push_number(out, lines)
-}
-
-/// Adds who bought a private, and its price.
-fn push_sold(
-    out: &mut Vec<u8>,
-    sheets: &Sheets,
-    private: Private,
-    seat: Seat,
-    price: Amount,
-) -> Result<(), AllocError>
-    ensures { OnOk result (out.new.items ≡ out.old.items ++ event_text sheets.now (Sold private seat price)) }
-{
-    out.extend_from_slice(b"SOLD ")?;
-    out.extend_from_slice(private.code().as_bytes())?;
-    out.push(b' ')?;
-    push_name(out, sheets, seat)?;
-    out.push(b' ')?;
-    push_number(out, price)
-}
-
-/// Adds the new price of the Schuylkill Valley.
-fn push_price(out: &mut Vec<u8>, price: Amount) -> Result<(), AllocError>
-    ensures { OnOk result (out.new.items ≡ out.old.items ++ codes "PRICE SV " ++ decimal price) }
-{
-    out.extend_from_slice(b"PRICE SV ")?;
-    push_number(out, price)
-}
-
-/// Adds what a private pays, and to whom.
-fn push_revenue(
-    out: &mut Vec<u8>,
-    sheets: &Sheets,
-    private: Private,
-    owner: &Party,
-    amount: Amount,
-) -> Result<(), AllocError>
-    ensures { OnOk result (out.new.items ≡ out.old.items ++ event_text sheets.now (Revenue private owner.now amount)) }
-{
-    out.extend_from_slice(b"REVENUE ")?;
-    out.extend_from_slice(private.code().as_bytes())?;
-    out.push(b' ')?;
-    push_party(out, sheets, owner)?;
-    out.push(b' ')?;
-    push_number(out, amount)
+    match ruling {
+        Ruling::Obeyed(order) => tell_of(
+            out,
+            sheets,
+            seat,
+            &[
+                Field::Number(line),
+                Field::Word("OBEYED"),
+                Field::Spelt(order),
+            ],
+        ),
+        Ruling::Refused(refusal, order) => tell_of(
+            out,
+            sheets,
+            seat,
+            &[
+                Field::Number(line),
+                Field::Word("REFUSED"),
+                Field::Word(refusal.code()),
+                Field::Spelt(order),
+            ],
+        ),
+        Ruling::Faulty(fault) => tell_of(
+            out,
+            sheets,
+            seat,
+            &[
+                Field::Number(line),
+                Field::Word("REFUSED"),
+                Field::Word(fault.code()),
+            ],
+        ),
+    }
 }
 
 /// Adds the name of a seat's player.
 pub(crate) fn push_name(out: &mut Vec<u8>, sheets: &Sheets, seat: Seat) -> Result<(), AllocError>
-    ensures { OnOk result (out.new.items ≡ out.old.items ++ name_of sheets.now seat) }
+    ensures { OnOk result (Adds out.old out.new (name_of sheets.now seat)) }
 {
     out.extend_from_slice(name(sheets, seat))
 }
@@ -139,40 +233,4 @@ pub(crate) fn name<'a>(sheets: &'a Sheets, seat: Seat) -> &'a [u8]
     ensures { result.now ≡ name_of sheets.now seat }
 {
     sheets.name(seat).unwrap_or(&[])
-}
-
-fn push_party(out: &mut Vec<u8>, sheets: &Sheets, party: &Party) -> Result<(), AllocError>
-    ensures { OnOk result (out.new.items ≡ out.old.items ++ party_text sheets.now party.now) }
-{
-    match party {
-        Party::Bank => out.extend_from_slice(b"BANK"),
-        Party::Seat(seat) => push_name(out, sheets, *seat),
-    }
-}
-
-fn push_ruling(out: &mut Vec<u8>, ruling: &Ruling) -> Result<(), AllocError>
-    ensures { OnOk result (out.new.items ≡ out.old.items ++ ruling_text ruling.now) }
-{
-    match ruling {
-        Ruling::Obeyed(order) => {
-            out.extend_from_slice(b" OBEYED ")?;
-            push_order(out, order)
-        }
-        Ruling::Refused(refusal, order) => {
-            out.extend_from_slice(b" REFUSED ")?;
-            out.extend_from_slice(refusal.code().as_bytes())?;
-            out.push(b' ')?;
-            push_order(out, order)
-        }
-        Ruling::Faulty(fault) => {
-            out.extend_from_slice(b" REFUSED ")?;
-            out.extend_from_slice(fault.code().as_bytes())
-        }
-    }
-}
-
-fn push_order(out: &mut Vec<u8>, order: &KeptOrder) -> Result<(), AllocError>
-    ensures { OnOk result (out.new.items ≡ out.old.items ++ spelling_of (order_kept order.now)) }
-{
-    print_order(out, &order.order())
 }

@@ -1,5 +1,6 @@
 ghost use Rattle.std.specs.Prelude.{◌≡◌, ◌++◌, OnOk, length};
-ghost use Rattle.report.specs.Statement.{bank_line, code_owned, codes_owned, counted, holdings, is_seat, player_line, statement};
+ghost use Rattle.report.specs.Column.{Adds};
+ghost use Rattle.report.specs.Statement.{bank_line, code_owned, codes_owned, counted, holdings, is_seat, player_line_at, statement_at};
 ghost use Rattle.history.specs.LookBack.{owner_of};
 ghost use Rattle.sheets.specs.File.{players_of};
 
@@ -28,7 +29,7 @@ pub(crate) fn push_statement(
     past: &Past,
 ) -> Result<(), AllocError>
     requires { past.now.seats ≡ length (players_of sheets.now) }
-    ensures { OnOk result (out.new.items ≡ out.old.items ++ statement sheets.now past.now.seats past.now.events.now) }
+    ensures { OnOk result (Adds out.old out.new (statement_at sheets.now past.now)) }
 {
     for seat in 0..sheets.seats() {
         push_player(out, sheets, past, Seat(seat as u8))?;
@@ -39,7 +40,7 @@ pub(crate) fn push_statement(
 /// Adds the bank's line.
 #[tactic(auto, unfolding(crate::specs::Statement::bank_line))]
 fn push_bank(out: &mut Vec<u8>, past: &Past) -> Result<(), AllocError>
-    ensures { OnOk result (out.new.items ≡ out.old.items ++ bank_line past.now.seats past.now.events.now) }
+    ensures { OnOk result (Adds out.old out.new (bank_line past.now.seats past.now.events.now)) }
 {
     out.extend_from_slice(b"BANK ")?;
     push_right(out, past.cash(Party::Bank), CASH_WIDTH)?;
@@ -55,7 +56,7 @@ fn push_player(
     past: &Past,
     seat: Seat,
 ) -> Result<(), AllocError>
-    ensures { OnOk result (out.new.items ≡ out.old.items ++ player_line sheets.now past.now.seats past.now.events.now seat) }
+    ensures { OnOk result (Adds out.old out.new (player_line_at sheets.now past.now seat)) }
 {
     out.extend_from_slice(b"PLAYER ")?;
     push_left(out, name(sheets, seat), NAME_WIDTH)?;
@@ -70,7 +71,7 @@ fn push_player(
 /// Adds the tenths of each company, of which nobody holds any before the first stock round.
 #[tactic(auto, unfolding(crate::specs::Statement::holdings))]
 fn push_holdings(out: &mut Vec<u8>) -> Result<(), AllocError>
-    ensures { OnOk result (out.new.items ≡ out.old.items ++ holdings) }
+    ensures { OnOk result (Adds out.old out.new holdings) }
 {
     for _ in Company::ALL {
         push_right(out, 0u32, COUNT_WIDTH)?;
@@ -81,7 +82,7 @@ fn push_holdings(out: &mut Vec<u8>) -> Result<(), AllocError>
 /// Adds the codes of a seat's privates, each after a space.
 #[tactic(auto, unfolding(crate::specs::Statement::codes_owned))]
 fn push_privates(out: &mut Vec<u8>, past: &Past, seat: Seat) -> Result<(), AllocError>
-    ensures { OnOk result (out.new.items ≡ out.old.items ++ codes_owned past.now.events.now seat) }
+    ensures { OnOk result (Adds out.old out.new (codes_owned past.now.events.now seat)) }
 {
     for private in &Private::ALL {
         push_private(out, past, seat, *private)?;
@@ -96,7 +97,7 @@ fn push_private(
     seat: Seat,
     private: Private,
 ) -> Result<(), AllocError>
-    ensures { OnOk result (out.new.items ≡ out.old.items ++ code_owned past.now.events.now seat private) }
+    ensures { OnOk result (Adds out.old out.new (code_owned past.now.events.now seat private)) }
 {
     if owns(past, seat, private) {
         out.push(b' ')?;

@@ -1,7 +1,6 @@
-ghost use Rattle.std.specs.Prelude.{◌≡◌, ◌∷◌, ◌++◌, [], ◌+◌, Bool, ◌≤◌, codes, IfOk, OnOk, length, take};
-ghost use Rattle.order_grammar.specs.Print.{text_of_round};
-ghost use Rattle.report.specs.Report.{begins_round, end_text, ends_round as ends_a_round, header, name_owing, owing, refusal_line, report_of, round_text_of, rounds_text, unread_lines};
-ghost use Rattle.report.specs.Statement.{statement};
+ghost use Rattle.std.specs.Prelude.{◌≡◌, ◌≤◌, IfOk, OnOk, length};
+ghost use Rattle.report.specs.Column.{Adds};
+ghost use Rattle.report.specs.Report.{IsLengthOfRound, awaiting_text, end_text, ends_round as ends_a_round, header, is_round as is_the_round, name_owing, refusal_line, report_of, round_text_of, rounds_text_of, text_between, unread_lines};
 ghost use Rattle.sheets.specs.File.{unread_of};
 
 use crate::column::push_number;
@@ -36,16 +35,14 @@ pub fn round_text(alloc: Global, game: &Game, round: Round) -> Result<Vec<u8>, A
     let mut out = Vec::new(alloc);
     let history = game.history();
     let events = history.events();
-    let mut begun = false;
-    for (i, event) in events.iter().enumerate() {
-        begun = begun || begins(event, &round);
-        if begun {
-            push_event(&mut out, game.sheets(), event)?;
-            if ends_round(&events[i + 1..]) {
-                push_statement_after(&mut out, game, i + 1)?;
-                return Ok(out);
-            }
+    let mut begun = 0;
+    while begun < events.len() {
+        let end = begun + length_of_round(&events[begun..]);
+        if is_round(&events[begun..end], &round) {
+            push_round(&mut out, game, begun, end)?;
+            return Ok(out);
         }
+        begun = end;
     }
     Ok(out)
 }
@@ -64,7 +61,7 @@ pub fn report(alloc: Global, game: &Game) -> Result<Vec<u8>, AllocError>
 
 #[tactic(auto, unfolding(crate::specs::Report::header))]
 fn push_header(out: &mut Vec<u8>, sheets: &Sheets) -> Result<(), AllocError>
-    ensures { OnOk result (out.new.items ≡ out.old.items ++ header sheets.now) }
+    ensures { OnOk result (Adds out.old out.new (header sheets.now)) }
 {
     out.extend_from_slice(HEAD)?;
     for seat in 0..sheets.seats() {
@@ -75,42 +72,61 @@ fn push_header(out: &mut Vec<u8>, sheets: &Sheets) -> Result<(), AllocError>
     Ok(())
 }
 
-/// Adds the lines of all events, and after each round its statement.
+/// Adds the text of each round.
 fn push_rounds(out: &mut Vec<u8>, game: &Game) -> Result<(), AllocError>
-    ensures { OnOk result (out.new.items ≡ out.old.items ++ rounds_text game.now.file game.now.game.seats [] game.now.game.events) }
+    ensures { OnOk result (Adds out.old out.new (rounds_text_of game.now)) }
 {
     let history = game.history();
     let events = history.events();
-    for (i, event) in events.iter().enumerate() {
-        push_event(out, game.sheets(), event)?;
-        if ends_round(&events[i + 1..]) {
-            push_statement_after(out, game, i + 1)?;
-        }
+    let mut begun = 0;
+    while begun < events.len() {
+        let end = begun + length_of_round(&events[begun..]);
+        push_round(out, game, begun, end)?;
+        begun = end;
     }
     Ok(())
 }
 
-/// Adds the statement as it stood after the first events.
-fn push_statement_after(out: &mut Vec<u8>, game: &Game, count: usize) -> Result<(), AllocError>
-    requires { count ≤ length game.now.game.events }
-    ensures { OnOk result (out.new.items ≡ out.old.items ++ statement game.now.file game.now.game.seats (take count game.now.game.events)) }
+/// Adds the text of the round whose events stand from `begun` up to `end`: their lines, and the
+/// statement after them.
+fn push_round(out: &mut Vec<u8>, game: &Game, begun: usize, end: usize) -> Result<(), AllocError>
+    requires ordered { begun ≤ end }
+    requires within { end ≤ length game.now.game.events }
+    ensures { OnOk result (Adds out.old out.new (text_between game.now begun end)) }
 {
     let history = game.history();
     let events = history.events();
+    for event in &events[begun..end] {
+        push_event(out, game.sheets(), event)?;
+    }
     let past = Past {
         seats: history.seats(),
-        events: &events[..count],
+        events: &events[..end],
     };
     push_statement(out, game.sheets(), &past)
 }
 
-/// Whether the event begins this round.
-fn begins(event: &Event, round: &Round) -> bool
-    ensures { result ≡ begins_round round.now event.now }
+/// How many events the first of these rounds has.
+fn length_of_round(events: &[Event]) -> usize
+    requires { 1 ≤ length events.now }
+    ensures some { 1 ≤ result }
+    ensures within { result ≤ length events.now }
+    ensures first { IsLengthOfRound events.now result }
 {
-    match event {
-        Event::Round(other) => *other == *round,
-        _ => false,
+    let mut length = 1;
+    while !ends_round(&events[length..]) {
+        length += 1;
+    }
+    length
+}
+
+/// Whether these are the events of this round.
+fn is_round(events: &[Event], round: &Round) -> bool
+    ensures { result ≡ is_the_round round.now events.now }
+{
+    match events {
+        [] => false,
+        [event, ..] => event.round().is_some_and(|begun| begun == *round),
     }
 }
 
@@ -118,11 +134,11 @@ fn begins(event: &Event, round: &Round) -> bool
 fn ends_round(later: &[Event]) -> bool
     ensures { result ≡ ends_a_round later.now }
 {
-    matches!(later, [] | [Event::Round(_), ..])
+    later.first().is_none_or(|event| event.round().is_some())
 }
 
 fn push_unread(out: &mut Vec<u8>, unread: &[Fault]) -> Result<(), AllocError>
-    ensures { OnOk result (out.new.items ≡ out.old.items ++ unread_lines 0 unread.now) }
+    ensures { OnOk result (Adds out.old out.new (unread_lines 0 unread.now)) }
 {
     for (i, fault) in unread.iter().enumerate() {
         out.extend_from_slice(b"UNREAD ")?;
@@ -135,18 +151,16 @@ fn push_unread(out: &mut Vec<u8>, unread: &[Fault]) -> Result<(), AllocError>
 }
 
 fn push_end(out: &mut Vec<u8>, game: &Game) -> Result<(), AllocError>
-    ensures { OnOk result (out.new.items ≡ out.old.items ++ end_text game.now.file game.now.end) }
+    ensures { OnOk result (Adds out.old out.new (end_text game.now.file game.now.end)) }
 {
-    match game.outcome() {
-        End::Awaiting(round) => push_awaiting(out, game.sheets(), &round),
-        End::Bank => out.extend_from_slice(b"END BANK\n"),
-    }
+    let End::Awaiting(round) = game.outcome();
+    push_awaiting(out, game.sheets(), &round)
 }
 
 /// Adds the line of the round that can't be played: the names of those who owe a sheet for it.
 #[tactic(auto, unfolding(crate::specs::Report::owing))]
 fn push_awaiting(out: &mut Vec<u8>, sheets: &Sheets, round: &Round) -> Result<(), AllocError>
-    ensures { OnOk result (out.new.items ≡ out.old.items ++ codes "AWAITING " ++ text_of_round round.now ++ owing sheets.now round.now ++ 10 ∷ []) }
+    ensures { OnOk result (Adds out.old out.new (awaiting_text sheets.now round.now)) }
 {
     out.extend_from_slice(b"AWAITING ")?;
     print_round(out, round)?;
@@ -164,7 +178,7 @@ fn push_owing(
     round: &Round,
     seat: Seat,
 ) -> Result<(), AllocError>
-    ensures { OnOk result (out.new.items ≡ out.old.items ++ name_owing sheets.now round.now seat.0) }
+    ensures { OnOk result (Adds out.old out.new (name_owing sheets.now round.now seat.0)) }
 {
     if sheets.sheet(seat, round).is_none() {
         out.push(b' ')?;
