@@ -1,0 +1,116 @@
+use order_grammar::{LINE_MOST, Order, print_line, print_order, print_round, read_line};
+use std::alloc::{AllocError, Global};
+use std::test::Fail;
+use tables::{Private, Round};
+
+/// The spelling of a line's order, or the code of its fault.
+fn answer(alloc: Global, line: &[u8]) -> Result<Vec<u8>, AllocError> {
+    match read_line(line) {
+        Ok(read) => print_line(alloc, &read.order),
+        Err(fault) => Vec::from_slice(alloc, fault.code().as_bytes()),
+    }
+}
+
+/// Lines, each with the spelling of its order or the code of its fault.
+const LINES: [(&str, &str); 52] = [
+    ("", ""),
+    ("     ", ""),
+    ("# a line of only a comment", ""),
+    ("   # \t and what is in it", ""),
+    ("GAME 1 2", "GAME 1 2"),
+    ("game 1 2", "GAME 1 2"),
+    ("  GAME   1   2  ", "GAME 1 2"),
+    ("GAME 007 0", "GAME 7 0"),
+    ("GAME 99999 0000000000000000000099999", "GAME 99999 99999"),
+    ("GAME 1 99999", "GAME 1 99999"),
+    ("GAME 1 100000", "G5"),
+    ("GAME 100000 1", "G5"),
+    ("GAME 1 99999999999999999999999999", "G5"),
+    ("GAME X 100000", "G4"),
+    ("GAME 100000 X", "G4"),
+    ("GAME 1", "G4"),
+    ("GAME 1 2 3", "G4"),
+    ("GAME 1 -2", "G4"),
+    ("PLAYERS Ann Bob Cy", "PLAYERS ANN BOB CY"),
+    ("players a b2 c d", "PLAYERS A B2 C D"),
+    ("PLAYERS A B C D E", "PLAYERS A B C D E"),
+    ("PLAYERS A B C D E F # six", "PLAYERS A B C D E F"),
+    ("PLAYERS A B C D E F G", "G4"),
+    ("PLAYERS A B", "G4"),
+    ("PLAYERS A B LONGNAME", "PLAYERS A B LONGNAME"),
+    ("PLAYERS A B LONGNAMES", "G4"),
+    ("PLAYERS A B 2C", "G4"),
+    ("PLAYERS A B C_D", "G4"),
+    ("SHEET Ann pr1", "SHEET ANN PR1"),
+    ("SHEET ann PR99999", "SHEET ANN PR99999"),
+    ("SHEET Ann PR0", "G4"),
+    ("SHEET Ann PR01", "G4"),
+    ("SHEET Ann PR", "G4"),
+    ("SHEET Ann SR1", "G4"),
+    ("SHEET Ann PR100000", "G5"),
+    ("SHEET Ann", "G4"),
+    ("TURN", "TURN"),
+    ("turn#1", "TURN"),
+    ("TURN 1", "G4"),
+    ("BUY SV", "BUY SV"),
+    ("Buy cs", "BUY CS"),
+    ("BUY dH", "BUY DH"),
+    ("BUY MH#", "BUY MH"),
+    ("BUY CA", "G4"),
+    ("BUY BOP", "G4"),
+    ("BUY#SV", "G4"),
+    ("BUY", "G4"),
+    ("LIMIT CS 60", "G3"),
+    ("TURNS", "G3"),
+    ("BUY\tSV", "G2"),
+    ("TURN\r", "G2"),
+    ("LIMIT \u{7F}", "G2"),
+];
+
+#[test]
+fn lines_are_read_and_printed(rt: HostRuntime) -> Result<(), Fail> {
+    for (line, want) in LINES {
+        let text = answer(rt.alloc(), line.as_bytes())?;
+        assert_eq!(rt; text.as_slice(), want.as_bytes(), "at {line}");
+    }
+    Ok(())
+}
+
+#[test]
+fn a_line_has_at_most_1024_bytes(rt: HostRuntime) -> Result<(), Fail> {
+    let mut line = Vec::from_slice(rt.alloc(), b"TURN #")?;
+    for _ in line.len()..LINE_MOST {
+        line.push(b'x')?;
+    }
+    let text = answer(rt.alloc(), line.as_slice())?;
+    assert_eq!(rt; text.as_slice(), b"TURN".as_slice());
+    line.push(b'x')?;
+    let text = answer(rt.alloc(), line.as_slice())?;
+    assert_eq!(rt; text.as_slice(), b"G1".as_slice());
+    Ok(())
+}
+
+#[test]
+fn words_stand_where_they_are_written(rt: HostRuntime) -> Result<(), Fail> {
+    let line = b"  Buy  sV # a comment".as_slice();
+    let read = read_line(line)?;
+    let words = read.words.as_slice();
+    assert_eq!(rt; words.len(), 2);
+    assert_eq!(rt; words[0].text, b"Buy".as_slice());
+    assert_eq!(rt; (words[0].span.start, words[0].span.end), (2, 5));
+    assert_eq!(rt; words[1].text, b"sV".as_slice());
+    assert_eq!(rt; (words[1].span.start, words[1].span.end), (7, 9));
+    let again = read.order.duplicate();
+    assert_eq!(rt; again, Order::BuyPrivate(Private::SchuylkillValley));
+    Ok(())
+}
+
+#[test]
+fn texts_grow_at_the_end(rt: HostRuntime) -> Result<(), Fail> {
+    let mut text = Vec::from_slice(rt.alloc(), b"at ")?;
+    print_round(&mut text, &Round::Operating { set: 12, number: 3 })?;
+    text.push(b' ')?;
+    print_order(&mut text, &Order::BuyPrivate(Private::DelawareHudson))?;
+    assert_eq!(rt; text.as_slice(), b"at OR12.3 BUY DH".as_slice());
+    Ok(())
+}
