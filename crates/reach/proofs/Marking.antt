@@ -66,6 +66,18 @@ module _ (position : Position) (company : Company) where
         closed = λ same taken is can_take. subst (λ (s : Step). IsMarked old (left_at s)) (sym is) (not_false (get_or old n false) (sym added_is ∙ same));
       }
 
+  -- a step that leads to what is marked
+  pub follows_marked : (step : Step) (marks : List Bool) → IsMarked marks (left_at step) → Follows position company (λ taken. taken ≡ step) marks marks false
+  follows_marked step marks marked_there =
+      record {
+        length_kept = refl;
+        kept = λ spot is. is;
+        arrive = λ arrive. arrive;
+        more = λ more. cc;
+        same = λ same. refl;
+        closed = λ same taken is can. subst (λ (s : Step). IsMarked marks (left_at s)) (sym is) marked_there;
+      }
+
   -- what is marked grows, or stays
   grown : (P : Step → Type 0) (old new : List Bool) (added : Bool) → Follows position company P old new added → marked old ≤ marked new
   grown P old new true follows = omega (arith, follows.more refl)

@@ -112,7 +112,11 @@ fn follow<N: Network>(network: &N, company: Company, step: Step, marks: &mut Mar
     ensures { let position = N.position network.now in
         Follows position company (λ (taken : Step). taken ≡ step) marks.old.marks marks.new.marks result }
 {
-    can_enter(network, company, marks, step.entered()) && marks.mark(step.left())
+    let left = step.left();
+    if marks.has(left) {
+        return false;
+    }
+    can_enter(network, company, marks, step.entered()) && marks.mark(left)
 }
 
 /// Follows a link in both directions, and says whether that marks anything new.
