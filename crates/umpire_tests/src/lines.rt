@@ -12,7 +12,7 @@ fn answer(alloc: Global, line: &[u8]) -> Result<Vec<u8>, AllocError> {
 }
 
 /// Lines, each with the spelling of its order or the code of its fault.
-const LINES: [(&str, &str); 52] = [
+const LINES: [(&str, &str); 66] = [
     ("", ""),
     ("     ", ""),
     ("# a line of only a comment", ""),
@@ -56,11 +56,25 @@ const LINES: [(&str, &str); 52] = [
     ("Buy cs", "BUY CS"),
     ("BUY dH", "BUY DH"),
     ("BUY MH#", "BUY MH"),
-    ("BUY CA", "G4"),
-    ("BUY BOP", "G4"),
+    ("BUY ca", "BUY CA"),
+    ("BUY BOP", "BUY BOP"),
+    ("BUY BO", "G4"),
     ("BUY#SV", "G4"),
     ("BUY", "G4"),
-    ("LIMIT CS 60", "G3"),
+    ("bid cs 0045", "BID CS 45"),
+    ("BID CS", "G4"),
+    ("BID CS X", "G4"),
+    ("BID CS 45 50", "G4"),
+    ("BID CS 100000", "G5"),
+    ("LIMIT CS 60", "LIMIT CS 60"),
+    ("limit bop 99999", "LIMIT BOP 99999"),
+    ("LIMIT BO 60", "G4"),
+    ("LIMITS CS 60", "G3"),
+    ("par bo 67", "PAR BO 67"),
+    ("PAR PRR 0", "PAR PRR 0"),
+    ("PAR NYNH 99999", "PAR NYNH 99999"),
+    ("PAR ERIE 100000", "G5"),
+    ("PAR BOP 67", "G4"),
     ("TURNS", "G3"),
     ("BUY\tSV", "G2"),
     ("TURN\r", "G2"),
