@@ -106,14 +106,14 @@ fn a_line_has_at_most_1024_bytes(rt: HostRuntime) -> Result<(), Fail> {
 
 #[test]
 fn words_stand_where_they_are_written(rt: HostRuntime) -> Result<(), Fail> {
-    let line = b"  Buy  sV # a comment".as_slice();
-    let read = read_line(line)?;
-    let words = read.words.as_slice();
-    assert_eq!(rt; words.len(), 2);
-    assert_eq!(rt; words[0].text, b"Buy".as_slice());
-    assert_eq!(rt; (words[0].span.start, words[0].span.end), (2, 5));
-    assert_eq!(rt; words[1].text, b"sV".as_slice());
-    assert_eq!(rt; (words[1].span.start, words[1].span.end), (7, 9));
+    let read = read_line(b"  Buy  sV # a comment")?;
+    let mut words = read.words;
+    for (text, start, end) in [(b"Buy".as_slice(), 2, 5), (b"sV", 7, 9)] {
+        let word = words.next().ok_or("a word")?;
+        assert_eq!(rt; word.text, text);
+        assert_eq!(rt; (word.span.start, word.span.end), (start, end));
+    }
+    assert!(rt; words.next().is_none());
     let again = read.order.duplicate();
     assert_eq!(rt; again, Order::BuyPrivate(Private::SchuylkillValley));
     Ok(())
