@@ -5,16 +5,20 @@
 //! reach them. Games whole, each with its report, are data under `games/`, which `./check` plays.
 //!
 //! Reading order: `support` (readers and writers that give and take as they are told), and then a
-//! module for each library: `lines`, `sheets_of_a_file`, `looking_back`, `openings`, `sequence`,
-//! `texts`, `watching`, `running`.
+//! module for each library: `chart`, `lines`, `sheets_of_a_file`, `looking_back`, `paying`, `openings`,
+//! `sequence`, `texts`, `watching`, `running`.
 #![tactic(auto)]
 
+#[cfg(test)]
+mod chart;
 #[cfg(test)]
 mod lines;
 #[cfg(test)]
 mod looking_back;
 #[cfg(test)]
 mod openings;
+#[cfg(test)]
+mod paying;
 #[cfg(test)]
 mod running;
 #[cfg(test)]

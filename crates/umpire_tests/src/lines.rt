@@ -12,7 +12,7 @@ fn answer(alloc: Global, line: &[u8]) -> Result<Vec<u8>, AllocError> {
 }
 
 /// Lines, each with the spelling of its order or the code of its fault.
-const LINES: [(&str, &str); 52] = [
+const LINES: [(&str, &str); 66] = [
     ("", ""),
     ("     ", ""),
     ("# a line of only a comment", ""),
@@ -56,11 +56,25 @@ const LINES: [(&str, &str); 52] = [
     ("Buy cs", "BUY CS"),
     ("BUY dH", "BUY DH"),
     ("BUY MH#", "BUY MH"),
-    ("BUY CA", "G4"),
-    ("BUY BOP", "G4"),
+    ("BUY ca", "BUY CA"),
+    ("BUY BOP", "BUY BOP"),
+    ("BUY BO", "G4"),
     ("BUY#SV", "G4"),
     ("BUY", "G4"),
-    ("LIMIT CS 60", "G3"),
+    ("bid cs 0045", "BID CS 45"),
+    ("BID CS", "G4"),
+    ("BID CS X", "G4"),
+    ("BID CS 45 50", "G4"),
+    ("BID CS 100000", "G5"),
+    ("LIMIT CS 60", "LIMIT CS 60"),
+    ("limit bop 99999", "LIMIT BOP 99999"),
+    ("LIMIT BO 60", "G4"),
+    ("LIMITS CS 60", "G3"),
+    ("par bo 67", "PAR BO 67"),
+    ("PAR PRR 0", "PAR PRR 0"),
+    ("PAR NYNH 99999", "PAR NYNH 99999"),
+    ("PAR ERIE 100000", "G5"),
+    ("PAR BOP 67", "G4"),
     ("TURNS", "G3"),
     ("BUY\tSV", "G2"),
     ("TURN\r", "G2"),
@@ -92,14 +106,14 @@ fn a_line_has_at_most_1024_bytes(rt: HostRuntime) -> Result<(), Fail> {
 
 #[test]
 fn words_stand_where_they_are_written(rt: HostRuntime) -> Result<(), Fail> {
-    let line = b"  Buy  sV # a comment".as_slice();
-    let read = read_line(line)?;
-    let words = read.words.as_slice();
-    assert_eq!(rt; words.len(), 2);
-    assert_eq!(rt; words[0].text, b"Buy".as_slice());
-    assert_eq!(rt; (words[0].span.start, words[0].span.end), (2, 5));
-    assert_eq!(rt; words[1].text, b"sV".as_slice());
-    assert_eq!(rt; (words[1].span.start, words[1].span.end), (7, 9));
+    let read = read_line(b"  Buy  sV # a comment")?;
+    let mut words = read.words;
+    for (text, start, end) in [(b"Buy".as_slice(), 2, 5), (b"sV", 7, 9)] {
+        let word = words.next().ok_or("a word")?;
+        assert_eq!(rt; word.text, text);
+        assert_eq!(rt; (word.span.start, word.span.end), (start, end));
+    }
+    assert!(rt; words.next().is_none());
     let again = read.order.duplicate();
     assert_eq!(rt; again, Order::BuyPrivate(Private::SchuylkillValley));
     Ok(())

@@ -1,4 +1,5 @@
-use history::{Event, History, KeptOrder, Party, Ruling};
+use history::{Event, History, Holder, Party, Ruling};
+use order_grammar::Order;
 use std::alloc::AllocError;
 use std::process::Abort;
 use tables::{Private, Round, Seat};
@@ -11,7 +12,7 @@ const DH: Private = Private::DelawareHudson;
 
 /// The player of a seat, who pays and is paid.
 fn player(seat: u8) -> Party {
-    Party::Seat(Seat(seat))
+    Party::of_seat(Seat(seat))
 }
 
 fn sold(private: Private, seat: u8, price: u32) -> Event {
@@ -25,17 +26,25 @@ fn sold(private: Private, seat: u8, price: u32) -> Event {
 fn paid(private: Private, seat: u8, amount: u32) -> Event {
     Event::Revenue {
         private,
-        owner: player(seat),
+        owner: Holder::Seat(Seat(seat)),
         amount,
     }
 }
 
-fn bought(seat: u8, private: Private) -> Event {
-    Event::Ruled {
+/// Adds the ruling that a seat's order to buy a private was obeyed.
+fn add_bought(
+    rt: &impl Abort,
+    history: &mut History,
+    seat: u8,
+    private: Private,
+) -> Result<(), AllocError> {
+    let kept = history.keep(&Order::BuyPrivate(private))?;
+    let event = Event::Ruled {
         seat: Seat(seat),
         line: 1,
-        ruling: Ruling::Obeyed(KeptOrder::BuyPrivate(private)),
-    }
+        ruling: Ruling::Obeyed(kept),
+    };
+    add(rt, history, event)
 }
 
 /// Adds an event, for which there is room.
@@ -86,13 +95,13 @@ fn knows_owners_price_and_priority(rt: HostRuntime) -> Result<(), AllocError> {
     add(&rt, &mut history, Event::Round(Round::Opening(1)))?;
     add(&rt, &mut history, Event::Price { price: 15 })?;
     add(&rt, &mut history, sold(SV, 2, 15))?;
-    add(&rt, &mut history, bought(2, SV))?;
+    add_bought(&rt, &mut history, 2, SV)?;
     assert_eq!(rt; history.sv_price(), 15);
     assert_eq!(rt; history.now().priority().0, 3);
     add(&rt, &mut history, sold(DH, 0, 70))?;
-    add(&rt, &mut history, bought(3, DH))?;
+    add_bought(&rt, &mut history, 3, DH)?;
     add(&rt, &mut history, Event::Price { price: 10 })?;
-    assert!(rt; history.owner(SV) == Some(player(2)));
+    assert!(rt; history.owner(SV) == Some(Holder::Seat(Seat(2))));
     assert!(rt; history.owner(CS).is_none());
     assert!(rt; history.now().cheapest_unsold() == Some(CS));
     assert_eq!(rt; history.sv_price(), 10);
@@ -110,7 +119,7 @@ fn has_room_for_a_million_and_no_more(rt: HostRuntime) -> Result<(), AllocError>
     assert_eq!(rt; history.events().len(), 2);
     assert_eq!(rt; history.cash(player(4)), 440);
     assert_eq!(rt; history.sv_price(), 1_000_000);
-    assert!(rt; history.owner(CS) == Some(player(4)));
+    assert!(rt; history.owner(CS) == Some(Holder::Seat(Seat(4))));
     Ok(())
 }
 

@@ -1,6 +1,7 @@
 use crate::support::FIRST;
-use history::{Event, History, Party, Refusal};
-use privates::{judge, play_opening};
+use history::{Event, History, OpeningRule, Party};
+use order_grammar::Order;
+use privates::{auction, judge, play_opening};
 use sheets::collect;
 use std::test::Fail;
 use tables::{Private, Round, Seat};
@@ -17,7 +18,7 @@ fn plays_one_round(rt: HostRuntime) -> Result<(), Fail> {
             Some(Event::Round(Round::Opening(1)))
         )
     );
-    assert_eq!(rt; played.cash(Party::Seat(Seat(0))), 785);
+    assert_eq!(rt; played.cash(Party::of_seat(Seat(0))), 785);
     assert_eq!(rt; played.now().priority().0, 1);
     Ok(())
 }
@@ -33,13 +34,29 @@ fn judges_by_the_first_rule_broken(rt: HostRuntime) -> Result<(), Fail> {
     })?;
     // Of six players each begins with 400, so that ANN has 380, and CS costs 40.
     for (private, turn_used, broken) in [
-        (Private::SchuylkillValley, true, Some(Refusal::Sold)),
-        (Private::BaltimoreOhio, true, Some(Refusal::NotCheapest)),
-        (Private::ChamplainStLawrence, true, Some(Refusal::TurnUsed)),
+        (Private::SchuylkillValley, true, Some(OpeningRule::Sold)),
+        (Private::BaltimoreOhio, true, Some(OpeningRule::NotCheapest)),
+        (
+            Private::ChamplainStLawrence,
+            true,
+            Some(OpeningRule::TurnUsed),
+        ),
         (Private::ChamplainStLawrence, false, None),
     ] {
-        let found = judge(&history.now(), ann, private, turn_used);
-        assert!(rt; found == broken, "at {private:?}");
+        let order = Order::BuyPrivate(private);
+        let found = judge(&history.now(), ann, &order, turn_used);
+        assert_eq!(rt; found, broken, "at {private:?}");
     }
     Ok(())
+}
+
+#[test]
+fn auctions_by_limits(rt: HostRuntime) {
+    let (bob, cyd) = (Seat(1), Seat(2));
+    let won = auction(&[(bob, 75, 120), (cyd, 80, 100)]);
+    assert_eq!(rt; won, (bob, 105));
+    let tied = auction(&[(bob, 75, 100), (cyd, 80, 100)]);
+    assert_eq!(rt; tied, (cyd, 100));
+    let unlimited = auction(&[(bob, 75, 75), (cyd, 80, 80)]);
+    assert_eq!(rt; unlimited, (cyd, 80));
 }

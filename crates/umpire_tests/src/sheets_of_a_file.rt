@@ -1,21 +1,16 @@
-use order_grammar::{Fault, Line, Order};
+use order_grammar::{Fault, Order};
 use sheets::{FILE_MOST, FileFault, NumberedLine, SHEETS_MOST, Sheet, Sheets, collect};
 use std::alloc::{AllocError, Global};
 use std::test::Fail;
-use tables::{Private, Round, Seat};
+use tables::{Round, Seat};
 
 const FILE: &[u8] =
     b"\n# a game\nGAME 1830 1\r\nplayers Ann Bob cy\nHELLO\nSHEET ann PR1\nTURN\n\nBUY SV\nSHEET BOB pr1\r\nTURN\r\n\r\n  # none\r\nBUY XX\r\nSHEET DAN PR1\nTURN\nSHEET ANN PR1\nBUY DH\r";
 
 /// A line's private, by its code, or its fault; `-` for another order.
 fn code_of(line: &NumberedLine) -> &'static str {
-    match &line.reading {
-        Ok(
-            Line {
-                order: Order::BuyPrivate(private),
-                ..
-            },
-        ) => private.code(),
+    match line.order() {
+        Ok(Order::BuyPrivate(private)) => private.code(),
         Ok(_) => "-",
         Err(fault) => fault.code(),
     }
@@ -128,14 +123,7 @@ fn limits(rt: HostRuntime) -> Result<(), Fail> {
 
 /// Whether a line is the second of its sheet, and buys CS.
 fn is_second(line: &NumberedLine) -> bool {
-    line.number == 2
-        && matches!(
-            &line.reading,
-            Ok(Line {
-                order: Order::BuyPrivate(Private::ChamplainStLawrence),
-                ..
-            })
-        )
+    line.number == 2 && code_of(line) == "CS"
 }
 
 /// Whether the lines after the first, and a duplicate of them, begin with the second.
