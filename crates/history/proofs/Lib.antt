@@ -1,2 +1,5 @@
 pub mod EventAtEnd
+pub mod Words
+pub mod Standing
+pub mod Soundness
 pub mod Cheapest

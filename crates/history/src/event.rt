@@ -1,23 +1,52 @@
 ghost use Rattle.std.specs.Prelude.{◌≡◌};
-ghost use Rattle.history.specs.Event.{buyer_of, payment_of, sale_of, sum_of, sv_price_set};
+ghost use Rattle.history.specs.Event.{bidding_of, office_of, ownership_of, par_set, party_at, payment_of, round_of, square_set, sum_of, sv_price_set, transfer_of};
+ghost use Rattle.history.specs.LookBack.{actor_of};
+ghost use Rattle.history.specs.declared.event.Holder.TheVariants as holder;
+ghost use Rattle.history.specs.declared.event.Party.TheVariants as party;
+ghost use Rattle.tables.specs.Seat.{seat_at};
 
-use crate::ruling::{KeptOrder, Ruling};
-use tables::{Amount, Private, Round, Seat};
+use crate::ruling::Ruling;
+use tables::{Amount, Company, Private, Round, Seat, Square, par_square};
 
 /// The greatest sum of money of an event.
 pub const SUM_MOST: Amount = 1_000_000;
 
-/// Who can hold money.
+/// Who can own a private.
+#[derive(Clone, Copy, Debug, PartialEq, Eq)]
+pub enum Holder {
+    /// The player of a seat.
+    Seat(Seat),
+    /// A share company.
+    Company(Company),
+}
+
+/// Who can pay and be paid.
 #[derive(Clone, Copy, Debug, PartialEq, Eq)]
 pub enum Party {
     /// The bank, whose cash may go under 0.
     Bank,
+    /// A player or a company.
+    Holder(Holder),
+}
+
+impl Party {
     /// The player of a seat.
-    Seat(Seat),
+    pub fn of_seat(seat: Seat) -> Party
+        ensures { result ≡ party_at seat }
+    {
+        Party::Holder(Holder::Seat(seat))
+    }
+
+    /// A share company.
+    pub fn of_company(company: Company) -> Party
+        ensures { result ≡ party.Holder (holder.Company company) }
+    {
+        Party::Holder(Holder::Company(company))
+    }
 }
 
 /// What happened, as one line of the report.
-#[derive(Clone, Copy, Debug, PartialEq, Eq)]
+#[derive(Debug, Drop)]
 pub enum Event {
     /// A round begins.
     Round(Round),
@@ -40,6 +69,13 @@ pub enum Event {
         seat: Seat,
         price: Amount,
     },
+    /// A seat bids on a private. The bid stands until the private is sold, or the seat bids on it
+    /// again.
+    Bids {
+        private: Private,
+        seat: Seat,
+        amount: Amount,
+    },
     /// The price of SV from then on.
     Price {
         price: Amount,
@@ -47,15 +83,31 @@ pub enum Event {
     /// The bank pays a private's revenue to its owner.
     Revenue {
         private: Private,
-        owner: Party,
+        owner: Holder,
         amount: Amount,
+    },
+    /// A company's tenths go from the initial offering to a seat.
+    Given {
+        company: Company,
+        seat: Seat,
+        tenths: u8,
+    },
+    /// A company's par value is set, and its token stands on the square of that par.
+    Par {
+        company: Company,
+        price: Amount,
+    },
+    /// A seat is the president of a company from then on.
+    President {
+        company: Company,
+        seat: Seat,
     },
     /// The bank's cash came to 0 or less.
     Broken,
 }
 
 // An event is small, since a game keeps each one that ever happened.
-const _: () = prove!(size_of::<Event>() <= 16);
+const _: () = prove!(size_of::<Event>() <= 48);
 
 /// Money that an event moves.
 #[derive(Clone, Copy, Debug, PartialEq, Eq)]
@@ -68,13 +120,93 @@ pub struct Payment {
     pub amount: Amount,
 }
 
-/// A private that an event gives to an owner.
+/// What an event says of a private.
 #[derive(Clone, Copy, Debug, PartialEq, Eq)]
-pub struct Sale {
-    /// What is given.
+pub struct Ownership {
+    /// The private.
     pub private: Private,
-    /// Who owns it from then on.
-    pub owner: Party,
+    /// Who owns it from then on; `None` where nobody does.
+    pub owner: Option<Holder>,
+}
+
+/// A bid of a seat.
+#[derive(Clone, Copy, Debug, PartialEq, Eq)]
+pub struct Bid {
+    /// Who bids.
+    pub seat: Seat,
+    /// How many dollars.
+    pub amount: Amount,
+}
+
+impl Default for Bid {
+    ghost is_default = { λ bid. bid ≡ record { seat = seat_at 0; amount = 0 } };
+
+    fn default() -> Bid {
+        Bid {
+            seat: Seat(0),
+            amount: 0,
+        }
+    }
+}
+
+/// What an event says of the bids on a private.
+#[derive(Clone, Copy, Debug, PartialEq, Eq)]
+pub enum Bidding {
+    /// A bid on a private, in place of an older one of that seat.
+    Made(Private, Bid),
+    /// The bids on a private end.
+    Ended(Private),
+}
+
+/// Where tenths of a company lie.
+#[derive(Clone, Copy, Debug, PartialEq, Eq)]
+pub enum Shareholder {
+    /// With the bank, never bought yet.
+    InitialOffering,
+    /// With the bank, sold to it by players.
+    BankPool,
+    /// With a player.
+    Seat(Seat),
+}
+
+/// Tenths of a company that an event moves.
+#[derive(Clone, Copy, Debug, PartialEq, Eq)]
+pub struct Transfer {
+    /// The company.
+    pub company: Company,
+    /// Where they lay.
+    pub from: Shareholder,
+    /// Where they lie from then on.
+    pub to: Shareholder,
+    /// How many tenths of the company.
+    pub tenths: u8,
+}
+
+/// A company's par value that an event sets.
+#[derive(Clone, Copy, Debug, PartialEq, Eq)]
+pub struct ParValue {
+    /// The company.
+    pub company: Company,
+    /// Its par value in dollars.
+    pub price: Amount,
+}
+
+/// A company's square on the stock market that an event sets.
+#[derive(Clone, Copy, Debug, PartialEq, Eq)]
+pub struct Placement {
+    /// The company.
+    pub company: Company,
+    /// The square of its token.
+    pub square: Square,
+}
+
+/// A company's presidency that an event sets.
+#[derive(Clone, Copy, Debug, PartialEq, Eq)]
+pub struct Office {
+    /// The company.
+    pub company: Company,
+    /// Its president.
+    pub president: Seat,
 }
 
 impl Event {
@@ -84,13 +216,13 @@ impl Event {
     {
         match self {
             Event::Sold { seat, price, .. } => Some(Payment {
-                from: Party::Seat(*seat),
+                from: Party::of_seat(*seat),
                 to: Party::Bank,
                 amount: *price,
             }),
             Event::Revenue { owner, amount, .. } => Some(Payment {
                 from: Party::Bank,
-                to: *owner,
+                to: Party::Holder(*owner),
                 amount: *amount,
             }),
             _ => None,
@@ -102,20 +234,102 @@ impl Event {
         ensures { result ≡ sum_of self.now }
     {
         match self {
-            Event::Sold { price, .. } | Event::Price { price } => *price,
-            Event::Revenue { amount, .. } => *amount,
+            Event::Sold { price, .. } | Event::Price { price } | Event::Par { price, .. } => *price,
+            Event::Bids { amount, .. } | Event::Revenue { amount, .. } => *amount,
             _ => 0,
         }
     }
 
-    /// The private that it gives to an owner.
-    pub fn sale(&self) -> Option<Sale>
-        ensures { result ≡ sale_of self.now }
+    /// What it says of a private.
+    pub fn ownership(&self) -> Option<Ownership>
+        ensures { result ≡ ownership_of self.now }
     {
         match self {
-            Event::Sold { private, seat, .. } => Some(Sale {
+            Event::Sold { private, seat, .. } => Some(Ownership {
                 private: *private,
-                owner: Party::Seat(*seat),
+                owner: Some(Holder::Seat(*seat)),
+            }),
+            _ => None,
+        }
+    }
+
+    /// What it says of the bids on a private.
+    pub fn bidding(&self) -> Option<Bidding>
+        ensures { result ≡ bidding_of self.now }
+    {
+        match self {
+            Event::Bids {
+                private,
+                seat,
+                amount,
+            } => {
+                let bid = Bid {
+                    seat: *seat,
+                    amount: *amount,
+                };
+                Some(Bidding::Made(*private, bid))
+            }
+            Event::Sold { private, .. } => Some(Bidding::Ended(*private)),
+            _ => None,
+        }
+    }
+
+    /// The tenths that it moves.
+    pub fn transfer(&self) -> Option<Transfer>
+        ensures { result ≡ transfer_of self.now }
+    {
+        match self {
+            Event::Given {
+                company,
+                seat,
+                tenths,
+            } => Some(Transfer {
+                company: *company,
+                from: Shareholder::InitialOffering,
+                to: Shareholder::Seat(*seat),
+                tenths: *tenths,
+            }),
+            _ => None,
+        }
+    }
+
+    /// The par value that it sets.
+    pub fn par(&self) -> Option<ParValue>
+        ensures { result ≡ par_set self.now }
+    {
+        match self {
+            Event::Par { company, price } => Some(ParValue {
+                company: *company,
+                price: *price,
+            }),
+            _ => None,
+        }
+    }
+
+    /// The square that it sets: that of a par value.
+    pub fn square(&self) -> Option<Placement>
+        ensures { result ≡ square_set self.now }
+    {
+        match self {
+            Event::Par { company, price } => {
+                let square = par_square(*price)?;
+                Some(Placement {
+                    company: *company,
+                    square,
+                })
+            }
+            _ => None,
+        }
+    }
+
+    /// The presidency that it sets.
+    pub fn office(&self) -> Option<Office>
+        ensures { result ≡ office_of self.now }
+    {
+        match self {
+            Event::President { company, seat } => Some(Office {
+                company: *company,
+                president: *seat,
             }),
             _ => None,
         }
@@ -131,16 +345,26 @@ impl Event {
         }
     }
 
-    /// The seat whose own turn bought something in an opening by it.
-    pub fn buyer(&self) -> Option<Seat>
-        ensures { result ≡ buyer_of self.now }
+    /// The round that it begins.
+    pub fn round(&self) -> Option<Round>
+        ensures { result ≡ round_of self.now }
+    {
+        match self {
+            Event::Round(round) => Some(*round),
+            _ => None,
+        }
+    }
+
+    /// The seat that acted in its own turn of an opening round by it.
+    pub fn actor(&self) -> Option<Seat>
+        ensures { result ≡ actor_of self.now }
     {
         match self {
             Event::Ruled {
                 seat,
-                ruling: Ruling::Obeyed(KeptOrder::BuyPrivate(_)),
+                ruling: Ruling::Obeyed(order),
                 ..
-            } => Some(*seat),
+            } if order.is_opening_act() => Some(*seat),
             _ => None,
         }
     }

@@ -1,11 +1,13 @@
 -- The classes of words: which texts may stand at a place of a form, and what each says. A word that
 -- would be such a text if numbers had no greatest value is too large.
-use Rattle.std.specs.Prelude.{ℕ, ◌+◌, ◌*◌, ◌-◌, ◌==◌, Bool, false, nat_le, if◌then◌else◌, List, [], ◌∷◌, codes, take, drop, fold, min, Option, Some, None}
+use Rattle.std.specs.Prelude.{ℕ, ◌+◌, ◌*◌, ◌-◌, ◌==◌, Bool, true, false, nat_le, if◌then◌else◌, List, [], ◌∷◌, codes, take, drop, fold, min, Option, Some, None}
 use Rattle.std.specs.List.{list_all}
 use Rattle.tables.specs.declared.roster.Private as private
 use Rattle.tables.specs.declared.roster.Private.TheVariants as privates
 use Rattle.tables.specs.declared.round.Round.TheVariants.{Opening}
 use Rattle.tables.specs.Roster.{code_of_private}
+use Rattle.order_grammar.specs.Keyword.{text_of_keyword}
+use Rattle.order_grammar.specs.Limits.{number_most}
 use Rattle.order_grammar.specs.Name.{is_name, is_digit}
 use Rattle.order_grammar.specs.Words.{same_word}
 use Rattle.order_grammar.specs.declared.class.Class.{Class}
@@ -24,15 +26,15 @@ are_digits (digit ∷ digits) = list_all is_digit (digit ∷ digits)
 abbrev pub value_of_digits : List ℕ → ℕ
 value_of_digits digits = fold (λ value digit. value * 10 + (digit - 48)) 0 digits
 
--- the value of digits, or 100,000 where it is over 99,999; nothing for other words
+-- the value of digits, or one more than the greatest number where it is over that; nothing for other words
 abbrev pub capped_value : List ℕ → Option ℕ
-capped_value word = if are_digits word then Some (min (value_of_digits word) 100000) else None
+capped_value word = if are_digits word then Some (min (value_of_digits word) (number_most + 1)) else None
 
--- digits of a value up to 99,999, which stands for a value of some kind
+-- digits of a value up to the greatest number, which stands for a value of some kind
 abbrev pub digits_reading : (ℕ → values.Value) → List ℕ → Reading
 digits_reading stands_for digits =
     if are_digits digits
-    then (if nat_le (value_of_digits digits) 99999 then Value (stands_for (value_of_digits digits)) else TooLarge)
+    then (if nat_le (value_of_digits digits) number_most then Value (stands_for (value_of_digits digits)) else TooLarge)
     else Wrong
 
 -- digits, with leading zeros allowed
@@ -66,3 +68,14 @@ class_reading class.Number word = number_reading word
 class_reading class.Name word = if is_name word then Value (value.Name word) else Wrong
 class_reading class.Round word = round_reading word
 class_reading class.Private word = private_among bought_alone word
+class_reading (class.Word keyword) word =
+    if same_word word (text_of_keyword keyword) then Value (value.Word keyword) else Wrong
+
+-- whether a value is of a class
+abbrev pub is_of_class : Class → values.Value → Bool
+is_of_class class.Number (value.Number number) = true
+is_of_class class.Name (value.Name name) = true
+is_of_class class.Round (value.Round round) = true
+is_of_class class.Private (value.Private private) = true
+is_of_class (class.Word keyword) (value.Word other) = same_word (text_of_keyword keyword) (text_of_keyword other)
+is_of_class class other = false

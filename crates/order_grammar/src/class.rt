@@ -10,13 +10,14 @@ ghost use Rattle.order_grammar.specs.Class.{
 };
 ghost use Rattle.order_grammar.specs.Words.{raised};
 
+use crate::keyword::Keyword;
 use crate::name::Name;
 use crate::order::Value;
 use crate::words::is_word;
 use tables::{Private, Round};
 
 /// The greatest number that a line may name.
-pub(crate) const NUMBER_MOST: u32 = 99_999;
+pub const NUMBER_MOST: u32 = 99_999;
 
 /// A class of words: the texts that may stand at one place of a form.
 #[derive(Clone, Copy, Debug, PartialEq, Eq)]
@@ -29,6 +30,8 @@ pub(crate) enum Class {
     Round,
     /// A private that can be bought by its code alone: SV, CS, DH or MH.
     Private,
+    /// This very word.
+    Word(Keyword),
 }
 
 /// What a word is as a text of a class.
@@ -55,11 +58,16 @@ impl Class {
             },
             Class::Round => read_round(word),
             Class::Private => read_private(word),
+            Class::Word(keyword) if is_word(word, keyword.text()) => {
+                Reading::Value(Value::Word(keyword))
+            }
+            Class::Word(_) => Reading::Wrong,
         }
     }
 }
 
-/// The value of a word of digits, or `NUMBER_MOST + 1` where it is over that; `None` for other words.
+/// The value of a word of digits, or `NUMBER_MOST + 1` where it is over that; `None` for other
+/// words.
 fn digits_value(word: &[u8]) -> Option<u32>
     ensures { result ≡ capped_value word.now }
 {
