@@ -35,5 +35,7 @@ loop-history-preserved c =
         },
       );
       sound = c.in_ok-history.ensures.sound;
+      pennsylvania = c.in_ok-history.ensures.pennsylvania;
+      baltimore = c.in_ok-history.ensures.baltimore;
       seats = c.in_ok-history.ensures.seats ∙ c.loop-history.invariant.seats;
     }
