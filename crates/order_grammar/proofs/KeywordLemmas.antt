@@ -29,4 +29,7 @@ same_keyword keyword.Players keyword.Players same = refl
 same_keyword keyword.Sheet keyword.Sheet same = refl
 same_keyword keyword.Turn keyword.Turn same = refl
 same_keyword keyword.Buy keyword.Buy same = refl
+same_keyword keyword.Bid keyword.Bid same = refl
+same_keyword keyword.Limit keyword.Limit same = refl
+same_keyword keyword.Par keyword.Par same = refl
 same_keyword a b same = absurd (false≢true same)

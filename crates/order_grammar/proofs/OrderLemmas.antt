@@ -1,15 +1,15 @@
 -- Orders and their parts: an order is made of its parts, and words spell it as they spell those.
-use Rattle.std.proofs.Common.{◌≡◌, ℕ, true, inl, inr, List, [], ◌∷◌, Option, Some, None, refl}
+use Rattle.std.proofs.Common.{◌≡◌, ℕ, true, inl, inr, List, [], ◌∷◌, Option, Some, None, unwrap_or, refl, sym, ap, subst, ◌∙◌}
 use Rattle.std.specs.List.{list_any}
 use Rattle.std.proofs.lemmas.Bool.{cases_Bool, false≢true, le-leb, leb-true, and_parts}
 use Rattle.order_grammar.specs.Form.{forms, is_row_of, has_form, are_names}
 use Rattle.order_grammar.specs.Keyword.{text_of_keyword}
 use Rattle.order_grammar.specs.Order.{made_of, parts_of, order_from}
-use Rattle.order_grammar.specs.Spells.{IsWord, IsNumber, IsName, IsRoundOfLine, IsPrivate, AreNames, Then, End, AreWordsFor}
+use Rattle.order_grammar.specs.Spells.{IsWord, IsNumber, IsName, IsRoundOfLine, IsPrivate, IsCompany, AreNames, Then, End, AreWordsFor}
 use Rattle.order_grammar.specs.declared.keyword.Keyword.{Keyword}
 use Rattle.order_grammar.specs.declared.keyword.Keyword.TheVariants as keyword
 use Rattle.order_grammar.specs.declared.order.Order.{Order}
-use Rattle.order_grammar.specs.declared.order.Order.TheVariants.{Blank, Game, Players, Sheet, Turn, BuyPrivate}
+use Rattle.order_grammar.specs.declared.order.Order.TheVariants.{Blank, Game, Players, Sheet, Turn, BuyPrivate, Bid, Limit, Par}
 use Rattle.order_grammar.specs.declared.order.Parts.{Parts}
 use Rattle.order_grammar.specs.declared.order.Tail.{Tail}
 use Rattle.order_grammar.specs.declared.order.Tail.TheVariants as tail
@@ -29,6 +29,9 @@ formed keyword.Players [] (tail.Names names) h = record { order = Players names;
 formed keyword.Sheet ((value.Name name) ∷ (value.Round round) ∷ []) tail.Nothing h = record { order = Sheet name round; made = refl; parts = refl }
 formed keyword.Turn [] tail.Nothing h = record { order = Turn; made = refl; parts = refl }
 formed keyword.Buy ((value.Private private) ∷ []) tail.Nothing h = record { order = BuyPrivate private; made = refl; parts = refl }
+formed keyword.Bid ((value.Private private) ∷ (value.Number amount) ∷ []) tail.Nothing h = record { order = Bid private amount; made = refl; parts = refl }
+formed keyword.Limit ((value.Private private) ∷ (value.Number amount) ∷ []) tail.Nothing h = record { order = Limit private amount; made = refl; parts = refl }
+formed keyword.Par ((value.Company company) ∷ (value.Number price) ∷ []) tail.Nothing h = record { order = Par company price; made = refl; parts = refl }
 formed k values t h = absurd (false≢true h)
 
 -- an order is made again of its parts
@@ -46,6 +49,7 @@ IsTextOf (value.Number number) text = IsNumber number text
 IsTextOf (value.Name name) text = IsName name text
 IsTextOf (value.Round round) text = IsRoundOfLine round text
 IsTextOf (value.Private private) text = IsPrivate private text
+IsTextOf (value.Company company) text = IsCompany company text
 IsTextOf (value.Word k) text = IsWord (text_of_keyword k) text
 
 -- the words of what is repeated
@@ -99,3 +103,9 @@ pub of_parts : (order : Order) (words : List (List ℕ)) → AreWordsByParts (pa
 of_parts Blank words h = h
 of_parts (Players names) words h = players_of_parts words names.items h
 of_parts other words h = h.0
+
+-- the order that parts make is that of which they are
+pub remade : (order : Order) (parts : Parts) (made : Option Order) → Some parts ≡ parts_of order → made ≡ order_from parts.keyword parts.values.items parts.tail → unwrap_or made Blank ≡ order
+remade order parts made is by =
+    let again : order_from parts.keyword parts.values.items parts.tail ≡ Some order = subst (IsMadeAgain order) (sym is) (made_again order) in
+    ap (λ (o : Option Order). unwrap_or o Blank) (by ∙ again)

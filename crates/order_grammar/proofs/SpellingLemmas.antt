@@ -10,7 +10,9 @@ use Rattle.std.proofs.lemmas.List.{drop_at, length-append, length-map, append-ni
 use Rattle.std.proofs.lemmas.List.Concat.{flat_map-cons}
 use Rattle.std.proofs.lemmas.List.Folds.{list_all-append}
 use Rattle.std.proofs.lemmas.List.Sums.{fold_push}
-use Rattle.tables.specs.Roster.{code_of_private}
+use Rattle.tables.specs.Roster.{code_of_company, code_of_private}
+use Rattle.tables.specs.declared.roster.Company.{Company}
+use Rattle.tables.specs.declared.roster.Company.TheVariants as company
 use Rattle.tables.specs.declared.roster.Private.{Private}
 use Rattle.tables.specs.declared.roster.Private.TheVariants as private
 use Rattle.tables.specs.declared.round.Round.{Round}
@@ -18,13 +20,14 @@ use Rattle.tables.specs.declared.round.Round.TheVariants.{Opening, Stock, Operat
 use Rattle.order_grammar.specs.Class.{are_digits, value_of_digits, is_of_class}
 use Rattle.order_grammar.specs.Form.{forms, words_reading, is_row_of, has_form, are_of_classes, is_of_repeated}
 use Rattle.order_grammar.specs.Keyword.{text_of_keyword}
-use Rattle.order_grammar.specs.Limits.{line_most, number_most}
+use Rattle.order_grammar.specs.Limits.{line_most}
+use Rattle.tables.specs.Round.{number_most}
 use Rattle.order_grammar.specs.Line.{reading_of}
 use Rattle.order_grammar.specs.Name.{is_name, is_capital, is_digit, is_letter_or_digit}
 use Rattle.order_grammar.specs.Order.{parts_of}
 use Rattle.order_grammar.specs.Print.{spaced, joined, text_of_value, words_of_tail, words_of_parts, spelling_of}
 use Rattle.order_grammar.specs.Row.{has_room, is_short}
-use Rattle.order_grammar.specs.Spells.{IsNumber, IsPrivate, is_small, are_small, is_round_of_line, has_word, have_words, IsOrder}
+use Rattle.order_grammar.specs.Spells.{IsNumber, is_small, are_small, is_round_of_line, has_word, have_words, IsOrder}
 use Rattle.order_grammar.specs.Words.{before, with_word, words_from, raised, words_of, is_printable, same_word}
 use Rattle.order_grammar.specs.declared.class.Class.{Class}
 use Rattle.order_grammar.specs.declared.form.Repeated.{Repeated}
@@ -258,6 +261,10 @@ code_plain : (p : Private) → is_plain_word (code_of_private p) ≡ true
 code_plain private.SchuylkillValley = refl
 code_plain other = refl
 
+company_plain : (co : Company) → is_plain_word (code_of_company co) ≡ true
+company_plain company.Pennsylvania = refl
+company_plain other = refl
+
 -- what is known of the word of a value
 record IsSpelt (v : Value) : Type 0 where
   text : IsTextOf v (text_of_value v)
@@ -282,14 +289,6 @@ round_spelt (Opening number) has =
 round_spelt (Stock number) has = absurd (false≢true has)
 round_spelt (Operating set number) has = absurd (false≢true has)
 
--- a private
-private_spelt : (p : Private) → has_word (value.Private p) ≡ true → IsPrivate p (code_of_private p)
-private_spelt private.SchuylkillValley has = (refl, (0, omega arith, refl))
-private_spelt private.ChamplainStLawrence has = (refl, (1, omega arith, refl))
-private_spelt private.DelawareHudson has = (refl, (2, omega arith, refl))
-private_spelt private.MohawkHudson has = (refl, (3, omega arith, refl))
-private_spelt p has = absurd (false≢true has)
-
 -- the word of a value is its text
 value_spelt : (v : Value) → has_word v ≡ true → IsSpelt v
 value_spelt (value.Number number) has =
@@ -297,7 +296,8 @@ value_spelt (value.Number number) has =
     record { text = decimal_number number small; small = has; plain = decimal_plain number small }
 value_spelt (value.Name name) has = record { text = (refl, has); small = refl; plain = name_plain name has }
 value_spelt (value.Round round) has = round_spelt round has
-value_spelt (value.Private p) has = record { text = private_spelt p has; small = refl; plain = plain_word (code_of_private p) (code_plain p) }
+value_spelt (value.Private p) has = record { text = refl; small = refl; plain = plain_word (code_of_private p) (code_plain p) }
+value_spelt (value.Company co) has = record { text = refl; small = refl; plain = plain_word (code_of_company co) (company_plain co) }
 value_spelt (value.Word k) has = record { text = refl; small = refl; plain = plain_word (text_of_keyword k) (keyword_plain k) }
 
 -- the words of values and of what is repeated

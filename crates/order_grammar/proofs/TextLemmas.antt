@@ -1,14 +1,16 @@
 -- A word is read as a value of a class exactly where it is a text of that value.
-use Rattle.std.proofs.Common.{◌≡◌, ℕ, suc, ◌==◌, true, false, nat_le, inl, inr, List, [], ◌∷◌, ◌++◌, Contains, codes, get_or, take, drop, refl, sym, ap, ◌∙◌, arith}
+use Rattle.std.proofs.Common.{◌≡◌, ℕ, ◌==◌, true, false, nat_le, inl, inr, List, [], ◌∷◌, ◌++◌, codes, get_or, take, drop, refl, sym, ap, ◌∙◌}
 use Rattle.std.proofs.lemmas.Bool.{cases_Bool, eqb-false, ne_eqb, false≢true}
 use Rattle.std.proofs.lemmas.List.{take-append-drop}
-use Rattle.std.proofs.lemmas.List.Elements.{All-contains, All-from_recursion}
-use Rattle.tables.specs.Roster.{code_of_private}
+use Rattle.tables.specs.Roster.{companies, code_of_company, privates, code_of_private}
+use Rattle.tables.specs.declared.roster.Company.{Company}
+use Rattle.tables.specs.declared.roster.Company.TheVariants as company
 use Rattle.tables.specs.declared.roster.Private.{Private}
+use Rattle.tables.specs.declared.roster.Private.TheVariants as private
 use Rattle.tables.specs.declared.round.Round.TheVariants.{Opening, Stock, Operating}
-use Rattle.order_grammar.specs.Class.{are_digits, value_of_digits, digits_reading, round_number_reading, round_reading, class_reading, private_among, bought_alone, is_of_class}
+use Rattle.order_grammar.specs.Class.{are_digits, value_of_digits, digits_reading, round_number_reading, round_reading, class_reading, code_reading, private_reading, company_reading, is_of_class}
 use Rattle.order_grammar.specs.Keyword.{text_of_keyword}
-use Rattle.order_grammar.specs.Limits.{number_most}
+use Rattle.tables.specs.Round.{number_most}
 use Rattle.order_grammar.specs.Name.{is_name}
 use Rattle.order_grammar.specs.Spells.{IsNumber, IsRoundOfLine, is_small}
 use Rattle.order_grammar.specs.Words.{same_word}
@@ -45,13 +47,14 @@ round_read : (text : List ℕ) (number : ℕ) → IsRoundOfLine (Opening number)
 round_read text number is reading read =
     ap round_reading is.1 ∙ round_digits_read is.0 number is.2 is.3 ∙ read is.0 is.3
 
--- a private is read by its code
-abbrev IsRead : Private → Type 0
-IsRead private = private_among bought_alone (code_of_private private) ≡ Value (value.Private private)
+-- a private and a company are read by their codes
+private_read : (p : Private) → private_reading (code_of_private p) ≡ Value (value.Private p)
+private_read private.SchuylkillValley = refl
+private_read other = refl
 
-private_read : (text : List ℕ) (private : Private) → text ≡ code_of_private private → Contains bought_alone private → private_among bought_alone text ≡ Value (value.Private private)
-private_read text private is among =
-    ap (private_among bought_alone) is ∙ All-contains IsRead bought_alone private (All-from_recursion IsRead bought_alone (refl, (refl, (refl, (refl, tt))))) among
+company_read : (co : Company) → company_reading (code_of_company co) ≡ Value (value.Company co)
+company_read company.Pennsylvania = refl
+company_read other = refl
 
 -- a text of a value of the class is read as the value, if that is small
 pub value_read : (c : Class) (v : values.Value) (text : List ℕ) → is_of_class c v ≡ true → IsTextOf v text → is_small v ≡ true → class_reading c text ≡ Value v
@@ -63,7 +66,8 @@ value_read class.Round (value.Round (Opening number)) text of is small =
     round_read text number is (Value (value.Round (Opening number))) (λ digits one. number_read (λ n. value.Round (Opening n)) digits number one small)
 value_read class.Round (value.Round (Stock number)) text of is small = absurd is
 value_read class.Round (value.Round (Operating set number)) text of is small = absurd is
-value_read class.Private (value.Private private) text of is small = private_read text private is.0 is.1
+value_read class.Private (value.Private p) text of is small = ap private_reading is ∙ private_read p
+value_read class.Company (value.Company co) text of is small = ap company_reading is ∙ company_read co
 value_read (class.Word k) (value.Word other) text of is small =
     let same : k ≡ other = same_keyword k other of in
     rw (is, ← same, same_word-self (text_of_keyword k)) refl
@@ -123,29 +127,29 @@ round_made text =
       | inr other ↦ rw other tt
     ]
 
--- a private among some
-abbrev AmongThem : List Private → List ℕ → Reading → Type 0
-AmongThem privates text (Value (value.Private private)) = (text ≡ code_of_private private) × Contains privates private
-AmongThem privates text Wrong = Unit {0}
-AmongThem privates text other = ⊥
+-- what a word says that is read as a code
+abbrev CodeAs : {X : Type 0} → (X → List ℕ) → (X → values.Value) → List ℕ → Reading → Type 0
+CodeAs {X} code stands_for text (Value v) = (one : X) × (v ≡ stands_for one) × (text ≡ code one)
+CodeAs code stands_for text Wrong = Unit {0}
+CodeAs code stands_for text TooLarge = ⊥
 
-one_more : (first : Private) (privates : List Private) (text : List ℕ) (reading : Reading) → AmongThem privates text reading → AmongThem (first ∷ privates) text reading
-one_more first privates text (Value (value.Private private)) h = (h.0, (suc h.1.0, omega (arith, h.1.1), h.1.2))
-one_more first privates text Wrong h = tt
-one_more first privates text other h = absurd h
-
-private_made : (privates : List Private) (text : List ℕ) → AmongThem privates text (private_among privates text)
-private_made [] text = tt
-private_made (first ∷ privates) text =
-    elim (cases_Bool (same_word text (code_of_private first))) [
-      | inl same ↦ rw same (same_word-is text (code_of_private first) same, (0, omega arith, refl))
-      | inr other ↦ rw other (one_more first privates text (private_among privates text) (private_made privates text))
+code_made : {X : Type 0} (code : X → List ℕ) (stands_for : X → values.Value) (all : List X) (text : List ℕ) → CodeAs code stands_for text (code_reading code stands_for all text)
+code_made code stands_for [] text = tt
+code_made code stands_for (first ∷ others) text =
+    elim (cases_Bool (same_word text (code first))) [
+      | inl same ↦ rw same (first, refl, same_word-is text (code first) same)
+      | inr other ↦ rw other (code_made code stands_for others text)
     ]
 
-private_as : (text : List ℕ) (reading : Reading) → AmongThem bought_alone text reading → ReadAs class.Private text reading
-private_as text (Value (value.Private private)) h = (record { of_class = refl; text_of = h }, refl)
+private_as : (text : List ℕ) (reading : Reading) → CodeAs code_of_private value.Private text reading → ReadAs class.Private text reading
+private_as text (Value v) h = rw h.1 (record { of_class = refl; text_of = h.2 }, refl)
 private_as text Wrong h = tt
-private_as text other h = absurd h
+private_as text TooLarge h = absurd h
+
+company_as : (text : List ℕ) (reading : Reading) → CodeAs code_of_company value.Company text reading → ReadAs class.Company text reading
+company_as text (Value v) h = rw h.1 (record { of_class = refl; text_of = h.2 }, refl)
+company_as text Wrong h = tt
+company_as text TooLarge h = absurd h
 
 -- what a word is read as says of it
 pub class_read : (c : Class) (text : List ℕ) → ReadAs c text (class_reading c text)
@@ -156,7 +160,8 @@ class_read class.Name text =
       | inr other ↦ rw other tt
     ]
 class_read class.Round text = round_made text
-class_read class.Private text = private_as text (private_among bought_alone text) (private_made bought_alone text)
+class_read class.Private text = private_as text (private_reading text) (code_made code_of_private value.Private privates text)
+class_read class.Company text = company_as text (company_reading text) (code_made code_of_company value.Company companies text)
 class_read (class.Word k) text =
     elim (cases_Bool (same_word text (text_of_keyword k))) [
       | inl same ↦ rw same (record { of_class = same_word-self (text_of_keyword k); text_of = same_word-is text (text_of_keyword k) same }, refl)

@@ -42,6 +42,9 @@ forms =
     ∷ row keyword.Sheet (class.Name ∷ class.Round ∷ []) repeated.Nothing
     ∷ row keyword.Turn [] repeated.Nothing
     ∷ row keyword.Buy (class.Private ∷ []) repeated.Nothing
+    ∷ row keyword.Bid (class.Private ∷ class.Number ∷ []) repeated.Nothing
+    ∷ row keyword.Limit (class.Private ∷ class.Number ∷ []) repeated.Nothing
+    ∷ row keyword.Par (class.Company ∷ class.Number ∷ []) repeated.Nothing
     ∷ []
 
 -- names, at least and at most so many

@@ -4,7 +4,3 @@ use Rattle.std.specs.Prelude.{ℕ}
 -- the most bytes of a line, without its LF and a CR before that
 abbrev pub line_most : ℕ
 line_most = 1024
-
--- the greatest number that a line may name
-abbrev pub number_most : ℕ
-number_most = 99999

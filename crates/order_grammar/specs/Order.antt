@@ -4,7 +4,7 @@ use Rattle.std.specs.Prelude.{List, [], ◌∷◌, Option, Some, None}
 use Rattle.order_grammar.specs.declared.keyword.Keyword.{Keyword}
 use Rattle.order_grammar.specs.declared.keyword.Keyword.TheVariants as keyword
 use Rattle.order_grammar.specs.declared.order.Order.{Order}
-use Rattle.order_grammar.specs.declared.order.Order.TheVariants.{Blank, Game, Players, Sheet, Turn, BuyPrivate}
+use Rattle.order_grammar.specs.declared.order.Order.TheVariants.{Blank, Game, Players, Sheet, Turn, BuyPrivate, Bid, Limit, Par}
 use Rattle.order_grammar.specs.declared.order.Parts.{Parts}
 use Rattle.order_grammar.specs.declared.order.Tail.{Tail}
 use Rattle.order_grammar.specs.declared.order.Tail.TheVariants as tail
@@ -23,6 +23,9 @@ parts_of (Players names) = made_of keyword.Players [] (tail.Names names)
 parts_of (Sheet name round) = made_of keyword.Sheet (value.Name name ∷ value.Round round ∷ []) tail.Nothing
 parts_of Turn = made_of keyword.Turn [] tail.Nothing
 parts_of (BuyPrivate private) = made_of keyword.Buy (value.Private private ∷ []) tail.Nothing
+parts_of (Bid private amount) = made_of keyword.Bid (value.Private private ∷ value.Number amount ∷ []) tail.Nothing
+parts_of (Limit private amount) = made_of keyword.Limit (value.Private private ∷ value.Number amount ∷ []) tail.Nothing
+parts_of (Par company price) = made_of keyword.Par (value.Company company ∷ value.Number price ∷ []) tail.Nothing
 
 -- the order of these parts, where there is one
 abbrev pub order_from : Keyword → List Value → Tail → Option Order
@@ -31,4 +34,7 @@ order_from keyword.Players [] (tail.Names names) = Some (Players names)
 order_from keyword.Sheet ((value.Name name) ∷ (value.Round round) ∷ []) tail.Nothing = Some (Sheet name round)
 order_from keyword.Turn [] tail.Nothing = Some Turn
 order_from keyword.Buy ((value.Private private) ∷ []) tail.Nothing = Some (BuyPrivate private)
+order_from keyword.Bid ((value.Private private) ∷ (value.Number amount) ∷ []) tail.Nothing = Some (Bid private amount)
+order_from keyword.Limit ((value.Private private) ∷ (value.Number amount) ∷ []) tail.Nothing = Some (Limit private amount)
+order_from keyword.Par ((value.Company company) ∷ (value.Number price) ∷ []) tail.Nothing = Some (Par company price)
 order_from other values tail = None

@@ -1,19 +1,21 @@
 -- Which lines spell which orders, each form by itself, and which orders have a spelling. A line is
 -- loosely spelt where it would spell an order if numbers had no greatest value.
-use Rattle.std.specs.Prelude.{◌≡◌, ◌≢◌, ℕ, ◌≤◌, Bool, true, false, ◌&&◌, nat_le, IsTrue, List, [], ◌∷◌, ◌++◌, Option, Some, None, length, codes, slice_index, Contains}
-use Rattle.std.specs.List.{list_all, list_any}
-use Rattle.tables.specs.Roster.{code_of_private}
+use Rattle.std.specs.Prelude.{◌≡◌, ◌≢◌, ℕ, ◌≤◌, Bool, true, false, ◌&&◌, nat_le, IsTrue, List, [], ◌∷◌, ◌++◌, Option, Some, None, length, codes, slice_index}
+use Rattle.std.specs.List.{list_all}
+use Rattle.tables.specs.Roster.{code_of_company, code_of_private}
+use Rattle.tables.specs.declared.roster.Company.{Company}
 use Rattle.tables.specs.declared.roster.Private.{Private}
 use Rattle.tables.specs.declared.round.Round.{Round}
 use Rattle.tables.specs.declared.round.Round.TheVariants.{Opening, Stock, Operating}
-use Rattle.order_grammar.specs.Class.{are_digits, value_of_digits, bought_alone}
+use Rattle.order_grammar.specs.Class.{are_digits, value_of_digits}
 use Rattle.order_grammar.specs.Form.{has_form}
-use Rattle.order_grammar.specs.Limits.{line_most, number_most}
+use Rattle.order_grammar.specs.Limits.{line_most}
+use Rattle.tables.specs.Round.{number_most}
 use Rattle.order_grammar.specs.Name.{is_name}
 use Rattle.order_grammar.specs.Order.{parts_of}
-use Rattle.order_grammar.specs.Words.{words_of, before_comment, is_printable, same_word}
+use Rattle.order_grammar.specs.Words.{words_of, before_comment, is_printable}
 use Rattle.order_grammar.specs.declared.order.Order.{Order}
-use Rattle.order_grammar.specs.declared.order.Order.TheVariants.{Blank, Game, Players, Sheet, Turn, BuyPrivate}
+use Rattle.order_grammar.specs.declared.order.Order.TheVariants.{Blank, Game, Players, Sheet, Turn, BuyPrivate, Bid, Limit, Par}
 use Rattle.order_grammar.specs.declared.order.Parts.{Parts}
 use Rattle.order_grammar.specs.declared.order.Value.{Value}
 use Rattle.order_grammar.specs.declared.order.Value.TheVariants as value
@@ -38,9 +40,13 @@ IsRoundOfLine (Opening number) text =
 IsRoundOfLine (Stock number) text = ⊥
 IsRoundOfLine (Operating set number) text = ⊥
 
--- the code of a private that is bought by it alone
+-- the code of a private
 abbrev pub IsPrivate : Private → List ℕ → Type 0
-IsPrivate private text = (text ≡ code_of_private private) × Contains bought_alone private
+IsPrivate private text = text ≡ code_of_private private
+
+-- the code of a company
+abbrev pub IsCompany : Company → List ℕ → Type 0
+IsCompany company text = text ≡ code_of_company company
 
 -- three to six names
 pub record AreNames (names : List (List ℕ)) (words : List (List ℕ)) : Type 0 where
@@ -69,6 +75,12 @@ AreWordsFor (Sheet name round) words =
     Then (IsWord (codes "SHEET")) (Then (IsName name) (Then (IsRoundOfLine round) End)) words
 AreWordsFor Turn words = Then (IsWord (codes "TURN")) End words
 AreWordsFor (BuyPrivate private) words = Then (IsWord (codes "BUY")) (Then (IsPrivate private) End) words
+AreWordsFor (Bid private amount) words =
+    Then (IsWord (codes "BID")) (Then (IsPrivate private) (Then (IsNumber amount) End)) words
+AreWordsFor (Limit private amount) words =
+    Then (IsWord (codes "LIMIT")) (Then (IsPrivate private) (Then (IsNumber amount) End)) words
+AreWordsFor (Par company price) words =
+    Then (IsWord (codes "PAR")) (Then (IsCompany company) (Then (IsNumber price) End)) words
 
 -- the line would spell the order if numbers had no greatest value
 pub record LooselySpells (line : List ℕ) (order : Order) : Type 0 where
@@ -113,8 +125,7 @@ abbrev pub has_word : Value → Bool
 has_word (value.Number number) = nat_le number number_most
 has_word (value.Name name) = is_name name
 has_word (value.Round round) = is_round_of_line round
-has_word (value.Private private) = list_any (λ one. same_word (code_of_private one) (code_of_private private)) bought_alone
-has_word (value.Word keyword) = true
+has_word other = true
 
 -- whether parts are those of a form, and have words
 abbrev pub have_words : Option Parts → Bool

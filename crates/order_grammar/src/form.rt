@@ -36,7 +36,7 @@ pub(crate) enum Repeated {
 }
 
 /// The forms of lines. A line spells an order where its words fit a row.
-pub(crate) const FORMS: [Form; 5] = [
+pub(crate) const FORMS: [Form; 8] = [
     Form {
         keyword: Keyword::Game,
         classes: &[Class::Number, Class::Number],
@@ -63,6 +63,21 @@ pub(crate) const FORMS: [Form; 5] = [
     Form {
         keyword: Keyword::Buy,
         classes: &[Class::Private],
+        repeated: Repeated::Nothing,
+    },
+    Form {
+        keyword: Keyword::Bid,
+        classes: &[Class::Private, Class::Number],
+        repeated: Repeated::Nothing,
+    },
+    Form {
+        keyword: Keyword::Limit,
+        classes: &[Class::Private, Class::Number],
+        repeated: Repeated::Nothing,
+    },
+    Form {
+        keyword: Keyword::Par,
+        classes: &[Class::Company, Class::Number],
         repeated: Repeated::Nothing,
     },
 ];
@@ -107,8 +122,8 @@ fn nearer(first: Fault, second: Fault) -> Fault
 
 impl Form {
     /// The order that the words spell by this form; else `UnknownWord` where the first word is
-    /// another, `WrongWords` where the later words do not fit, `NumberTooLarge` where only numbers do
-    /// not.
+    /// another, `WrongWords` where the later words do not fit, `NumberTooLarge` where only
+    /// numbers do not.
     fn read(&self, first: &[u8], rest: &Words) -> Result<Order, Fault>
         requires { IsTrue (is_short (row_of self.now)) }
         ensures { result ≡ row_reading (row_of self.now) (raised first.now) (texts_of rest.now) }

@@ -9,6 +9,9 @@ pub(crate) enum Keyword {
     Sheet,
     Turn,
     Buy,
+    Bid,
+    Limit,
+    Par,
 }
 
 impl Keyword {
@@ -22,6 +25,9 @@ impl Keyword {
             Keyword::Sheet => b"SHEET",
             Keyword::Turn => b"TURN",
             Keyword::Buy => b"BUY",
+            Keyword::Bid => b"BID",
+            Keyword::Limit => b"LIMIT",
+            Keyword::Par => b"PAR",
         }
     }
 }

@@ -21,7 +21,6 @@ mod print;
 mod read;
 mod words;
 
-pub use class::NUMBER_MOST;
 pub use fault::Fault;
 pub use laws::{faulty_where_it_has_one, read_where_spelt, spelling_is_read_again};
 pub use name::{NAME_MOST, Name};

@@ -1,11 +1,12 @@
 ghost use Rattle.std.specs.Prelude.{◌≡◌, ◌≤◌, length};
+ghost use Rattle.order_grammar.specs.declared.order.Tail.TheVariants.{Nothing};
 ghost use Rattle.order_grammar.specs.declared.order.Value.TheVariants.{Number};
 ghost use Rattle.order_grammar.specs.Order.{order_from, parts_of};
 
 use crate::keyword::Keyword;
 use crate::name::Name;
 use arrayvec::ArrayVec;
-use tables::{PLAYERS_MOST, Private, Round};
+use tables::{Amount, Company, PLAYERS_MOST, Private, Round};
 
 /// What a line orders or says.
 #[derive(Debug, Drop, PartialEq, Eq)]
@@ -22,6 +23,12 @@ pub enum Order {
     Turn,
     /// `BUY p`: buy a private at its price.
     BuyPrivate(Private),
+    /// `BID p n`: bid so many dollars for a private.
+    Bid { private: Private, amount: Amount },
+    /// `LIMIT p n`: bid up to so many dollars where a private is auctioned.
+    Limit { private: Private, amount: Amount },
+    /// `PAR co n`: start a company at a par value in dollars.
+    Par { company: Company, price: Amount },
 }
 
 /// The value of a word of some class.
@@ -31,6 +38,7 @@ pub(crate) enum Value {
     Name(Name),
     Round(Round),
     Private(Private),
+    Company(Company),
     /// A literal word stands for itself.
     Word(Keyword),
 }
@@ -112,6 +120,21 @@ impl Order {
                 &[Value::Private(*private)],
                 Tail::Nothing,
             )),
+            Order::Bid { private, amount } => Some(Parts::of(
+                Keyword::Bid,
+                &[Value::Private(*private), Value::Number(*amount)],
+                Tail::Nothing,
+            )),
+            Order::Limit { private, amount } => Some(Parts::of(
+                Keyword::Limit,
+                &[Value::Private(*private), Value::Number(*amount)],
+                Tail::Nothing,
+            )),
+            Order::Par { company, price } => Some(Parts::of(
+                Keyword::Par,
+                &[Value::Company(*company), Value::Number(*price)],
+                Tail::Nothing,
+            )),
         }
     }
 }
@@ -120,25 +143,62 @@ impl Order {
 pub(crate) fn order_from(keyword: Keyword, values: &[Value], tail: Tail) -> Option<Order>
     ensures { result ≡ order_from keyword values.now tail }
 {
-    match (keyword, values, tail) {
-        (Keyword::Game, [Value::Number(game), Value::Number(version)], Tail::Nothing) => {
-            Some(Order::Game {
+    match tail {
+        Tail::Nothing => order_of_values(keyword, values),
+        Tail::Names(names) => match keyword {
+            Keyword::Players if values.is_empty() => Some(Order::Players(names)),
+            _ => None,
+        },
+    }
+}
+
+/// The order of these parts where no class is repeated; `None` where there is none.
+fn order_of_values(keyword: Keyword, values: &[Value]) -> Option<Order>
+    ensures { result ≡ order_from keyword values.now Nothing }
+{
+    match keyword {
+        Keyword::Game => match values {
+            [Value::Number(game), Value::Number(version)] => Some(Order::Game {
                 game: *game,
                 version: *version,
-            })
-        }
-        (Keyword::Players, [], Tail::Names(names)) => Some(Order::Players(names)),
-        (Keyword::Sheet, [Value::Name(name), Value::Round(round)], Tail::Nothing) => {
-            Some(Order::Sheet {
+            }),
+            _ => None,
+        },
+        Keyword::Players => None,
+        Keyword::Sheet => match values {
+            [Value::Name(name), Value::Round(round)] => Some(Order::Sheet {
                 name: *name,
                 round: *round,
-            })
-        }
-        (Keyword::Turn, [], Tail::Nothing) => Some(Order::Turn),
-        (Keyword::Buy, [Value::Private(private)], Tail::Nothing) => {
-            Some(Order::BuyPrivate(*private))
-        }
-        _ => None,
+            }),
+            _ => None,
+        },
+        Keyword::Turn if values.is_empty() => Some(Order::Turn),
+        Keyword::Turn => None,
+        Keyword::Buy => match values {
+            [Value::Private(private)] => Some(Order::BuyPrivate(*private)),
+            _ => None,
+        },
+        Keyword::Bid => match values {
+            [Value::Private(private), Value::Number(amount)] => Some(Order::Bid {
+                private: *private,
+                amount: *amount,
+            }),
+            _ => None,
+        },
+        Keyword::Limit => match values {
+            [Value::Private(private), Value::Number(amount)] => Some(Order::Limit {
+                private: *private,
+                amount: *amount,
+            }),
+            _ => None,
+        },
+        Keyword::Par => match values {
+            [Value::Company(company), Value::Number(price)] => Some(Order::Par {
+                company: *company,
+                price: *price,
+            }),
+            _ => None,
+        },
     }
 }
 

@@ -67,6 +67,7 @@ fn print_value(text: &mut Vec<u8>, value: &Value) -> Result<(), AllocError>
         Value::Name(name) => text.extend_from_slice(name.text()),
         Value::Round(round) => print_round(text, round),
         Value::Private(private) => text.extend_from_slice(private.code().as_bytes()),
+        Value::Company(company) => text.extend_from_slice(company.code().as_bytes()),
         Value::Word(keyword) => text.extend_from_slice(keyword.text()),
     }
 }
