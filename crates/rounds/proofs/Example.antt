@@ -2,6 +2,7 @@
 use Rattle.std.proofs.Common.{◌≡◌, ℕ, zero, suc, ◌<◌, false, List, [], ◌∷◌, Err, take, refl, arith}
 use Rattle.history.specs.declared.event.Event.{Event}
 use Rattle.privates.specs.Opening.{IsOpeningRound, in_play, opened}
+use Rattle.privates.specs.Sale.{settled}
 use Rattle.privates.specs.Turn.{opening_turns}
 use Rattle.rounds.specs.Example.{first_end, first_events, first_file}
 use Rattle.rounds.specs.Play.{Plays, before_play}
@@ -19,7 +20,7 @@ last_turn = in_play (take 6 first_events) 1 3 ([] ∷ [] ∷ [] ∷ [])
 
 -- before the fourth turn the round is not over
 not_before : (k : ℕ) → k < 4 → turns_over (opening_turns 3) (iterate (after_turn (opening_turns 3)) k (opened 3 first_file (Opening 1) [])) ≡ false
-unfolding sheet_of players_of body_of content_of written_lines is_blank begins is_sheet_line
+unfolding sheet_of players_of body_of content_of written_lines is_blank begins is_sheet_line settled
 not_before zero below = refl
 not_before (suc zero) below = refl
 not_before (suc (suc zero)) below = refl
@@ -28,7 +29,7 @@ not_before (suc (suc (suc (suc k)))) below = absurd (omega arith)
 
 -- the round leads to these events
 played : IsOpeningRound first_file (Opening 1) (record { seats = 3; events = [] }) (record { seats = 3; events = first_events })
-unfolding sheet_of players_of body_of content_of written_lines is_blank begins is_sheet_line
+unfolding sheet_of players_of body_of content_of written_lines is_blank begins is_sheet_line settled
 played =
     record {
       last = last_turn;
@@ -38,7 +39,7 @@ played =
 
 -- and so does the game
 pub first_plays : Plays first_file first_end
-unfolding sheet_of players_of body_of content_of written_lines is_blank begins is_sheet_line
+unfolding sheet_of players_of body_of content_of written_lines is_blank begins is_sheet_line settled
 first_plays =
     record {
       rounds = 1;
