@@ -1,3 +1,4 @@
+pub mod Auctions
 pub mod FewTurns
 pub mod Outside
 pub mod Revenues

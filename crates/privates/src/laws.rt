@@ -1,8 +1,15 @@
 //! Laws of the definitions, each the contract of a function that does nothing.
-ghost use Rattle.std.specs.Prelude.{◌≡◌, ◌*◌, ◌≤◌, ℕ, List};
+ghost use Rattle.std.specs.Prelude.{◌≡◌, ◌*◌, ◌≤◌, ℕ, List, length};
+ghost use Rattle.privates.specs.Auction.{Bidder, IsWon, LimitsHold, auction_of};
 ghost use Rattle.history.specs.LookBack.{Game};
 ghost use Rattle.privates.specs.Opening.{IsOpeningRound};
 ghost use Rattle.tables.specs.declared.round.Round.{Round};
+
+/// An auction is won by a bidder who is ahead of all, by his limit and then by his bid, at a price
+/// within his limit and over no bid.
+pub fn auction_is_won()
+    ensures { (bidders : List Bidder) → 1 ≤ length bidders → LimitsHold bidders → IsWon bidders (auction_of bidders) }
+{}
 
 /// An opening round has at most one outcome: the sheets and the game before it say what the game
 /// after it is.

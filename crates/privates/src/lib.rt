@@ -8,12 +8,14 @@
 //! `laws` (what holds of every opening round).
 #![tactic(auto)]
 
+mod bidding;
 mod judgement;
 mod laws;
 mod opening;
 mod tell;
 mod turn;
 
+pub use bidding::auction;
 pub use judgement::judge;
-pub use laws::{one_opening_round, opening_round_ends, six_turns_each};
+pub use laws::{auction_is_won, one_opening_round, opening_round_ends, six_turns_each};
 pub use opening::play_opening;
