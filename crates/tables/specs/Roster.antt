@@ -1,8 +1,61 @@
--- The roster: each private's code, face value and revenue, and the money that the players and the
--- bank begin with.
-use Rattle.std.specs.Prelude.{ℕ, ◌-◌, ◌*◌, ◌==◌, if◌then◌else◌, List, codes}
+-- The roster: the companies and the private companies in order, their codes and tokens, each private's
+-- face value and revenue, the money that the players and the bank begin with, and the limit of
+-- certificates.
+use Rattle.std.specs.Prelude.{ℕ, ◌-◌, ◌*◌, ◌==◌, Bool, if◌then◌else◌, List, [], ◌∷◌, codes}
+use Rattle.tables.specs.declared.roster.Company.{Company}
+use Rattle.tables.specs.declared.roster.Company.TheVariants as company
 use Rattle.tables.specs.declared.roster.Private.{Private}
 use Rattle.tables.specs.declared.roster.Private.TheVariants.{SchuylkillValley, ChamplainStLawrence, DelawareHudson, MohawkHudson, CamdenAmboy, BaltimoreOhio}
+
+-- the companies in roster order
+abbrev pub companies : List Company
+companies =
+    company.Pennsylvania ∷ company.NewYorkCentral ∷ company.CanadianPacific ∷ company.BaltimoreOhio
+    ∷ company.ChesapeakeOhio ∷ company.Erie ∷ company.NewHaven ∷ company.BostonMaine ∷ []
+
+-- the place of a company in the roster
+abbrev pub place_of_company : Company → ℕ
+place_of_company company.Pennsylvania = 0
+place_of_company company.NewYorkCentral = 1
+place_of_company company.CanadianPacific = 2
+place_of_company company.BaltimoreOhio = 3
+place_of_company company.ChesapeakeOhio = 4
+place_of_company company.Erie = 5
+place_of_company company.NewHaven = 6
+place_of_company company.BostonMaine = 7
+
+-- two companies are the same
+abbrev pub same_company : Company → Company → Bool
+same_company a b = place_of_company a == place_of_company b
+
+-- the code of a company
+abbrev pub code_of_company : Company → List ℕ
+code_of_company company.Pennsylvania = codes "PRR"
+code_of_company company.NewYorkCentral = codes "NYC"
+code_of_company company.CanadianPacific = codes "CPR"
+code_of_company company.BaltimoreOhio = codes "BO"
+code_of_company company.ChesapeakeOhio = codes "CO"
+code_of_company company.Erie = codes "ERIE"
+code_of_company company.NewHaven = codes "NYNH"
+code_of_company company.BostonMaine = codes "BM"
+
+-- the privates in roster order
+abbrev pub privates : List Private
+privates =
+    SchuylkillValley ∷ ChamplainStLawrence ∷ DelawareHudson ∷ MohawkHudson ∷ CamdenAmboy ∷ BaltimoreOhio ∷ []
+
+-- the place of a private in the roster
+abbrev pub place_of_private : Private → ℕ
+place_of_private SchuylkillValley = 0
+place_of_private ChamplainStLawrence = 1
+place_of_private DelawareHudson = 2
+place_of_private MohawkHudson = 3
+place_of_private CamdenAmboy = 4
+place_of_private BaltimoreOhio = 5
+
+-- two privates are the same
+abbrev pub same_private : Private → Private → Bool
+same_private a b = place_of_private a == place_of_private b
 
 -- the code of a private
 abbrev pub code_of_private : Private → List ℕ
@@ -39,3 +92,24 @@ start_money_of players =
 -- what the bank begins with: 12,000 less what the players are paid
 abbrev pub bank_start_of : ℕ → ℕ
 bank_start_of players = 12000 - players * start_money_of players
+
+-- how many certificates a player may hold that count
+abbrev pub certificate_limit_of : ℕ → ℕ
+certificate_limit_of players =
+    if players == 3 then 20 else if players == 4 then 16 else if players == 5 then 13 else if players == 6 then 11 else 0
+
+-- how many tokens a company has, its home token among them
+abbrev pub tokens_of : Company → ℕ
+tokens_of company.Pennsylvania = 4
+tokens_of company.NewYorkCentral = 4
+tokens_of company.CanadianPacific = 4
+tokens_of company.BaltimoreOhio = 3
+tokens_of company.ChesapeakeOhio = 3
+tokens_of company.Erie = 3
+tokens_of company.NewHaven = 2
+tokens_of company.BostonMaine = 2
+
+-- the price of a company's next token when so many lie: the home token is free, the second costs 40 and
+-- each later one 100
+abbrev pub token_price_of : ℕ → ℕ
+token_price_of laid = if laid == 0 then 0 else if laid == 1 then 40 else 100

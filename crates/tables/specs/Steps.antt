@@ -6,6 +6,12 @@ abbrev pub iterate : {A : Type 0} → (A → A) → ℕ → A → A
 iterate step zero a = a
 iterate step (suc n) a = step (iterate step n a)
 
+-- From a, the steps have come to z, and at none before it was it over.
+pub record LeadsTo {A : Type 0} (step : A → A) (over : A → Bool) (a z : A) : Type 0 where
+  pub steps : ℕ
+  pub reached : iterate step steps a ≡ z
+  pub not_before : (k : ℕ) → k < steps → over (iterate step k a) ≡ false
+
 -- From a, the steps lead to z: after some number of steps it is over, and after fewer it is not.
 pub record Ends {A : Type 0} (step : A → A) (over : A → Bool) (a z : A) : Type 0 where
   pub steps : ℕ

@@ -1,21 +1,32 @@
-//! The tables of 1830 as it is played here: seats, companies, private companies, rounds and money.
+//! The tables of 1830 as it is played here: seats, companies, private companies, rounds, money,
+//! trains and the chart of the stock market.
 //!
 //! Each call answers its entry of a table and takes no memory. `specs/` also holds the few general
-//! words that several crates share: a step that is repeated until it is over, and the first rule
-//! of a table that is broken.
+//! words that several crates share: a step that is repeated until it is over, turns to the left until
+//! all pass, and the first rule of a table that is broken.
 //!
-//! Reading order: `roster` (companies and privates), `seat` (players and their money), `round`,
-//! `laws` (what holds of every step that is repeated).
+//! Reading order: `roster` (companies and privates), `seat` (players, their money and the limit of
+//! certificates), `round`, `rolling_stock`, `squares` and `chart` (the stock market), `laws` (what holds of
+//! rounds, of turns and of tables of rules).
 #![tactic(auto)]
 
+mod chart;
 mod laws;
+mod rolling_stock;
 mod roster;
 mod round;
 mod seat;
-#[cfg(test)]
-mod tests;
+mod squares;
 
-pub use laws::one_end;
-pub use roster::{Company, Private, face, revenue};
-pub use round::Round;
-pub use seat::{Amount, Money, PLAYERS_LEAST, PLAYERS_MOST, Seat, bank_start, start_money};
+pub use chart::{par_square, price, square, zone};
+pub use laws::{
+    each_turn_is_nearer_the_end, first_rule_broken, one_end, one_end_of_turns, rosters_in_order,
+    rounds_in_order, turns_end_soon,
+};
+pub use rolling_stock::{Kind, Trains, limit, rounds_in_set, rusts, train};
+pub use roster::{Company, Private, face, revenue, token_price, tokens};
+pub use round::{NUMBER_MOST, OPERATING_MOST, Round};
+pub use seat::{
+    Amount, Money, PLAYERS_LEAST, PLAYERS_MOST, Seat, bank_start, certificate_limit, start_money,
+};
+pub use squares::{Square, Zone};

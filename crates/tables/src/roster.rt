@@ -1,18 +1,26 @@
-ghost use Rattle.std.specs.Prelude.{◌≡◌, codes};
-ghost use Rattle.tables.specs.Roster.{code_of_private, face_of, revenue_of};
+ghost use Rattle.std.specs.Prelude.{◌≡◌, ◌<◌, codes};
+ghost use Rattle.tables.specs.Roster.{code_of_company, code_of_private, face_of, place_of_company, place_of_private, revenue_of, token_price_of, tokens_of};
 
 use crate::seat::Amount;
 
 /// A share company, in roster order.
 #[derive(Clone, Copy, Debug, PartialEq, Eq, Hash)]
 pub enum Company {
+    /// PRR, the Pennsylvania.
     Pennsylvania,
+    /// NYC, the New York Central.
     NewYorkCentral,
+    /// CPR, the Canadian Pacific.
     CanadianPacific,
+    /// BO, the Baltimore & Ohio.
     BaltimoreOhio,
+    /// CO, the Chesapeake & Ohio.
     ChesapeakeOhio,
+    /// ERIE, the Erie.
     Erie,
+    /// NYNH, the New York, New Haven & Hartford.
     NewHaven,
+    /// BM, the Boston & Maine.
     BostonMaine,
 }
 
@@ -28,6 +36,39 @@ impl Company {
         Company::NewHaven,
         Company::BostonMaine,
     ];
+
+    /// The code that order sheets and reports use, in upper case.
+    pub fn code(self) -> &'static str
+        ensures { result.now ≡ code_of_company self }
+    {
+        match self {
+            Company::Pennsylvania => "PRR",
+            Company::NewYorkCentral => "NYC",
+            Company::CanadianPacific => "CPR",
+            Company::BaltimoreOhio => "BO",
+            Company::ChesapeakeOhio => "CO",
+            Company::Erie => "ERIE",
+            Company::NewHaven => "NYNH",
+            Company::BostonMaine => "BM",
+        }
+    }
+
+    /// The company's place in the roster, from 0: its place in `ALL`.
+    pub fn place(self) -> usize
+        ensures place { result ≡ place_of_company self }
+        ensures within { result < 8 }
+    {
+        match self {
+            Company::Pennsylvania => 0,
+            Company::NewYorkCentral => 1,
+            Company::CanadianPacific => 2,
+            Company::BaltimoreOhio => 3,
+            Company::ChesapeakeOhio => 4,
+            Company::Erie => 5,
+            Company::NewHaven => 6,
+            Company::BostonMaine => 7,
+        }
+    }
 }
 
 /// A private company, in roster order, which is also the order of their faces.
@@ -71,6 +112,21 @@ impl Private {
             Private::BaltimoreOhio => "BOP",
         }
     }
+
+    /// The private's place in the roster, from 0: its place in `ALL`.
+    pub fn place(self) -> usize
+        ensures place { result ≡ place_of_private self }
+        ensures within { result < 6 }
+    {
+        match self {
+            Private::SchuylkillValley => 0,
+            Private::ChamplainStLawrence => 1,
+            Private::DelawareHudson => 2,
+            Private::MohawkHudson => 3,
+            Private::CamdenAmboy => 4,
+            Private::BaltimoreOhio => 5,
+        }
+    }
 }
 
 /// The face value of a private, which is its price in the opening unless it has fallen.
@@ -98,5 +154,28 @@ pub fn revenue(private: Private) -> Amount
         Private::MohawkHudson => 20,
         Private::CamdenAmboy => 25,
         Private::BaltimoreOhio => 30,
+    }
+}
+
+/// How many tokens a company has, its home token among them.
+pub fn tokens(company: Company) -> usize
+    ensures { result ≡ tokens_of company }
+{
+    match company {
+        Company::Pennsylvania | Company::NewYorkCentral | Company::CanadianPacific => 4,
+        Company::BaltimoreOhio | Company::ChesapeakeOhio | Company::Erie => 3,
+        Company::NewHaven | Company::BostonMaine => 2,
+    }
+}
+
+/// What a company pays for its next token when so many of its tokens lie: nothing for the home token,
+/// 40 for the second and 100 for each later one.
+pub fn token_price(laid: usize) -> Amount
+    ensures { result ≡ token_price_of laid }
+{
+    match laid {
+        0 => 0,
+        1 => 40,
+        _ => 100,
     }
 }

@@ -1,3 +1,12 @@
+ghost use Rattle.std.specs.Prelude.{◌≡◌, ◌<◌, ◌^◌};
+ghost use Rattle.tables.specs.Round.{is_before as comes_before, rank_of, stock_rank as the_stock_rank};
+
+/// The largest number of an order or a round.
+pub const NUMBER_MOST: u32 = 99_999;
+
+/// The most operating rounds of a set.
+pub const OPERATING_MOST: u8 = 3;
+
 /// A round of the game.
 #[derive(Clone, Copy, Debug, PartialEq, Eq, Hash)]
 pub enum Round {
@@ -7,4 +16,33 @@ pub enum Round {
     Stock(u32),
     /// An operating round: OR1.1 is the first of those that follow SR1.
     Operating { set: u32, number: u8 },
+}
+
+impl Round {
+    /// The place of the round among all rounds whose numbers are at most 99,999: the openings come
+    /// first, then SR1, OR1.1, OR1.2, OR1.3, SR2 and so on.
+    pub fn rank(self) -> u64
+        ensures { result ≡ rank_of self }
+    {
+        match self {
+            Round::Opening(number) => u64::from(number),
+            Round::Stock(set) => stock_rank(set),
+            Round::Operating { set, number } => stock_rank(set) + u64::from(number),
+        }
+    }
+
+    /// Whether the round comes before another.
+    pub fn is_before(self, other: Round) -> bool
+        ensures { result ≡ comes_before self other }
+    {
+        self.rank() < other.rank()
+    }
+}
+
+/// The place of a stock round among all rounds.
+fn stock_rank(set: u32) -> u64
+    ensures place { result ≡ the_stock_rank set }
+    ensures within { result < 2 ^ 40 }
+{
+    u64::from(NUMBER_MOST) + (u64::from(OPERATING_MOST) + 1) * u64::from(set)
 }

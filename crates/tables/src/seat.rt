@@ -1,5 +1,6 @@
-ghost use Rattle.std.specs.Prelude.{◌≡◌};
-ghost use Rattle.tables.specs.Roster.{bank_start_of, start_money_of};
+ghost use Rattle.std.specs.Prelude.{◌≡◌, ◌<◌};
+ghost use Rattle.tables.specs.Roster.{bank_start_of, certificate_limit_of, start_money_of};
+ghost use Rattle.tables.specs.Seat.{left_of, seat_at};
 
 /// Money that is added up: wide enough for every list of events that memory can hold.
 /// The bank's may be under 0.
@@ -11,6 +12,34 @@ pub type Amount = u32;
 /// A seat at the table, numbered from 0 in the order of the players line.
 #[derive(Clone, Copy, Debug, PartialEq, Eq, Hash)]
 pub struct Seat(pub u8);
+
+impl Seat {
+    /// The seat with this number, which is under 256.
+    pub fn at(number: usize) -> Seat
+        requires { number < 256 }
+        ensures { result ≡ seat_at number }
+    {
+        Seat(number as u8)
+    }
+
+    /// Its number, from 0.
+    pub fn number(self) -> usize
+        ensures number { result ≡ self.0 }
+        ensures within { result < 256 }
+    {
+        usize::from(self.0)
+    }
+
+    /// The seat at its left at a table of so many: the next, and after the last the first.
+    pub fn left(self, seats: usize) -> Seat
+        ensures { result ≡ left_of seats self }
+    {
+        match self.0.checked_add(1) {
+            Some(next) if usize::from(next) < seats => Seat(next),
+            _ => Seat(0),
+        }
+    }
+}
 
 /// The fewest players of a game.
 pub const PLAYERS_LEAST: usize = 3;
@@ -40,5 +69,19 @@ pub fn bank_start(players: usize) -> Amount
     match players {
         3..=6 => 9_600,
         _ => 12_000,
+    }
+}
+
+/// How many certificates a player may hold that count: 20, 16, 13 or 11 for 3, 4, 5 or 6 players, and 0
+/// for any other number, with which nobody plays.
+pub fn certificate_limit(players: usize) -> usize
+    ensures { result ≡ certificate_limit_of players }
+{
+    match players {
+        3 => 20,
+        4 => 16,
+        5 => 13,
+        6 => 11,
+        _ => 0,
     }
 }

@@ -1,0 +1,83 @@
+-- Turns to the left until all pass. In a turn a seat takes the next group of lines of its sheet, or none
+-- where no group is left; the lines are ruled, and where the seat does not act in them it passes. The
+-- turns are over once all seats have passed in succession, or something else ends them.
+use Rattle.std.specs.Prelude.{◌≡◌, ℕ, ◌+◌, ◌-◌, ◌*◌, ◌≤◌, ◌<◌, Bool, false, ◌||◌, nat_le, min, if◌then◌else◌, List, [], ◌∷◌, length, sum_by, drop, slice_get, slice_set, unwrap_or}
+use Rattle.tables.specs.Seat.{left_of, seat_at}
+use Rattle.tables.specs.Steps.{Ends}
+use Rattle.tables.specs.declared.seat.Seat.{Seat}
+
+-- where a turn's lines led, and whether the seat acted in them
+pub record Turned (State : Type 0) : Type 0 where
+  pub state : State
+  pub acted : Bool
+
+-- what turns do: the number of seats, what a seat's group of lines does, what a pass does, and what
+-- ends the turns before all have passed
+pub record Play (State Line : Type 0) : Type 0 where
+  pub seats : ℕ
+  pub turn : Seat → List Line → State → Turned State
+  pub pass : Seat → State → State
+  pub over : State → Bool
+
+-- turns in play: the state so far, whose turn it is, how many have passed in succession, and each
+-- seat's groups that are still to come
+pub record InPlay (State Line : Type 0) : Type 0 where
+  pub now : State
+  pub seat : ℕ
+  pub passes : ℕ
+  pub groups : List (List (List Line))
+
+-- the next of some groups; without one there are no lines
+abbrev pub next_group : {Line : Type 0} → List (List Line) → List Line
+next_group [] = []
+next_group (group ∷ groups) = group
+
+-- a seat's groups
+abbrev pub groups_at : {Line : Type 0} → List (List (List Line)) → ℕ → List (List Line)
+groups_at groups seat = unwrap_or (slice_get groups seat) []
+
+-- where the play stands after a turn that has led to this
+abbrev pub turn_over : {State Line : Type 0} → Play State Line → InPlay State Line → Turned State → InPlay State Line
+turn_over play at turned =
+    record {
+      now = if turned.acted then turned.state else play.pass (seat_at at.seat) turned.state;
+      seat = (left_of play.seats (seat_at at.seat)).0;
+      passes = if turned.acted then 0 else at.passes + 1;
+      groups = slice_set at.groups at.seat (drop 1 (groups_at at.groups at.seat));
+    }
+
+-- where it stands after one more turn
+abbrev pub after_turn : {State Line : Type 0} → Play State Line → InPlay State Line → InPlay State Line
+after_turn play at =
+    turn_over play at (play.turn (seat_at at.seat) (next_group (groups_at at.groups at.seat)) at.now)
+
+-- the turns are over: something else ends them, or all seats have passed in succession
+abbrev pub turns_over : {State Line : Type 0} → Play State Line → InPlay State Line → Bool
+turns_over play at = play.over at.now || nat_le play.seats at.passes
+
+-- the turns lead from start to last: the middle of a round
+abbrev pub TurnsEnd : {State Line : Type 0} → Play State Line → InPlay State Line → InPlay State Line → Type 0
+TurnsEnd play start last = Ends (after_turn play) (turns_over play) start last
+
+-- without lines no seat acts
+abbrev pub IsIdleWithoutLines : {State Line : Type 0} → Play State Line → Type 0
+IsIdleWithoutLines {State} play = (seat : Seat) (state : State) → (play.turn seat [] state).acted ≡ false
+
+-- turns can begin here: the seat is at the table, if there is one, and no seat has over 512 groups
+pub record CanBegin {State Line : Type 0} (play : Play State Line) (start : InPlay State Line) : Type 0 where
+  pub at_table : 0 < play.seats → start.seat < min play.seats 256
+  pub few_groups : (seat : ℕ) → length (groups_at start.groups seat) ≤ 512
+
+-- the turns end, after at most 513 for each seat
+pub record EndSoon {State Line : Type 0} (play : Play State Line) (start : InPlay State Line) : Type 0 where
+  pub last : InPlay State Line
+  pub ends : TurnsEnd play start last
+  pub few_turns : ends.steps ≤ 513 * play.seats
+
+-- how many groups are still to come
+abbrev pub groups_left : {State Line : Type 0} → InPlay State Line → ℕ
+groups_left at = sum_by (λ groups. length groups) at.groups
+
+-- a bound on the turns that are still to come: no rule of the game, but the measure by which they end
+abbrev pub turns_most : {State Line : Type 0} → Play State Line → InPlay State Line → ℕ
+turns_most play at = groups_left at * play.seats + (play.seats - at.passes)

@@ -1,0 +1,99 @@
+ghost use Rattle.std.specs.Prelude.{◌≡◌, IfSome, true};
+ghost use Rattle.tables.specs.Chart.{entry_at as the_entry_at, is_on_chart, par_square_of, price_of, row_at as the_row_at, square_at, zone_of};
+
+use crate::seat::Amount;
+use crate::squares::{Square, Zone};
+
+/// The square at a row from 0 (the printed A) and a column from 1; `None` where the chart has none.
+pub fn square(row: u8, column: u8) -> Option<Square>
+    ensures { result ≡ square_at row column }
+{
+    let square = Square { row, column };
+    entry_at(square).map(|_| square)
+}
+
+/// The price of a square, in dollars; 0 off the chart.
+pub fn price(square: Square) -> Amount
+    ensures { result ≡ price_of square }
+{
+    entry_at(square).map_or(0, |entry| entry.price)
+}
+
+/// The zone in which a square lies; `White` off the chart.
+pub fn zone(square: Square) -> Zone
+    ensures { result ≡ zone_of square }
+{
+    entry_at(square).map_or(Zone::White, |entry| entry.zone)
+}
+
+/// The square of a par value; `None` where it is no par value.
+pub fn par_square(par: Amount) -> Option<Square>
+    ensures square { result ≡ par_square_of par }
+    ensures price { IfSome result (λ square. price_of square ≡ par) }
+    ensures on_chart { IfSome result (λ square. is_on_chart square ≡ true) }
+{
+    let row = match par {
+        100 => 0,
+        90 => 1,
+        82 => 2,
+        76 => 3,
+        71 => 4,
+        67 => 5,
+        _ => return None,
+    };
+    Some(Square { row, column: 7 })
+}
+
+/// What the chart has on a square.
+#[derive(Clone, Copy)]
+struct Entry {
+    price: Amount,
+    zone: Zone,
+}
+
+/// What a mark and a price on the chart stand for: `y`, `o` and `b` a zone, `p` a par value, `w` none of
+/// these, and `x` no square.
+macro_rules! entry {
+    (w $price:literal) => { Some(Entry { price: $price, zone: Zone::White }) };
+    (p $price:literal) => { entry!(w $price) };
+    (y $price:literal) => { Some(Entry { price: $price, zone: Zone::Yellow }) };
+    (o $price:literal) => { Some(Entry { price: $price, zone: Zone::Orange }) };
+    (b $price:literal) => { Some(Entry { price: $price, zone: Zone::Brown }) };
+    (x $price:literal) => { None };
+}
+
+/// A row of the chart, from column 1.
+macro_rules! row {
+    ($($mark:ident $price:literal)*) => { &[$(entry!($mark $price)),*] };
+}
+
+/// The chart, row by row: a row from 0 (the printed A) downwards. There is none past the eleventh.
+fn row_at(row: u8) -> &'static [Option<Entry>]
+    ensures { result.now ≡ the_row_at row }
+{
+    match row {
+        0 =>
+            row!(y 60 w 67 w 71 w 76 w 82 w 90 p 100 w 112 w 126 w 142 w 160 w 180 w 200 w 225 w 250 w 275 w 300 w 325 w 350),
+        1 =>
+            row!(y 53 y 60 w 66 w 70 w 76 w 82 p 90 w 100 w 112 w 126 w 142 w 160 w 180 w 200 w 220 w 240 w 260 w 280 w 300),
+        2 =>
+            row!(y 46 y 55 y 60 w 65 w 70 w 76 p 82 w 90 w 100 w 111 w 125 w 140 w 155 w 170 w 185 w 200),
+        3 => row!(o 39 y 48 y 54 y 60 w 66 w 71 p 76 w 82 w 90 w 100 w 110 w 120 w 130),
+        4 => row!(o 32 o 41 y 48 y 55 w 62 w 67 p 71 w 76 w 82 w 90 w 100),
+        5 => row!(b 25 o 34 o 42 y 50 y 58 w 65 p 67 w 71 w 75 w 80),
+        6 => row!(b 18 b 27 o 36 o 45 y 54 w 63 w 67 w 69 w 70),
+        7 => row!(b 10 b 20 b 30 o 40 y 50 y 60 w 67 w 68),
+        8 => row!(x 0 b 10 b 20 b 30 o 40 y 50 y 60),
+        9 => row!(x 0 x 0 b 10 b 20 b 30 o 40 y 50),
+        10 => row!(x 0 x 0 x 0 b 10 b 20 b 30 o 40),
+        _ => &[],
+    }
+}
+
+/// What the chart has on a square; `None` off the chart.
+fn entry_at(square: Square) -> Option<Entry>
+    ensures { result ≡ the_entry_at square.row square.column }
+{
+    let before = usize::from(square.column).checked_sub(1)?;
+    *row_at(square.row).get(before)?
+}

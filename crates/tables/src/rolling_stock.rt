@@ -1,0 +1,129 @@
+ghost use Rattle.std.specs.Prelude.{◌≡◌, ◌<◌, codes};
+ghost use Rattle.tables.specs.Train.{code_of_kind, limit_of, place_of_kind, rounds_in_set_of, rusting_of, stops_of, trains_of};
+
+use crate::seat::Amount;
+
+/// A kind of train, also the phase that the first train of the kind begins.
+#[derive(Clone, Copy, Debug, PartialEq, Eq, Hash)]
+pub enum Kind {
+    Two,
+    Three,
+    Four,
+    Five,
+    Six,
+    /// D, which visits any number of stops.
+    Diesel,
+}
+
+/// The trains of a kind: what the bank asks for one, and how many there are.
+#[derive(Clone, Copy, Debug, PartialEq, Eq)]
+pub struct Trains {
+    /// In dollars.
+    pub price: Amount,
+    /// `None` where the number has no limit.
+    pub number: Option<u8>,
+}
+
+impl Kind {
+    /// The six kinds, least first.
+    pub const ALL: [Kind; 6] = [
+        Kind::Two,
+        Kind::Three,
+        Kind::Four,
+        Kind::Five,
+        Kind::Six,
+        Kind::Diesel,
+    ];
+
+    /// The code that order sheets and reports use.
+    pub fn code(self) -> &'static str
+        ensures { result.now ≡ code_of_kind self }
+    {
+        match self {
+            Kind::Two => "2",
+            Kind::Three => "3",
+            Kind::Four => "4",
+            Kind::Five => "5",
+            Kind::Six => "6",
+            Kind::Diesel => "D",
+        }
+    }
+
+    /// Its place among the kinds, from 0: its place in `ALL`.
+    pub fn place(self) -> usize
+        ensures place { result ≡ place_of_kind self }
+        ensures within { result < 6 }
+    {
+        match self {
+            Kind::Two => 0,
+            Kind::Three => 1,
+            Kind::Four => 2,
+            Kind::Five => 3,
+            Kind::Six => 4,
+            Kind::Diesel => 5,
+        }
+    }
+
+    /// The most stops that a train of the kind visits in a run; `None` for any number.
+    pub fn stops(self) -> Option<usize>
+        ensures { result ≡ stops_of self }
+    {
+        match self {
+            Kind::Two => Some(2),
+            Kind::Three => Some(3),
+            Kind::Four => Some(4),
+            Kind::Five => Some(5),
+            Kind::Six => Some(6),
+            Kind::Diesel => None,
+        }
+    }
+}
+
+/// The trains of a kind.
+pub fn train(kind: Kind) -> Trains
+    ensures { result ≡ trains_of kind }
+{
+    let (price, number) = match kind {
+        Kind::Two => (80, Some(6)),
+        Kind::Three => (180, Some(5)),
+        Kind::Four => (300, Some(4)),
+        Kind::Five => (450, Some(3)),
+        Kind::Six => (630, Some(2)),
+        Kind::Diesel => (1_100, None),
+    };
+    Trains { price, number }
+}
+
+/// The kind whose first train rusts all trains of this kind; `None` where they never rust.
+pub fn rusts(kind: Kind) -> Option<Kind>
+    ensures { result ≡ rusting_of kind }
+{
+    match kind {
+        Kind::Two => Some(Kind::Four),
+        Kind::Three => Some(Kind::Six),
+        Kind::Four => Some(Kind::Diesel),
+        Kind::Five | Kind::Six | Kind::Diesel => None,
+    }
+}
+
+/// The most trains that a company may hold in a phase.
+pub fn limit(phase: Kind) -> usize
+    ensures { result ≡ limit_of phase }
+{
+    match phase {
+        Kind::Two | Kind::Three => 4,
+        Kind::Four => 3,
+        Kind::Five | Kind::Six | Kind::Diesel => 2,
+    }
+}
+
+/// How many operating rounds a set has that begins in a phase.
+pub fn rounds_in_set(phase: Kind) -> u8
+    ensures { result ≡ rounds_in_set_of phase }
+{
+    match phase {
+        Kind::Two => 1,
+        Kind::Three | Kind::Four => 2,
+        Kind::Five | Kind::Six | Kind::Diesel => 3,
+    }
+}
