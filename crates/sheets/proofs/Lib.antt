@@ -5,3 +5,5 @@ pub mod ReachLemmas
 pub mod PostLemmas
 pub mod ContentLemmas
 pub mod LawLemmas
+pub mod AcceptedLemmas
+pub mod NumberLemmas
