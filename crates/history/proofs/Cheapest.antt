@@ -1,7 +1,7 @@
 -- The first private in roster order that is unsold costs least of those that are.
-use Rattle.std.proofs.Common.{◌≡◌, ℕ, ◌≤◌, ◌⊎◌, Bool, true, false, not, cond, List, [], ◌∷◌, ◌++◌, Option, Some, is_some, is_none, subst, arith}
+use Rattle.std.proofs.Common.{◌≡◌, ℕ, ◌≤◌, ◌⊎◌, Bool, true, false, cond, List, [], ◌∷◌, ◌++◌, Option, Some, subst, arith}
 use Rattle.history.specs.Laws.{AreAsked, FirstIsCheapest}
-use Rattle.history.specs.LookBack.{Game, owner_of, sv_price_of, first_unsold, cheapest_of}
+use Rattle.history.specs.LookBack.{Game, is_sold, sv_price_of, first_unsold, cheapest_of}
 use Rattle.history.specs.Sound.{IsSound}
 use Rattle.history.specs.declared.event.Event.{Event}
 use Rattle.tables.specs.declared.roster.Private.{Private}
@@ -14,18 +14,18 @@ module _ (events : List Event) (price : Private → ℕ) where
   AllAtMost most (private ∷ privates) = (price private ≤ most) × AllAtMost most privates
 
   -- either this private is the first, or a later one is
-  this_or_later : (unsold : Bool) (this first : Private) (later : Option Private) (most : ℕ) → cond unsold (Some this) later ≡ Some first → price this ≤ most → (later ≡ Some first → price first ≤ most) → price first ≤ most
-  this_or_later true this first later most is low later_low = let same : this ≡ first = cc in subst (λ private. price private ≤ most) same low
-  this_or_later false this first later most is low later_low = later_low is
+  this_or_later : (sold : Bool) (this first : Private) (later : Option Private) (most : ℕ) → cond sold later (Some this) ≡ Some first → price this ≤ most → (later ≡ Some first → price first ≤ most) → price first ≤ most
+  this_or_later false this first later most is low later_low = let same : this ≡ first = cc in subst (λ private. price private ≤ most) same low
+  this_or_later true this first later most is low later_low = later_low is
 
   -- the first that is unsold comes before an unsold one, or is that one
-  first_before : (front : List Private) (other : Private) (rest : List Private) (first : Private) → is_some (owner_of events other) ≡ false → AllAtMost (price other) front → first_unsold events (front ++ other ∷ rest) ≡ Some first → price first ≤ price other
+  first_before : (front : List Private) (other : Private) (rest : List Private) (first : Private) → is_sold events other ≡ false → AllAtMost (price other) front → first_unsold (is_sold events) (front ++ other ∷ rest) ≡ Some first → price first ≤ price other
   first_before [] other rest first unsold low is =
-      let here : Some other ≡ Some first = subst (λ sold. cond (not sold) (Some other) (first_unsold events rest) ≡ Some first) unsold is in
+      let here : Some other ≡ Some first = subst (λ sold. cond sold (first_unsold (is_sold events) rest) (Some other) ≡ Some first) unsold is in
       let same : other ≡ first = cc in
       subst (λ private. price private ≤ price other) same (omega arith)
   first_before (private ∷ front) other rest first unsold low is =
-      this_or_later (is_none (owner_of events private)) private first (first_unsold events (front ++ other ∷ rest)) (price other) is low.0 (first_before front other rest first unsold low.1)
+      this_or_later (is_sold events private) private first (first_unsold (is_sold events) (front ++ other ∷ rest)) (price other) is low.0 (first_before front other rest first unsold low.1)
 
 -- SV costs no more than its face
 sv_low : (game : Game) → IsSound game → sv_price_of game.events ≤ 20
@@ -52,7 +52,7 @@ module _ (game : Game) (price : Private → ℕ) (sound : IsSound game) (asked :
   bop = asked.of_others BaltimoreOhio (λ same. cc)
 
   -- by the place of the other private
-  by_place : (first other : Private) → cheapest_of game.events ≡ Some first → is_some (owner_of game.events other) ≡ false → price first ≤ price other
+  by_place : (first other : Private) → cheapest_of game.events ≡ Some first → is_sold game.events other ≡ false → price first ≤ price other
   by_place first SchuylkillValley is unsold = first_before game.events price [] SchuylkillValley (ChamplainStLawrence ∷ DelawareHudson ∷ MohawkHudson ∷ CamdenAmboy ∷ BaltimoreOhio ∷ []) first unsold tt is
   by_place first ChamplainStLawrence is unsold = first_before game.events price (SchuylkillValley ∷ []) ChamplainStLawrence (DelawareHudson ∷ MohawkHudson ∷ CamdenAmboy ∷ BaltimoreOhio ∷ []) first unsold (omega (arith, sv, cs), tt) is
   by_place first DelawareHudson is unsold = first_before game.events price (SchuylkillValley ∷ ChamplainStLawrence ∷ []) DelawareHudson (MohawkHudson ∷ CamdenAmboy ∷ BaltimoreOhio ∷ []) first unsold (omega (arith, sv, dh), (omega (arith, cs, dh), tt)) is

@@ -1,2 +1,4 @@
+pub mod Words
 pub mod EventAtEnd
+pub mod Soundness
 pub mod Cheapest

@@ -1,5 +1,7 @@
 -- What a game is, by its events: each event, what a list of them says, and when that is sound.
+pub mod Kept
 pub mod Event
 pub mod LookBack
+pub mod Tell
 pub mod Sound
 pub mod Laws

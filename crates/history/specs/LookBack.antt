@@ -1,15 +1,21 @@
--- What a list of events, oldest first, says when it is looked back over.
-use Rattle.std.specs.Prelude.{ℕ, ◌+◌, ◌==◌, Bool, true, false, nat_lt, min, if◌then◌else◌, List, [], ◌∷◌, Option, Some, None, sum_by, pos, ◌-ℤ◌, ℤ, is_none, unwrap_or}
+-- What a list of events, oldest first, says when it is looked back over. There are two ways: what the
+-- last event about a thing says, and a start with all that came in less all that went out.
+use Rattle.std.specs.Prelude.{ℕ, ◌+◌, ◌==◌, Bool, true, false, if◌then◌else◌, List, [], ◌∷◌, ◌++◌, Option, Some, None, sum_by, pos, ◌-ℤ◌, ℤ, is_some, unwrap_or, slice_index_or}
 use Rattle.std.specs.List.{list_any}
-use Rattle.history.specs.Event.{payment_of, sale_of, sv_price_set, buyer_of, tells_broken}
+use Rattle.std.specs.Option.{option_or, option_flatten, option_map}
+use Rattle.history.specs.Event.{Obeyance, obeyed_of, is_opening_act, ownership_of, payment_of, round_of, sv_price_set, tells_broken}
 use Rattle.history.specs.declared.event.Event.{Event}
+use Rattle.history.specs.declared.event.Holder.{Holder}
+use Rattle.history.specs.declared.event.Holder.TheVariants as holder
+use Rattle.history.specs.declared.event.Ownership.{Ownership}
 use Rattle.history.specs.declared.event.Party.{Party}
 use Rattle.history.specs.declared.event.Party.TheVariants as party
 use Rattle.history.specs.declared.event.Payment.{Payment}
-use Rattle.history.specs.declared.event.Sale.{Sale}
-use Rattle.tables.specs.Roster.{start_money_of, bank_start_of, face_of}
+use Rattle.history.specs.declared.owners.Owners.{Owners}
+use Rattle.tables.specs.Roster.{start_money_of, bank_start_of, face_of, place_of_private, privates, same_company, same_private}
+use Rattle.tables.specs.Seat.{left_of, seat_at}
 use Rattle.tables.specs.declared.roster.Private.{Private}
-use Rattle.tables.specs.declared.roster.Private.TheVariants.{SchuylkillValley, ChamplainStLawrence, DelawareHudson, MohawkHudson, CamdenAmboy, BaltimoreOhio}
+use Rattle.tables.specs.declared.roster.Private.TheVariants.{SchuylkillValley}
 use Rattle.tables.specs.declared.seat.Seat.{Seat}
 
 -- a game: the number of its seats, and its events
@@ -17,35 +23,40 @@ pub record Game : Type 0 where
   pub seats : ℕ
   pub events : List Event
 
--- what was said last, or before that
-abbrev pub or_earlier : {A : Type 0} → Option A → Option A → Option A
-or_earlier (Some later) earlier = Some later
-or_earlier None earlier = earlier
+-- a game with one more event
+abbrev pub with_event : Game → Event → Game
+with_event game event = record { seats = game.seats; events = game.events ++ event ∷ [] }
 
 -- what the last event that says something of this kind says
 abbrev pub last_said : {A : Type 0} → (Event → Option A) → List Event → Option A
 last_said says [] = None
-last_said says (event ∷ events) = or_earlier (last_said says events) (says event)
+last_said says (event ∷ events) = option_or (last_said says events) (says event)
+
+-- what holds now, where the last event that speaks of it says that it is this, or that it is nothing
+abbrev pub now_said : {A : Type 0} → (Event → Option (Option A)) → List Event → Option A
+now_said says events = option_flatten (last_said says events)
+
+-- what is said holds within a round: the event that begins a round says that nothing does
+abbrev pub in_round : {A : Type 0} → (Event → Option A) → Event → Option (Option A)
+in_round says event = if is_some (round_of event) then Some None else option_map Some (says event)
+
+-- a start, with all that came in, less all that went out
+abbrev pub balance : ℕ → (Event → ℕ) → (Event → ℕ) → List Event → ℤ
+balance start brings takes events = pos (start + sum_by brings events) -ℤ pos (sum_by takes events)
+
+-- two holders are the same
+abbrev pub same_holder : Holder → Holder → Bool
+same_holder (holder.Seat a) (holder.Seat b) = a.0 == b.0
+same_holder (holder.Company a) (holder.Company b) = same_company a b
+same_holder (holder.Seat a) (holder.Company b) = false
+same_holder (holder.Company a) (holder.Seat b) = false
 
 -- two parties are the same
 abbrev pub same_party : Party → Party → Bool
 same_party party.Bank party.Bank = true
-same_party (party.Seat a) (party.Seat b) = a.0 == b.0
-same_party party.Bank (party.Seat b) = false
-same_party (party.Seat a) party.Bank = false
-
--- the place of a private in the roster
-abbrev pub place_of : Private → ℕ
-place_of SchuylkillValley = 0
-place_of ChamplainStLawrence = 1
-place_of DelawareHudson = 2
-place_of MohawkHudson = 3
-place_of CamdenAmboy = 4
-place_of BaltimoreOhio = 5
-
--- two privates are the same
-abbrev pub same_private : Private → Private → Bool
-same_private a b = place_of a == place_of b
+same_party (party.Holder a) (party.Holder b) = same_holder a b
+same_party party.Bank (party.Holder b) = false
+same_party (party.Holder a) party.Bank = false
 
 -- what a payment brings to a party
 abbrev pub paid_to : Party → Option Payment → ℕ
@@ -57,31 +68,29 @@ abbrev pub paid_by : Party → Option Payment → ℕ
 paid_by party None = 0
 paid_by party (Some payment) = if same_party payment.from party then payment.amount else 0
 
--- all that came in to a party
-abbrev pub came_in : List Event → Party → ℕ
-came_in events party = sum_by (λ event. paid_to party (payment_of event)) events
-
--- all that went out from a party
-abbrev pub went_out : List Event → Party → ℕ
-went_out events party = sum_by (λ event. paid_by party (payment_of event)) events
-
--- what a party begins with
+-- what a party begins with: a company has nothing
 abbrev pub start_of : ℕ → Party → ℕ
 start_of seats party.Bank = bank_start_of seats
-start_of seats (party.Seat seat) = start_money_of seats
+start_of seats (party.Holder (holder.Seat seat)) = start_money_of seats
+start_of seats (party.Holder (holder.Company company)) = 0
 
 -- a party's cash: its start money, plus all that came in, less all that went out
 abbrev pub cash_of : ℕ → List Event → Party → ℤ
-cash_of seats events party = pos (start_of seats party + came_in events party) -ℤ pos (went_out events party)
+cash_of seats events party =
+    balance (start_of seats party) (λ event. paid_to party (payment_of event)) (λ event. paid_by party (payment_of event)) events
 
--- the owner that a sale gives to a private
-abbrev pub owner_by : Private → Option Sale → Option Party
-owner_by private None = None
-owner_by private (Some sale) = if same_private sale.private private then Some sale.owner else None
+-- what is said of this private's owner
+abbrev pub owner_said : Private → Option Ownership → Option (Option Holder)
+owner_said private None = None
+owner_said private (Some ownership) = if same_private ownership.private private then Some ownership.owner else None
 
--- who owns a private; nobody while it is unsold
-abbrev pub owner_of : List Event → Private → Option Party
-owner_of events private = last_said (λ event. owner_by private (sale_of event)) events
+-- who owns a private; nobody while it is unsold, and once it is closed
+abbrev pub owner_of : List Event → Private → Option Holder
+owner_of events private = now_said (λ event. owner_said private (ownership_of event)) events
+
+-- a private has been sold: some event has spoken of its owner
+abbrev pub is_sold : List Event → Private → Bool
+is_sold events private = is_some (last_said (λ event. owner_said private (ownership_of event)) events)
 
 -- the price of SV, at first its face
 abbrev pub sv_price_of : List Event → ℕ
@@ -91,29 +100,41 @@ sv_price_of events = unwrap_or (last_said sv_price_set events) (face_of Schuylki
 abbrev pub broken_in : List Event → Bool
 broken_in events = list_any tells_broken events
 
--- the seat at the left of a seat; seats are numbered from 0 to 255 at most
-abbrev pub left_of : ℕ → Seat → Seat
-left_of seats seat = if nat_lt (seat.0 + 1) (min seats 256) then record { 0 = seat.0 + 1 } else record { 0 = 0 }
+-- the seat that acted in its own turn by an obeyed order
+abbrev pub actor_by : Option Obeyance → Option Seat
+actor_by None = None
+actor_by (Some obeyed) = if is_opening_act obeyed.order then Some obeyed.seat else None
 
--- the seat at the left of the last that bought; at first seat 0
-abbrev pub left_of_buyer : ℕ → Option Seat → Seat
-left_of_buyer seats None = record { 0 = 0 }
-left_of_buyer seats (Some buyer) = left_of seats buyer
+-- the seat that acted in its own turn by this event
+abbrev pub actor_of : Event → Option Seat
+actor_of event = actor_by (obeyed_of event)
+
+-- the seat at the left of the last that acted; at first seat 0
+abbrev pub left_of_actor : ℕ → Option Seat → Seat
+left_of_actor seats None = seat_at 0
+left_of_actor seats (Some actor) = left_of seats actor
 
 -- the holder of priority
 abbrev pub priority_of : ℕ → List Event → Seat
-priority_of seats events = left_of_buyer seats (last_said buyer_of events)
-
--- the privates in roster order
-abbrev pub privates : List Private
-privates =
-    SchuylkillValley ∷ ChamplainStLawrence ∷ DelawareHudson ∷ MohawkHudson ∷ CamdenAmboy ∷ BaltimoreOhio ∷ []
+priority_of seats events = left_of_actor seats (last_said actor_of events)
 
 -- the first of these privates that is unsold
-abbrev pub first_unsold : List Event → List Private → Option Private
-first_unsold events [] = None
-first_unsold events (private ∷ others) = if is_none (owner_of events private) then Some private else first_unsold events others
+abbrev pub first_unsold : (Private → Bool) → List Private → Option Private
+first_unsold sold [] = None
+first_unsold sold (private ∷ others) = if sold private then first_unsold sold others else Some private
 
 -- the cheapest private that is unsold
 abbrev pub cheapest_of : List Event → Option Private
-cheapest_of events = first_unsold events privates
+cheapest_of events = first_unsold (is_sold events) privates
+
+-- the owner of a private, by what was said last of each
+abbrev pub owner_in : Owners → Private → Option Holder
+owner_in owners private = option_flatten (slice_index_or owners.said (place_of_private private) None)
+
+-- a private has been sold, by what was said last of each
+abbrev pub is_sold_in : Owners → Private → Bool
+is_sold_in owners private = is_some (slice_index_or owners.said (place_of_private private) None)
+
+-- the cheapest private that is unsold, by what was said last of each
+abbrev pub cheapest_in : Owners → Option Private
+cheapest_in owners = first_unsold (is_sold_in owners) privates

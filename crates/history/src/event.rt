@@ -1,23 +1,51 @@
 ghost use Rattle.std.specs.Prelude.{◌≡◌};
-ghost use Rattle.history.specs.Event.{buyer_of, payment_of, sale_of, sum_of, sv_price_set};
+ghost use Rattle.history.specs.Event.{ownership_of, party_at, payment_of, round_of, sum_of, sv_price_set};
+ghost use Rattle.history.specs.LookBack.{actor_of};
+ghost use Rattle.history.specs.declared.event.Holder.TheVariants as holder;
+ghost use Rattle.history.specs.declared.event.Party.TheVariants as party;
 
-use crate::ruling::{KeptOrder, Ruling};
-use tables::{Amount, Private, Round, Seat};
+use crate::ruling::Ruling;
+use tables::{Amount, Company, Private, Round, Seat};
 
 /// The greatest sum of money of an event.
 pub const SUM_MOST: Amount = 1_000_000;
 
-/// Who can hold money.
+/// Who can own a private.
+#[derive(Clone, Copy, Debug, PartialEq, Eq)]
+pub enum Holder {
+    /// The player of a seat.
+    Seat(Seat),
+    /// A share company.
+    Company(Company),
+}
+
+/// Who can pay and be paid.
 #[derive(Clone, Copy, Debug, PartialEq, Eq)]
 pub enum Party {
     /// The bank, whose cash may go under 0.
     Bank,
+    /// A player or a company.
+    Holder(Holder),
+}
+
+impl Party {
     /// The player of a seat.
-    Seat(Seat),
+    pub fn of_seat(seat: Seat) -> Party
+        ensures { result ≡ party_at seat }
+    {
+        Party::Holder(Holder::Seat(seat))
+    }
+
+    /// A share company.
+    pub fn of_company(company: Company) -> Party
+        ensures { result ≡ party.Holder (holder.Company company) }
+    {
+        Party::Holder(Holder::Company(company))
+    }
 }
 
 /// What happened, as one line of the report.
-#[derive(Clone, Copy, Debug, PartialEq, Eq)]
+#[derive(Debug, Drop)]
 pub enum Event {
     /// A round begins.
     Round(Round),
@@ -47,7 +75,7 @@ pub enum Event {
     /// The bank pays a private's revenue to its owner.
     Revenue {
         private: Private,
-        owner: Party,
+        owner: Holder,
         amount: Amount,
     },
     /// The bank's cash came to 0 or less.
@@ -55,7 +83,7 @@ pub enum Event {
 }
 
 // An event is small, since a game keeps each one that ever happened.
-const _: () = prove!(size_of::<Event>() <= 16);
+const _: () = prove!(size_of::<Event>() <= 48);
 
 /// Money that an event moves.
 #[derive(Clone, Copy, Debug, PartialEq, Eq)]
@@ -68,13 +96,13 @@ pub struct Payment {
     pub amount: Amount,
 }
 
-/// A private that an event gives to an owner.
+/// What an event says of a private.
 #[derive(Clone, Copy, Debug, PartialEq, Eq)]
-pub struct Sale {
-    /// What is given.
+pub struct Ownership {
+    /// The private.
     pub private: Private,
-    /// Who owns it from then on.
-    pub owner: Party,
+    /// Who owns it from then on; `None` where nobody does.
+    pub owner: Option<Holder>,
 }
 
 impl Event {
@@ -84,13 +112,13 @@ impl Event {
     {
         match self {
             Event::Sold { seat, price, .. } => Some(Payment {
-                from: Party::Seat(*seat),
+                from: Party::of_seat(*seat),
                 to: Party::Bank,
                 amount: *price,
             }),
             Event::Revenue { owner, amount, .. } => Some(Payment {
                 from: Party::Bank,
-                to: *owner,
+                to: Party::Holder(*owner),
                 amount: *amount,
             }),
             _ => None,
@@ -108,14 +136,14 @@ impl Event {
         }
     }
 
-    /// The private that it gives to an owner.
-    pub fn sale(&self) -> Option<Sale>
-        ensures { result ≡ sale_of self.now }
+    /// What it says of a private.
+    pub fn ownership(&self) -> Option<Ownership>
+        ensures { result ≡ ownership_of self.now }
     {
         match self {
-            Event::Sold { private, seat, .. } => Some(Sale {
+            Event::Sold { private, seat, .. } => Some(Ownership {
                 private: *private,
-                owner: Party::Seat(*seat),
+                owner: Some(Holder::Seat(*seat)),
             }),
             _ => None,
         }
@@ -131,16 +159,26 @@ impl Event {
         }
     }
 
-    /// The seat whose own turn bought something in an opening by it.
-    pub fn buyer(&self) -> Option<Seat>
-        ensures { result ≡ buyer_of self.now }
+    /// The round that it begins.
+    pub fn round(&self) -> Option<Round>
+        ensures { result ≡ round_of self.now }
+    {
+        match self {
+            Event::Round(round) => Some(*round),
+            _ => None,
+        }
+    }
+
+    /// The seat that acted in its own turn of an opening round by it.
+    pub fn actor(&self) -> Option<Seat>
+        ensures { result ≡ actor_of self.now }
     {
         match self {
             Event::Ruled {
                 seat,
-                ruling: Ruling::Obeyed(KeptOrder::BuyPrivate(_)),
+                ruling: Ruling::Obeyed(order),
                 ..
-            } => Some(*seat),
+            } if order.is_opening_act() => Some(*seat),
             _ => None,
         }
     }

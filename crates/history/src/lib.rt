@@ -9,16 +9,21 @@
 //! `list` (`History`), `laws`.
 #![tactic(auto)]
 
+mod aspect;
 mod event;
 mod laws;
 mod list;
 mod look_back;
+mod owners;
 mod ruling;
-#[cfg(test)]
-mod tests;
+mod tell;
+mod topics;
 
-pub use event::{Event, Party, Payment, SUM_MOST, Sale};
-pub use laws::first_is_cheapest;
+pub use event::{Event, Holder, Ownership, Party, Payment, SUM_MOST};
+pub use laws::{
+    cash_moves, first_is_cheapest, last_word_is_last, quiet_keeps_sound, quiet_says_the_same,
+};
 pub use list::History;
 pub use look_back::Past;
-pub use ruling::{KeptOrder, Refusal, Ruling};
+pub use owners::Owners;
+pub use ruling::{KeptOrder, OpeningRule, Refusal, Ruling};

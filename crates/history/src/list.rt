@@ -1,13 +1,13 @@
-ghost use Rattle.std.specs.Prelude.{◌≡◌, ◌↔◌, ◌≤◌, IsTrue, OnOk, OnErr, pos, [], ◌∷◌, ◌++◌};
+ghost use Rattle.std.specs.Prelude.{◌≡◌, ◌↔◌, ◌≤◌, IsTrue, OnOk, OnErr, pos, []};
 ghost use Rattle.history.specs.Event.{sum_of};
-ghost use Rattle.history.specs.LookBack.{broken_in, cash_of, owner_of, sv_price_of};
+ghost use Rattle.history.specs.LookBack.{broken_in, cash_of, cheapest_of, is_sold, owner_of, priority_of, sv_price_of, with_event};
 ghost use Rattle.history.specs.Sound.{IsSound};
 
-use crate::event::{Event, Party, SUM_MOST};
+use crate::event::{Event, Holder, Party, SUM_MOST};
 use crate::look_back::Past;
 use std::alloc::{AllocError, Global};
 use std::marker::Model;
-use tables::{Money, Private};
+use tables::{Money, Private, Seat};
 
 /// A game: the number of its seats and the list of its events, oldest first.
 #[derive(Debug, Drop)]
@@ -50,7 +50,7 @@ impl History {
     /// Adds an event at the end. An `Err` leaves the list as it was.
     pub fn append(&mut self, event: Event) -> Result<(), AllocError>
         requires { sum_of event ≤ 1000000 }
-        ensures ok { OnOk result (self.new ≡ record { seats = self.old.seats; events = self.old.events ++ event ∷ [] }) }
+        ensures ok { OnOk result (self.new ≡ with_event self.old event) }
         ensures err { OnErr result (self.new ≡ self.old) }
     {
         self.events.push(event)?;
@@ -89,8 +89,8 @@ impl History {
         self.now().cash(party)
     }
 
-    /// Who owns a private; `None` while it is unsold.
-    pub fn owner(&self, private: Private) -> Option<Party>
+    /// Who owns a private; `None` while it is unsold, and once it is closed.
+    pub fn owner(&self, private: Private) -> Option<Holder>
         ensures { result ≡ owner_of self.now.events private }
     {
         self.now().owner(private)
@@ -109,5 +109,26 @@ impl History {
         ensures { result ≡ broken_in self.now.events }
     {
         self.now().broken()
+    }
+
+    /// Whether a private has been sold.
+    pub fn is_sold(&self, private: Private) -> bool
+        ensures { result ≡ is_sold self.now.events private }
+    {
+        self.now().is_sold(private)
+    }
+
+    /// The first private in roster order that is unsold.
+    pub fn cheapest_unsold(&self) -> Option<Private>
+        ensures { result ≡ cheapest_of self.now.events }
+    {
+        self.now().cheapest_unsold()
+    }
+
+    /// The holder of priority.
+    pub fn priority(&self) -> Seat
+        ensures { result ≡ priority_of self.now.seats self.now.events }
+    {
+        self.now().priority()
     }
 }

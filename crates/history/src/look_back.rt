@@ -1,8 +1,10 @@
-ghost use Rattle.std.specs.Prelude.{◌≡◌, false, is_some, slice_index_or};
-ghost use Rattle.history.specs.Event.{sale_of};
-ghost use Rattle.history.specs.LookBack.{broken_in, cash_of, cheapest_of, left_of, owner_by, owner_of, place_of, priority_of, start_of, sv_price_of};
+ghost use Rattle.std.specs.Prelude.{◌≡◌, length};
+ghost use Rattle.history.specs.LookBack.{broken_in, cash_of, cheapest_in, cheapest_of, is_sold, is_sold_in, owner_in, owner_of, priority_of, start_of, sv_price_of};
 
-use crate::event::{Event, Party};
+use crate::aspect::{balance, last_said};
+use crate::event::{Event, Holder, Party};
+use crate::owners::Owners;
+use crate::topics::{Actor, Cash, Owner, SvPrice};
 use tables::{Amount, Money, Private, Seat, bank_start, face, start_money};
 
 /// A list of events with the number of seats: a game as it stood after them.
@@ -19,43 +21,50 @@ impl Past<'_> {
     pub fn cash(&self, party: Party) -> Money
         ensures { result ≡ cash_of self.now.seats self.now.events.now party }
     {
-        let mut came_in = Money::from(start_of(self.seats, party));
-        let mut went_out = 0;
-        for event in self.events {
-            if let Some(payment) = event.payment() {
-                if payment.to == party {
-                    came_in += Money::from(payment.amount);
-                }
-                if payment.from == party {
-                    went_out += Money::from(payment.amount);
-                }
-            }
-        }
-        came_in - went_out
+        balance(&Cash(party), start_of(self.seats, party), self.events)
     }
 
-    /// Who owns a private; `None` while it is unsold.
-    pub fn owner(&self, private: Private) -> Option<Party>
+    /// Who owns a private; `None` while it is unsold, and once it is closed.
+    pub fn owner(&self, private: Private) -> Option<Holder>
         ensures { result ≡ owner_of self.now.events.now private }
     {
-        for event in self.events.iter().rev() {
-            if let Some(owner) = owner_by(event, private) {
-                return Some(owner);
+        last_said(&Owner(private), self.events).flatten()
+    }
+
+    /// Whether a private has been sold.
+    pub fn is_sold(&self, private: Private) -> bool
+        ensures { result ≡ is_sold self.now.events.now private }
+    {
+        last_said(&Owner(private), self.events).is_some()
+    }
+
+    /// The owners of all privates, by one look over the list.
+    pub fn owners(&self) -> Owners
+        ensures owner { (private : Private) → owner_in result private ≡ owner_of self.now.events.now private }
+        ensures sold { (private : Private) → is_sold_in result private ≡ is_sold self.now.events.now private }
+        ensures cheapest { cheapest_in result ≡ cheapest_of self.now.events.now }
+    {
+        let mut said = [None; 6];
+        for event in self.events {
+            if let Some(ownership) = event.ownership() {
+                said[ownership.private.place()] = Some(ownership.owner);
             }
         }
-        None
+        Owners { said }
+    }
+
+    /// The first private in roster order that is unsold.
+    pub fn cheapest_unsold(&self) -> Option<Private>
+        ensures { result ≡ cheapest_of self.now.events.now }
+    {
+        self.owners().cheapest_unsold()
     }
 
     /// The price of SV in dollars, at first its face.
     pub fn sv_price(&self) -> Amount
         ensures { result ≡ sv_price_of self.now.events.now }
     {
-        for event in self.events.iter().rev() {
-            if let Some(price) = event.sv_price() {
-                return price;
-            }
-        }
-        face(Private::SchuylkillValley)
+        last_said(&SvPrice, self.events).unwrap_or(face(Private::SchuylkillValley))
     }
 
     /// Whether the bank is broken.
@@ -67,65 +76,15 @@ impl Past<'_> {
             .any(|event| matches!(event, Event::Broken))
     }
 
-    /// The holder of priority: the seat at the left of the last seat whose own turn bought; at
-    /// first seat 0.
+    /// The holder of priority: the seat at the left of the last seat whose own turn acted in an
+    /// opening round; at first seat 0.
     pub fn priority(&self) -> Seat
         ensures { result ≡ priority_of self.now.seats self.now.events.now }
     {
-        for event in self.events.iter().rev() {
-            if let Some(buyer) = event.buyer() {
-                return left_of(buyer, self.seats);
-            }
+        match last_said(&Actor, self.events) {
+            Some(actor) => actor.left(self.seats),
+            None => Seat(0),
         }
-        Seat(0)
-    }
-
-    /// The first private in roster order that is unsold.
-    pub fn cheapest_unsold(&self) -> Option<Private>
-        ensures { result ≡ cheapest_of self.now.events.now }
-    {
-        let sold = self.sold();
-        for private in Private::ALL {
-            if !sold[place_of(private)] {
-                return Some(private);
-            }
-        }
-        None
-    }
-
-    /// Whether each private is sold, by its place in the roster.
-    fn sold(&self) -> [bool; 6]
-        ensures { (private : Private) → slice_index_or result (place_of private) false ≡ is_some (owner_of self.now.events.now private) }
-    {
-        let mut sold = [false; 6];
-        for event in self.events {
-            if let Some(sale) = event.sale() {
-                sold[place_of(sale.private)] = true;
-            }
-        }
-        sold
-    }
-}
-
-/// The owner that an event gives to a private.
-fn owner_by(event: &Event, private: Private) -> Option<Party>
-    ensures { result ≡ owner_by private (sale_of event.now) }
-{
-    match event.sale() {
-        Some(sale) if sale.private == private => Some(sale.owner),
-        _ => None,
-    }
-}
-
-/// The seat at the left of a seat.
-pub(crate) fn left_of(seat: Seat, seats: usize) -> Seat
-    ensures { result ≡ left_of seats seat }
-{
-    let left = usize::from(seat.0) + 1;
-    if left < seats.min(256) {
-        Seat(left as u8)
-    } else {
-        Seat(0)
     }
 }
 
@@ -135,20 +94,7 @@ fn start_of(seats: usize, party: Party) -> Amount
 {
     match party {
         Party::Bank => bank_start(seats),
-        Party::Seat(_) => start_money(seats),
-    }
-}
-
-/// The place of a private in the roster.
-fn place_of(private: Private) -> usize
-    ensures { result ≡ place_of private }
-{
-    match private {
-        Private::SchuylkillValley => 0,
-        Private::ChamplainStLawrence => 1,
-        Private::DelawareHudson => 2,
-        Private::MohawkHudson => 3,
-        Private::CamdenAmboy => 4,
-        Private::BaltimoreOhio => 5,
+        Party::Holder(Holder::Seat(_)) => start_money(seats),
+        Party::Holder(Holder::Company(_)) => 0,
     }
 }

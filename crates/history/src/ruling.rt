@@ -1,12 +1,32 @@
-ghost use Rattle.std.specs.Prelude.{◌≡◌};
-ghost use Rattle.history.specs.Event.{code_of_refusal, order_kept};
+ghost use Rattle.std.specs.Prelude.{◌≡◌, IfOk};
+ghost use Rattle.history.specs.Event.{code_of_opening_rule, code_of_refusal, is_opening_act};
 
 use order_grammar::{Fault, Order};
+use std::alloc::{AllocError, Global};
+use std::marker::Model;
 use tables::Private;
 
-/// Which rule of play an order breaks first.
+/// Which rule of play an order breaks first, by the family of the rule.
 #[derive(Clone, Copy, Debug, PartialEq, Eq)]
 pub enum Refusal {
+    /// A rule of an opening round.
+    Opening(OpeningRule),
+}
+
+impl Refusal {
+    /// The code that a report prints.
+    pub fn code(self) -> &'static str
+        ensures { result.now ≡ code_of_refusal self }
+    {
+        match self {
+            Refusal::Opening(rule) => rule.code(),
+        }
+    }
+}
+
+/// A rule that an order in an opening round may break.
+#[derive(Clone, Copy, Debug, PartialEq, Eq)]
+pub enum OpeningRule {
     /// A2: the private is sold.
     Sold,
     /// A3: the private is not the cheapest that is unsold.
@@ -17,40 +37,79 @@ pub enum Refusal {
     TurnUsed,
 }
 
-impl Refusal {
+impl OpeningRule {
     /// The code that a report prints.
     pub fn code(self) -> &'static str
-        ensures { result.now ≡ code_of_refusal self }
+        ensures { result.now ≡ code_of_opening_rule self }
     {
         match self {
-            Refusal::Sold => "A2",
-            Refusal::NotCheapest => "A3",
-            Refusal::CashTooSmall => "A5",
-            Refusal::TurnUsed => "A6",
+            OpeningRule::Sold => "A2",
+            OpeningRule::NotCheapest => "A3",
+            OpeningRule::CashTooSmall => "A5",
+            OpeningRule::TurnUsed => "A6",
         }
     }
 }
 
-/// An order as a ruling keeps it: the orders that a rule of play may obey or refuse, in few bytes.
-#[derive(Clone, Copy, Debug, PartialEq, Eq)]
-pub enum KeptOrder {
-    /// To buy this private from the bank.
+/// An order as a ruling keeps it, in few bytes; contracts see the order.
+#[derive(Debug, Drop)]
+pub struct KeptOrder {
+    kept: Kept,
+}
+
+/// The forms that are ruled most often in a few bytes, and any other order behind a box.
+#[derive(Debug, Drop)]
+enum Kept {
     BuyPrivate(Private),
+    Boxed(Box<Order>),
+}
+
+impl Model for KeptOrder {
+    ghost use Rattle.order_grammar.specs.declared.order.Order.{Order};
+
+    ghost Value = { Order };
+
+    ghost use Rattle.history.specs.Kept.{order_in};
+
+    ghost view = { λ a. order_in a.kept };
 }
 
 impl KeptOrder {
-    /// The order that is kept.
-    pub fn order(self) -> Order
-        ensures { result ≡ order_kept self }
+    /// Keeps a copy of an order. An `Err` comes only where a box gets no memory; the forms of an
+    /// opening need none.
+    pub fn keep(alloc: Global, order: &Order) -> Result<KeptOrder, AllocError>
+        ensures { IfOk result (λ kept. kept ≡ order.now) }
     {
-        match self {
-            KeptOrder::BuyPrivate(private) => Order::BuyPrivate(private),
+        let kept = match order {
+            Order::BuyPrivate(private) => Kept::BuyPrivate(*private),
+            other => Kept::Boxed(Box::new(alloc, other.duplicate())?),
+        };
+        Ok(KeptOrder { kept })
+    }
+
+    /// The order that is kept.
+    pub fn order(&self) -> Order
+        ensures { result ≡ self.now }
+    {
+        match &self.kept {
+            Kept::BuyPrivate(private) => Order::BuyPrivate(*private),
+            Kept::Boxed(order) => order.duplicate(),
+        }
+    }
+
+    /// Whether it is an act of a turn of an opening round: the purchase of a private.
+    pub fn is_opening_act(&self) -> bool
+        ensures { result ≡ is_opening_act self.now }
+    {
+        match &self.kept {
+            Kept::BuyPrivate(_) => true,
+            Kept::Boxed(order) => matches!(**order, Order::BuyPrivate(_)),
         }
     }
 }
 
 /// What became of a line that was taken up.
-#[derive(Clone, Copy, Debug, PartialEq, Eq)]
+#[derive(Debug, Drop)]
 pub enum Ruling {
     /// The order was carried out.
     Obeyed(KeptOrder),

@@ -1,0 +1,5 @@
+use Rattle.history.proofs.Soundness.{quiet_sound}
+use Rattle.history.proofs.laws.quiet_keeps_sound.Goals as goal
+
+pub returns : goal.returns
+returns c = quiet_sound

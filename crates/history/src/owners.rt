@@ -1,0 +1,40 @@
+ghost use Rattle.std.specs.Prelude.{◌≡◌};
+ghost use Rattle.history.specs.LookBack.{cheapest_in, is_sold_in, owner_in};
+
+use crate::event::Holder;
+use tables::Private;
+
+/// What was said last of the owner of each private, made by one look over a list of events.
+#[derive(Clone, Copy, Debug)]
+pub struct Owners {
+    /// By the private's place in the roster; `None` where it is unsold.
+    pub(crate) said: [Option<Option<Holder>>; 6],
+}
+
+impl Owners {
+    /// Who owns a private; `None` while it is unsold, and once it is closed.
+    pub fn owner(&self, private: Private) -> Option<Holder>
+        ensures { result ≡ owner_in self.now private }
+    {
+        self.said[private.place()].flatten()
+    }
+
+    /// Whether a private has been sold.
+    pub fn is_sold(&self, private: Private) -> bool
+        ensures { result ≡ is_sold_in self.now private }
+    {
+        self.said[private.place()].is_some()
+    }
+
+    /// The first private in roster order that is unsold.
+    pub fn cheapest_unsold(&self) -> Option<Private>
+        ensures { result ≡ cheapest_in self.now }
+    {
+        for private in Private::ALL {
+            if !self.is_sold(private) {
+                return Some(private);
+            }
+        }
+        None
+    }
+}

@@ -1,0 +1,55 @@
+//! Events that tell what follows from the list, and change nothing that a party has or owns.
+ghost use Rattle.std.specs.Prelude.{◌≡◌, ◌≤◌, ◌++◌, [], OnErr, OnOk};
+ghost use Rattle.history.specs.Event.{IsQuiet, sum_of};
+ghost use Rattle.history.specs.LookBack.{with_event};
+ghost use Rattle.history.specs.Sound.{IsSound};
+ghost use Rattle.history.specs.Tell.{with_broken, with_left};
+
+use crate::event::{Event, Party};
+use crate::list::History;
+use std::alloc::AllocError;
+use tables::Seat;
+
+impl History {
+    /// Adds an event that changes nothing of what parties have and own. An `Err` leaves the list as
+    /// it was.
+    pub fn tell(&mut self, event: Event) -> Result<(), AllocError>
+        requires sum { sum_of event ≤ 1000000 }
+        requires quiet { IsQuiet event }
+        requires sound { IsSound self.old }
+        ensures ok { OnOk result (self.new ≡ with_event self.old event) }
+        ensures err { OnErr result (self.new ≡ self.old) }
+        ensures sound { IsSound self.new }
+    {
+        self.append(event)?;
+        Ok(())
+    }
+
+    /// Tells that the bank is broken, once, where its cash has come to 0 or less. It belongs after
+    /// each payment of the bank. An `Err` leaves the list as it was.
+    pub fn tell_broken(&mut self) -> Result<(), AllocError>
+        requires { IsSound self.old }
+        ensures ok { OnOk result (self.new ≡ record { seats = self.old.seats; events = with_broken self.old.seats self.old.events }) }
+        ensures err { OnErr result (self.new ≡ self.old) }
+        ensures sound { IsSound self.new }
+    {
+        if self.cash(Party::Bank) > 0 || self.broken() {
+            return Ok(());
+        }
+        self.tell(Event::Broken)
+    }
+
+    /// Tells that so many lines of a seat's sheet were not taken up, if there are any. An `Err` leaves
+    /// the list as it was.
+    pub fn tell_left(&mut self, seat: Seat, lines: u32) -> Result<(), AllocError>
+        requires { IsSound self.old }
+        ensures ok { OnOk result (self.new ≡ record { seats = self.old.seats; events = self.old.events ++ with_left seat lines [] }) }
+        ensures err { OnErr result (self.new ≡ self.old) }
+        ensures sound { IsSound self.new }
+    {
+        if lines == 0 {
+            return Ok(());
+        }
+        self.tell(Event::Left { seat, lines })
+    }
+}
