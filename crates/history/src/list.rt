@@ -1,10 +1,12 @@
-ghost use Rattle.std.specs.Prelude.{◌≡◌, ◌↔◌, ◌≤◌, IsTrue, OnOk, OnErr, pos, []};
+ghost use Rattle.std.specs.Prelude.{◌≡◌, ◌↔◌, ◌≤◌, IsTrue, OnOk, OnErr, IfOk, pos, []};
 ghost use Rattle.history.specs.Event.{sum_of};
 ghost use Rattle.history.specs.LookBack.{broken_in, cash_of, cheapest_of, is_sold, owner_of, priority_of, sv_price_of, with_event};
 ghost use Rattle.history.specs.Sound.{IsSound};
 
 use crate::event::{Event, Holder, Party, SUM_MOST};
 use crate::look_back::Past;
+use crate::ruling::KeptOrder;
+use order_grammar::Order;
 use std::alloc::{AllocError, Global};
 use std::marker::Model;
 use tables::{Money, Private, Seat};
@@ -55,6 +57,13 @@ impl History {
     {
         self.events.push(event)?;
         Ok(())
+    }
+
+    /// Keeps a copy of an order for a ruling of this game, in memory from where its list has its own.
+    pub fn keep(&self, order: &Order) -> Result<KeptOrder, AllocError>
+        ensures { IfOk result (λ kept. kept ≡ order.now) }
+    {
+        KeptOrder::keep(*self.events.allocator(), order)
     }
 
     /// The events, oldest first.

@@ -1,6 +1,8 @@
-pub mod Part
 pub mod Judgement
+pub mod Standing
 pub mod Auction
+pub mod Sale
+pub mod Act
 pub mod Turn
-pub mod Left
 pub mod Opening
+pub mod Underway

@@ -1,4 +1,4 @@
-ghost use Rattle.std.specs.Prelude.{◌≡◌};
+ghost use Rattle.std.specs.Prelude.{◌≡◌, []};
 ghost use Rattle.sheets.specs.Part.{StandsAtHead, TakesHead, TakesOrdinary, line_read, lines_in, opens_part as opens_a_part, parts_left};
 
 use crate::sheet::{Lines, NumberedLine};
@@ -78,6 +78,15 @@ impl<'a> PartsLeft<'a> {
             }
         }
         count
+    }
+}
+
+impl<'a> Default for PartsLeft<'a> {
+    ghost is_default = { λ parts. parts ≡ record { before = []; opened = [] } };
+
+    /// The parts of no lines.
+    fn default() -> PartsLeft<'a> {
+        PartsLeft::of(Lines::none(), Round::Opening(1))
     }
 }
 
