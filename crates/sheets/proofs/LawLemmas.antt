@@ -2,9 +2,10 @@
 use Rattle.std.proofs.Common.{◌≡◌, ℕ, List, [], ◌∷◌, ◌++◌, true, false, cond, eqb, Option, Some, None, refl, sym, ◌∙◌, ap}
 use Rattle.std.specs.Prelude.{◌&&◌}
 use Rattle.std.specs.Option.{option_or}
-use Rattle.sheets.specs.File.{Sent, begins, block, lines_begun, sheet_in, sent_by, sent_in, last_for, post_at, same_round, sheet_of, posts_of, players_of, body_of}
+use Rattle.sheets.specs.File.{Sent, begins, block, lines_begun, sheet_in, sent_by, sent_in, last_for, post_at, sheet_of, posts_of, players_of, body_of}
 use Rattle.sheets.specs.Laws.{LastSheetCounts, ArrivalChangesNothing}
 use Rattle.sheets.specs.declared.post.Post.{Post}
+use Rattle.tables.specs.Round.{same_round}
 use Rattle.tables.specs.declared.round.Round.{Round}
 use Rattle.sheets.proofs.BodyLemmas.{option_or-none}
 

@@ -7,3 +7,4 @@ pub mod ContentLemmas
 pub mod LawLemmas
 pub mod AcceptedLemmas
 pub mod NumberLemmas
+pub mod GroupLemmas

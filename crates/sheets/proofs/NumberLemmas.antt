@@ -8,9 +8,10 @@ use Rattle.order_grammar.specs.Spells.{IsSmallRound, Spells}
 use Rattle.order_grammar.specs.declared.fault.Fault.{Fault}
 use Rattle.order_grammar.specs.declared.order.Order.{Order}
 use Rattle.order_grammar.specs.declared.order.Order.TheVariants as order
-use Rattle.sheets.specs.File.{begins, block, body_of, is_sheet_line, lines_begun, players_of, post_at, post_begun, post_for, same_post, same_round, seat_from, sheet_in, sheet_of}
+use Rattle.sheets.specs.File.{begins, block, body_of, is_sheet_line, lines_begun, players_of, post_at, post_begun, post_for, same_post, seat_from, sheet_in, sheet_of}
 use Rattle.sheets.specs.Laws.{SheetsAreNumbered}
 use Rattle.sheets.specs.declared.post.Post.{Post}
+use Rattle.tables.specs.Round.{same_round}
 use Rattle.tables.specs.declared.round.Round.{Round}
 use Rattle.tables.specs.declared.round.Round.TheVariants.{Opening, Stock, Operating}
 use Rattle.tables.specs.declared.seat.Seat.{Seat}

@@ -14,8 +14,8 @@ use Rattle.sheets.specs.Text.{written_lines}
 use Rattle.sheets.specs.declared.fault.FileFault.{FileFault}
 use Rattle.sheets.specs.declared.fault.FileFault.TheVariants.{Header, Players, TooLong, TooManySheets, Memory}
 use Rattle.sheets.specs.declared.post.Post.{Post}
+use Rattle.tables.specs.Round.{same_round}
 use Rattle.tables.specs.declared.round.Round.{Round}
-use Rattle.tables.specs.declared.round.Round.TheVariants.{Opening, Stock, Operating}
 use Rattle.tables.specs.declared.seat.Seat.{Seat}
 
 -- the code of a fault: that which the report of a refused file prints; no report prints that of want
@@ -74,13 +74,6 @@ post_begun players other = None
 -- the sheet that a line begins whose first word is SHEET; a line that begins one is a good SHEET line
 unfoldable pub begins : List (List ℕ) → List ℕ → Option Post
 begins players line = if is_sheet_line line then post_begun players (reading_of line) else None
-
--- two rounds are the same
-abbrev pub same_round : Round → Round → Bool
-same_round (Opening a) (Opening b) = a == b
-same_round (Stock a) (Stock b) = a == b
-same_round (Operating a m) (Operating b n) = a == b && m == n
-same_round a b = false
 
 -- the same seat and the same round
 abbrev pub same_post : Post → Post → Bool

@@ -2,7 +2,8 @@
 use Rattle.std.specs.Prelude.{◌≡◌, ℕ, ◌<◌, ◌≤◌, List, length, Err, IsSome}
 use Rattle.order_grammar.specs.Spells.{IsSmallRound}
 use Rattle.sheets.specs.File.{IsAccepted, content_of, sheet_of, players_of, posts_of, last_for}
-use Rattle.sheets.specs.Limits.{file_most}
+use Rattle.sheets.specs.Limits.{file_most, lines_most}
+use Rattle.sheets.specs.Part.{groups_of, parts_for}
 use Rattle.sheets.specs.declared.fault.FileFault.TheVariants.{TooLong}
 use Rattle.tables.specs.declared.round.Round.{Round}
 
@@ -34,3 +35,7 @@ ThreeToSixPlay = (file : List ℕ) → IsAccepted file → MayPlay (length (play
 -- a sheet's round has a number that a line may have
 abbrev pub SheetsAreNumbered : Type 0
 SheetsAreNumbered = (file : List ℕ) (seat : ℕ) (round : Round) → IsSome (sheet_of file seat round) → IsSmallRound round
+
+-- a sheet has no more groups or blocks than lines that may be orders
+abbrev pub SheetsHaveFewGroups : Type 0
+SheetsHaveFewGroups = (file : List ℕ) (round : Round) (seat : ℕ) → length (groups_of (parts_for file round seat)) ≤ lines_most

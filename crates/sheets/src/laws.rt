@@ -1,6 +1,6 @@
 //! Laws of order files: each function does nothing, and its contract is the law.
 
-ghost use Rattle.sheets.specs.Laws.{ArrivalChangesNothing, LastSheetCounts, LongFileIsRefused, SheetsAreNumbered, ThreeToSixPlay};
+ghost use Rattle.sheets.specs.Laws.{ArrivalChangesNothing, LastSheetCounts, LongFileIsRefused, SheetsAreNumbered, SheetsHaveFewGroups, ThreeToSixPlay};
 
 use order_grammar::read_where_spelt;
 
@@ -32,3 +32,8 @@ pub fn sheets_are_numbered()
 {
     read_where_spelt()
 }
+
+/// A sheet has at most 512 groups or blocks, since each begins with a line that may be an order.
+pub fn sheets_have_few_groups()
+    ensures { SheetsHaveFewGroups }
+{}

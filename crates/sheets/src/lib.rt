@@ -31,7 +31,7 @@ pub use fault::FileFault;
 pub use file::{FILE_MOST, Sheets, collect};
 pub use laws::{
     arrival_changes_nothing, last_sheet_counts, long_file_is_refused, sheets_are_numbered,
-    three_to_six_play,
+    sheets_have_few_groups, three_to_six_play,
 };
 pub use parts::PartsLeft;
 pub use place::{fault_out_of_place, is_of_file};
