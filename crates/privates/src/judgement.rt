@@ -1,8 +1,10 @@
-ghost use Rattle.std.specs.Prelude.{◌≡◌};
+ghost use Rattle.std.specs.Prelude.{◌≡◌, pos};
+ghost use Rattle.std.specs.Int.Signed.{lt_z};
+ghost use Rattle.history.specs.LookBack.{cheapest_in};
 ghost use Rattle.tables.specs.Rules.{first_broken};
-ghost use Rattle.privates.specs.Judgement.{judgement_of, price_of as asked_price, purchase_rules};
+ghost use Rattle.privates.specs.Judgement.{free_for, is_the, judgement_of, price_of as asked_price, purchase_rules};
 
-use history::{OpeningRule, Party, Past};
+use history::{OpeningRule, Owners, Party, Past};
 use order_grammar::Order;
 use tables::{Amount, Money, Private, Seat, face};
 
@@ -40,14 +42,29 @@ fn judge_purchase(
     if owners.is_sold(private) {
         return Some(OpeningRule::Sold);
     }
-    if owners.cheapest_unsold() != Some(private) {
+    if !is_cheapest(&owners, private) {
         return Some(OpeningRule::NotCheapest);
     }
-    if past.cash(Party::of_seat(seat)) < Money::from(price_of(past, private)) {
+    if is_short(past, seat, private, price_of(past, private)) {
         return Some(OpeningRule::CashTooSmall);
     }
     if turn_used {
         return Some(OpeningRule::TurnUsed);
     }
     None
+}
+
+/// Whether a private is the cheapest that is unsold.
+fn is_cheapest(owners: &Owners, private: Private) -> bool
+    ensures { result ≡ is_the private (cheapest_in owners.now) }
+{
+    owners.cheapest_unsold() == Some(private)
+}
+
+/// Whether a sum is over what a seat can spend on a private.
+fn is_short(past: &Past, seat: Seat, private: Private, sum: Amount) -> bool
+    ensures { result ≡ lt_z (free_for past.now.seats past.now.events.now seat private) (pos sum) }
+{
+    let _ = private;
+    past.cash(Party::of_seat(seat)) < Money::from(sum)
 }
