@@ -1,17 +1,26 @@
 -- What a list of events says once one more event stands at its end: what that event says, and what
 -- the list said before.
-use Rattle.std.proofs.Common.{◌≡◌, ℕ, List, [], ◌∷◌, ◌++◌, Option, Some, None, Bool, pos, ◌-ℤ◌, ◌+ℤ◌, unwrap_or, is_some, refl, ap, ◌∙◌, sym, arith, if◌then◌else◌}
+use Rattle.std.proofs.Common.{◌≡◌, ℕ, List, [], ◌∷◌, ◌++◌, Option, Some, None, Bool, pos, ◌-ℤ◌, ◌+ℤ◌, unwrap_or, is_some, is_none, ◌&&◌, sum_by, refl, ap, ◌∙◌, sym, arith}
 use Rattle.std.proofs.lemmas.Int.{ints}
 use Rattle.std.proofs.lemmas.List.Sums.{sum_by_push}
 use Rattle.std.specs.Option.{option_or, option_flatten}
-use Rattle.history.specs.Event.{ownership_of, payment_of, sv_price_set}
+use std.Path.{fun_ext}
+use Rattle.std.specs.List.{flat_map}
+use Rattle.history.specs.Bids.{as_bid, bid_of, bid_said, bids_of, bids_on}
+use Rattle.history.specs.Event.{bidding_of, office_of, ownership_of, par_set, payment_of, square_set, sv_price_set, transfer_of}
 use Rattle.history.specs.Laws.{CashMoves, LastWordIsLast, QuietSaysTheSame}
-use Rattle.history.specs.LookBack.{balance, cash_of, first_unsold, is_sold, last_said, now_said, owner_of, owner_said, paid_by, paid_to, sv_price_of}
+use Rattle.history.specs.LookBack.{balance, cash_of, first_unsold, is_closed, is_sold, last_said, now_said, owner_of, owner_said, paid_by, paid_to, sv_price_of}
+use Rattle.history.specs.Shares.{brought_to, par_of, par_said, president_of, president_said, shares_of, square_of, square_said, taken_from}
 use Rattle.history.specs.declared.event.Event.{Event}
+use Rattle.history.specs.declared.event.Holder.{Holder}
 use Rattle.history.specs.declared.event.Party.{Party}
+use Rattle.history.specs.declared.event.Shareholder.{Shareholder}
 use Rattle.tables.specs.Roster.{face_of, privates}
+use Rattle.tables.specs.Seat.{all_seats}
+use Rattle.tables.specs.declared.roster.Company.{Company}
 use Rattle.tables.specs.declared.roster.Private.{Private}
 use Rattle.tables.specs.declared.roster.Private.TheVariants.{SchuylkillValley}
+use Rattle.tables.specs.declared.seat.Seat.{Seat}
 
 -- nothing stands before the first word
 option_or_none : {A : Type 0} (a : Option A) → option_or a None ≡ a
@@ -87,6 +96,11 @@ owner_of_before events event private none = ap option_flatten (owner_word_before
 pub is_sold_before : (events : List Event) (event : Event) (private : Private) → ownership_of event ≡ None → is_sold (events ++ event ∷ []) private ≡ is_sold events private
 is_sold_before events event private none = ap is_some (owner_word_before events event private none)
 
+-- and each is closed as before
+pub is_closed_before : (events : List Event) (event : Event) (private : Private) → ownership_of event ≡ None → is_closed (events ++ event ∷ []) private ≡ is_closed events private
+is_closed_before events event private none =
+    ap (λ (word : Option (Option Holder)). is_some word && is_none (option_flatten word)) (owner_word_before events event private none)
+
 -- SV's price: the one that the event sets, or else the one before
 pub sv_price_of_at_end : (events : List Event) (event : Event) → sv_price_of (events ++ event ∷ []) ≡ unwrap_or (sv_price_set event) (sv_price_of events)
 sv_price_of_at_end events event =
@@ -99,9 +113,47 @@ sv_price_of_before events event none =
 
 -- the first that is unsold, by two tests that agree
 pub first_unsold_same : (a b : Private → Bool) → ((private : Private) → a private ≡ b private) → (some : List Private) → first_unsold a some ≡ first_unsold b some
-first_unsold_same a b same [] = refl
-first_unsold_same a b same (private ∷ others) =
-    ap (λ sold. if sold then first_unsold a others else Some private) (same private) ∙ ap (λ later. if b private then later else Some private) (first_unsold_same a b same others)
+first_unsold_same a b same some = ap (λ sold. first_unsold sold some) (fun_ext same)
+
+-- where an event doesn't speak of bids, each stands as before
+pub bid_of_before : (events : List Event) (event : Event) (private : Private) (seat : Seat) → bidding_of event ≡ None → bid_of (events ++ event ∷ []) private seat ≡ bid_of events private seat
+bid_of_before events event private seat none =
+    now_said_before (λ e. bid_said private seat (bidding_of e)) events event (ap (bid_said private seat) none)
+
+-- and each seat's sum
+pub bids_of_before : (events : List Event) (event : Event) (seat : Seat) → bidding_of event ≡ None → bids_of (events ++ event ∷ []) seat ≡ bids_of events seat
+bids_of_before events event seat none =
+    ap (λ tied. sum_by tied privates) (fun_ext (λ private. ap (λ bid. unwrap_or bid 0) (bid_of_before events event private seat none)))
+
+-- and the bids on each private
+pub bids_on_before : (seats : ℕ) (events : List Event) (event : Event) (private : Private) → bidding_of event ≡ None → bids_on seats (events ++ event ∷ []) private ≡ bids_on seats events private
+bids_on_before seats events event private none =
+    ap (λ bids. flat_map bids (all_seats seats)) (fun_ext (λ seat. ap (as_bid seat) (bid_of_before events event private seat none)))
+
+-- where an event moves no tenths, they lie as before
+pub shares_of_before : (events : List Event) (event : Event) (company : Company) (place : Shareholder) → transfer_of event ≡ None → shares_of (events ++ event ∷ []) company place ≡ shares_of events company place
+shares_of_before events event company place none =
+    balance_before _ (λ e. brought_to company place (transfer_of e)) (λ e. taken_from company place (transfer_of e)) events event (ap (brought_to company place) none) (ap (taken_from company place) none)
+
+-- the tenths at a place: what the event brings is added, and what it takes is taken off
+pub shares_of_at_end : (events : List Event) (event : Event) (company : Company) (place : Shareholder) → shares_of (events ++ event ∷ []) company place ≡ (shares_of events company place +ℤ pos (brought_to company place (transfer_of event))) -ℤ pos (taken_from company place (transfer_of event))
+shares_of_at_end events event company place =
+    balance_at_end _ (λ e. brought_to company place (transfer_of e)) (λ e. taken_from company place (transfer_of e)) events event
+
+-- where an event sets no par value, each stands as before
+pub par_of_before : (events : List Event) (event : Event) (company : Company) → par_set event ≡ None → par_of (events ++ event ∷ []) company ≡ par_of events company
+par_of_before events event company none =
+    last_said_before (λ e. par_said company (par_set e)) _ events event refl (ap (par_said company) none)
+
+-- where an event sets no square, each token stands as before
+pub square_of_before : (events : List Event) (event : Event) (company : Company) → square_set event ≡ None → square_of (events ++ event ∷ []) company ≡ square_of events company
+square_of_before events event company none =
+    last_said_before (λ e. square_said company (square_set e)) _ events event refl (ap (square_said company) none)
+
+-- where an event names no president, each stays
+pub president_of_before : (events : List Event) (event : Event) (company : Company) → office_of event ≡ None → president_of (events ++ event ∷ []) company ≡ president_of events company
+president_of_before events event company none =
+    last_said_before (λ e. president_said company (office_of e)) _ events event refl (ap (president_said company) none)
 
 -- a quiet event changes nothing of what parties have and own
 pub quiet_same : QuietSaysTheSame
@@ -111,5 +163,12 @@ quiet_same events event quiet =
       owner = λ private. owner_of_before events event private quiet.ownership;
       sold = λ private. is_sold_before events event private quiet.ownership;
       cheapest = first_unsold_same _ _ (λ private. is_sold_before events event private quiet.ownership) privates;
+      bid = λ private seat. bid_of_before events event private seat quiet.bidding;
+      bids = λ seat. bids_of_before events event seat quiet.bidding;
+      bids_on = λ seats private. bids_on_before seats events event private quiet.bidding;
+      shares = λ company place. shares_of_before events event company place quiet.transfer;
+      par = λ company. par_of_before events event company quiet.par;
+      square = λ company. square_of_before events event company quiet.square;
+      president = λ company. president_of_before events event company quiet.office;
       sv_price = sv_price_of_before events event quiet.sv_price;
     }

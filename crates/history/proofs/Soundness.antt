@@ -1,33 +1,151 @@
--- What keeps a list sound.
-use Rattle.std.proofs.Common.{◌≡◌, [], ◌∷◌, ◌++◌, None, pos, ◌≤ℤ◌, ℤ, sym, subst, ◌∙◌}
-use Rattle.history.proofs.EventAtEnd.{cash_of_before, is_sold_before, sv_price_of_before}
-use Rattle.history.specs.Event.{ownership_of, party_at, payment_of, sv_price_set}
+-- What keeps a list sound: an event without the aspects of a fact keeps that fact.
+use Rattle.std.proofs.Common.{◌≡◌, ℕ, ◌≤◌, List, [], ◌∷◌, ◌++◌, None, pos, ◌≤ℤ◌, ◌-ℤ◌, ◌+ℤ◌, ℤ, refl, sym, subst, ap, ◌∙◌, arith, if◌then◌else◌, inl}
+use Rattle.std.proofs.lemmas.Int.{ints}
+use Rattle.history.proofs.EventAtEnd.{bid_of_before, bids_of_before, cash_of_before, is_closed_before, is_sold_before, par_of_before, president_of_before, shares_of_before, square_of_before, sv_price_of_before}
+use Rattle.history.specs.Bids.{bids_of, free_cash_of}
+use Rattle.history.specs.Event.{bidding_of, office_of, ownership_of, par_set, party_at, payment_of, square_set, sv_price_set, transfer_of}
 use Rattle.history.specs.Laws.{QuietKeepsSound}
-use Rattle.history.specs.LookBack.{Game, sv_price_of, with_event}
-use Rattle.history.specs.Sound.{IsGivenAway, IsSvPrice, SeatsAreSolvent}
+use Rattle.history.specs.LookBack.{Game, cash_of, sv_price_of, with_event}
+use Rattle.history.specs.Shares.{held_by, shares_of}
+use Rattle.history.specs.Sound.{AreLed, AreOffered, AreTenInAll, BidsAreSmall, BidsDiffer, CompaniesAreSolvent, IsGivenAway, IsSound, IsSvPrice, SeatsAreSolvent, TenthsAreHeld, least_offered}
 use Rattle.history.specs.declared.event.Event.{Event}
-use Rattle.tables.specs.declared.roster.Private.TheVariants.{SchuylkillValley}
+use Rattle.history.specs.declared.event.Holder.TheVariants as holder
+use Rattle.history.specs.declared.event.Party.TheVariants as party
+use Rattle.history.specs.declared.event.Shareholder.TheVariants.{InitialOffering, BankPool, Seat as OfSeat}
+use Rattle.tables.specs.Seat.{all_seats}
+use Rattle.tables.specs.declared.roster.Company.{Company}
+use Rattle.tables.specs.declared.roster.Company.TheVariants.{Pennsylvania, NewYorkCentral, CanadianPacific, BaltimoreOhio, ChesapeakeOhio, Erie, NewHaven, BostonMaine}
+use Rattle.tables.specs.declared.roster.Private.TheVariants.{SchuylkillValley, MohawkHudson, CamdenAmboy}
+use Rattle.tables.specs.declared.seat.Seat.{Seat}
 
--- without a payment each seat keeps its cash
-pub solvent_kept : (game : Game) (event : Event) → payment_of event ≡ None → SeatsAreSolvent game → SeatsAreSolvent (with_event game event)
-solvent_kept game event none solvent =
-    λ seat. subst (λ (cash : ℤ). pos 0 ≤ℤ cash) (sym (cash_of_before game.seats game.events event (party_at seat) none)) (solvent seat)
+-- without a payment or a word on bids each seat keeps its free cash
+pub free_cash_before : (seats : ℕ) (events : List Event) (event : Event) (seat : Seat) → payment_of event ≡ None → bidding_of event ≡ None → free_cash_of seats (events ++ event ∷ []) seat ≡ free_cash_of seats events seat
+free_cash_before seats events event seat no_payment no_bid =
+    ap (λ cash. cash -ℤ pos (bids_of (events ++ event ∷ []) seat)) (cash_of_before seats events event (party_at seat) no_payment) ∙ ap (λ bids. cash_of seats events (party_at seat) -ℤ pos bids) (bids_of_before events event seat no_bid)
+
+-- and each is solvent as before
+pub solvent_kept : (game : Game) (event : Event) → payment_of event ≡ None → bidding_of event ≡ None → SeatsAreSolvent game → SeatsAreSolvent (with_event game event)
+solvent_kept game event no_payment no_bid solvent =
+    λ seat. subst (λ (cash : ℤ). pos 0 ≤ℤ cash) (sym (free_cash_before game.seats game.events event seat no_payment no_bid)) (solvent seat)
+
+-- without a payment each company is solvent as before
+pub companies_kept : (game : Game) (event : Event) → payment_of event ≡ None → CompaniesAreSolvent game → CompaniesAreSolvent (with_event game event)
+companies_kept game event none solvent =
+    λ company. subst (λ (cash : ℤ). pos 0 ≤ℤ cash) (sym (cash_of_before game.seats game.events event (party.Holder (holder.Company company)) none)) (solvent company)
+
+-- without a word on bids they differ as before
+pub differ_kept : (events : List Event) (event : Event) → bidding_of event ≡ None → BidsDiffer events → BidsDiffer (events ++ event ∷ [])
+differ_kept events event none differ =
+    λ private a b amount of_a of_b. differ private a b amount (sym (bid_of_before events event private a none) ∙ of_a) (sym (bid_of_before events event private b none) ∙ of_b)
+
+-- and are small as before
+pub small_kept : (events : List Event) (event : Event) → bidding_of event ≡ None → BidsAreSmall events → BidsAreSmall (events ++ event ∷ [])
+small_kept events event none small =
+    λ private seat amount bid. small private seat amount (sym (bid_of_before events event private seat none) ∙ bid)
 
 -- without a new price SV keeps its own
-pub price_kept : (game : Game) (event : Event) → sv_price_set event ≡ None → IsSvPrice (sv_price_of game.events) → IsSvPrice (sv_price_of (game.events ++ event ∷ []))
-price_kept game event none price =
-    subst IsSvPrice (sym (sv_price_of_before game.events event none)) price
+pub price_kept : (events : List Event) (event : Event) → sv_price_set event ≡ None → IsSvPrice (sv_price_of events) → IsSvPrice (sv_price_of (events ++ event ∷ []))
+price_kept events event none price = subst IsSvPrice (sym (sv_price_of_before events event none)) price
 
 -- without a new price, and without a word on a private, SV stays given away
-pub given_kept : (game : Game) (event : Event) → sv_price_set event ≡ None → ownership_of event ≡ None → IsGivenAway game → IsGivenAway (with_event game event)
-given_kept game event no_price no_owner given =
-    λ zero. is_sold_before game.events event SchuylkillValley no_owner ∙ given (sym (sv_price_of_before game.events event no_price) ∙ zero)
+pub given_kept : (events : List Event) (event : Event) → sv_price_set event ≡ None → ownership_of event ≡ None → IsGivenAway events → IsGivenAway (events ++ event ∷ [])
+given_kept events event no_price no_owner given =
+    λ zero. is_sold_before events event SchuylkillValley no_owner ∙ given (sym (sv_price_of_before events event no_price) ∙ zero)
+
+-- without moving tenths they are held as before
+pub held_kept : (events : List Event) (event : Event) → transfer_of event ≡ None → TenthsAreHeld events → TenthsAreHeld (events ++ event ∷ [])
+held_kept events event none held =
+    λ company place. subst (λ (tenths : ℤ). pos 0 ≤ℤ tenths) (sym (shares_of_before events event company place none)) (held company place)
+
+-- the seats hold as many together
+held_by_before : (events : List Event) (event : Event) (company : Company) (seats : List Seat) → transfer_of event ≡ None → held_by (events ++ event ∷ []) company seats ≡ held_by events company seats
+held_by_before events event company [] none = refl
+held_by_before events event company (seat ∷ others) none =
+    ap (λ one. one +ℤ held_by (events ++ event ∷ []) company others) (shares_of_before events event company (OfSeat seat) none) ∙ ap (λ rest. shares_of events company (OfSeat seat) +ℤ rest) (held_by_before events event company others none)
+
+-- and they are ten in all
+pub ten_kept : (game : Game) (event : Event) → transfer_of event ≡ None → AreTenInAll game → AreTenInAll (with_event game event)
+ten_kept game event none ten =
+    λ company. ap (λ offered. (offered +ℤ shares_of (game.events ++ event ∷ []) company BankPool) +ℤ held_by (game.events ++ event ∷ []) company (all_seats game.seats)) (shares_of_before game.events event company InitialOffering none) ∙ ap (λ pool. (shares_of game.events company InitialOffering +ℤ pool) +ℤ held_by (game.events ++ event ∷ []) company (all_seats game.seats)) (shares_of_before game.events event company BankPool none) ∙ ap (λ held. (shares_of game.events company InitialOffering +ℤ shares_of game.events company BankPool) +ℤ held) (held_by_before game.events event company (all_seats game.seats) none) ∙ ten company
+
+-- without a word on a private as many tenths are to stay in an initial offering
+pub least_offered_before : (events : List Event) (event : Event) (company : Company) → ownership_of event ≡ None → least_offered (events ++ event ∷ []) company ≡ least_offered events company
+least_offered_before events event Pennsylvania none =
+    ap (λ sold. if sold then 8 else 9) (is_sold_before events event CamdenAmboy none)
+least_offered_before events event NewYorkCentral none =
+    ap (λ closed. if closed then 8 else 9) (is_closed_before events event MohawkHudson none)
+least_offered_before events event CanadianPacific none = refl
+least_offered_before events event BaltimoreOhio none = refl
+least_offered_before events event ChesapeakeOhio none = refl
+least_offered_before events event Erie none = refl
+least_offered_before events event NewHaven none = refl
+least_offered_before events event BostonMaine none = refl
+
+-- without a word on a private, a square or tenths, as many are offered
+pub offered_kept : (events : List Event) (event : Event) → ownership_of event ≡ None → square_set event ≡ None → transfer_of event ≡ None → AreOffered events → AreOffered (events ++ event ∷ [])
+offered_kept events event no_owner no_square no_transfer offered =
+    λ company unplaced. subst (λ (least : ℕ). pos least ≤ℤ shares_of (events ++ event ∷ []) company InitialOffering) (sym (least_offered_before events event company no_owner)) (subst (λ (tenths : ℤ). pos (least_offered events company) ≤ℤ tenths) (sym (shares_of_before events event company InitialOffering no_transfer)) (offered company (sym (square_of_before events event company no_square) ∙ unplaced)))
+
+-- without a par value, a square, an office or tenths, companies are led as before
+pub led_kept : (events : List Event) (event : Event) → par_set event ≡ None → square_set event ≡ None → office_of event ≡ None → transfer_of event ≡ None → AreLed events → AreLed (events ++ event ∷ [])
+led_kept events event no_par no_square no_office no_transfer led =
+    λ company square placed. let before = led company square (sym (square_of_before events event company no_square) ∙ placed) in record {
+      par = before.par;
+      has_par = par_of_before events event company no_par ∙ before.has_par;
+      is_par = before.is_par;
+      president = before.president;
+      has_president = president_of_before events event company no_office ∙ before.has_president;
+      holds_two = subst (λ (tenths : ℤ). pos 2 ≤ℤ tenths) (sym (shares_of_before events event company (OfSeat before.president) no_transfer)) before.holds_two;
+    }
 
 -- a quiet event keeps each fact
 pub quiet_sound : QuietKeepsSound
 quiet_sound game event quiet sound =
     record {
-      solvent = solvent_kept game event quiet.payment sound.solvent;
-      price = price_kept game event quiet.sv_price sound.price;
-      given = given_kept game event quiet.sv_price quiet.ownership sound.given;
+      solvent = solvent_kept game event quiet.payment quiet.bidding sound.solvent;
+      companies = companies_kept game event quiet.payment sound.companies;
+      bids_differ = differ_kept game.events event quiet.bidding sound.bids_differ;
+      bids_small = small_kept game.events event quiet.bidding sound.bids_small;
+      price = price_kept game.events event quiet.sv_price sound.price;
+      given = given_kept game.events event quiet.sv_price quiet.ownership sound.given;
+      held = held_kept game.events event quiet.transfer sound.held;
+      ten = ten_kept game event quiet.transfer sound.ten;
+      offered = offered_kept game.events event quiet.ownership quiet.square quiet.transfer sound.offered;
+      led = led_kept game.events event quiet.par quiet.square quiet.office quiet.transfer sound.led;
+    }
+
+-- at first nobody bids
+no_bids : (seat : Seat) → bids_of [] seat ≡ 0
+no_bids seat = refl
+
+-- and the seats hold nothing
+holds_none : (company : Company) (seats : List Seat) → held_by [] company seats ≡ pos 0
+holds_none company [] = refl
+holds_none company (seat ∷ others) = omega (arith, ints, holds_none company others)
+
+-- the least that stays in an initial offering is at most nine
+least_low : (company : Company) → least_offered [] company ≤ 9
+least_low Pennsylvania = omega arith
+least_low NewYorkCentral = omega arith
+least_low CanadianPacific = omega arith
+least_low BaltimoreOhio = omega arith
+least_low ChesapeakeOhio = omega arith
+least_low Erie = omega arith
+least_low NewHaven = omega arith
+least_low BostonMaine = omega arith
+
+-- a game in which nothing has happened is sound
+pub start_sound : (seats : ℕ) → IsSound (record { seats = seats; events = [] })
+start_sound seats =
+    record {
+      solvent = λ seat. omega (arith, ints, no_bids seat);
+      companies = λ company. omega (arith, ints);
+      bids_differ = λ private a b amount of_a of_b. cc;
+      bids_small = λ private seat amount bid. absurd (cc);
+      price = inl refl;
+      given = λ zero. absurd (omega arith);
+      held = λ company place. omega (arith, ints);
+      ten = λ company. omega (arith, ints, holds_none company (all_seats seats));
+      offered = λ company unplaced. omega (arith, ints, least_low company);
+      led = λ company square placed. absurd (cc);
     }

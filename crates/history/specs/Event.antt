@@ -1,24 +1,35 @@
--- An event has a few aspects: the payment that it makes, what it says of a private's owner, the price
--- of SV that it sets, the round that it begins, the order of a seat that was obeyed, and whether it
--- tells that the bank is broken. Every fact about a game looks back over one of them.
+-- An event has a few aspects: the payment that it makes, the tenths that it moves, what it says of a
+-- private's owner and of the bids on it, the par value, square and president of a company that it sets,
+-- the price of SV that it sets, the round that it begins, the order of a seat that was obeyed, and
+-- whether it tells that the bank is broken. Every fact about a game looks back over one of them.
 use Rattle.std.specs.Prelude.{◌≡◌, ℕ, Bool, true, false, List, codes, Option, Some, None}
 use Rattle.order_grammar.specs.declared.order.Order.{Order}
 use Rattle.order_grammar.specs.declared.order.Order.TheVariants as order
+use Rattle.history.specs.declared.event.Bidding.{Bidding}
+use Rattle.history.specs.declared.event.Bidding.TheVariants.{Made, Ended}
 use Rattle.history.specs.declared.event.Event.{Event}
-use Rattle.history.specs.declared.event.Event.TheVariants.{Round, Ruled, Sold, Price, Revenue, Broken}
+use Rattle.history.specs.declared.event.Event.TheVariants.{Round, Ruled, Bids, Sold, Price, Revenue, Given, Par, President, Broken}
 use Rattle.history.specs.declared.event.Holder.TheVariants as holder
+use Rattle.history.specs.declared.event.Office.{Office}
 use Rattle.history.specs.declared.event.Ownership.{Ownership}
+use Rattle.history.specs.declared.event.ParValue.{ParValue}
 use Rattle.history.specs.declared.event.Party.{Party}
 use Rattle.history.specs.declared.event.Party.TheVariants as party
 use Rattle.history.specs.declared.event.Payment.{Payment}
+use Rattle.history.specs.declared.event.Placement.{Placement}
+use Rattle.history.specs.declared.event.Shareholder.TheVariants as place
+use Rattle.history.specs.declared.event.Transfer.{Transfer}
 use Rattle.history.specs.declared.ruling.OpeningRule.{OpeningRule}
 use Rattle.history.specs.declared.ruling.OpeningRule.TheVariants as opening
 use Rattle.history.specs.declared.ruling.Refusal.{Refusal}
 use Rattle.history.specs.declared.ruling.Refusal.TheVariants as refusal
 use Rattle.history.specs.declared.ruling.Ruling.{Ruling}
 use Rattle.history.specs.declared.ruling.Ruling.TheVariants.{Obeyed}
+use Rattle.tables.specs.Chart.{par_square_of}
+use Rattle.tables.specs.declared.roster.Company.{Company}
 use Rattle.tables.specs.declared.round.Round.{Round as TheRound}
 use Rattle.tables.specs.declared.seat.Seat.{Seat}
+use Rattle.tables.specs.declared.squares.Square.{Square}
 
 -- a seat, as one that pays or is paid
 abbrev pub party_at : Seat → Party
@@ -35,12 +46,46 @@ abbrev pub sum_of : Event → ℕ
 sum_of (Sold private seat price) = price
 sum_of (Price price) = price
 sum_of (Revenue private owner amount) = amount
+sum_of (Bids private seat amount) = amount
+sum_of (Par company price) = price
 sum_of other = 0
 
 -- what an event says of a private: that this holder owns it from then on, or nobody
 abbrev pub ownership_of : Event → Option Ownership
 ownership_of (Sold private seat price) = Some (record { private = private; owner = Some (holder.Seat seat) })
 ownership_of other = None
+
+-- what an event says of the bids on a private: a seat bids on it, or its sale ends them
+abbrev pub bidding_of : Event → Option Bidding
+bidding_of (Bids private seat amount) = Some (Made private (record { seat = seat; amount = amount }))
+bidding_of (Sold private seat price) = Some (Ended private)
+bidding_of other = None
+
+-- the tenths that an event moves: a gift is from the initial offering
+abbrev pub transfer_of : Event → Option Transfer
+transfer_of (Given company seat tenths) =
+    Some (record { company = company; from = place.InitialOffering; to = place.Seat seat; tenths = tenths })
+transfer_of other = None
+
+-- the par value that an event sets
+abbrev pub par_set : Event → Option ParValue
+par_set (Par company price) = Some (record { company = company; price = price })
+par_set other = None
+
+-- a company on a square
+abbrev pub placed : Company → Option Square → Option Placement
+placed company None = None
+placed company (Some square) = Some (record { company = company; square = square })
+
+-- the square that an event sets: that of a par value
+abbrev pub square_set : Event → Option Placement
+square_set (Par company price) = placed company (par_square_of price)
+square_set other = None
+
+-- the presidency that an event sets
+abbrev pub office_of : Event → Option Office
+office_of (President company seat) = Some (record { company = company; president = seat })
+office_of other = None
 
 -- the price of SV that an event sets
 abbrev pub sv_price_set : Event → Option ℕ
@@ -82,14 +127,22 @@ is_opening_act other = false
 pub record IsQuiet (event : Event) : Type 0 where
   pub payment : payment_of event ≡ None
   pub ownership : ownership_of event ≡ None
+  pub bidding : bidding_of event ≡ None
+  pub transfer : transfer_of event ≡ None
+  pub par : par_set event ≡ None
+  pub square : square_set event ≡ None
+  pub office : office_of event ≡ None
   pub sv_price : sv_price_set event ≡ None
 
 -- the code of a rule of the opening
 abbrev pub code_of_opening_rule : OpeningRule → List ℕ
+code_of_opening_rule opening.NotOfOpening = codes "A1"
 code_of_opening_rule opening.Sold = codes "A2"
 code_of_opening_rule opening.NotCheapest = codes "A3"
+code_of_opening_rule opening.BidTooLow = codes "A4"
 code_of_opening_rule opening.CashTooSmall = codes "A5"
 code_of_opening_rule opening.TurnUsed = codes "A6"
+code_of_opening_rule opening.BidForCheapest = codes "A7"
 
 -- the code of a rule of play
 abbrev pub code_of_refusal : Refusal → List ℕ

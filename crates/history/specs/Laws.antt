@@ -3,12 +3,17 @@ use Rattle.std.specs.Prelude.{◌≡◌, ◌≢◌, ◌≤◌, ℕ, List, [], �
 use Rattle.std.specs.Option.{option_or}
 use Rattle.history.specs.Event.{IsQuiet, payment_of}
 use Rattle.history.specs.LookBack.{Game, cash_of, cheapest_of, is_sold, last_said, owner_of, paid_by, paid_to, sv_price_of, with_event}
+use Rattle.history.specs.Bids.{bid_of, bids_of, bids_on as the_bids_on}
+use Rattle.history.specs.Shares.{par_of, president_of, shares_of, square_of}
 use Rattle.history.specs.Sound.{IsSound}
 use Rattle.history.specs.declared.event.Event.{Event}
 use Rattle.history.specs.declared.event.Party.{Party}
+use Rattle.history.specs.declared.event.Shareholder.{Shareholder}
 use Rattle.tables.specs.Roster.{face_of}
+use Rattle.tables.specs.declared.roster.Company.{Company}
 use Rattle.tables.specs.declared.roster.Private.{Private}
 use Rattle.tables.specs.declared.roster.Private.TheVariants.{SchuylkillValley}
+use Rattle.tables.specs.declared.seat.Seat.{Seat}
 
 -- what was said last: what the event at the end says, or else what was said before it
 abbrev pub LastWordIsLast : Type 0 → Type 0
@@ -28,6 +33,13 @@ pub record SaysTheSame (before after : List Event) : Type 0 where
   pub owner : (private : Private) → owner_of after private ≡ owner_of before private
   pub sold : (private : Private) → is_sold after private ≡ is_sold before private
   pub cheapest : cheapest_of after ≡ cheapest_of before
+  pub bid : (private : Private) (seat : Seat) → bid_of after private seat ≡ bid_of before private seat
+  pub bids : (seat : Seat) → bids_of after seat ≡ bids_of before seat
+  pub bids_on : (seats : ℕ) (private : Private) → the_bids_on seats after private ≡ the_bids_on seats before private
+  pub shares : (company : Company) (place : Shareholder) → shares_of after company place ≡ shares_of before company place
+  pub par : (company : Company) → par_of after company ≡ par_of before company
+  pub square : (company : Company) → square_of after company ≡ square_of before company
+  pub president : (company : Company) → president_of after company ≡ president_of before company
   pub sv_price : sv_price_of after ≡ sv_price_of before
 
 -- a quiet event changes none of it

@@ -2,6 +2,8 @@
 pub mod Kept
 pub mod Event
 pub mod LookBack
+pub mod Bids
+pub mod Shares
 pub mod Tell
 pub mod Sound
 pub mod Laws

@@ -1,6 +1,6 @@
 -- What a list of events, oldest first, says when it is looked back over. There are two ways: what the
 -- last event about a thing says, and a start with all that came in less all that went out.
-use Rattle.std.specs.Prelude.{ℕ, ◌+◌, ◌==◌, Bool, true, false, if◌then◌else◌, List, [], ◌∷◌, ◌++◌, Option, Some, None, sum_by, pos, ◌-ℤ◌, ℤ, is_some, unwrap_or, slice_index_or}
+use Rattle.std.specs.Prelude.{ℕ, ◌+◌, ◌==◌, Bool, true, false, if◌then◌else◌, List, [], ◌∷◌, ◌++◌, Option, Some, None, sum_by, pos, neg_ℤ, ◌-ℤ◌, ◌≤ℤ◌, ℤ, ◌^◌, is_none, is_some, ◌&&◌, unwrap_or, slice_index_or}
 use Rattle.std.specs.List.{list_any}
 use Rattle.std.specs.Option.{option_or, option_flatten, option_map}
 use Rattle.history.specs.Event.{Obeyance, obeyed_of, is_opening_act, ownership_of, payment_of, round_of, sv_price_set, tells_broken}
@@ -43,6 +43,11 @@ in_round says event = if is_some (round_of event) then Some None else option_map
 -- a start, with all that came in, less all that went out
 abbrev pub balance : ℕ → (Event → ℕ) → (Event → ℕ) → List Event → ℤ
 balance start brings takes events = pos (start + sum_by brings events) -ℤ pos (sum_by takes events)
+
+-- a sum that is moderate, as every balance is that a list in memory makes
+pub record IsModerate (sum : ℤ) : Type 0 where
+  pub not_under : neg_ℤ (pos (2 ^ 100)) ≤ℤ sum
+  pub not_over : sum ≤ℤ pos (2 ^ 100)
 
 -- two holders are the same
 abbrev pub same_holder : Holder → Holder → Bool
@@ -91,6 +96,10 @@ owner_of events private = now_said (λ event. owner_said private (ownership_of e
 -- a private has been sold: some event has spoken of its owner
 abbrev pub is_sold : List Event → Private → Bool
 is_sold events private = is_some (last_said (λ event. owner_said private (ownership_of event)) events)
+
+-- a private has been closed: it is sold, and nobody owns it
+abbrev pub is_closed : List Event → Private → Bool
+is_closed events private = is_sold events private && is_none (owner_of events private)
 
 -- the price of SV, at first its face
 abbrev pub sv_price_of : List Event → ℕ

@@ -1,24 +1,94 @@
--- A list of events is sound where no seat owes anything, and SV's price is 5, 10, 15 or 20, or 0 once it
--- is sold. Each fact is about one aspect of events or two: an event without those keeps it.
-use Rattle.std.specs.Prelude.{◌≡◌, ◌⊎◌, ℕ, true, pos, ◌≤ℤ◌}
-use Rattle.history.specs.Event.{party_at}
-use Rattle.history.specs.LookBack.{Game, cash_of, is_sold, sv_price_of}
-use Rattle.tables.specs.declared.roster.Private.TheVariants.{SchuylkillValley}
+-- A list of events is sound where
+-- no seat has less cash than its standing bids tie, and no company owes anything;
+-- standing bids on a private differ, and none is over 99,999;
+-- SV's price is 5, 10, 15 or 20, or 0 once it is sold;
+-- each company's tenths are nowhere under 0 and ten in all, and of a company without a square at least
+-- eight are in its initial offering, nine of PRR while CA is unsold and of NYC while MH is open;
+-- a company with a square has one of the six par values and a president with at least two tenths.
+-- Each fact is about a few aspects of events: an event without those keeps it.
+use Rattle.std.specs.Prelude.{◌≡◌, ◌⊎◌, ℕ, ◌≤◌, true, if◌then◌else◌, List, Some, None, pos, ◌≤ℤ◌}
+use Rattle.history.specs.Bids.{bid_of, free_cash_of}
+use Rattle.history.specs.LookBack.{Game, cash_of, is_closed, is_sold, sv_price_of}
+use Rattle.history.specs.Shares.{is_par_value, par_of, president_of, shares_of, square_of, tenths_in_all}
+use Rattle.history.specs.declared.event.Event.{Event}
+use Rattle.history.specs.declared.event.Holder.TheVariants as holder
+use Rattle.history.specs.declared.event.Party.TheVariants as party
+use Rattle.history.specs.declared.event.Shareholder.{Shareholder}
+use Rattle.history.specs.declared.event.Shareholder.TheVariants.{InitialOffering, Seat as OfSeat}
+use Rattle.tables.specs.declared.roster.Company.{Company}
+use Rattle.tables.specs.declared.roster.Company.TheVariants.{Pennsylvania, NewYorkCentral}
+use Rattle.tables.specs.declared.roster.Private.{Private}
+use Rattle.tables.specs.declared.roster.Private.TheVariants.{SchuylkillValley, MohawkHudson, CamdenAmboy}
 use Rattle.tables.specs.declared.seat.Seat.{Seat}
+use Rattle.tables.specs.declared.squares.Square.{Square}
 
--- no seat's cash is under 0
+-- no seat has less cash than its standing bids tie
 abbrev pub SeatsAreSolvent : Game → Type 0
-SeatsAreSolvent game = (seat : Seat) → pos 0 ≤ℤ cash_of game.seats game.events (party_at seat)
+SeatsAreSolvent game = (seat : Seat) → pos 0 ≤ℤ free_cash_of game.seats game.events seat
+
+-- no company owes anything
+abbrev pub CompaniesAreSolvent : Game → Type 0
+CompaniesAreSolvent game =
+    (company : Company) → pos 0 ≤ℤ cash_of game.seats game.events (party.Holder (holder.Company company))
+
+-- no two seats have the same bid on a private
+abbrev pub BidsDiffer : List Event → Type 0
+BidsDiffer events =
+    (private : Private) (a b : Seat) (amount : ℕ) → bid_of events private a ≡ Some amount → bid_of events private b ≡ Some amount → a ≡ b
+
+-- no bid is over 99,999
+abbrev pub BidsAreSmall : List Event → Type 0
+BidsAreSmall events =
+    (private : Private) (seat : Seat) (amount : ℕ) → bid_of events private seat ≡ Some amount → amount ≤ 99999
 
 -- a price that SV may have
 abbrev pub IsSvPrice : ℕ → Type 0
 IsSvPrice price = (price ≡ 20) ⊎ (price ≡ 15) ⊎ (price ≡ 10) ⊎ (price ≡ 5) ⊎ (price ≡ 0)
 
 -- SV is sold once its price is 0
-abbrev pub IsGivenAway : Game → Type 0
-IsGivenAway game = sv_price_of game.events ≡ 0 → is_sold game.events SchuylkillValley ≡ true
+abbrev pub IsGivenAway : List Event → Type 0
+IsGivenAway events = sv_price_of events ≡ 0 → is_sold events SchuylkillValley ≡ true
+
+-- no place has fewer than 0 tenths of a company
+abbrev pub TenthsAreHeld : List Event → Type 0
+TenthsAreHeld events = (company : Company) (place : Shareholder) → pos 0 ≤ℤ shares_of events company place
+
+-- each company has ten tenths
+abbrev pub AreTenInAll : Game → Type 0
+AreTenInAll game = (company : Company) → tenths_in_all game.seats game.events company ≡ pos 10
+
+-- the tenths that stay in the initial offering of a company without a square
+abbrev pub least_offered : List Event → Company → ℕ
+least_offered events Pennsylvania = if is_sold events CamdenAmboy then 8 else 9
+least_offered events NewYorkCentral = if is_closed events MohawkHudson then 8 else 9
+least_offered events other = 8
+
+-- so many are there
+abbrev pub AreOffered : List Event → Type 0
+AreOffered events =
+    (company : Company) → square_of events company ≡ None → pos (least_offered events company) ≤ℤ shares_of events company InitialOffering
+
+-- a company has one of the six par values, and a president with at least two tenths
+pub record IsLed (events : List Event) (company : Company) : Type 0 where
+  pub par : ℕ
+  pub has_par : par_of events company ≡ Some par
+  pub is_par : is_par_value par ≡ true
+  pub president : Seat
+  pub has_president : president_of events company ≡ Some president
+  pub holds_two : pos 2 ≤ℤ shares_of events company (OfSeat president)
+
+-- so is each company with a square
+abbrev pub AreLed : List Event → Type 0
+AreLed events = (company : Company) (square : Square) → square_of events company ≡ Some square → IsLed events company
 
 pub record IsSound (game : Game) : Type 0 where
   pub solvent : SeatsAreSolvent game
+  pub companies : CompaniesAreSolvent game
+  pub bids_differ : BidsDiffer game.events
+  pub bids_small : BidsAreSmall game.events
   pub price : IsSvPrice (sv_price_of game.events)
-  pub given : IsGivenAway game
+  pub given : IsGivenAway game.events
+  pub held : TenthsAreHeld game.events
+  pub ten : AreTenInAll game
+  pub offered : AreOffered game.events
+  pub led : AreLed game.events

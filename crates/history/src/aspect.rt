@@ -1,7 +1,7 @@
 //! The ways of looking back over a list of events, each generic over the aspect of an event that it
 //! looks at.
 ghost use Rattle.std.specs.Prelude.{◌≡◌, ℕ, Option};
-ghost use Rattle.history.specs.LookBack.{balance, last_said};
+ghost use Rattle.history.specs.LookBack.{IsModerate, balance, last_said};
 ghost use Rattle.history.specs.declared.event.Event.{Event};
 
 use crate::event::Event;
@@ -48,7 +48,8 @@ pub(crate) trait Account {
 
 /// What an account begins with, plus all that came in, less all that went out.
 pub(crate) fn balance<A: Account>(account: &A, start: Amount, events: &[Event]) -> Money
-    ensures { result ≡ balance start (A.brings account.now) (A.takes account.now) events.now }
+    ensures sum { result ≡ balance start (A.brings account.now) (A.takes account.now) events.now }
+    ensures within { IsModerate result }
 {
     let mut came_in = Money::from(start);
     let mut went_out = 0;

@@ -1,11 +1,12 @@
 ghost use Rattle.std.specs.Prelude.{◌≡◌};
-ghost use Rattle.history.specs.Event.{ownership_of, party_at, payment_of, round_of, sum_of, sv_price_set};
+ghost use Rattle.history.specs.Event.{bidding_of, office_of, ownership_of, par_set, party_at, payment_of, round_of, square_set, sum_of, sv_price_set, transfer_of};
 ghost use Rattle.history.specs.LookBack.{actor_of};
 ghost use Rattle.history.specs.declared.event.Holder.TheVariants as holder;
 ghost use Rattle.history.specs.declared.event.Party.TheVariants as party;
+ghost use Rattle.tables.specs.Seat.{seat_at};
 
 use crate::ruling::Ruling;
-use tables::{Amount, Company, Private, Round, Seat};
+use tables::{Amount, Company, Private, Round, Seat, Square, par_square};
 
 /// The greatest sum of money of an event.
 pub const SUM_MOST: Amount = 1_000_000;
@@ -68,6 +69,13 @@ pub enum Event {
         seat: Seat,
         price: Amount,
     },
+    /// A seat bids on a private. The bid stands until the private is sold, or the seat bids on it
+    /// again.
+    Bids {
+        private: Private,
+        seat: Seat,
+        amount: Amount,
+    },
     /// The price of SV from then on.
     Price {
         price: Amount,
@@ -77,6 +85,22 @@ pub enum Event {
         private: Private,
         owner: Holder,
         amount: Amount,
+    },
+    /// A company's tenths go from the initial offering to a seat.
+    Given {
+        company: Company,
+        seat: Seat,
+        tenths: u8,
+    },
+    /// A company's par value is set, and its token stands on the square of that par.
+    Par {
+        company: Company,
+        price: Amount,
+    },
+    /// A seat is the president of a company from then on.
+    President {
+        company: Company,
+        seat: Seat,
     },
     /// The bank's cash came to 0 or less.
     Broken,
@@ -105,6 +129,86 @@ pub struct Ownership {
     pub owner: Option<Holder>,
 }
 
+/// A bid of a seat.
+#[derive(Clone, Copy, Debug, PartialEq, Eq)]
+pub struct Bid {
+    /// Who bids.
+    pub seat: Seat,
+    /// How many dollars.
+    pub amount: Amount,
+}
+
+impl Default for Bid {
+    ghost is_default = { λ bid. bid ≡ record { seat = seat_at 0; amount = 0 } };
+
+    fn default() -> Bid {
+        Bid {
+            seat: Seat(0),
+            amount: 0,
+        }
+    }
+}
+
+/// What an event says of the bids on a private.
+#[derive(Clone, Copy, Debug, PartialEq, Eq)]
+pub enum Bidding {
+    /// A bid on a private, in place of an older one of that seat.
+    Made(Private, Bid),
+    /// The bids on a private end.
+    Ended(Private),
+}
+
+/// Where tenths of a company lie.
+#[derive(Clone, Copy, Debug, PartialEq, Eq)]
+pub enum Shareholder {
+    /// With the bank, never bought yet.
+    InitialOffering,
+    /// With the bank, sold to it by players.
+    BankPool,
+    /// With a player.
+    Seat(Seat),
+}
+
+/// Tenths of a company that an event moves.
+#[derive(Clone, Copy, Debug, PartialEq, Eq)]
+pub struct Transfer {
+    /// The company.
+    pub company: Company,
+    /// Where they lay.
+    pub from: Shareholder,
+    /// Where they lie from then on.
+    pub to: Shareholder,
+    /// How many tenths of the company.
+    pub tenths: u8,
+}
+
+/// A company's par value that an event sets.
+#[derive(Clone, Copy, Debug, PartialEq, Eq)]
+pub struct ParValue {
+    /// The company.
+    pub company: Company,
+    /// Its par value in dollars.
+    pub price: Amount,
+}
+
+/// A company's square on the stock market that an event sets.
+#[derive(Clone, Copy, Debug, PartialEq, Eq)]
+pub struct Placement {
+    /// The company.
+    pub company: Company,
+    /// The square of its token.
+    pub square: Square,
+}
+
+/// A company's presidency that an event sets.
+#[derive(Clone, Copy, Debug, PartialEq, Eq)]
+pub struct Office {
+    /// The company.
+    pub company: Company,
+    /// Its president.
+    pub president: Seat,
+}
+
 impl Event {
     /// The money that it moves.
     pub fn payment(&self) -> Option<Payment>
@@ -130,8 +234,8 @@ impl Event {
         ensures { result ≡ sum_of self.now }
     {
         match self {
-            Event::Sold { price, .. } | Event::Price { price } => *price,
-            Event::Revenue { amount, .. } => *amount,
+            Event::Sold { price, .. } | Event::Price { price } | Event::Par { price, .. } => *price,
+            Event::Bids { amount, .. } | Event::Revenue { amount, .. } => *amount,
             _ => 0,
         }
     }
@@ -144,6 +248,88 @@ impl Event {
             Event::Sold { private, seat, .. } => Some(Ownership {
                 private: *private,
                 owner: Some(Holder::Seat(*seat)),
+            }),
+            _ => None,
+        }
+    }
+
+    /// What it says of the bids on a private.
+    pub fn bidding(&self) -> Option<Bidding>
+        ensures { result ≡ bidding_of self.now }
+    {
+        match self {
+            Event::Bids {
+                private,
+                seat,
+                amount,
+            } => {
+                let bid = Bid {
+                    seat: *seat,
+                    amount: *amount,
+                };
+                Some(Bidding::Made(*private, bid))
+            }
+            Event::Sold { private, .. } => Some(Bidding::Ended(*private)),
+            _ => None,
+        }
+    }
+
+    /// The tenths that it moves.
+    pub fn transfer(&self) -> Option<Transfer>
+        ensures { result ≡ transfer_of self.now }
+    {
+        match self {
+            Event::Given {
+                company,
+                seat,
+                tenths,
+            } => Some(Transfer {
+                company: *company,
+                from: Shareholder::InitialOffering,
+                to: Shareholder::Seat(*seat),
+                tenths: *tenths,
+            }),
+            _ => None,
+        }
+    }
+
+    /// The par value that it sets.
+    pub fn par(&self) -> Option<ParValue>
+        ensures { result ≡ par_set self.now }
+    {
+        match self {
+            Event::Par { company, price } => Some(ParValue {
+                company: *company,
+                price: *price,
+            }),
+            _ => None,
+        }
+    }
+
+    /// The square that it sets: that of a par value.
+    pub fn square(&self) -> Option<Placement>
+        ensures { result ≡ square_set self.now }
+    {
+        match self {
+            Event::Par { company, price } => {
+                let square = par_square(*price)?;
+                Some(Placement {
+                    company: *company,
+                    square,
+                })
+            }
+            _ => None,
+        }
+    }
+
+    /// The presidency that it sets.
+    pub fn office(&self) -> Option<Office>
+        ensures { result ≡ office_of self.now }
+    {
+        match self {
+            Event::President { company, seat } => Some(Office {
+                company: *company,
+                president: *seat,
             }),
             _ => None,
         }

@@ -10,16 +10,21 @@
 #![tactic(auto)]
 
 mod aspect;
+mod bids;
 mod event;
 mod laws;
 mod list;
 mod look_back;
 mod owners;
 mod ruling;
+mod shares;
 mod tell;
 mod topics;
 
-pub use event::{Event, Holder, Ownership, Party, Payment, SUM_MOST};
+pub use event::{
+    Bid, Bidding, Event, Holder, Office, Ownership, ParValue, Party, Payment, Placement, SUM_MOST,
+    Shareholder, Transfer,
+};
 pub use laws::{
     cash_moves, first_is_cheapest, last_word_is_last, quiet_keeps_sound, quiet_says_the_same,
 };
@@ -27,3 +32,4 @@ pub use list::History;
 pub use look_back::Past;
 pub use owners::Owners;
 pub use ruling::{KeptOrder, OpeningRule, Refusal, Ruling};
+pub use shares::Tenths;

@@ -1,15 +1,19 @@
-ghost use Rattle.std.specs.Prelude.{◌≡◌, ◌↔◌, ◌≤◌, IsTrue, OnOk, OnErr, IfOk, pos, []};
+ghost use Rattle.std.specs.Prelude.{◌≡◌, ◌↔◌, ◌≤◌, IfOk, IsTrue, OnOk, OnErr, option_map, pos, []};
+ghost use Rattle.history.specs.Bids.{bid_of, free_cash_of};
 ghost use Rattle.history.specs.Event.{sum_of};
-ghost use Rattle.history.specs.LookBack.{broken_in, cash_of, cheapest_of, is_sold, owner_of, priority_of, sv_price_of, with_event};
+ghost use Rattle.history.specs.LookBack.{IsModerate, broken_in, cash_of, cheapest_in, cheapest_of, is_sold, is_sold_in, owner_in, owner_of, priority_of, sv_price_of, with_event};
+ghost use Rattle.history.specs.Shares.{par_of, president_of, shares_of, square_of};
 ghost use Rattle.history.specs.Sound.{IsSound};
 
-use crate::event::{Event, Holder, Party, SUM_MOST};
+use crate::event::{Event, Holder, Party, SUM_MOST, Shareholder};
 use crate::look_back::Past;
+use crate::owners::Owners;
 use crate::ruling::KeptOrder;
+use crate::shares::Tenths;
 use order_grammar::Order;
 use std::alloc::{AllocError, Global};
 use std::marker::Model;
-use tables::{Money, Private, Seat};
+use tables::{Company, Money, Private, Seat, Square};
 
 /// A game: the number of its seats and the list of its events, oldest first.
 #[derive(Debug, Drop)]
@@ -59,13 +63,6 @@ impl History {
         Ok(())
     }
 
-    /// Keeps a copy of an order for a ruling of this game, in memory from where its list has its own.
-    pub fn keep(&self, order: &Order) -> Result<KeptOrder, AllocError>
-        ensures { IfOk result (λ kept. kept ≡ order.now) }
-    {
-        KeptOrder::keep(*self.events.allocator(), order)
-    }
-
     /// The events, oldest first.
     pub fn events(&self) -> &[Event]
         ensures { result.now ≡ self.now.events }
@@ -93,7 +90,8 @@ impl History {
 
     /// What a party has; the bank's cash may be under 0.
     pub fn cash(&self, party: Party) -> Money
-        ensures { result ≡ cash_of self.now.seats self.now.events party }
+        ensures sum { result ≡ cash_of self.now.seats self.now.events party }
+        ensures within { IsModerate result }
     {
         self.now().cash(party)
     }
@@ -139,5 +137,64 @@ impl History {
         ensures { result ≡ priority_of self.now.seats self.now.events }
     {
         self.now().priority()
+    }
+
+    /// Keeps a copy of an order, by the list's own allocator. An `Err` comes only where a box gets
+    /// no memory.
+    pub fn keep(&self, order: &Order) -> Result<KeptOrder, AllocError>
+        ensures { IfOk result (λ kept. kept ≡ order.now) }
+    {
+        KeptOrder::keep(*self.events.allocator(), order)
+    }
+
+    /// The owners of all privates, by one look over the list.
+    pub fn owners(&self) -> Owners
+        ensures owner { (private : Private) → owner_in result private ≡ owner_of self.now.events private }
+        ensures sold { (private : Private) → is_sold_in result private ≡ is_sold self.now.events private }
+        ensures cheapest { cheapest_in result ≡ cheapest_of self.now.events }
+    {
+        self.now().owners()
+    }
+
+    /// A seat's standing bid on a private.
+    pub fn bid(&self, private: Private, seat: Seat) -> Option<Money>
+        ensures { result ≡ option_map pos (bid_of self.now.events private seat) }
+    {
+        self.now().bid(private, seat)
+    }
+
+    /// The tenths of a company at a place.
+    pub fn shares(&self, company: Company, place: Shareholder) -> Tenths
+        ensures { result ≡ shares_of self.now.events company place }
+    {
+        self.now().shares(company, place)
+    }
+
+    /// A company's par value; `None` while it is not started.
+    pub fn par(&self, company: Company) -> Option<Money>
+        ensures { result ≡ option_map pos (par_of self.now.events company) }
+    {
+        self.now().par(company)
+    }
+
+    /// The square of a company's token.
+    pub fn square(&self, company: Company) -> Option<Square>
+        ensures { result ≡ square_of self.now.events company }
+    {
+        self.now().square(company)
+    }
+
+    /// A company's president.
+    pub fn president(&self, company: Company) -> Option<Seat>
+        ensures { result ≡ president_of self.now.events company }
+    {
+        self.now().president(company)
+    }
+
+    /// A seat's cash less its standing bids.
+    pub fn free_cash(&self, seat: Seat) -> Money
+        ensures { result ≡ free_cash_of self.now.seats self.now.events seat }
+    {
+        self.now().free_cash(seat)
     }
 }

@@ -1,5 +1,5 @@
 ghost use Rattle.std.specs.Prelude.{◌≡◌, length};
-ghost use Rattle.history.specs.LookBack.{broken_in, cash_of, cheapest_in, cheapest_of, is_sold, is_sold_in, owner_in, owner_of, priority_of, start_of, sv_price_of};
+ghost use Rattle.history.specs.LookBack.{IsModerate, broken_in, cash_of, cheapest_in, cheapest_of, is_sold, is_sold_in, owner_in, owner_of, priority_of, start_of, sv_price_of};
 
 use crate::aspect::{balance, last_said};
 use crate::event::{Event, Holder, Party};
@@ -19,7 +19,8 @@ pub struct Past<'a> {
 impl Past<'_> {
     /// What a party has: its start money, plus all that came in, less all that went out.
     pub fn cash(&self, party: Party) -> Money
-        ensures { result ≡ cash_of self.now.seats self.now.events.now party }
+        ensures sum { result ≡ cash_of self.now.seats self.now.events.now party }
+        ensures within { IsModerate result }
     {
         balance(&Cash(party), start_of(self.seats, party), self.events)
     }

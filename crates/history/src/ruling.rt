@@ -27,14 +27,21 @@ impl Refusal {
 /// A rule that an order in an opening round may break.
 #[derive(Clone, Copy, Debug, PartialEq, Eq)]
 pub enum OpeningRule {
+    /// A1: the order is no purchase of a private and no bid, or a par value is set for a company
+    /// other than BO, or to a sum that is no par value.
+    NotOfOpening,
     /// A2: the private is sold.
     Sold,
-    /// A3: the private is not the cheapest that is unsold.
+    /// A3: the private to buy is not the cheapest that is unsold.
     NotCheapest,
-    /// A5: the price is over the seat's cash.
+    /// A4: the bid is not 5 above the face value and above every earlier bid.
+    BidTooLow,
+    /// A5: the sum is over the seat's cash that is free of its other bids.
     CashTooSmall,
-    /// A6: the seat has bought in this turn.
+    /// A6: the seat has bought or bid in this turn.
     TurnUsed,
+    /// A7: the bid is for the cheapest private that is unsold.
+    BidForCheapest,
 }
 
 impl OpeningRule {
@@ -43,10 +50,13 @@ impl OpeningRule {
         ensures { result.now ≡ code_of_opening_rule self }
     {
         match self {
+            OpeningRule::NotOfOpening => "A1",
             OpeningRule::Sold => "A2",
             OpeningRule::NotCheapest => "A3",
+            OpeningRule::BidTooLow => "A4",
             OpeningRule::CashTooSmall => "A5",
             OpeningRule::TurnUsed => "A6",
+            OpeningRule::BidForCheapest => "A7",
         }
     }
 }

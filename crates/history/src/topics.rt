@@ -1,10 +1,12 @@
 //! The things of which events speak, and the accounts that they change.
-ghost use Rattle.history.specs.Event.{ownership_of, payment_of, sv_price_set};
+ghost use Rattle.history.specs.Bids.{bid_said};
+ghost use Rattle.history.specs.Event.{bidding_of, office_of, ownership_of, par_set, payment_of, square_set, sv_price_set, transfer_of};
 ghost use Rattle.history.specs.LookBack.{actor_of, owner_said, paid_by, paid_to};
+ghost use Rattle.history.specs.Shares.{brought_to, par_said, president_said, square_said, taken_from};
 
 use crate::aspect::{Account, Topic};
-use crate::event::{Event, Holder, Party};
-use tables::{Amount, Private, Seat};
+use crate::event::{Bidding, Event, Holder, Party, Shareholder};
+use tables::{Amount, Company, Private, Seat, Square};
 
 /// The cash of a party.
 #[derive(Clone, Copy)]
@@ -72,5 +74,104 @@ impl Topic for Actor {
 
     fn word(&self, event: &Event) -> Option<Seat> {
         event.actor()
+    }
+}
+
+/// A seat's standing bid on a private: a sum, or nothing.
+#[derive(Clone, Copy)]
+pub(crate) struct BidOn(pub Private, pub Seat);
+
+impl Topic for BidOn {
+    type Word = Option<Amount>;
+
+    ghost word = { λ a event. bid_said a.0 a.1 (bidding_of event) };
+
+    fn word(&self, event: &Event) -> Option<Option<Amount>> {
+        match event.bidding() {
+            Some(Bidding::Made(private, bid)) if private == self.0 && bid.seat == self.1 => {
+                Some(Some(bid.amount))
+            }
+            Some(Bidding::Ended(private)) if private == self.0 => Some(None),
+            _ => None,
+        }
+    }
+}
+
+/// The tenths of a company at a place.
+#[derive(Clone, Copy)]
+pub(crate) struct Shares(pub Company, pub Shareholder);
+
+impl Account for Shares {
+    ghost brings = { λ a event. brought_to a.0 a.1 (transfer_of event) };
+
+    ghost takes = { λ a event. taken_from a.0 a.1 (transfer_of event) };
+
+    fn brings(&self, event: &Event) -> Amount {
+        match event.transfer() {
+            Some(transfer) if transfer.company == self.0 && transfer.to == self.1 => {
+                Amount::from(transfer.tenths)
+            }
+            _ => 0,
+        }
+    }
+
+    fn takes(&self, event: &Event) -> Amount {
+        match event.transfer() {
+            Some(transfer) if transfer.company == self.0 && transfer.from == self.1 => {
+                Amount::from(transfer.tenths)
+            }
+            _ => 0,
+        }
+    }
+}
+
+/// The par value of a company.
+#[derive(Clone, Copy)]
+pub(crate) struct Par(pub Company);
+
+impl Topic for Par {
+    type Word = Amount;
+
+    ghost word = { λ a event. par_said a.0 (par_set event) };
+
+    fn word(&self, event: &Event) -> Option<Amount> {
+        match event.par() {
+            Some(par) if par.company == self.0 => Some(par.price),
+            _ => None,
+        }
+    }
+}
+
+/// The square of a company's token.
+#[derive(Clone, Copy)]
+pub(crate) struct TokenSquare(pub Company);
+
+impl Topic for TokenSquare {
+    type Word = Square;
+
+    ghost word = { λ a event. square_said a.0 (square_set event) };
+
+    fn word(&self, event: &Event) -> Option<Square> {
+        match event.square() {
+            Some(placement) if placement.company == self.0 => Some(placement.square),
+            _ => None,
+        }
+    }
+}
+
+/// The president of a company.
+#[derive(Clone, Copy)]
+pub(crate) struct President(pub Company);
+
+impl Topic for President {
+    type Word = Seat;
+
+    ghost word = { λ a event. president_said a.0 (office_of event) };
+
+    fn word(&self, event: &Event) -> Option<Seat> {
+        match event.office() {
+            Some(office) if office.company == self.0 => Some(office.president),
+            _ => None,
+        }
     }
 }

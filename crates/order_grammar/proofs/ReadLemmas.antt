@@ -20,7 +20,7 @@ use Rattle.order_grammar.specs.declared.class.Reading.TheVariants.{Value, TooLar
 use Rattle.order_grammar.specs.declared.fault.Fault.{Fault}
 use Rattle.order_grammar.specs.declared.fault.Fault.TheVariants.{UnknownWord, WrongWords, NumberTooLarge, TooLong, StrayByte}
 use Rattle.order_grammar.specs.declared.order.Order.{Order}
-use Rattle.order_grammar.specs.declared.order.Order.TheVariants.{Blank, Game, Players, Sheet, Turn, BuyPrivate}
+use Rattle.order_grammar.specs.declared.order.Order.TheVariants.{Blank, Game, Players, Sheet, Turn, BuyPrivate, Bid, Limit, Par}
 use Rattle.order_grammar.specs.declared.order.OrderKind as kinds
 use Rattle.order_grammar.specs.declared.order.OrderKind.TheVariants as kind
 use Rattle.order_grammar.specs.declared.order.Value as values
@@ -278,6 +278,9 @@ small_or_large (Players names) = inl tt
 small_or_large (Sheet name round) = small_round round
 small_or_large Turn = inl tt
 small_or_large (BuyPrivate private) = inl tt
+small_or_large (Bid private amount) = small_number amount
+small_or_large (Limit private amount) = small_number amount
+small_or_large (Par company amount) = small_number amount
 
 -- words that are read as an order spell it
 words_read_spell : (words : List (List ℕ)) (order : Order) → words_reading words ≡ Ok order → AreWordsFor words order × HasSmallNumbers order

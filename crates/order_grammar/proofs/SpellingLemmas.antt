@@ -23,7 +23,7 @@ use Rattle.order_grammar.specs.Print.{spaced, joined, words_of_order, spelling_o
 use Rattle.order_grammar.specs.Spells.{IsNumber, IsRound, AreWordsFor, IsSmallRound, HasSmallNumbers, IsOpeningRound, IsOrder}
 use Rattle.order_grammar.specs.Words.{before, with_word, words_from, raised, words_of, is_printable}
 use Rattle.order_grammar.specs.declared.order.Order.{Order}
-use Rattle.order_grammar.specs.declared.order.Order.TheVariants.{Blank, Game, Players, Sheet, Turn, BuyPrivate}
+use Rattle.order_grammar.specs.declared.order.Order.TheVariants.{Blank, Game, Players, Sheet, Turn, BuyPrivate, Bid, Limit, Par}
 use Rattle.order_grammar.proofs.WordLemmas.{words_from-word}
 use Rattle.order_grammar.proofs.SpellsLemmas.{words_for_read}
 
@@ -239,6 +239,9 @@ order_plain (Players names) is = (form_plain (codes "PLAYERS") refl refl refl, n
 order_plain (Sheet name round) is = (form_plain (codes "SHEET") refl refl refl, (name_plain name is.0, (round_plain round is.1, tt)))
 order_plain Turn is = (form_plain (codes "TURN") refl refl refl, tt)
 order_plain (BuyPrivate p) is = (form_plain (codes "BUY") refl refl refl, (code_plain p, tt))
+order_plain (Bid private amount) is = absurd is
+order_plain (Limit private amount) is = absurd is
+order_plain (Par company amount) is = absurd is
 
 -- there are at most seven of them
 order_few : (order : Order) → IsOrder order → length (words_of_order order) ≤ 7
@@ -248,6 +251,9 @@ order_few (Players names) is = omega (arith, is.most)
 order_few (Sheet name round) is = omega arith
 order_few Turn is = omega arith
 order_few (BuyPrivate p) is = omega arith
+order_few (Bid private amount) is = absurd is
+order_few (Limit private amount) is = absurd is
+order_few (Par company amount) is = absurd is
 
 -- the spelling of a round is that round
 round_text : (round : Round) → IsOpeningRound round → IsRound (text_of_round round) round
@@ -265,6 +271,9 @@ order_words (Players names) is = (refl, is)
 order_words (Sheet name round) is = (text_of_round round, refl, is.0, round_text round is.1)
 order_words Turn is = refl
 order_words (BuyPrivate p) is = (refl, is)
+order_words (Bid private amount) is = absurd is
+order_words (Limit private amount) is = absurd is
+order_words (Par company amount) is = absurd is
 
 -- a round that has a spelling has a small number
 round_small : (round : Round) → IsOpeningRound round → IsSmallRound round
@@ -280,6 +289,9 @@ order_small (Players names) is = tt
 order_small (Sheet name round) is = round_small round is.1
 order_small Turn is = tt
 order_small (BuyPrivate p) is = tt
+order_small (Bid private amount) is = absurd is
+order_small (Limit private amount) is = absurd is
+order_small (Par company amount) is = absurd is
 
 -- the spelling of an order is read as it
 pub spelling_read : (order : Order) → IsOrder order → reading_of (spelling_of order) ≡ Ok order

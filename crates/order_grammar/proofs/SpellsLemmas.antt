@@ -19,7 +19,7 @@ use Rattle.order_grammar.specs.declared.class.Reading.TheVariants.{Value, TooLar
 use Rattle.order_grammar.specs.declared.fault.Fault.{Fault}
 use Rattle.order_grammar.specs.declared.fault.Fault.TheVariants.{UnknownWord, WrongWords, NumberTooLarge}
 use Rattle.order_grammar.specs.declared.order.Order.{Order}
-use Rattle.order_grammar.specs.declared.order.Order.TheVariants.{Blank, Game, Players, Sheet, Turn, BuyPrivate}
+use Rattle.order_grammar.specs.declared.order.Order.TheVariants.{Blank, Game, Players, Sheet, Turn, BuyPrivate, Bid, Limit, Par}
 use Rattle.order_grammar.specs.declared.order.OrderKind.TheVariants as kind
 use Rattle.order_grammar.specs.declared.order.Value as values
 use Rattle.order_grammar.specs.declared.order.Value.TheVariants as value
@@ -141,6 +141,9 @@ words_for_read words (Sheet name round) is small =
     ap words_reading is.1 ∙ found.found UnknownWord
 words_for_read words Turn is small = ap words_reading is
 words_for_read words (BuyPrivate private) is small = ap words_reading is.0 ∙ buy_here private is.1
+words_for_read words (Bid private amount) is small = absurd is
+words_for_read words (Limit private amount) is small = absurd is
+words_for_read words (Par company amount) is small = absurd is
 
 -- two numbers of which one is too large
 numbers_too_large : (a b : List ℕ) (m n : ℕ) → IsNumber a m → IsNumber b n → ((m ≤ 99999) × (n ≤ 99999) → ⊥) → values_reading (class.Number ∷ class.Number ∷ []) (a ∷ b ∷ []) ≡ Err NumberTooLarge
@@ -172,3 +175,6 @@ large_words_read words (Sheet name round) is large =
     ∙ ap (λ (read : Result (List values.Value) Fault). fold (with_row (codes "SHEET") (name ∷ is.0 ∷ [])) (nearer (Err UnknownWord) (order_of_values kind.Sheet read)) (drop 6 forms)) large_value
 large_words_read words Turn is large = absurd (large tt)
 large_words_read words (BuyPrivate private) is large = absurd (large tt)
+large_words_read words (Bid private amount) is large = absurd is
+large_words_read words (Limit private amount) is large = absurd is
+large_words_read words (Par company amount) is large = absurd is

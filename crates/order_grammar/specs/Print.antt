@@ -5,7 +5,7 @@ use Rattle.tables.specs.Roster.{code_of_private}
 use Rattle.tables.specs.declared.round.Round.{Round}
 use Rattle.tables.specs.declared.round.Round.TheVariants.{Opening, Stock, Operating}
 use Rattle.order_grammar.specs.declared.order.Order.{Order}
-use Rattle.order_grammar.specs.declared.order.Order.TheVariants.{Blank, Game, Players, Sheet, Turn, BuyPrivate}
+use Rattle.order_grammar.specs.declared.order.Order.TheVariants.{Blank, Game, Players, Sheet, Turn, BuyPrivate, Bid, Limit, Par}
 
 -- a round: PR1, SR1 or OR1.1
 abbrev pub text_of_round : Round → List ℕ
@@ -30,6 +30,9 @@ words_of_order (Players names) = codes "PLAYERS" ∷ names.items
 words_of_order (Sheet name round) = codes "SHEET" ∷ name ∷ text_of_round round ∷ []
 words_of_order Turn = codes "TURN" ∷ []
 words_of_order (BuyPrivate private) = codes "BUY" ∷ code_of_private private ∷ []
+words_of_order (Bid private amount) = []
+words_of_order (Limit private amount) = []
+words_of_order (Par company amount) = []
 
 -- its spelling
 abbrev pub spelling_of : Order → List ℕ

@@ -9,7 +9,7 @@ use Rattle.order_grammar.specs.Class.{are_digits, value_of_digits, bought_alone}
 use Rattle.order_grammar.specs.Name.{is_name}
 use Rattle.order_grammar.specs.Words.{words_of, before_comment, is_printable}
 use Rattle.order_grammar.specs.declared.order.Order.{Order}
-use Rattle.order_grammar.specs.declared.order.Order.TheVariants.{Blank, Game, Players, Sheet, Turn, BuyPrivate}
+use Rattle.order_grammar.specs.declared.order.Order.TheVariants.{Blank, Game, Players, Sheet, Turn, BuyPrivate, Bid, Limit, Par}
 
 -- digits, with leading zeros or without, of a number, however large
 pub record IsNumber (text : List ℕ) (number : ℕ) : Type 0 where
@@ -39,6 +39,9 @@ AreWordsFor words (Sheet name round) =
     (text : List ℕ) × (words ≡ codes "SHEET" ∷ name ∷ text ∷ []) × IsTrue (is_name name) × IsRound text round
 AreWordsFor words Turn = words ≡ codes "TURN" ∷ []
 AreWordsFor words (BuyPrivate private) = (words ≡ codes "BUY" ∷ code_of_private private ∷ []) × Contains bought_alone private
+AreWordsFor words (Bid private amount) = ⊥
+AreWordsFor words (Limit private amount) = ⊥
+AreWordsFor words (Par company amount) = ⊥
 
 -- the line would spell the order if numbers had no greatest value
 pub record LooselySpells (line : List ℕ) (order : Order) : Type 0 where
@@ -60,6 +63,9 @@ HasSmallNumbers (Players names) = Unit {0}
 HasSmallNumbers (Sheet name round) = IsSmallRound round
 HasSmallNumbers Turn = Unit {0}
 HasSmallNumbers (BuyPrivate private) = Unit {0}
+HasSmallNumbers (Bid private amount) = amount ≤ 99999
+HasSmallNumbers (Limit private amount) = amount ≤ 99999
+HasSmallNumbers (Par company amount) = amount ≤ 99999
 
 -- the line spells the order
 pub record Spells (line : List ℕ) (order : Order) : Type 0 where
@@ -80,3 +86,6 @@ IsOrder (Players names) = AreNames names.items
 IsOrder (Sheet name round) = IsTrue (is_name name) × IsOpeningRound round
 IsOrder Turn = Unit {0}
 IsOrder (BuyPrivate private) = Contains bought_alone private
+IsOrder (Bid private amount) = ⊥
+IsOrder (Limit private amount) = ⊥
+IsOrder (Par company amount) = ⊥

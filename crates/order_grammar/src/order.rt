@@ -4,7 +4,7 @@ ghost use Rattle.order_grammar.specs.Order.{names_from, order_from};
 
 use crate::name::Name;
 use arrayvec::ArrayVec;
-use tables::{PLAYERS_MOST, Private, Round};
+use tables::{Amount, Company, PLAYERS_MOST, Private, Round};
 
 /// What a line orders or says.
 #[derive(Debug, Drop, PartialEq, Eq)]
@@ -21,6 +21,12 @@ pub enum Order {
     Turn,
     /// `BUY p`: buy a private at its price.
     BuyPrivate(Private),
+    /// `BID p n`: bid on a private.
+    Bid { private: Private, amount: Amount },
+    /// `LIMIT p n`: how far to go in an auction of a private.
+    Limit { private: Private, amount: Amount },
+    /// `PAR co n`: the par value of a company.
+    Par { company: Company, price: Amount },
 }
 
 impl Order {
@@ -41,6 +47,18 @@ impl Order {
             },
             Order::Turn => Order::Turn,
             Order::BuyPrivate(private) => Order::BuyPrivate(*private),
+            Order::Bid { private, amount } => Order::Bid {
+                private: *private,
+                amount: *amount,
+            },
+            Order::Limit { private, amount } => Order::Limit {
+                private: *private,
+                amount: *amount,
+            },
+            Order::Par { company, price } => Order::Par {
+                company: *company,
+                price: *price,
+            },
         }
     }
 }

@@ -41,6 +41,7 @@ pub fn print_order(text: &mut Vec<u8>, order: &Order) -> Result<(), AllocError>
             text.extend_from_slice(b"BUY ")?;
             text.extend_from_slice(private.code().as_bytes())
         }
+        Order::Bid { .. } | Order::Limit { .. } | Order::Par { .. } => Ok(()),
     }
 }
 

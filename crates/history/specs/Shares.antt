@@ -1,0 +1,92 @@
+-- Shares of the companies, in tenths; their par values, squares and presidents. A company is started
+-- once it has a par value; its token then stands on the square of that par.
+use Rattle.std.specs.Prelude.{ℕ, ◌==◌, Bool, true, false, if◌then◌else◌, List, [], ◌∷◌, Option, Some, None, ℤ, pos, ◌+ℤ◌, is_some}
+use Rattle.history.specs.Event.{office_of, par_set, square_set, transfer_of}
+use Rattle.history.specs.LookBack.{balance, last_said}
+use Rattle.history.specs.declared.event.Event.{Event}
+use Rattle.history.specs.declared.event.Office.{Office}
+use Rattle.history.specs.declared.event.ParValue.{ParValue}
+use Rattle.history.specs.declared.event.Placement.{Placement}
+use Rattle.history.specs.declared.event.Shareholder.{Shareholder}
+use Rattle.history.specs.declared.event.Shareholder.TheVariants.{InitialOffering, BankPool, Seat as OfSeat}
+use Rattle.history.specs.declared.event.Transfer.{Transfer}
+use Rattle.tables.specs.Chart.{par_square_of}
+use Rattle.tables.specs.Roster.{same_company}
+use Rattle.tables.specs.Seat.{all_seats}
+use Rattle.tables.specs.declared.roster.Company.{Company}
+use Rattle.tables.specs.declared.seat.Seat.{Seat}
+use Rattle.tables.specs.declared.squares.Square.{Square}
+
+-- two places of shares are the same
+abbrev pub same_shareholder : Shareholder → Shareholder → Bool
+same_shareholder InitialOffering InitialOffering = true
+same_shareholder BankPool BankPool = true
+same_shareholder (OfSeat a) (OfSeat b) = a.0 == b.0
+same_shareholder other another = false
+
+-- the tenths of a company that a transfer brings to a place
+abbrev pub brought_to : Company → Shareholder → Option Transfer → ℕ
+brought_to company place None = 0
+brought_to company place (Some transfer) =
+    if same_company transfer.company company then (if same_shareholder transfer.to place then transfer.tenths else 0) else 0
+
+-- the tenths of a company that a transfer takes from a place
+abbrev pub taken_from : Company → Shareholder → Option Transfer → ℕ
+taken_from company place None = 0
+taken_from company place (Some transfer) =
+    if same_company transfer.company company then (if same_shareholder transfer.from place then transfer.tenths else 0) else 0
+
+-- the tenths of a company that lie at a place at first: all are in the initial offering
+abbrev pub start_tenths : Shareholder → ℕ
+start_tenths InitialOffering = 10
+start_tenths other = 0
+
+-- the tenths of a company at a place
+abbrev pub shares_of : List Event → Company → Shareholder → ℤ
+shares_of events company place =
+    balance (start_tenths place) (λ event. brought_to company place (transfer_of event)) (λ event. taken_from company place (transfer_of event)) events
+
+-- what is said of a company's par value
+abbrev pub par_said : Company → Option ParValue → Option ℕ
+par_said company None = None
+par_said company (Some par) = if same_company par.company company then Some par.price else None
+
+-- a company's par value
+abbrev pub par_of : List Event → Company → Option ℕ
+par_of events company = last_said (λ event. par_said company (par_set event)) events
+
+-- a company is started
+abbrev pub is_started : List Event → Company → Bool
+is_started events company = is_some (par_of events company)
+
+-- what is said of a company's square
+abbrev pub square_said : Company → Option Placement → Option Square
+square_said company None = None
+square_said company (Some placement) = if same_company placement.company company then Some placement.square else None
+
+-- the square of a company's token
+abbrev pub square_of : List Event → Company → Option Square
+square_of events company = last_said (λ event. square_said company (square_set event)) events
+
+-- what is said of a company's president
+abbrev pub president_said : Company → Option Office → Option Seat
+president_said company None = None
+president_said company (Some office) = if same_company office.company company then Some office.president else None
+
+-- a company's president
+abbrev pub president_of : List Event → Company → Option Seat
+president_of events company = last_said (λ event. president_said company (office_of event)) events
+
+-- a sum of money is one of the six par values
+abbrev pub is_par_value : ℕ → Bool
+is_par_value price = is_some (par_square_of price)
+
+-- the tenths of a company that these seats hold
+abbrev pub held_by : List Event → Company → List Seat → ℤ
+held_by events company [] = pos 0
+held_by events company (seat ∷ others) = shares_of events company (OfSeat seat) +ℤ held_by events company others
+
+-- the tenths of a company with the bank and at the table
+abbrev pub tenths_in_all : ℕ → List Event → Company → ℤ
+tenths_in_all seats events company =
+    (shares_of events company InitialOffering +ℤ shares_of events company BankPool) +ℤ held_by events company (all_seats seats)

@@ -1,0 +1,74 @@
+//! Standing bids.
+ghost use Rattle.std.specs.Prelude.{◌≡◌, ◌^◌, ◌<◌, ◌≤◌, option_map, pos};
+ghost use Rattle.history.specs.Bids.{bid_of, bids_elsewhere_of, bids_of, bids_on, free_cash_of, tied_on};
+
+use crate::aspect::last_said;
+use crate::event::{Bid, Holder, Party};
+use crate::look_back::Past;
+use crate::topics::BidOn;
+use arrayvec::ArrayVec;
+use tables::{Amount, Money, PLAYERS_MOST, Private, Seat};
+
+impl Past<'_> {
+    /// A seat's standing bid on a private.
+    pub fn bid(&self, private: Private, seat: Seat) -> Option<Money>
+        ensures { result ≡ option_map pos (bid_of self.now.events.now private seat) }
+    {
+        self.standing_bid(private, seat).map(Money::from)
+    }
+
+    /// A seat's standing bid on a private, as the sum that an order names.
+    pub fn standing_bid(&self, private: Private, seat: Seat) -> Option<Amount>
+        ensures { result ≡ bid_of self.now.events.now private seat }
+    {
+        last_said(&BidOn(private, seat), self.events).flatten()
+    }
+
+    /// The standing bids on a private, in the order of the seats.
+    pub fn bids_on(&self, private: Private) -> ArrayVec<Bid, PLAYERS_MOST>
+        requires { self.now.seats ≤ 6 }
+        ensures { result.items ≡ bids_on self.now.seats self.now.events.now private }
+    {
+        let mut bids = ArrayVec::new();
+        for number in 0..self.seats {
+            let seat = Seat::at(number);
+            if let Some(amount) = self.standing_bid(private, seat) {
+                bids.push(Bid { seat, amount });
+            }
+        }
+        bids
+    }
+
+    /// The sum of a seat's standing bids.
+    pub fn bids_of(&self, seat: Seat) -> Money
+        ensures sum { result ≡ pos (bids_of self.now.events.now seat) }
+        ensures within { bids_of self.now.events.now seat < 2 ^ 35 }
+    {
+        let mut sum: u64 = 0;
+        for private in Private::ALL {
+            sum += u64::from(self.tied_on(seat, private));
+        }
+        Money::from(sum)
+    }
+
+    /// The sum of a seat's standing bids on other privates than one.
+    pub fn bids_elsewhere(&self, seat: Seat, private: Private) -> Money
+        ensures { result ≡ pos (bids_elsewhere_of self.now.events.now seat private) }
+    {
+        self.bids_of(seat) - Money::from(self.tied_on(seat, private))
+    }
+
+    /// A seat's cash less its standing bids.
+    pub fn free_cash(&self, seat: Seat) -> Money
+        ensures { result ≡ free_cash_of self.now.seats self.now.events.now seat }
+    {
+        self.cash(Party::Holder(Holder::Seat(seat))) - self.bids_of(seat)
+    }
+
+    /// What a seat's standing bid on a private ties.
+    fn tied_on(&self, seat: Seat, private: Private) -> Amount
+        ensures { result ≡ tied_on self.now.events.now seat private }
+    {
+        self.standing_bid(private, seat).unwrap_or(0)
+    }
+}
