@@ -1,7 +1,12 @@
 pub mod Auctions
-pub mod Revenues
+pub mod Bidders
 pub mod Judged
+pub mod Limits
+pub mod Revenues
 pub mod RoundEnds
 pub mod Seats
+pub mod Small
+pub mod StandingBids
 pub mod Turns
+pub mod Underway
 pub mod WholeRound

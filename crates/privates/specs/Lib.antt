@@ -3,6 +3,7 @@ pub mod Standing
 pub mod Auction
 pub mod Sale
 pub mod Act
+pub mod Small
 pub mod Turn
 pub mod Opening
 pub mod Underway

@@ -4,12 +4,12 @@
 use Rattle.std.specs.Prelude.{ℕ, Bool, true, false, ◌||◌, List, [], ◌∷◌, ◌++◌, is_none, Result}
 use Rattle.history.specs.LookBack.{cheapest_of}
 use Rattle.history.specs.declared.event.Event.{Event}
-use Rattle.history.specs.declared.event.Event.TheVariants.{Passes, Ruled}
+use Rattle.history.specs.declared.event.Event.TheVariants.{Bids, Passes, Ruled}
 use Rattle.history.specs.declared.ruling.Ruling.{Ruling}
 use Rattle.history.specs.declared.ruling.Ruling.TheVariants.{Obeyed}
 use Rattle.order_grammar.specs.declared.fault.Fault.{Fault}
 use Rattle.order_grammar.specs.declared.order.Order.{Order}
-use Rattle.order_grammar.specs.declared.order.Order.TheVariants.{BuyPrivate}
+use Rattle.order_grammar.specs.declared.order.Order.TheVariants.{BuyPrivate, Bid}
 use Rattle.privates.specs.Judgement.{price_of, ruling_of}
 use Rattle.privates.specs.Sale.{after_sale, settled}
 use Rattle.sheets.specs.Part.{Numbered}
@@ -23,6 +23,7 @@ InTurn = Turned (List Event)
 -- after what an order brings that was obeyed in a turn
 abbrev pub after_act : ℕ → Seat → List Event → Order → List Event
 after_act seats seat events (BuyPrivate private) = settled seats (after_sale events private seat (price_of events private))
+after_act seats seat events (Bid private amount) = events ++ Bids private seat amount ∷ []
 after_act seats seat events other = events
 
 -- after what a ruling brings

@@ -1,20 +1,24 @@
-ghost use Rattle.std.specs.Prelude.{◌≡◌, ◌-◌, OnOk, false};
-ghost use Rattle.history.specs.LookBack.{is_sold, owner_of, priority_of, sv_price_of};
+ghost use Rattle.std.specs.Prelude.{◌≡◌, ◌≢◌, ◌≤◌, ◌-◌, OnOk, false};
+ghost use Rattle.history.specs.LookBack.{is_sold, owner_of, priority_of, sv_price_of, with_event};
+ghost use Rattle.history.specs.Tell.{with_broken};
+ghost use Rattle.history.specs.declared.event.Event.TheVariants as event;
 ghost use Rattle.privates.specs.Opening.{after_fall, after_revenues, closed, given_away, paid_to_owner};
 ghost use Rattle.privates.specs.Underway.{IsUnderway};
 ghost use Rattle.tables.specs.Roster.{privates};
 ghost use Rattle.tables.specs.declared.roster.Private.TheVariants.{SchuylkillValley};
 
-use history::{Event, History};
+use crate::sale::settle_all;
+use history::{Event, Holder, History};
 use std::alloc::AllocError;
-use tables::{Private, Seat, revenue};
+use tables::{Amount, Private, Seat, revenue};
 
 /// What SV's price falls by in a round in which all pass before it is sold.
 const FALL: u32 = 5;
 
 /// The end of the turns: unless all privates are sold SV falls, or each sold private pays.
 pub(crate) fn close(history: &mut History) -> Result<(), AllocError>
-    requires { IsUnderway history.old }
+    requires few { history.old.seats ≤ 6 }
+    requires underway { IsUnderway history.old }
     ensures seats { OnOk result (history.new.seats ≡ history.old.seats) }
     ensures events { OnOk result (history.new.events ≡ closed history.old.seats history.old.events) }
     ensures underway { OnOk result (IsUnderway history.new) }
@@ -32,6 +36,7 @@ pub(crate) fn close(history: &mut History) -> Result<(), AllocError>
 
 /// SV falls, which is unsold; at 0 it goes to the holder of priority for nothing.
 fn lower_price(history: &mut History) -> Result<(), AllocError>
+    requires few { history.old.seats ≤ 6 }
     requires unsold { is_sold history.old.events SchuylkillValley ≡ false }
     requires underway { IsUnderway history.old }
     ensures seats { OnOk result (history.new.seats ≡ history.old.seats) }
@@ -41,9 +46,22 @@ fn lower_price(history: &mut History) -> Result<(), AllocError>
     let price = history.now().sv_price().saturating_sub(FALL);
     if price == 0 {
         let holder = history.priority();
-        return give_away(history, holder);
+        give_away(history, holder)?;
+        return settle_all(history);
     }
-    history.append(Event::Price { price })
+    set_price(history, price)
+}
+
+/// SV's price comes to a sum over 0.
+fn set_price(history: &mut History, price: Amount) -> Result<(), AllocError>
+    requires fallen { price ≡ sv_price_of history.old.events - 5 }
+    requires some { price ≢ 0 }
+    requires underway { IsUnderway history.old }
+    ensures event { OnOk result (history.new ≡ with_event history.old (event.Price price)) }
+    ensures underway { OnOk result (IsUnderway history.new) }
+{
+    history.append(Event::Price { price })?;
+    Ok(())
 }
 
 /// SV's price comes to 0, and SV goes to a seat for nothing.
@@ -59,7 +77,8 @@ fn give_away(history: &mut History, seat: Seat) -> Result<(), AllocError>
         private: Private::SchuylkillValley,
         seat,
         price: 0,
-    })
+    })?;
+    Ok(())
 }
 
 /// Each sold private pays its owner, in roster order.
@@ -85,10 +104,37 @@ fn pay_revenue(history: &mut History, private: Private) -> Result<(), AllocError
     let Some(owner) = history.owner(private) else {
         return Ok(());
     };
+    pay(history, private, owner, revenue(private))?;
+    tell_broken(history)
+}
+
+/// The bank pays a revenue.
+fn pay(
+    history: &mut History,
+    private: Private,
+    owner: Holder,
+    amount: Amount,
+) -> Result<(), AllocError>
+    requires small { amount ≤ 1000000 }
+    requires underway { IsUnderway history.old }
+    ensures event { OnOk result (history.new ≡ with_event history.old (event.Revenue private owner amount)) }
+    ensures underway { OnOk result (IsUnderway history.new) }
+{
     history.append(Event::Revenue {
         private,
         owner,
-        amount: revenue(private),
+        amount,
     })?;
-    history.tell_broken()
+    Ok(())
+}
+
+/// Tells that the bank is broken, where it has just come to that.
+fn tell_broken(history: &mut History) -> Result<(), AllocError>
+    requires { IsUnderway history.old }
+    ensures seats { OnOk result (history.new.seats ≡ history.old.seats) }
+    ensures events { OnOk result (history.new.events ≡ with_broken history.old.seats history.old.events) }
+    ensures underway { OnOk result (IsUnderway history.new) }
+{
+    history.tell_broken()?;
+    Ok(())
 }

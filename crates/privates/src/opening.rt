@@ -1,14 +1,16 @@
 ghost use Rattle.std.specs.Prelude.{◌≡◌, ◌<◌, ◌≤◌, ◌++◌, [], ◌∷◌, All, IfOk, OnOk, length, map, true};
 ghost use Rattle.std.specs.List.{range_with_len};
-ghost use Rattle.history.specs.LookBack.{priority_of};
+ghost use Rattle.history.specs.LookBack.{with_event};
 ghost use Rattle.history.specs.Sound.{IsSound};
+ghost use Rattle.history.specs.Tell.{with_left};
 ghost use Rattle.history.specs.declared.event.Event.TheVariants as event;
 ghost use Rattle.privates.specs.Opening.{IsOpeningRound, groups_for, TurnsLead, in_play, left_from};
+ghost use Rattle.privates.specs.Small.{IsReady};
 ghost use Rattle.privates.specs.Standing.{after_standing};
 ghost use Rattle.privates.specs.Turn.{opening_turns};
-ghost use Rattle.privates.specs.Underway.{IsUnderway};
+ghost use Rattle.privates.specs.Underway.{BaltimoreWaits, IsUnderway, PennsylvaniaWaits};
 ghost use Rattle.sheets.specs.File.{players_of};
-ghost use Rattle.sheets.specs.Part.{StandsAtHead, groups_of};
+ghost use Rattle.sheets.specs.Part.{groups_of};
 ghost use Rattle.tables.specs.Seat.{left_of, seat_at};
 ghost use Rattle.tables.specs.Turns.{TurnsEnd, after_turn};
 
@@ -24,7 +26,8 @@ use tables::{PLAYERS_MOST, Round, Seat};
 /// What is still to come of each seat's sheet, by seat.
 type Unruled<'a> = ArrayVec<PartsLeft<'a>, PLAYERS_MOST>;
 
-/// Plays an opening round. An `Err` comes from want of memory alone, and the game is dropped.
+/// Plays an opening round with the sheets for it. PRR has no square while CA is unsold, nor has BO while
+/// BOP is: they wait for the gifts. An `Err` comes from want of memory alone, and the game is dropped.
 pub fn play_opening(
     mut history: History,
     sheets: &Sheets,
@@ -32,17 +35,31 @@ pub fn play_opening(
 ) -> Result<History, AllocError>
     requires sound { IsSound history }
     requires seats { history.seats ≡ length (players_of sheets.now) }
+    requires pennsylvania { PennsylvaniaWaits history.events }
+    requires baltimore { BaltimoreWaits history.events }
     ensures round { IfOk result (λ new. IsOpeningRound sheets.now round history new) }
     ensures sound { IfOk result IsSound }
 {
     let first = history.priority();
-    history.tell(Event::Round(round))?;
+    begin(&mut history, round)?;
     let mut unruled = rule_all_standing(&mut history, sheets, round)?;
     let unruled = unruled.as_mut_slice();
     take_turns(&mut history, first.number(), unruled)?;
     close(&mut history)?;
     tell_all_left(&mut history, unruled)?;
     Ok(history)
+}
+
+/// Tells that the round begins.
+fn begin(history: &mut History, round: Round) -> Result<(), AllocError>
+    requires sound { IsSound history.old }
+    requires pennsylvania { PennsylvaniaWaits history.old.events }
+    requires baltimore { BaltimoreWaits history.old.events }
+    ensures event { OnOk result (history.new ≡ with_event history.old (event.Round round)) }
+    ensures underway { OnOk result (IsUnderway history.new) }
+{
+    history.tell(Event::Round(round))?;
+    Ok(())
 }
 
 /// Rules the standing lines of each sheet, seat by seat. Answers what is left.
@@ -56,7 +73,7 @@ fn rule_all_standing<'a>(
     ensures events { OnOk result (history.new.events ≡ after_standing sheets.now round history.old.events (range_with_len 0 (length (players_of sheets.now)))) }
     ensures left { IfOk result (λ unruled. map groups_of unruled.items ≡ groups_for (length (players_of sheets.now)) sheets.now round) }
     ensures each { IfOk result (λ unruled. length unruled.items ≡ length (players_of sheets.now)) }
-    ensures stand { IfOk result (λ unruled. All StandsAtHead unruled.items) }
+    ensures ready { IfOk result (λ unruled. All IsReady unruled.items) }
     ensures underway { OnOk result (IsUnderway history.new) }
 {
     let mut unruled = Unruled::new();
@@ -78,7 +95,7 @@ fn take_turns(
     requires first { first < length unruled.old }
     requires few { length unruled.old ≤ 6 }
     requires seats { history.old.seats ≡ length unruled.old }
-    requires stand { All StandsAtHead unruled.old }
+    requires ready { All IsReady unruled.old }
     requires underway { IsUnderway history.old }
     ensures seats { OnOk result (history.new.seats ≡ history.old.seats) }
     ensures turns { OnOk result (TurnsLead history.old.seats (in_play history.old.events first 0 (map groups_of unruled.old)) history.new.events (map groups_of unruled.new)) }
@@ -104,34 +121,56 @@ fn play_turn(
 ) -> Result<usize, AllocError>
     requires seat { seat < length unruled.old }
     requires few { length unruled.old ≤ 6 }
+    requires seats { history.old.seats ≡ length unruled.old }
     requires passes { passes < length unruled.old }
-    requires stand { All StandsAtHead unruled.old }
+    requires ready { All IsReady unruled.old }
     requires underway { IsUnderway history.old }
     ensures seats { OnOk result (history.new.seats ≡ history.old.seats) }
     ensures each { OnOk result (length unruled.new ≡ length unruled.old) }
     ensures turn { IfOk result (λ after. in_play history.new.events (left_of history.old.seats (seat_at seat)).0 after (map groups_of unruled.new) ≡ after_turn (opening_turns history.old.seats) (in_play history.old.events seat passes (map groups_of unruled.old))) }
     ensures passes { IfOk result (λ after. after ≤ length unruled.old) }
-    ensures stand { OnOk result (All StandsAtHead unruled.new) }
+    ensures ready { OnOk result (All IsReady unruled.new) }
     ensures underway { OnOk result (IsUnderway history.new) }
 {
     if take_turn(history, Seat::at(seat), &mut unruled[seat])? {
         return Ok(0);
     }
-    history.tell(Event::Passes(Seat::at(seat)))?;
+    pass(history, Seat::at(seat))?;
     Ok(passes + 1)
+}
+
+/// A seat passes.
+fn pass(history: &mut History, seat: Seat) -> Result<(), AllocError>
+    requires { IsUnderway history.old }
+    ensures event { OnOk result (history.new ≡ with_event history.old (event.Passes seat)) }
+    ensures underway { OnOk result (IsUnderway history.new) }
+{
+    history.tell(Event::Passes(seat))?;
+    Ok(())
 }
 
 /// Tells how many lines of each sheet were not taken up, heads of groups not counted.
 fn tell_all_left(history: &mut History, unruled: &[PartsLeft]) -> Result<(), AllocError>
     requires few { length unruled.now ≤ 6 }
-    requires stand { All StandsAtHead unruled.now }
+    requires ready { All IsReady unruled.now }
     requires underway { IsUnderway history.old }
     ensures seats { OnOk result (history.new.seats ≡ history.old.seats) }
     ensures events { OnOk result (history.new.events ≡ history.old.events ++ left_from 0 (map groups_of unruled.now)) }
     ensures underway { OnOk result (IsUnderway history.new) }
 {
     for (seat, sheet) in unruled.iter().enumerate() {
-        history.tell_left(Seat::at(seat), sheet.count())?;
+        tell_seat_left(history, Seat::at(seat), sheet.count())?;
     }
+    Ok(())
+}
+
+/// Tells how many lines of a seat's sheet were not taken up.
+fn tell_seat_left(history: &mut History, seat: Seat, lines: u32) -> Result<(), AllocError>
+    requires { IsUnderway history.old }
+    ensures seats { OnOk result (history.new.seats ≡ history.old.seats) }
+    ensures events { OnOk result (history.new.events ≡ history.old.events ++ with_left seat lines []) }
+    ensures underway { OnOk result (IsUnderway history.new) }
+{
+    history.tell_left(seat, lines)?;
     Ok(())
 }

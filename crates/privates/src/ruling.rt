@@ -2,6 +2,7 @@
 ghost use Rattle.std.specs.Prelude.{◌≡◌, OnOk, IfOk};
 ghost use Rattle.history.specs.LookBack.{with_event};
 ghost use Rattle.history.specs.declared.event.Event.TheVariants as event;
+ghost use Rattle.privates.specs.Small.{IsSmallOrder, IsSmallRuling};
 ghost use Rattle.privates.specs.Judgement.{judged};
 ghost use Rattle.privates.specs.Underway.{IsUnderway};
 
@@ -17,7 +18,9 @@ pub(crate) fn ruling_of(
     order: &Order,
     broken: Option<OpeningRule>,
 ) -> Result<Ruling, AllocError>
-    ensures { IfOk result (λ ruling. ruling ≡ judged order.now broken) }
+    requires { IsSmallOrder order.now }
+    ensures ruling { IfOk result (λ ruling. ruling ≡ judged order.now broken) }
+    ensures small { IfOk result IsSmallRuling }
 {
     let kept = history.keep(order)?;
     Ok(match broken {
@@ -33,10 +36,12 @@ pub(crate) fn tell_ruling(
     line: &NumberedLine,
     ruling: Ruling,
 ) -> Result<(), AllocError>
-    requires { IsUnderway history.old }
+    requires small { IsSmallRuling ruling }
+    requires underway { IsUnderway history.old }
     ensures event { OnOk result (history.new ≡ with_event history.old (event.Ruled seat line.now.number ruling)) }
     ensures underway { OnOk result (IsUnderway history.new) }
 {
     let line = line.number;
-    history.tell(Event::Ruled { seat, line, ruling })
+    history.tell(Event::Ruled { seat, line, ruling })?;
+    Ok(())
 }

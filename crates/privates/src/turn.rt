@@ -1,20 +1,24 @@
-ghost use Rattle.std.specs.Prelude.{◌≡◌, ◌||◌, OnOk, IfOk, MatchResult, Ok, Err, drop, false};
-ghost use Rattle.privates.specs.Act.{MayAct};
-ghost use Rattle.privates.specs.Judgement.{has_place_in_group, judged, judgement_of};
+ghost use Rattle.std.specs.Prelude.{◌≡◌, ◌≤◌, ◌<◌, ◌||◌, OnOk, IfOk, MatchResult, Ok, Err, drop, false};
+ghost use Rattle.history.specs.LookBack.{with_event};
+ghost use Rattle.history.specs.declared.event.Event.TheVariants as event;
+ghost use Rattle.privates.specs.Act.{MayAct, MayBid, MayPay};
+ghost use Rattle.privates.specs.Judgement.{has_place_in_group, judged, judgement_of, price_of as price_asked};
+ghost use Rattle.privates.specs.Sale.{after_sale, settled};
+ghost use Rattle.privates.specs.Small.{IsReady, IsSmallOrder, IsSmallReading};
 ghost use Rattle.privates.specs.Turn.{after_act, after_line, after_lines, after_ruling};
 ghost use Rattle.privates.specs.Underway.{IsUnderway};
-ghost use Rattle.sheets.specs.Part.{StandsAtHead, groups_of, line_read};
+ghost use Rattle.sheets.specs.Part.{groups_of, line_read};
 ghost use Rattle.sheets.specs.Place.{placed};
 ghost use Rattle.tables.specs.Turns.{next_group};
 
 use crate::judgement::{judge, price_of};
 use crate::ruling::{ruling_of, tell_ruling};
-use crate::sale::sell;
-use history::{History, Ruling};
+use crate::sale::{sell, settle_all};
+use history::{Event, History, Ruling};
 use order_grammar::{Fault, Order};
 use sheets::{NumberedLine, PartsLeft, is_of_file};
 use std::alloc::AllocError;
-use tables::Seat;
+use tables::{Amount, Private, Seat};
 
 /// A seat's turn: it takes up the next group of its sheet, if there is one. Answers whether the seat
 /// bought.
@@ -23,12 +27,14 @@ pub(crate) fn take_turn(
     seat: Seat,
     sheet: &mut PartsLeft,
 ) -> Result<bool, AllocError>
-    requires stand { StandsAtHead sheet.old }
+    requires few { history.old.seats ≤ 6 }
+    requires at_table { seat.0 < history.old.seats }
+    requires ready { IsReady sheet.old }
     requires underway { IsUnderway history.old }
     ensures seats { OnOk result (history.new.seats ≡ history.old.seats) }
     ensures turn { IfOk result (λ acted. record { state = history.new.events; acted = acted } ≡ after_lines history.old.seats seat (record { state = history.old.events; acted = false }) (next_group (groups_of sheet.old))) }
     ensures left { OnOk result (groups_of sheet.new ≡ drop 1 (groups_of sheet.old)) }
-    ensures stand { OnOk result (StandsAtHead sheet.new) }
+    ensures ready { OnOk result (IsReady sheet.new) }
     ensures underway { OnOk result (IsUnderway history.new) }
 {
     let Some(_head) = sheet.take_head() else {
@@ -49,7 +55,10 @@ fn rule_line(
     line: &NumberedLine,
     turn_used: bool,
 ) -> Result<bool, AllocError>
-    requires { IsUnderway history.old }
+    requires few { history.old.seats ≤ 6 }
+    requires at_table { seat.0 < history.old.seats }
+    requires small { IsSmallReading (line_read line.now).reading }
+    requires underway { IsUnderway history.old }
     ensures seats { OnOk result (history.new.seats ≡ history.old.seats) }
     ensures turn { IfOk result (λ obeyed. record { state = history.new.events; acted = turn_used || obeyed } ≡ after_line history.old.seats seat (record { state = history.old.events; acted = turn_used }) (line_read line.now)) }
     ensures underway { OnOk result (IsUnderway history.new) }
@@ -65,7 +74,9 @@ fn rule_line(
 
 /// The order of a line of a group, or its fault: that it has no place there is the last.
 fn placed_order<'a>(line: &'a NumberedLine) -> Result<&'a Order, Fault>
-    ensures { MatchResult result (λ order. placed has_place_in_group (line_read line.now).reading ≡ Ok order.now) (λ fault. placed has_place_in_group (line_read line.now).reading ≡ Err fault) }
+    requires { IsSmallReading (line_read line.now).reading }
+    ensures small { IfOk result (λ order. IsSmallOrder order.now) }
+    ensures order { MatchResult result (λ order. placed has_place_in_group (line_read line.now).reading ≡ Ok order.now) (λ fault. placed has_place_in_group (line_read line.now).reading ≡ Err fault) }
 {
     let order = line.order()?;
     if is_of_file(order) {
@@ -82,7 +93,10 @@ fn rule_order(
     order: &Order,
     turn_used: bool,
 ) -> Result<bool, AllocError>
-    requires { IsUnderway history.old }
+    requires few { history.old.seats ≤ 6 }
+    requires at_table { seat.0 < history.old.seats }
+    requires small { IsSmallOrder order.now }
+    requires underway { IsUnderway history.old }
     ensures seats { OnOk result (history.new.seats ≡ history.old.seats) }
     ensures turn { IfOk result (λ obeyed. record { state = history.new.events; acted = turn_used || obeyed } ≡ after_ruling history.old.seats seat (record { state = history.old.events; acted = turn_used }) line.now.number (judged order.now (judgement_of history.old.seats history.old.events seat turn_used order.now))) }
     ensures underway { OnOk result (IsUnderway history.new) }
@@ -99,6 +113,9 @@ fn rule_order(
 
 /// Does what a seat orders in its turn.
 fn act(history: &mut History, seat: Seat, order: &Order) -> Result<(), AllocError>
+    requires few { history.old.seats ≤ 6 }
+    requires at_table { seat.0 < history.old.seats }
+    requires small { IsSmallOrder order.now }
     requires may { MayAct history.old.seats history.old.events seat order.now }
     requires underway { IsUnderway history.old }
     ensures seats { OnOk result (history.new.seats ≡ history.old.seats) }
@@ -106,10 +123,45 @@ fn act(history: &mut History, seat: Seat, order: &Order) -> Result<(), AllocErro
     ensures underway { OnOk result (IsUnderway history.new) }
 {
     match order {
-        Order::BuyPrivate(private) => {
-            let price = price_of(&history.now(), *private);
-            sell(history, *private, seat, price)
-        }
+        Order::BuyPrivate(private) => buy(history, seat, *private),
+        Order::Bid { private, amount } => bid(history, seat, *private, *amount),
         _ => Ok(()),
     }
+}
+
+/// A seat buys a private at the price that the bank asks.
+fn buy(history: &mut History, seat: Seat, private: Private) -> Result<(), AllocError>
+    requires few { history.old.seats ≤ 6 }
+    requires at_table { seat.0 < history.old.seats }
+    requires may { MayPay history.old.seats history.old.events seat private (price_asked history.old.events private) }
+    requires underway { IsUnderway history.old }
+    ensures seats { OnOk result (history.new.seats ≡ history.old.seats) }
+    ensures events { OnOk result (history.new.events ≡ settled history.old.seats (after_sale history.old.events private seat (price_asked history.old.events private))) }
+    ensures underway { OnOk result (IsUnderway history.new) }
+{
+    let price = price_of(&history.now(), private);
+    sell(history, private, seat, price)?;
+    settle_all(history)
+}
+
+/// A seat bids on a private.
+fn bid(
+    history: &mut History,
+    seat: Seat,
+    private: Private,
+    amount: Amount,
+) -> Result<(), AllocError>
+    requires at_table { seat.0 < history.old.seats }
+    requires small { amount ≤ 99999 }
+    requires may { MayBid history.old.seats history.old.events seat private amount }
+    requires underway { IsUnderway history.old }
+    ensures event { OnOk result (history.new ≡ with_event history.old (event.Bids private seat amount)) }
+    ensures underway { OnOk result (IsUnderway history.new) }
+{
+    history.append(Event::Bids {
+        private,
+        seat,
+        amount,
+    })?;
+    Ok(())
 }

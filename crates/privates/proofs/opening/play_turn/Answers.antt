@@ -11,5 +11,5 @@ returns-then-branch-clause-turn c =
 
 pub returns-clause-turn : goal.returns-clause-turn
 returns-clause-turn c =
-    turn_passed c.args.history.now.seats c.args.history.now.events c.args.seat c.args.passes c.args.unruled.now c.index-unruled-seat.result c.take_turn.new.sheet c.take_turn.new.history.events c.tell.new.self.events _ _ c.requires.seat c.at.ensures c.if-branch.false c.in_ok-take_turn.ensures.turn c.in_ok-take_turn.ensures.left
-    (ap (λ (game : Game). game.events) c.in_ok-tell.ensures.ok ∙ ap (λ (seat : Seat). c.take_turn.new.history.events ++ Passes seat ∷ []) c.at-2.ensures)
+    turn_passed c.args.history.now.seats c.args.history.now.events c.args.seat c.args.passes c.args.unruled.now c.index-unruled-seat.result c.take_turn.new.sheet c.take_turn.new.history.events c.pass.new.history.events _ _ c.requires.seat c.at.ensures c.if-branch.false c.in_ok-take_turn.ensures.turn c.in_ok-take_turn.ensures.left
+    (ap (λ (game : Game). game.events) c.in_ok-pass.ensures.event ∙ ap (λ (seat : Seat). c.take_turn.new.history.events ++ Passes seat ∷ []) c.at-2.ensures)

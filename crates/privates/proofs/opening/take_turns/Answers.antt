@@ -44,7 +44,7 @@ loop-passes-preserved c =
       seat = let table = c.requires.seats in omega arith;
       passes = let counted = c.in_ok-passes.ensures.passes in let each = c.loop-passes.invariant.each in omega arith;
       leads = leads_on (after_turn (opening_turns seats)) (turns_over (opening_turns seats)) _ _ _ c.loop-passes.invariant.leads (going_on seats c.loop-passes.history.events c.loop-passes.passes unsold fewer) stepped;
-      stand = c.in_ok-passes.ensures.stand;
+      ready = c.in_ok-passes.ensures.ready;
       underway = c.in_ok-passes.ensures.underway;
     }
 

@@ -1,8 +1,9 @@
 use Rattle.std.proofs.Common.{◌≡◌, ◌<◌, ◌≤◌, All, length, map}
 use Rattle.privates.specs.Opening.{in_play}
 use Rattle.privates.specs.Turn.{opening_turns}
+use Rattle.privates.specs.Small.{IsReady}
 use Rattle.privates.specs.Underway.{IsUnderway}
-use Rattle.sheets.specs.Part.{StandsAtHead, groups_of}
+use Rattle.sheets.specs.Part.{groups_of}
 use Rattle.tables.specs.Steps.{LeadsTo}
 use Rattle.tables.specs.Turns.{after_turn, turns_most, turns_over}
 use Rattle.privates.proofs.opening.take_turns.Given as goal
@@ -15,7 +16,7 @@ invariant-loop-passes l = record {
   seat : l.seat < length l.fn.unruled;
   passes : l.passes ≤ length l.fn.unruled;
   leads : LeadsTo (after_turn (opening_turns l.fn.history.seats)) (turns_over (opening_turns l.fn.history.seats)) (in_play l.fn.history.events l.first 0 (map groups_of l.fn.unruled)) (in_play l.history.events l.seat l.passes (map groups_of l.unruled));
-  stand : All StandsAtHead l.unruled;
+  ready : All IsReady l.unruled;
   underway : IsUnderway l.history;
 }
 

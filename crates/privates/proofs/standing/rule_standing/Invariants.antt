@@ -1,4 +1,5 @@
 use Rattle.std.proofs.Common.{◌≡◌, length}
+use Rattle.privates.specs.Small.{PartsAreSmall}
 use Rattle.privates.specs.Standing.{after_standing_lines}
 use Rattle.privates.specs.Underway.{IsUnderway}
 use Rattle.privates.proofs.standing.rule_standing.Given as goal
@@ -9,6 +10,7 @@ invariant-loop-line l = record {
   seats : l.history.seats ≡ l.fn.history.seats;
   events : after_standing_lines l.seat l.history.events l.sheet.before ≡ after_standing_lines l.seat l.fn.history.events l.fn.sheet.before;
   opened : l.sheet.opened ≡ l.fn.sheet.opened;
+  small : PartsAreSmall l.sheet;
   underway : IsUnderway l.history;
 }
 

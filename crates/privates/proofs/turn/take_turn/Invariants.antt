@@ -1,4 +1,5 @@
 use Rattle.std.proofs.Common.{◌≡◌, false, length, drop}
+use Rattle.privates.specs.Small.{PartsAreSmall}
 use Rattle.privates.specs.Turn.{after_lines}
 use Rattle.privates.specs.Underway.{IsUnderway}
 use Rattle.sheets.specs.Part.{groups_of}
@@ -11,6 +12,7 @@ invariant-loop-line l = record {
   seats : l.history.seats ≡ l.fn.history.seats;
   turn : after_lines l.fn.history.seats l.seat (record { state = l.history.events; acted = l.acted }) l.sheet.before ≡ after_lines l.fn.history.seats l.seat (record { state = l.fn.history.events; acted = false }) (next_group (groups_of l.fn.sheet));
   groups : groups_of l.sheet ≡ drop 1 (groups_of l.fn.sheet);
+  small : PartsAreSmall l.sheet;
   underway : IsUnderway l.history;
 }
 
