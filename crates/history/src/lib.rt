@@ -26,7 +26,9 @@ pub use event::{
     Shareholder, Transfer,
 };
 pub use laws::{
-    cash_moves, first_is_cheapest, last_word_is_last, quiet_keeps_sound, quiet_says_the_same,
+    bid_keeps_sound, cash_moves, first_is_cheapest, gift_keeps_sound, last_word_is_last,
+    price_keeps_sound, quiet_keeps_sound, quiet_says_the_same, revenue_keeps_sound,
+    sale_keeps_sound, start_keeps_sound,
 };
 pub use list::History;
 pub use look_back::Past;
