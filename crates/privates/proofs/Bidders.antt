@@ -13,7 +13,7 @@ use Rattle.privates.proofs.Auctions.{auction_won}
 use Rattle.privates.proofs.StandingBids.{AmountsDiffer, EachBid, Stands, bid_free, bids_differ, bids_stand, cheapest_unsold}
 use Rattle.privates.specs.Act.{MayPay}
 use Rattle.privates.specs.Auction.{Bidder, BidsDiffer, EachBidder, IsAmong, IsWon, LimitsHold, auction_of, bid_by, limit_by}
-use Rattle.privates.specs.Sale.{after_auction, bidder_of, limit_from, settled_by}
+use Rattle.privates.specs.Sale.{after_auction, after_sale, bidder_of, limit_from, settled_by}
 use Rattle.privates.specs.Underway.{IsUnderway, LimitsAreSmall}
 use Rattle.tables.specs.declared.roster.Private.{Private}
 use Rattle.tables.specs.declared.seat.Seat.{Seat}
@@ -121,3 +121,23 @@ by_auction seats events private (bid ∷ other ∷ bids) two = refl
 pub auction_differs : (game : Game) (private : Private) (bids : List Bid) → bids ≡ bids_on game.seats game.events private → ((a b : Seat) (amount : ℕ) → a.0 < game.seats → b.0 < game.seats → bid_of game.events private a ≡ Some amount → bid_of game.events private b ≡ Some amount → a ≡ b) → BidsDiffer (map (bidder_of game.seats game.events private) bids)
 auction_differs game private bids are differ =
     bidders_differ game.seats game.events private bids (subst AmountsDiffer (sym are) (bids_differ game.seats game.events private differ))
+
+-- bidders made of a list as it is now
+pub same_bidders : (game : Game) (private : Private) (bids : List Bid) (seats : ℕ) (events : List Event) (items slice : List Bidder) → seats ≡ game.seats → events ≡ game.events → items ≡ map (bidder_of seats events private) bids → slice ≡ items → slice ≡ map (bidder_of game.seats game.events private) bids
+same_bidders game private bids seats events items slice same_seats same_events made sliced =
+    sliced
+    ∙ made
+    ∙ ap (λ (n : ℕ). map (bidder_of n events private) bids) same_seats
+    ∙ ap (λ (list : List Event). map (bidder_of game.seats list private) bids) same_events
+
+-- the winner among them can pay
+pub payable : (game : Game) (private : Private) (bids : List Bid) (bidders : List Bidder) (won : Seat × ℤ) → bidders ≡ map (bidder_of game.seats game.events private) bids → won ≡ auction_of bidders → bids ≡ bids_on game.seats game.events private → 2 ≤ length bids → cheapest_of game.events ≡ Some private → IsUnderway game → IsPayable game private won
+payable game private bids bidders won made is_won are two cheapest underway =
+    subst (λ (w : Seat × ℤ). IsPayable game private w) (sym (is_won ∙ ap auction_of made)) (winner_pays game private bids are (omega arith) cheapest underway)
+
+-- the sale to the winner settles the bids
+pub auction_settles : (game : Game) (private : Private) (bids : List Bid) (bidders : List Bidder) (won : Seat × ℤ) (price : ℕ) → bidders ≡ map (bidder_of game.seats game.events private) bids → won ≡ auction_of bidders → price ≡ unsigned_abs won.1 → 2 ≤ length bids → after_sale game.events private won.0 price ≡ settled_by game.seats game.events private bids
+auction_settles game private bids bidders won price made is_won is_price two =
+    ap (λ (n : ℕ). after_sale game.events private won.0 n) is_price
+    ∙ ap (λ (w : Seat × ℤ). after_auction game.events private w) (is_won ∙ ap auction_of made)
+    ∙ sym (by_auction game.seats game.events private bids two)

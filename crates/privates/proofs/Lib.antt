@@ -3,8 +3,11 @@ pub mod Bidders
 pub mod Judged
 pub mod Limits
 pub mod Revenues
+pub mod Pars
 pub mod RoundEnds
+pub mod Sales
 pub mod Seats
+pub mod Settling
 pub mod Small
 pub mod StandingBids
 pub mod Turns

@@ -63,6 +63,11 @@ price_underway game new price fallen some told before =
 pub two_more : {A : Type 0} (events : List A) (a b : A) → (events ++ a ∷ []) ++ b ∷ [] ≡ events ++ a ∷ b ∷ []
 two_more events a b = append_assoc events (a ∷ []) (b ∷ [])
 
+-- so of four more
+pub four_more : {A : Type 0} (events : List A) (a b c d : A) → (((events ++ a ∷ []) ++ b ∷ []) ++ c ∷ []) ++ d ∷ [] ≡ events ++ a ∷ b ∷ c ∷ d ∷ []
+four_more events a b c d =
+    append_assoc ((events ++ a ∷ []) ++ b ∷ []) (c ∷ []) (d ∷ []) ∙ append_assoc (events ++ a ∷ []) (b ∷ []) (c ∷ d ∷ []) ∙ append_assoc events (a ∷ []) (b ∷ c ∷ d ∷ [])
+
 -- SV's price comes to 0, and it is given away
 pub gift_underway : (game new : Game) (seat : Seat) → is_sold game.events SchuylkillValley ≡ false → new ≡ with_event (with_event game (event.Price 0)) (event.Sold SchuylkillValley seat 0) → IsUnderway game → IsUnderway new
 gift_underway game new seat unsold told before =
@@ -165,7 +170,7 @@ second_fails false b fails = fails
 no_other_bid : (game : Game) (private : Private) (seat : Seat) (amount : ℕ) → MayBid game.seats game.events seat private amount → IsSound game → (other : Seat) → bid_of game.events private other ≡ Some amount → other ≡ seat
 no_other_bid game private seat amount may sound other is =
     let far = far_from_each amount (bids_on game.seats game.events private) (second_fails (nat_lt amount (face_of private + 5)) (is_near amount (bids_on game.seats game.events private)) may.high) in
-    let under = sound.at_table private other amount is in
+    let under = sound.seated private other amount is in
     let over : amount + 5 ≤ amount = of_seat (λ bid. bid.amount + 5 ≤ amount) game.events private 0 game.seats other amount (omega arith) (omega arith) is far in
     absurd (omega arith)
 

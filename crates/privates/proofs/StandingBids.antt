@@ -1,5 +1,5 @@
 -- The standing bids on a private, in the order of the seats at the table.
-use Rattle.std.proofs.Common.{◌≡◌, ◌≢◌, ◌⊎◌, ℕ, zero, suc, ◌+◌, ◌<◌, ◌≤◌, Bool, true, false, if◌then◌else◌, List, [], ◌∷◌, ◌++◌, length, map, Option, Some, None, unwrap_or, ℤ, pos, ◌≤ℤ◌, ◌-ℤ◌, inl, inr, refl, sym, subst, ap, ◌∙◌, arith}
+use Rattle.std.proofs.Common.{◌≡◌, ◌≢◌, ◌⊎◌, ℕ, zero, suc, ◌+◌, ◌<◌, ◌≤◌, Bool, true, false, if◌then◌else◌, List, [], ◌∷◌, ◌++◌, length, map, get_or, Option, Some, None, unwrap_or, ℤ, pos, ◌≤ℤ◌, ◌-ℤ◌, inl, inr, refl, sym, subst, ap, ◌∙◌, arith}
 use Rattle.std.specs.List.{flat_map, range_with_len}
 use Rattle.std.proofs.lemmas.Int.{ints}
 use Rattle.history.proofs.Standing.{bids_split}
@@ -116,3 +116,13 @@ may_pay_bid game private bid cheapest stands sound =
       unsold = cheapest_unsold game.events private cheapest;
       free = bid_free game.seats game.events private bid.seat bid.amount stands.stands (sound.solvent bid.seat);
     }
+
+-- what holds of each holds of the first
+first_bid : (holds : Bid → Type 0) (bids : List Bid) (d : Bid) → 1 ≤ length bids → EachBid holds bids → holds (get_or bids 0 d)
+first_bid holds [] d some all = absurd (omega arith)
+first_bid holds (bid ∷ bids) d some all = all.0
+
+-- the first of the bids on a private stands
+pub first_stands : (game : Game) (private : Private) (bids : List Bid) (d : Bid) → bids ≡ bids_on game.seats game.events private → 1 ≤ length bids → Stands game.events private 0 game.seats (get_or bids 0 d)
+first_stands game private bids d are some =
+    first_bid (Stands game.events private 0 game.seats) bids d some (subst (EachBid (Stands game.events private 0 game.seats)) (sym are) (bids_stand game.seats game.events private))

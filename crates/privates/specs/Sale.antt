@@ -71,5 +71,5 @@ abbrev pub settle : ℕ → List Event → List Event
 settle seats events = settled_of seats events (cheapest_of events)
 
 -- after the sales that follow from a sale: as there are six privates, nothing is left to settle then
-abbrev pub settled : ℕ → List Event → List Event
+unfoldable pub settled : ℕ → List Event → List Event
 settled seats events = iterate (settle seats) 6 events

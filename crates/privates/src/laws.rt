@@ -3,12 +3,20 @@ ghost use Rattle.std.specs.Prelude.{◌≡◌, ◌≤◌, ℕ, List, length};
 ghost use Rattle.privates.specs.Auction.{Bidder, IsWon, LimitsHold, auction_of};
 ghost use Rattle.history.specs.LookBack.{Game};
 ghost use Rattle.privates.specs.Opening.{EndsSoon, IsOpeningRound};
+ghost use Rattle.history.specs.declared.event.Event.{Event};
+ghost use Rattle.privates.specs.Sale.{settle, settled};
 ghost use Rattle.tables.specs.declared.round.Round.{Round};
 
 /// An auction is won by a bidder who is ahead of all, by his limit and then by his bid, at a price
 /// within his limit and over no bid.
 pub fn auction_is_won()
     ensures { (bidders : List Bidder) → 1 ≤ length bidders → LimitsHold bidders → IsWon bidders (auction_of bidders) }
+{}
+
+/// The sales that follow from a sale come to an end: after them no bids are left on the cheapest private
+/// that is unsold.
+pub fn nothing_is_left_to_settle()
+    ensures { (seats : ℕ) (events : List Event) → settle seats (settled seats events) ≡ settled seats events }
 {}
 
 /// An opening round has at most one outcome: the sheets and the game before it say what the game

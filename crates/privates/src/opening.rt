@@ -73,6 +73,7 @@ fn rule_all_standing<'a>(
     ensures events { OnOk result (history.new.events ≡ after_standing sheets.now round history.old.events (range_with_len 0 (length (players_of sheets.now)))) }
     ensures left { IfOk result (λ unruled. map groups_of unruled.items ≡ groups_for (length (players_of sheets.now)) sheets.now round) }
     ensures each { IfOk result (λ unruled. length unruled.items ≡ length (players_of sheets.now)) }
+    ensures some { IfOk result (λ unruled. 0 < length unruled.items) }
     ensures ready { IfOk result (λ unruled. All IsReady unruled.items) }
     ensures underway { OnOk result (IsUnderway history.new) }
 {
@@ -99,6 +100,7 @@ fn take_turns(
     requires underway { IsUnderway history.old }
     ensures seats { OnOk result (history.new.seats ≡ history.old.seats) }
     ensures turns { OnOk result (TurnsLead history.old.seats (in_play history.old.events first 0 (map groups_of unruled.old)) history.new.events (map groups_of unruled.new)) }
+    ensures ready { OnOk result (All IsReady unruled.new) }
     ensures underway { OnOk result (IsUnderway history.new) }
 {
     let seats = unruled.len();

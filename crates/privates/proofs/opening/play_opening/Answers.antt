@@ -14,7 +14,7 @@ take_turns-requires-clause-first c =
     let each : length c.as_mut_slice-unruled.result.now ≡ c.args.history.seats =
     ap (λ (unruled : List Parts). length unruled) c.as_mut_slice-unruled.ensures.value ∙ c.in_ok-unruled.ensures.each ∙ sym c.requires.seats
     in
-    let some : 0 < c.args.history.seats = ? in
+    let some : 0 < c.args.history.seats = let has = c.in_ok-unruled.ensures.some in let count = c.in_ok-unruled.ensures.each in let players = c.requires.seats in omega arith in
     let within = priority_within c.args.history.seats c.args.history.events some in
     omega arith
 
