@@ -1,0 +1,12 @@
+//! Laws of the definitions, each the contract of a function that does nothing.
+ghost use Rattle.std.specs.Prelude.{ℕ};
+ghost use Rattle.market.specs.Moves.{StaysOnChart, down_of, fallen, left_of, right_of, up_of};
+
+/// A token on the chart stays on the chart, however it moves.
+pub fn moves_stay_on_chart()
+    ensures right { StaysOnChart right_of }
+    ensures left { StaysOnChart left_of }
+    ensures up { StaysOnChart up_of }
+    ensures down { StaysOnChart down_of }
+    ensures fall { (squares : ℕ) → StaysOnChart (fallen squares) }
+{}

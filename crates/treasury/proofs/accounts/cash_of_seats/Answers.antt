@@ -1,0 +1,17 @@
+use Rattle.std.proofs.Common.{ℕ, ℤ, ap, ◌∙◌, arith, rules}
+use Rattle.std.proofs.lemmas.List.{length-set}
+use Rattle.history.specs.Event.{party_at}
+use Rattle.history.specs.LookBack.{cash_of}
+use Rattle.history.specs.declared.event.Party.{Party}
+use Rattle.tables.specs.Seat.{seat_at}
+use Rattle.treasury.proofs.Tables.{filled_more}
+use Rattle.treasury.proofs.accounts.cash_of_seats.Goals as goal
+use mir.Syntax.{w128}
+use mir.Val.{SFits}
+
+pub loop-number-preserved : goal.loop-number-preserved
+loop-number-preserved c =
+    let before = c.loop-number.invariant in
+    let fits : SFits w128 c.cash.result = search rules in
+    let of : Party → ℤ = λ party. cash_of c.args.now.now.seats c.args.now.now.events.now party in
+    (length-set _ _ _ ∙ before.0, filled_more c.loop-number.cash c.loop-number.number c.cash.result (λ (k : ℕ). of (party_at (seat_at k))) (omega (arith, before.0, c.loop-number-test.true)) fits (c.cash.ensures ∙ ap of (c.of_seat.ensures ∙ ap party_at c.at.ensures)) before.1)

@@ -1,0 +1,51 @@
+-- The accounts of a game: the bank's, one for each of six seats, and the companies'. Each holds what its
+-- party has. A payment moves its sum from one party to another and leaves all others as they were; one
+-- that is not the bank, and has less than the sum, is short and pays nothing.
+use Rattle.std.specs.Prelude.{◌≡◌, ◌<◌, ◌^◌, ℤ, pos, ◌+ℤ◌, ◌-ℤ◌, ◌≤ℤ◌, Bool, false, if◌then◌else◌, slice_index_or}
+use lib.Signed.{lt_z}
+use Rattle.history.specs.LookBack.{Game, cash_of, same_party}
+use Rattle.history.specs.declared.event.Holder.TheVariants as holder
+use Rattle.history.specs.declared.event.Party.{Party}
+use Rattle.history.specs.declared.event.Party.TheVariants as party
+use Rattle.tables.specs.Roster.{place_of_company}
+use Rattle.treasury.specs.declared.accounts.Accounts.{Accounts}
+
+-- the party has an account: a seat is one of six
+abbrev pub HasAccount : Party → Type 0
+HasAccount party.Bank = Unit {0}
+HasAccount (party.Holder (holder.Seat seat)) = seat.0 < 6
+HasAccount (party.Holder (holder.Company company)) = Unit {0}
+
+-- what a party has by its account
+abbrev pub cash_in : Accounts → Party → ℤ
+cash_in accounts party.Bank = accounts.bank
+cash_in accounts (party.Holder (holder.Seat seat)) = slice_index_or accounts.seats seat.0 (pos 0)
+cash_in accounts (party.Holder (holder.Company company)) = slice_index_or accounts.companies (place_of_company company) (pos 0)
+
+-- each account holds what its party has in a game
+abbrev pub AreAccountsOf : Game → Accounts → Type 0
+AreAccountsOf game accounts =
+    (party : Party) → HasAccount party → cash_in accounts party ≡ cash_of game.seats game.events party
+
+-- a party that is not the bank has less than the sum that it is to pay
+abbrev pub is_short : Accounts → Party → ℤ → Bool
+is_short accounts party.Bank sum = false
+is_short accounts (party.Holder holder) sum = lt_z (cash_in accounts (party.Holder holder)) sum
+
+-- what of a sum goes to a party's account, if the sum is the first party's
+abbrev pub part_of : Party → Party → ℤ → ℤ
+part_of of party sum = if same_party of party then sum else pos 0
+
+-- after a payment the one that pays has the sum less and the one that is paid has it more; all others have
+-- what they had
+abbrev pub ArePaid : Accounts → Accounts → Party → Party → ℤ → Type 0
+ArePaid old new from to sum =
+    (party : Party) → HasAccount party → cash_in new party ≡ (cash_in old party +ℤ part_of to party sum) -ℤ part_of from party sum
+
+-- a sum that an event can name
+abbrev pub IsSum : ℤ → Type 0
+IsSum sum = (pos 0 ≤ℤ sum) × (sum ≤ℤ pos 1000000)
+
+-- cash that is not beyond all that events can bring
+abbrev pub IsWithinReach : ℤ → Type 0
+IsWithinReach cash = ((pos 0 -ℤ pos (2 ^ 100)) ≤ℤ cash) × (cash ≤ℤ pos (2 ^ 100))

@@ -1,0 +1,118 @@
+ghost use Rattle.std.specs.Prelude.{◌≡◌, ◌<◌, ◌↔◌, ◌+ℤ◌, ℕ, FitsSigned, IsErr, OnErr, OnOk, pos, slice_index_or, true};
+ghost use Rattle.std.specs.Int.{w128};
+ghost use Rattle.history.specs.Event.{party_at};
+ghost use Rattle.history.specs.LookBack.{cash_of};
+ghost use Rattle.history.specs.declared.event.Holder.TheVariants as holder;
+ghost use Rattle.history.specs.declared.event.Party.{Party};
+ghost use Rattle.history.specs.declared.event.Party.TheVariants as party;
+ghost use Rattle.tables.specs.Roster.{place_of_company};
+ghost use Rattle.tables.specs.Seat.{seat_at};
+ghost use Rattle.tables.specs.declared.roster.Company.{Company};
+ghost use Rattle.treasury.specs.Accounts.{AreAccountsOf, ArePaid, HasAccount, IsSum, IsWithinReach, cash_in, is_short, part_of};
+
+use history::{History, Holder, Party, Past};
+use tables::{Company, Money, PLAYERS_MOST, Seat};
+
+/// What each party of a game has.
+#[derive(Clone, Copy, Debug)]
+pub struct Accounts {
+    bank: Money,
+    seats: [Money; PLAYERS_MOST],
+    companies: [Money; 8],
+}
+
+/// A payment was refused: a player or a company has less than the sum.
+#[derive(Clone, Copy, Debug, PartialEq, Eq)]
+pub struct Short;
+
+impl Accounts {
+    /// The accounts of a game as it stands, by looking back over its events.
+    pub fn of(history: &History) -> Accounts
+        ensures { AreAccountsOf history.now result }
+    {
+        let now = history.now();
+        Accounts {
+            bank: now.cash(Party::Bank),
+            seats: cash_of_seats(&now),
+            companies: cash_of_companies(&now),
+        }
+    }
+
+    /// What a party has; the bank's cash may be under 0. Of the seats the first six have accounts.
+    pub fn cash(&self, party: Party) -> Money
+        requires { HasAccount party }
+        ensures { result ≡ cash_in self.now party }
+    {
+        match party {
+            Party::Bank => self.bank,
+            Party::Holder(Holder::Seat(seat)) => self.seats[seat.number()],
+            Party::Holder(Holder::Company(company)) => self.companies[company.place()],
+        }
+    }
+
+    /// Pays a sum of 0 to 1,000,000 from one party to another. `Short` comes where the payer is a player
+    /// or a company and has less; then nothing changes.
+    pub fn pay(&mut self, from: Party, to: Party, sum: Money) -> Result<(), Short>
+        requires from { HasAccount from }
+        requires to { HasAccount to }
+        requires sum { IsSum sum }
+        requires from_cash { IsWithinReach (cash_in self.old from) }
+        requires to_cash { IsWithinReach (cash_in self.old to) }
+        ensures paid { OnOk result (ArePaid self.old self.new from to sum) }
+        ensures short { IsErr result ↔ (is_short self.old from sum ≡ true) }
+        ensures unchanged { OnErr result (self.new ≡ self.old) }
+    {
+        if from != Party::Bank && self.cash(from) < sum {
+            return Err(Short);
+        }
+        self.add(from, -sum);
+        self.add(to, sum);
+        Ok(())
+    }
+
+    /// Adds a change to what a party has.
+    fn add(&mut self, party: Party, change: Money)
+        requires account { HasAccount party }
+        requires fits { FitsSigned w128 (cash_in self.old party +ℤ change) }
+        ensures { (other : Party) → HasAccount other → cash_in self.new other ≡ cash_in self.old other +ℤ part_of party other change }
+    {
+        match party {
+            Party::Bank => self.bank += change,
+            Party::Holder(holder) => self.add_to_holder(holder, change),
+        }
+    }
+
+    /// Adds a change to what a player or a company has.
+    fn add_to_holder(&mut self, holder: Holder, change: Money)
+        requires account { HasAccount (party.Holder holder) }
+        requires fits { FitsSigned w128 (cash_in self.old (party.Holder holder) +ℤ change) }
+        ensures { (other : Party) → HasAccount other → cash_in self.new other ≡ cash_in self.old other +ℤ part_of (party.Holder holder) other change }
+    {
+        match holder {
+            Holder::Seat(seat) => self.seats[seat.number()] += change,
+            Holder::Company(company) => self.companies[company.place()] += change,
+        }
+    }
+}
+
+/// What each seat has, by its number.
+fn cash_of_seats(now: &Past) -> [Money; PLAYERS_MOST]
+    ensures { (number : ℕ) → number < 6 → slice_index_or result number (pos 0) ≡ cash_of now.now.seats now.now.events.now (party_at (seat_at number)) }
+{
+    let mut cash = [0; PLAYERS_MOST];
+    for number in 0..PLAYERS_MOST {
+        cash[number] = now.cash(Party::of_seat(Seat::at(number)));
+    }
+    cash
+}
+
+/// What each company has, by its place in the roster.
+fn cash_of_companies(now: &Past) -> [Money; 8]
+    ensures { (company : Company) → slice_index_or result (place_of_company company) (pos 0) ≡ cash_of now.now.seats now.now.events.now (party.Holder (holder.Company company)) }
+{
+    let mut cash = [0; 8];
+    for (place, company) in Company::ALL.iter().enumerate() {
+        cash[place] = now.cash(Party::of_company(*company));
+    }
+    cash
+}
