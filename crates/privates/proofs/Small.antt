@@ -1,6 +1,7 @@
 -- Orders that were read name small sums, so the lines of a sheet do.
-use Rattle.std.proofs.Common.{◌≡◌, ℕ, ◌+◌, Bool, true, false, nat_lt, if◌then◌else◌, List, [], ◌∷◌, unwrap_or, Result, Ok, Err, refl, sym, subst, ap}
-use Rattle.order_grammar.proofs.ReadLemmas.{read_spells}
+use Rattle.std.proofs.Common.{◌≡◌, ℕ, ◌+◌, Bool, true, false, nat_lt, if◌then◌else◌, List, [], ◌∷◌, unwrap_or, Result, Ok, Err, refl, sym, subst, arith}
+use Rattle.std.proofs.lemmas.Bool.Decides.{nat_tests}
+use Rattle.order_grammar.proofs.SpellsLemmas.{read_spells}
 use Rattle.order_grammar.specs.Line.{reading_of}
 use Rattle.order_grammar.specs.Spells.{HasSmallNumbers}
 use Rattle.order_grammar.specs.declared.fault.Fault.{Fault}
@@ -15,8 +16,8 @@ use Rattle.tables.specs.declared.round.Round.{Round}
 
 -- an order with small numbers is small
 small_order : (order : Order) → HasSmallNumbers order → IsSmallOrder order
-small_order (Bid private amount) small = small
-small_order (Limit private amount) small = small
+small_order (Bid private amount) small = grind (arith, nat_tests)
+small_order (Limit private amount) small = grind (arith, nat_tests)
 small_order other small = tt
 
 -- what a line is read as is small

@@ -1,11 +1,12 @@
 -- Laws of order files.
 use Rattle.std.specs.Prelude.{◌≡◌, ℕ, ◌<◌, ◌≤◌, List, length, Err, IsSome}
-use Rattle.order_grammar.specs.Spells.{IsSmallRound}
 use Rattle.sheets.specs.File.{IsAccepted, content_of, sheet_of, players_of, posts_of, last_for}
 use Rattle.sheets.specs.Limits.{file_most, lines_most}
 use Rattle.sheets.specs.Part.{groups_of, parts_for}
 use Rattle.sheets.specs.declared.fault.FileFault.TheVariants.{TooLong}
+use Rattle.tables.specs.Round.{number_most}
 use Rattle.tables.specs.declared.round.Round.{Round}
+use Rattle.tables.specs.declared.round.Round.TheVariants.{Opening, Stock, Operating}
 
 -- a player's sheet for a round is the last that was sent for it
 abbrev pub LastSheetCounts : Type 0
@@ -32,9 +33,15 @@ MayPlay players = (3 ≤ players) × (players ≤ 6)
 abbrev pub ThreeToSixPlay : Type 0
 ThreeToSixPlay = (file : List ℕ) → IsAccepted file → MayPlay (length (players_of file))
 
+-- a round's number, or that of its set
+abbrev pub number_of : Round → ℕ
+number_of (Opening number) = number
+number_of (Stock set) = set
+number_of (Operating set number) = set
+
 -- a sheet's round has a number that a line may have
 abbrev pub SheetsAreNumbered : Type 0
-SheetsAreNumbered = (file : List ℕ) (seat : ℕ) (round : Round) → IsSome (sheet_of file seat round) → IsSmallRound round
+SheetsAreNumbered = (file : List ℕ) (seat : ℕ) (round : Round) → IsSome (sheet_of file seat round) → number_of round ≤ number_most
 
 -- a sheet has no more groups or blocks than lines that may be orders
 abbrev pub SheetsHaveFewGroups : Type 0

@@ -81,10 +81,10 @@ impl<'a> PartsLeft<'a> {
     }
 }
 
+/// Nothing left.
 impl<'a> Default for PartsLeft<'a> {
-    ghost is_default = { λ parts. parts ≡ record { before = []; opened = [] } };
+    ghost is_default = { λ left. left ≡ record { before = []; opened = [] } };
 
-    /// The parts of no lines.
     fn default() -> PartsLeft<'a> {
         PartsLeft::of(Lines::none(), Round::Opening(1))
     }
