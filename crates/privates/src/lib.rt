@@ -4,16 +4,22 @@
 //! when all privates are sold, or when all seats have passed in succession; then SV falls by 5 if it
 //! is unsold, and at 0 goes to the holder of priority for nothing, or else each sold private pays.
 //!
-//! Reading order: `judgement` (the rules that a purchase may break), `tell`, `turn`, `opening`,
-//! `laws` (what holds of every opening round).
+//! Reading order: `judgement` (the rules that an order may break), `ruling`, `standing` (the lines before
+//! the first group), `bidding` (the auction), `sale`, `turn`, `closing`, `opening`, `laws` (what holds of
+//! every opening round).
 #![tactic(auto)]
 
+mod bidding;
+mod closing;
 mod judgement;
 mod laws;
 mod opening;
-mod tell;
+mod ruling;
+mod sale;
+mod standing;
 mod turn;
 
+pub use bidding::auction;
 pub use judgement::judge;
-pub use laws::{one_opening_round, opening_round_ends, six_turns_each};
+pub use laws::{auction_is_won, nothing_is_left_to_settle, one_opening_round, opening_round_ends};
 pub use opening::play_opening;
