@@ -20,6 +20,10 @@ use Rattle.tables.specs.declared.seat.Seat.{Seat}
 abbrev pub InTurn : Type 0
 InTurn = Turned (List Event)
 
+-- in a turn with this list, in which the seat has acted or not
+abbrev pub in_turn : List Event → Bool → InTurn
+in_turn events acted = record { state = events; acted = acted }
+
 -- after what an order brings that was obeyed in a turn
 abbrev pub after_act : ℕ → Seat → List Event → Order → List Event
 after_act seats seat events (BuyPrivate private) = settled seats (after_sale events private seat (price_of events private))
@@ -63,7 +67,7 @@ abbrev pub opening_turns : ℕ → Play (List Event) Numbered
 opening_turns seats =
     record {
       seats = seats;
-      turn = λ seat lines events. after_lines seats seat (record { state = events; acted = false }) lines;
+      turn = λ seat lines events. after_lines seats seat (in_turn events false) lines;
       pass = λ seat events. events ++ Passes seat ∷ [];
       over = all_sold;
     }

@@ -10,9 +10,11 @@ type Bidder = (Seat, Money, Money);
 /// What the winner pays above the second limit.
 const STEP: Money = 5;
 
-/// The winner of an auction among some bidders, each with his bid and his limit, and what he pays. The
-/// greatest limit wins, and among equal limits the higher bid; the price is the larger of the highest
-/// bid and of the lesser of the winner's limit and the second limit plus 5.
+/// The winner of an auction among some bidders, each with his bid and his limit, and what he pays.
+/// The greatest limit wins, and among equal limits the higher bid; the price is the larger of the
+/// highest bid and of the lesser of the winner's limit and the second limit plus 5.
+///
+/// There are two bidders or more, their bids differ, and no limit is under its bid.
 pub fn auction(bidders: &[(Seat, Money, Money)]) -> (Seat, Money)
     requires two { 2 ≤ length bidders.now }
     requires differ { BidsDiffer bidders.now }

@@ -20,7 +20,8 @@ pub(crate) fn close(history: &mut History) -> Result<(), AllocError>
     requires few { history.old.seats ≤ 6 }
     requires underway { IsUnderway history.old }
     ensures seats { OnOk result (history.new.seats ≡ history.old.seats) }
-    ensures events { OnOk result (history.new.events ≡ closed history.old.seats history.old.events) }
+    ensures events { OnOk result (history.new.events
+        ≡ closed history.old.seats history.old.events) }
     ensures underway { OnOk result (IsUnderway history.new) }
 {
     let owners = history.now().owners();
@@ -40,7 +41,9 @@ fn lower_price(history: &mut History) -> Result<(), AllocError>
     requires unsold { is_sold history.old.events SchuylkillValley ≡ false }
     requires underway { IsUnderway history.old }
     ensures seats { OnOk result (history.new.seats ≡ history.old.seats) }
-    ensures events { OnOk result (history.new.events ≡ after_fall history.old.seats history.old.events (sv_price_of history.old.events - 5) (priority_of history.old.seats history.old.events)) }
+    ensures events { OnOk result (history.new.events
+        ≡ after_fall history.old.seats history.old.events (sv_price_of history.old.events - 5)
+        (priority_of history.old.seats history.old.events)) }
     ensures underway { OnOk result (IsUnderway history.new) }
 {
     let price = history.now().sv_price().saturating_sub(FALL);
@@ -85,7 +88,8 @@ fn give_away(history: &mut History, seat: Seat) -> Result<(), AllocError>
 fn pay_revenues(history: &mut History) -> Result<(), AllocError>
     requires { IsUnderway history.old }
     ensures seats { OnOk result (history.new.seats ≡ history.old.seats) }
-    ensures events { OnOk result (history.new.events ≡ after_revenues history.old.seats history.old.events privates) }
+    ensures events { OnOk result (history.new.events
+        ≡ after_revenues history.old.seats history.old.events privates) }
     ensures underway { OnOk result (IsUnderway history.new) }
 {
     for private in Private::ALL {
@@ -98,7 +102,9 @@ fn pay_revenues(history: &mut History) -> Result<(), AllocError>
 fn pay_revenue(history: &mut History, private: Private) -> Result<(), AllocError>
     requires { IsUnderway history.old }
     ensures seats { OnOk result (history.new.seats ≡ history.old.seats) }
-    ensures events { OnOk result (history.new.events ≡ paid_to_owner history.old.seats history.old.events private (owner_of history.old.events private)) }
+    ensures events { OnOk result (history.new.events
+        ≡ paid_to_owner history.old.seats history.old.events private
+        (owner_of history.old.events private)) }
     ensures underway { OnOk result (IsUnderway history.new) }
 {
     let Some(owner) = history.owner(private) else {
@@ -117,7 +123,8 @@ fn pay(
 ) -> Result<(), AllocError>
     requires small { amount ≤ 1000000 }
     requires underway { IsUnderway history.old }
-    ensures event { OnOk result (history.new ≡ with_event history.old (event.Revenue private owner amount)) }
+    ensures event { OnOk result (history.new
+        ≡ with_event history.old (event.Revenue private owner amount)) }
     ensures underway { OnOk result (IsUnderway history.new) }
 {
     history.append(Event::Revenue {
@@ -132,7 +139,8 @@ fn pay(
 fn tell_broken(history: &mut History) -> Result<(), AllocError>
     requires { IsUnderway history.old }
     ensures seats { OnOk result (history.new.seats ≡ history.old.seats) }
-    ensures events { OnOk result (history.new.events ≡ with_broken history.old.seats history.old.events) }
+    ensures events { OnOk result (history.new.events
+        ≡ with_broken history.old.seats history.old.events) }
     ensures underway { OnOk result (IsUnderway history.new) }
 {
     history.tell_broken()?;

@@ -22,8 +22,8 @@ pub(crate) fn price_of(past: &Past, private: Private) -> Amount
     }
 }
 
-/// The first rule that an order of a seat breaks in its turn, which is used or not; `None` if it breaks
-/// none. There are at most six seats.
+/// The first rule that an order of a seat breaks in its turn, which is used or not; `None` if it
+/// breaks none. There are at most six seats.
 pub fn judge(past: &Past, seat: Seat, order: &Order, turn_used: bool) -> Option<OpeningRule>
     requires { past.now.seats ≤ 6 }
     ensures { result ≡ judgement_of past.now.seats past.now.events.now seat turn_used order.now }

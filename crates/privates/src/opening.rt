@@ -26,8 +26,9 @@ use tables::{PLAYERS_MOST, Round, Seat};
 /// What is still to come of each seat's sheet, by seat.
 type Unruled<'a> = ArrayVec<PartsLeft<'a>, PLAYERS_MOST>;
 
-/// Plays an opening round with the sheets for it. PRR has no square while CA is unsold, nor has BO while
-/// BOP is: they wait for the gifts. An `Err` comes from want of memory alone, and the game is dropped.
+/// Plays an opening round with the sheets for it. PRR has no square while CA is unsold, nor has BO
+/// while BOP is: they wait for the gifts. An `Err` comes from want of memory alone, and the game is
+/// dropped.
 pub fn play_opening(
     mut history: History,
     sheets: &Sheets,
@@ -39,6 +40,8 @@ pub fn play_opening(
     requires baltimore { BaltimoreWaits history.events }
     ensures round { IfOk result (λ new. IsOpeningRound sheets.now round history new) }
     ensures sound { IfOk result IsSound }
+    ensures pennsylvania { IfOk result (λ new. PennsylvaniaWaits new.events) }
+    ensures baltimore { IfOk result (λ new. BaltimoreWaits new.events) }
 {
     let first = history.priority();
     begin(&mut history, round)?;
@@ -70,8 +73,11 @@ fn rule_all_standing<'a>(
 ) -> Result<Unruled<'a>, AllocError>
     requires { IsUnderway history.old }
     ensures seats { OnOk result (history.new.seats ≡ history.old.seats) }
-    ensures events { OnOk result (history.new.events ≡ after_standing sheets.now round history.old.events (range_with_len 0 (length (players_of sheets.now)))) }
-    ensures left { IfOk result (λ unruled. map groups_of unruled.items ≡ groups_for (length (players_of sheets.now)) sheets.now round) }
+    ensures events { OnOk result (history.new.events
+        ≡ after_standing sheets.now round history.old.events
+            (range_with_len 0 (length (players_of sheets.now)))) }
+    ensures left { IfOk result (λ unruled. map groups_of unruled.items
+        ≡ groups_for (length (players_of sheets.now)) sheets.now round) }
     ensures each { IfOk result (λ unruled. length unruled.items ≡ length (players_of sheets.now)) }
     ensures some { IfOk result (λ unruled. 0 < length unruled.items) }
     ensures ready { IfOk result (λ unruled. All IsReady unruled.items) }
@@ -99,7 +105,9 @@ fn take_turns(
     requires ready { All IsReady unruled.old }
     requires underway { IsUnderway history.old }
     ensures seats { OnOk result (history.new.seats ≡ history.old.seats) }
-    ensures turns { OnOk result (TurnsLead history.old.seats (in_play history.old.events first 0 (map groups_of unruled.old)) history.new.events (map groups_of unruled.new)) }
+    ensures turns { OnOk result (TurnsLead history.old.seats
+        (in_play history.old.events first 0 (map groups_of unruled.old))
+        history.new.events (map groups_of unruled.new)) }
     ensures ready { OnOk result (All IsReady unruled.new) }
     ensures underway { OnOk result (IsUnderway history.new) }
 {
@@ -129,7 +137,11 @@ fn play_turn(
     requires underway { IsUnderway history.old }
     ensures seats { OnOk result (history.new.seats ≡ history.old.seats) }
     ensures each { OnOk result (length unruled.new ≡ length unruled.old) }
-    ensures turn { IfOk result (λ after. in_play history.new.events (left_of history.old.seats (seat_at seat)).0 after (map groups_of unruled.new) ≡ after_turn (opening_turns history.old.seats) (in_play history.old.events seat passes (map groups_of unruled.old))) }
+    ensures turn { IfOk result (λ after.
+        in_play history.new.events (left_of history.old.seats (seat_at seat)).0 after
+            (map groups_of unruled.new)
+        ≡ after_turn (opening_turns history.old.seats)
+            (in_play history.old.events seat passes (map groups_of unruled.old))) }
     ensures passes { IfOk result (λ after. after ≤ length unruled.old) }
     ensures ready { OnOk result (All IsReady unruled.new) }
     ensures underway { OnOk result (IsUnderway history.new) }
@@ -157,7 +169,8 @@ fn tell_all_left(history: &mut History, unruled: &[PartsLeft]) -> Result<(), All
     requires ready { All IsReady unruled.now }
     requires underway { IsUnderway history.old }
     ensures seats { OnOk result (history.new.seats ≡ history.old.seats) }
-    ensures events { OnOk result (history.new.events ≡ history.old.events ++ left_from 0 (map groups_of unruled.now)) }
+    ensures events { OnOk result (history.new.events
+        ≡ history.old.events ++ left_from 0 (map groups_of unruled.now)) }
     ensures underway { OnOk result (IsUnderway history.new) }
 {
     for (seat, sheet) in unruled.iter().enumerate() {
@@ -170,7 +183,8 @@ fn tell_all_left(history: &mut History, unruled: &[PartsLeft]) -> Result<(), All
 fn tell_seat_left(history: &mut History, seat: Seat, lines: u32) -> Result<(), AllocError>
     requires { IsUnderway history.old }
     ensures seats { OnOk result (history.new.seats ≡ history.old.seats) }
-    ensures events { OnOk result (history.new.events ≡ history.old.events ++ with_left seat lines []) }
+    ensures events { OnOk result (history.new.events
+        ≡ history.old.events ++ with_left seat lines []) }
     ensures underway { OnOk result (IsUnderway history.new) }
 {
     history.tell_left(seat, lines)?;

@@ -38,7 +38,8 @@ pub(crate) fn tell_ruling(
 ) -> Result<(), AllocError>
     requires small { IsSmallRuling ruling }
     requires underway { IsUnderway history.old }
-    ensures event { OnOk result (history.new ≡ with_event history.old (event.Ruled seat line.now.number ruling)) }
+    ensures event { OnOk result (history.new
+        ≡ with_event history.old (event.Ruled seat line.now.number ruling)) }
     ensures underway { OnOk result (IsUnderway history.new) }
 {
     let line = line.number;

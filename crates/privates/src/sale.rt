@@ -29,7 +29,8 @@ pub(crate) fn sell(
     requires may { MayPay history.old.seats history.old.events buyer private price }
     requires underway { IsUnderway history.old }
     ensures seats { OnOk result (history.new.seats ≡ history.old.seats) }
-    ensures events { OnOk result (history.new.events ≡ after_sale history.old.events private buyer price) }
+    ensures events { OnOk result (history.new.events
+        ≡ after_sale history.old.events private buyer price) }
     ensures underway { OnOk result (IsUnderway history.new) }
 {
     match private {
@@ -52,7 +53,8 @@ fn sell_alone(
     requires small { price ≤ 1000000 }
     requires may { MayPay history.old.seats history.old.events buyer private price }
     requires underway { IsUnderway history.old }
-    ensures event { OnOk result (history.new ≡ with_event history.old (event.Sold private buyer price)) }
+    ensures event { OnOk result (history.new
+        ≡ with_event history.old (event.Sold private buyer price)) }
     ensures underway { OnOk result (IsUnderway history.new) }
 {
     history.append(Event::Sold {
@@ -70,7 +72,8 @@ fn sell_camden(history: &mut History, buyer: Seat, price: Amount) -> Result<(), 
     requires may { MayPay history.old.seats history.old.events buyer CamdenAmboy price }
     requires underway { IsUnderway history.old }
     ensures seats { OnOk result (history.new.seats ≡ history.old.seats) }
-    ensures events { OnOk result (history.new.events ≡ after_sale history.old.events CamdenAmboy buyer price) }
+    ensures events { OnOk result (history.new.events
+        ≡ after_sale history.old.events CamdenAmboy buyer price) }
     ensures underway { OnOk result (IsUnderway history.new) }
 {
     history.append(Event::Sold {
@@ -93,7 +96,8 @@ fn sell_baltimore(history: &mut History, buyer: Seat, price: Amount) -> Result<(
     requires may { MayPay history.old.seats history.old.events buyer BaltimoreOhio price }
     requires underway { IsUnderway history.old }
     ensures seats { OnOk result (history.new.seats ≡ history.old.seats) }
-    ensures events { OnOk result (history.new.events ≡ after_sale history.old.events BaltimoreOhio buyer price) }
+    ensures events { OnOk result (history.new.events
+        ≡ after_sale history.old.events BaltimoreOhio buyer price) }
     ensures underway { OnOk result (IsUnderway history.new) }
 {
     let company = Company::BaltimoreOhio;
@@ -127,12 +131,14 @@ fn par_set_by(past: &Past, buyer: Seat) -> Amount
     past.par_ordered(buyer).unwrap_or(PAR_UNLESS_ORDERED)
 }
 
-/// The sales that follow from a sale: as long as there are bids on the cheapest private, it is sold.
+/// The sales that follow from a sale: as long as there are bids on the cheapest private, it is
+/// sold.
 pub(crate) fn settle_all(history: &mut History) -> Result<(), AllocError>
     requires few { history.old.seats ≤ 6 }
     requires underway { IsUnderway history.old }
     ensures seats { OnOk result (history.new.seats ≡ history.old.seats) }
-    ensures events { OnOk result (history.new.events ≡ settled history.old.seats history.old.events) }
+    ensures events { OnOk result (history.new.events
+        ≡ settled history.old.seats history.old.events) }
     ensures underway { OnOk result (IsUnderway history.new) }
 {
     for _private in Private::ALL {
@@ -146,7 +152,8 @@ fn settle(history: &mut History) -> Result<(), AllocError>
     requires few { history.old.seats ≤ 6 }
     requires underway { IsUnderway history.old }
     ensures seats { OnOk result (history.new.seats ≡ history.old.seats) }
-    ensures events { OnOk result (history.new.events ≡ settle_of history.old.seats history.old.events) }
+    ensures events { OnOk result (history.new.events
+        ≡ settle_of history.old.seats history.old.events) }
     ensures underway { OnOk result (IsUnderway history.new) }
 {
     match history.cheapest_unsold() {
@@ -161,7 +168,9 @@ fn settle_bids(history: &mut History, private: Private) -> Result<(), AllocError
     requires cheapest { cheapest_of history.old.events ≡ Some private }
     requires underway { IsUnderway history.old }
     ensures seats { OnOk result (history.new.seats ≡ history.old.seats) }
-    ensures events { OnOk result (history.new.events ≡ settled_by history.old.seats history.old.events private (bids_on history.old.seats history.old.events private)) }
+    ensures events { OnOk result (history.new.events
+        ≡ settled_by history.old.seats history.old.events private
+        (bids_on history.old.seats history.old.events private)) }
     ensures underway { OnOk result (IsUnderway history.new) }
 {
     let bids = history.now().bids_on(private);
@@ -184,7 +193,8 @@ fn sell_by_auction(
     requires bids { bids.now ≡ bids_on history.old.seats history.old.events private }
     requires underway { IsUnderway history.old }
     ensures seats { OnOk result (history.new.seats ≡ history.old.seats) }
-    ensures events { OnOk result (history.new.events ≡ settled_by history.old.seats history.old.events private bids.now) }
+    ensures events { OnOk result (history.new.events
+        ≡ settled_by history.old.seats history.old.events private bids.now) }
     ensures underway { OnOk result (IsUnderway history.new) }
 {
     let bidders = bidders_of(&history.now(), private, bids);
@@ -208,7 +218,8 @@ fn bidders_of(
     bids: &[Bid],
 ) -> ArrayVec<(Seat, Money, Money), PLAYERS_MOST>
     requires { length bids.now ≤ 6 }
-    ensures { result.items ≡ map (the_bidder_of past.now.seats past.now.events.now private) bids.now }
+    ensures { result.items ≡ map (the_bidder_of past.now.seats past.now.events.now private)
+        bids.now }
 {
     let mut bidders = ArrayVec::new();
     for bid in bids {

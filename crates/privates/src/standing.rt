@@ -21,7 +21,8 @@ pub(crate) fn rule_standing(
     requires small { PartsAreSmall sheet.old }
     requires underway { IsUnderway history.old }
     ensures seats { OnOk result (history.new.seats ≡ history.old.seats) }
-    ensures events { OnOk result (history.new.events ≡ after_standing_lines seat history.old.events sheet.old.before) }
+    ensures events { OnOk result (history.new.events
+        ≡ after_standing_lines seat history.old.events sheet.old.before) }
     ensures left { OnOk result (sheet.new ≡ record { before = []; opened = sheet.old.opened }) }
     ensures underway { OnOk result (IsUnderway history.new) }
 {
@@ -35,7 +36,8 @@ pub(crate) fn rule_standing(
 /// What becomes of a standing line.
 fn standing_ruling(history: &History, line: &NumberedLine) -> Result<Ruling, AllocError>
     requires { IsSmallReading (line_read line.now).reading }
-    ensures ruling { IfOk result (λ ruling. ruling ≡ ruling_standing history.now.events (line_read line.now).reading) }
+    ensures ruling { IfOk result (λ ruling. ruling
+        ≡ ruling_standing history.now.events (line_read line.now).reading) }
     ensures small { IfOk result IsSmallRuling }
 {
     match standing_order(line) {
@@ -48,7 +50,9 @@ fn standing_ruling(history: &History, line: &NumberedLine) -> Result<Ruling, All
 fn standing_order<'a>(line: &'a NumberedLine) -> Result<&'a Order, Fault>
     requires { IsSmallReading (line_read line.now).reading }
     ensures small { IfOk result (λ order. IsSmallOrder order.now) }
-    ensures order { MatchResult result (λ order. placed may_stand_before (line_read line.now).reading ≡ Ok order.now) (λ fault. placed may_stand_before (line_read line.now).reading ≡ Err fault) }
+    ensures order { MatchResult result
+        (λ order. placed may_stand_before (line_read line.now).reading ≡ Ok order.now)
+        (λ fault. placed may_stand_before (line_read line.now).reading ≡ Err fault) }
 {
     let order = line.order()?;
     if may_stand_before(order) {

@@ -5,7 +5,7 @@ ghost use Rattle.privates.specs.Act.{MayAct, MayBid, MayPay};
 ghost use Rattle.privates.specs.Judgement.{has_place_in_group, judged, judgement_of, price_of as price_asked};
 ghost use Rattle.privates.specs.Sale.{after_sale, settled};
 ghost use Rattle.privates.specs.Small.{IsReady, IsSmallOrder, IsSmallReading};
-ghost use Rattle.privates.specs.Turn.{after_act, after_line, after_lines, after_ruling};
+ghost use Rattle.privates.specs.Turn.{after_act, after_line, after_lines, after_ruling, in_turn};
 ghost use Rattle.privates.specs.Underway.{IsUnderway};
 ghost use Rattle.sheets.specs.Part.{groups_of, line_read};
 ghost use Rattle.sheets.specs.Place.{placed};
@@ -20,8 +20,8 @@ use sheets::{NumberedLine, PartsLeft, is_of_file};
 use std::alloc::AllocError;
 use tables::{Amount, Private, Seat};
 
-/// A seat's turn: it takes up the next group of its sheet, if there is one. Answers whether the seat
-/// bought.
+/// A seat's turn: it takes up the next group of its sheet, if there is one. Answers whether the
+/// seat bought or bid.
 pub(crate) fn take_turn(
     history: &mut History,
     seat: Seat,
@@ -32,7 +32,10 @@ pub(crate) fn take_turn(
     requires ready { IsReady sheet.old }
     requires underway { IsUnderway history.old }
     ensures seats { OnOk result (history.new.seats ≡ history.old.seats) }
-    ensures turn { IfOk result (λ acted. record { state = history.new.events; acted = acted } ≡ after_lines history.old.seats seat (record { state = history.old.events; acted = false }) (next_group (groups_of sheet.old))) }
+    ensures turn { IfOk result (λ acted.
+        in_turn history.new.events acted
+        ≡ after_lines history.old.seats seat (in_turn history.old.events false)
+            (next_group (groups_of sheet.old))) }
     ensures left { OnOk result (groups_of sheet.new ≡ drop 1 (groups_of sheet.old)) }
     ensures ready { OnOk result (IsReady sheet.new) }
     ensures underway { OnOk result (IsUnderway history.new) }
@@ -60,7 +63,10 @@ fn rule_line(
     requires small { IsSmallReading (line_read line.now).reading }
     requires underway { IsUnderway history.old }
     ensures seats { OnOk result (history.new.seats ≡ history.old.seats) }
-    ensures turn { IfOk result (λ obeyed. record { state = history.new.events; acted = turn_used || obeyed } ≡ after_line history.old.seats seat (record { state = history.old.events; acted = turn_used }) (line_read line.now)) }
+    ensures turn { IfOk result (λ obeyed.
+        in_turn history.new.events (turn_used || obeyed)
+        ≡ after_line history.old.seats seat (in_turn history.old.events turn_used)
+            (line_read line.now)) }
     ensures underway { OnOk result (IsUnderway history.new) }
 {
     match placed_order(line) {
@@ -76,7 +82,9 @@ fn rule_line(
 fn placed_order<'a>(line: &'a NumberedLine) -> Result<&'a Order, Fault>
     requires { IsSmallReading (line_read line.now).reading }
     ensures small { IfOk result (λ order. IsSmallOrder order.now) }
-    ensures order { MatchResult result (λ order. placed has_place_in_group (line_read line.now).reading ≡ Ok order.now) (λ fault. placed has_place_in_group (line_read line.now).reading ≡ Err fault) }
+    ensures order { MatchResult result
+        (λ order. placed has_place_in_group (line_read line.now).reading ≡ Ok order.now)
+        (λ fault. placed has_place_in_group (line_read line.now).reading ≡ Err fault) }
 {
     let order = line.order()?;
     if is_of_file(order) {
@@ -98,7 +106,12 @@ fn rule_order(
     requires small { IsSmallOrder order.now }
     requires underway { IsUnderway history.old }
     ensures seats { OnOk result (history.new.seats ≡ history.old.seats) }
-    ensures turn { IfOk result (λ obeyed. record { state = history.new.events; acted = turn_used || obeyed } ≡ after_ruling history.old.seats seat (record { state = history.old.events; acted = turn_used }) line.now.number (judged order.now (judgement_of history.old.seats history.old.events seat turn_used order.now))) }
+    ensures turn { IfOk result (λ obeyed.
+        in_turn history.new.events (turn_used || obeyed)
+        ≡ after_ruling history.old.seats seat (in_turn history.old.events turn_used)
+            line.now.number
+            (judged order.now
+                (judgement_of history.old.seats history.old.events seat turn_used order.now))) }
     ensures underway { OnOk result (IsUnderway history.new) }
 {
     let broken = judge(&history.now(), seat, order, turn_used);
@@ -119,7 +132,8 @@ fn act(history: &mut History, seat: Seat, order: &Order) -> Result<(), AllocErro
     requires may { MayAct history.old.seats history.old.events seat order.now }
     requires underway { IsUnderway history.old }
     ensures seats { OnOk result (history.new.seats ≡ history.old.seats) }
-    ensures events { OnOk result (history.new.events ≡ after_act history.old.seats seat history.old.events order.now) }
+    ensures events { OnOk result (history.new.events
+        ≡ after_act history.old.seats seat history.old.events order.now) }
     ensures underway { OnOk result (IsUnderway history.new) }
 {
     match order {
@@ -133,10 +147,13 @@ fn act(history: &mut History, seat: Seat, order: &Order) -> Result<(), AllocErro
 fn buy(history: &mut History, seat: Seat, private: Private) -> Result<(), AllocError>
     requires few { history.old.seats ≤ 6 }
     requires at_table { seat.0 < history.old.seats }
-    requires may { MayPay history.old.seats history.old.events seat private (price_asked history.old.events private) }
+    requires may { MayPay history.old.seats history.old.events seat private
+        (price_asked history.old.events private) }
     requires underway { IsUnderway history.old }
     ensures seats { OnOk result (history.new.seats ≡ history.old.seats) }
-    ensures events { OnOk result (history.new.events ≡ settled history.old.seats (after_sale history.old.events private seat (price_asked history.old.events private))) }
+    ensures events { OnOk result (history.new.events
+        ≡ settled history.old.seats
+            (after_sale history.old.events private seat (price_asked history.old.events private))) }
     ensures underway { OnOk result (IsUnderway history.new) }
 {
     let price = price_of(&history.now(), private);
@@ -155,7 +172,8 @@ fn bid(
     requires small { amount ≤ 99999 }
     requires may { MayBid history.old.seats history.old.events seat private amount }
     requires underway { IsUnderway history.old }
-    ensures event { OnOk result (history.new ≡ with_event history.old (event.Bids private seat amount)) }
+    ensures event { OnOk result (history.new
+        ≡ with_event history.old (event.Bids private seat amount)) }
     ensures underway { OnOk result (IsUnderway history.new) }
 {
     history.append(Event::Bids {
