@@ -7,3 +7,4 @@ pub mod Shares
 pub mod Tell
 pub mod Sound
 pub mod Laws
+pub mod Orders

@@ -1,10 +1,11 @@
 ghost use Rattle.std.specs.Prelude.{◌≡◌, IfOk};
+ghost use Rattle.history.specs.Orders.{limit_in, par_of_baltimore_in};
 ghost use Rattle.history.specs.Event.{code_of_opening_rule, code_of_refusal, is_opening_act};
 
 use order_grammar::{Fault, Order};
 use std::alloc::{AllocError, Global};
 use std::marker::Model;
-use tables::Private;
+use tables::{Amount, Company, Private, par_square};
 
 /// Which rule of play an order breaks first, by the family of the rule.
 #[derive(Clone, Copy, Debug, PartialEq, Eq)]
@@ -107,13 +108,37 @@ impl KeptOrder {
         }
     }
 
-    /// Whether it is an act of a turn of an opening round: the purchase of a private.
+    /// Whether it is an act of a turn of an opening round: the purchase of a private, or a bid on one.
     pub fn is_opening_act(&self) -> bool
         ensures { result ≡ is_opening_act self.now }
     {
-        match &self.kept {
-            Kept::BuyPrivate(_) => true,
-            Kept::Boxed(order) => matches!(**order, Order::BuyPrivate(_)),
+        matches!(self.order(), Order::BuyPrivate(_) | Order::Bid { .. })
+    }
+
+    /// How far it says to go in an auction of a private, if it does.
+    pub(crate) fn limit_on(&self, private: Private) -> Option<Amount>
+        ensures { result ≡ limit_in private self.now }
+    {
+        match self.order() {
+            Order::Limit {
+                private: other,
+                amount,
+            } if other == private => Some(amount),
+            _ => None,
+        }
+    }
+
+    /// The par value that it says BO is to have, if it does.
+    pub(crate) fn par_of_baltimore(&self) -> Option<Amount>
+        ensures { result ≡ par_of_baltimore_in self.now }
+    {
+        match self.order() {
+            Order::Par { company, price }
+                if company == Company::BaltimoreOhio && par_square(price).is_some() =>
+            {
+                Some(price)
+            }
+            _ => None,
         }
     }
 }

@@ -3,7 +3,7 @@
 use Rattle.std.proofs.Common.{◌≡◌, ℕ, zero, suc, ◌+◌, ◌<◌, true, List, length, refl, ap, inl, inr, arith}
 use Rattle.std.proofs.lemmas.Bool.{and_parts, cases_Bool}
 use Rattle.history.specs.LookBack.{Game}
-use Rattle.privates.specs.Opening.{IsOpeningRound}
+use Rattle.privates.specs.Opening.{EndsSoon}
 use Rattle.privates.specs.Turn.{all_sold}
 use Rattle.rounds.proofs.Forward.{fewer_places, places_left}
 use Rattle.rounds.specs.Play.{AreRounds, Between, IsPlayed, IsRound, Plays, SomeGame, all_posted, before_play, can_play, in_set_before, is_playable}
@@ -15,14 +15,14 @@ use Rattle.tables.specs.declared.round.Round.TheVariants.{Opening, Stock, Operat
 
 -- each opening round ends
 abbrev pub EachRoundEnds : Type 0
-EachRoundEnds = (file : List ℕ) (round : Round) (old : Game) → (new : Game) × IsOpeningRound file round old new
+EachRoundEnds = (file : List ℕ) (round : Round) (old : Game) → EndsSoon file round old
 
 module _ (ends : EachRoundEnds) (file : List ℕ) where
   -- a round that is played ends, with as many seats
   played_ends : (round : Round) (old : Game) → is_playable round ≡ true → (new : Game) × IsPlayed file round old new × (new.seats ≡ old.seats)
   played_ends (Opening number) old playable =
       let played = ends file (Opening number) old in
-      (played.0, played.1, ap (λ (game : Game). game.seats) played.1.after)
+      (played.new, played.played, ap (λ (game : Game). game.seats) played.played.after)
   played_ends (Stock set) old playable = cc
   played_ends (Operating set number) old playable = cc
 

@@ -6,3 +6,5 @@ pub mod SameSheets
 pub mod Causal
 pub mod Arrival
 pub mod Example
+mod Grows
+mod InOrder

@@ -1,45 +1,51 @@
 -- A round is played from its own sheets alone: in two files with the same sheets for it, it is played
 -- alike.
-use Rattle.std.proofs.Common.{◌≡◌, ℕ, ◌&&◌, List, [], length, map, is_some, unwrap_or, sym, ap, subst, ◌∙◌, ◌∷◌, ◌++◌, Option}
-use Rattle.std.specs.List.{flat_map, list_all, range_with_len}
+use Rattle.std.proofs.Common.{◌≡◌, ℕ, ◌&&◌, List, [], length, map, is_some, unwrap_or, refl, sym, ap, subst, ◌∙◌, ◌∷◌, ◌++◌, Option}
+use Rattle.std.specs.List.{list_all, range_with_len}
 use Rattle.history.specs.LookBack.{Game, priority_of}
 use Rattle.history.specs.declared.event.Event.{Event}
 use Rattle.history.specs.declared.event.Event.TheVariants as event
-use Rattle.privates.specs.Judgement.{outside_event}
-use Rattle.privates.specs.Opening.{IsOpeningRound, opened}
-use Rattle.privates.specs.Part.{parts_of}
-use Rattle.privates.specs.Turn.{InPlay, after_turn, seat_at, turns_over}
+use Rattle.privates.specs.Opening.{IsOpeningRound, groups_for, in_play, opened}
+use Rattle.privates.specs.Standing.{after_standing, after_standing_lines, after_standing_of}
+use Rattle.privates.specs.Turn.{opening_turns}
 use Rattle.rounds.specs.Play.{Between, IsPlayed, IsRound, all_posted, before_play, can_play, is_playable, rounds_of_new_set}
 use Rattle.sheets.specs.File.{players_of, sheet_of}
-use Rattle.tables.specs.Steps.{Ends}
+use Rattle.sheets.specs.Part.{Numbered, groups_of, parts_of}
+use Rattle.tables.specs.Seat.{seat_at}
+use Rattle.tables.specs.Turns.{InPlay, TurnsEnd}
 use Rattle.tables.specs.declared.round.Round.{Round}
 use Rattle.tables.specs.declared.round.Round.TheVariants.{Opening, Stock, Operating}
-
--- an opening round before its first turn, by the sheet of each seat
-abbrev opened_by : ℕ → (ℕ → Option (List (List ℕ))) → Round → List Event → InPlay
-opened_by seats sheets round events =
-    record {
-      events = events ++ event.Round round ∷ flat_map (λ seat. map (outside_event (seat_at seat)) (parts_of (unwrap_or (sheets seat) [])).before) (range_with_len 0 seats);
-      seat = (priority_of seats events).0;
-      passes = 0;
-      groups = map (λ seat. (parts_of (unwrap_or (sheets seat) [])).groups) (range_with_len 0 seats);
-    }
 
 module _ (first second : List ℕ) where
   -- the files have the same sheet of each seat for the round
   abbrev pub SameFor : Round → Type 0
   SameFor round = (seat : ℕ) → sheet_of first seat round ≡ sheet_of second seat round
 
-  -- the same sheets open a round the same way
+  -- the same sheets have the same standing lines
+  same_standing : (round : Round) (events : List Event) (seats : List ℕ) → SameFor round → after_standing first round events seats ≡ after_standing second round events seats
+  same_standing round events [] same = refl
+  same_standing round events (seat ∷ seats) same =
+      ap (λ (sheet : Option (List (List ℕ))). after_standing first round (after_standing_lines (seat_at seat) events (parts_of round (unwrap_or sheet [])).before) seats) (same seat)
+      ∙ same_standing round (after_standing_of second round events seat) seats same
+
+  -- and the same groups
+  same_groups : (seats : ℕ) (round : Round) → SameFor round → groups_for seats first round ≡ groups_for seats second round
+  same_groups seats round same =
+      λ i. map (λ seat. groups_of (parts_of round (unwrap_or (same seat i) []))) (range_with_len 0 seats)
+
+  -- so they open a round the same way
   same_opened : (seats : ℕ) (round : Round) (events : List Event) → SameFor round → opened seats first round events ≡ opened seats second round events
-  same_opened seats round events same = λ i. opened_by seats (λ seat. same seat i) round events
+  same_opened seats round events same =
+      let standing = same_standing round (events ++ event.Round round ∷ []) (range_with_len 0 seats) same in
+      let groups = same_groups seats round same in
+      λ i. in_play (standing i) (priority_of seats events).0 0 (groups i)
 
   -- an opening round is played alike
   same_opening : (round : Round) (old new : Game) → SameFor round → IsOpeningRound first round old new → IsOpeningRound second round old new
   same_opening round old new same played =
       record {
         last = played.last;
-        turns = subst (λ (play : InPlay). Ends (after_turn old.seats) (turns_over old.seats) play played.last) (same_opened old.seats round old.events same) played.turns;
+        turns = subst (λ (play : InPlay (List Event) Numbered). TurnsEnd (opening_turns old.seats) play played.last) (same_opened old.seats round old.events same) played.turns;
         after = played.after;
       }
 

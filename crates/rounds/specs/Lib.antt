@@ -3,3 +3,4 @@ pub mod Play
 pub mod Example
 pub mod Causality
 pub mod Arrival
+pub mod Begun

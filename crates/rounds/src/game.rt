@@ -1,5 +1,6 @@
 ghost use Rattle.std.specs.Prelude.{◌≡◌, true, IfOk, length};
 ghost use Rattle.history.specs.Sound.{IsSound};
+ghost use Rattle.privates.specs.Underway.{BaltimoreWaits, PennsylvaniaWaits};
 ghost use Rattle.rounds.specs.Play.{IsPlayed, IsTheGame, all_posted, can_play as may_be_played, in_set_before as set_before, is_playable as is_of_played_kind, rounds_of_new_set};
 ghost use Rattle.sheets.specs.File.{players_of};
 
@@ -93,10 +94,14 @@ pub fn play<'a>(alloc: Global, sheets: &'a Sheets<'a>) -> Result<Game<'a>, Alloc
 fn play_round(history: History, sheets: &Sheets, round: Round) -> Result<History, AllocError>
     requires sound { IsSound history }
     requires seats { history.seats ≡ length (players_of sheets.now) }
+    requires pennsylvania { PennsylvaniaWaits history.events }
+    requires baltimore { BaltimoreWaits history.events }
     requires playable { is_of_played_kind round ≡ true }
     ensures round { IfOk result (IsPlayed sheets.now round history) }
     ensures seats { IfOk result (λ new. new.seats ≡ history.seats) }
     ensures sound { IfOk result IsSound }
+    ensures pennsylvania { IfOk result (λ new. PennsylvaniaWaits new.events) }
+    ensures baltimore { IfOk result (λ new. BaltimoreWaits new.events) }
 {
     play_opening(history, sheets, round)
 }

@@ -1,6 +1,7 @@
 //! Laws of the definitions, each the contract of a function that does nothing.
 ghost use Rattle.std.specs.Prelude.{◌≡◌, [], Err};
 ghost use Rattle.rounds.specs.Arrival.{ArrivalChangesNoGame};
+ghost use Rattle.rounds.specs.Begun.{RoundsFollowInOrder};
 ghost use Rattle.rounds.specs.Causality.{LaterSheetsChangeNothing};
 ghost use Rattle.rounds.specs.Example.{first_end, first_file};
 ghost use Rattle.rounds.specs.Play.{OneGame, Plays, SomeGame};
@@ -32,6 +33,15 @@ pub fn some_game()
 pub fn sequence_goes_forward()
     ensures { SequenceGoesForward }
 {}
+
+/// The events of a game begin with a round, and the rounds that they begin follow one another in the
+/// order of all rounds, so they all differ.
+pub fn rounds_follow_in_order()
+    ensures { RoundsFollowInOrder }
+{
+    sheets_are_numbered();
+    three_to_six_play()
+}
 
 /// While the bank is not broken, some round follows each round.
 pub fn bank_alone_ends_it()

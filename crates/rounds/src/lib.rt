@@ -15,6 +15,7 @@ pub use following::Next;
 pub use game::{End, Game, play};
 pub use laws::{
     arrival_changes_no_game, bank_alone_ends_it, empty_example, first_example,
-    later_sheets_change_nothing, one_game, sequence_goes_forward, some_game,
+    later_sheets_change_nothing, one_game, rounds_follow_in_order, sequence_goes_forward,
+    some_game,
 };
 pub use sequence::next;

@@ -2,13 +2,20 @@ use Rattle.std.proofs.Common.{◌≡◌, ◌<◌, Bool, suc, true, is_none, leng
 use Rattle.std.proofs.lemmas.Bool.{and_parts}
 use Rattle.history.specs.LookBack.{cheapest_of}
 use Rattle.privates.specs.Turn.{all_sold}
-use Rattle.rounds.proofs.Forward.{fewer_places, places_left}
+use Rattle.rounds.proofs.Forward.{fewer_places, places_left, posted_small}
 use Rattle.rounds.proofs.Posted.{missing_from}
 use Rattle.rounds.specs.Play.{all_posted, can_play, is_playable}
 use Rattle.rounds.specs.Sequence.{round_after}
 use Rattle.sheets.specs.File.{players_of}
 use Rattle.tables.specs.declared.round.Round.{Round}
 use Rattle.rounds.proofs.game.play.Goals as goal
+
+pub round_after-upcoming-requires : goal.round_after-upcoming-requires
+round_after-upcoming-requires c =
+    let can : can_play c.args.sheets.now c.loop-history.upcoming ≡ true = sym c.can_play.ensures ∙ c.loop-history-test.true in
+    let posted = (and_parts (is_playable c.loop-history.upcoming) (all_posted c.args.sheets.now c.loop-history.upcoming) can).1 in
+    let some : 0 < length (players_of c.args.sheets.now) = omega (arith, c.seats.ensures.value, c.seats.ensures.least) in
+    record { number = posted_small c.sheets_are_numbered.ensures c.args.sheets.now c.loop-history.upcoming some posted }
 
 pub loop-history-smaller : goal.loop-history-smaller
 loop-history-smaller c =
@@ -35,5 +42,7 @@ loop-history-preserved c =
         },
       );
       sound = c.in_ok-history.ensures.sound;
+      pennsylvania = c.in_ok-history.ensures.pennsylvania;
+      baltimore = c.in_ok-history.ensures.baltimore;
       seats = c.in_ok-history.ensures.seats ∙ c.loop-history.invariant.seats;
     }

@@ -1,0 +1,210 @@
+-- Within an opening round the list of events grows, and no event begins another round.
+use Rattle.std.proofs.Common.{◌≡◌, ℕ, zero, suc, ◌+◌, ◌-◌, ◌==◌, Bool, true, false, if◌then◌else◌, List, [], ◌∷◌, ◌++◌, Option, Some, None, refl, sym, ap, subst, ◌∙◌}
+use Rattle.std.specs.List.{range_with_len}
+use Rattle.std.proofs.lemmas.List.{append_assoc, append-nil}
+use Rattle.history.specs.Bids.{bids_on}
+use Rattle.history.specs.Event.{round_of}
+use Rattle.history.specs.LookBack.{Game, cheapest_of, is_sold, owner_of, priority_of, sv_price_of}
+use Rattle.history.specs.Tell.{breaks}
+use Rattle.history.specs.declared.event.Bid.{Bid}
+use Rattle.history.specs.declared.event.Event.{Event}
+use Rattle.history.specs.declared.event.Event.TheVariants as event
+use Rattle.history.specs.declared.event.Holder.{Holder}
+use Rattle.history.specs.declared.ruling.Ruling.{Ruling}
+use Rattle.history.specs.declared.ruling.Ruling.TheVariants as ruling
+use Rattle.order_grammar.specs.declared.order.Order.{Order}
+use Rattle.order_grammar.specs.declared.order.Order.TheVariants as order
+use Rattle.privates.specs.Judgement.{price_of, ruling_of}
+use Rattle.privates.specs.Opening.{IsOpeningRound, after_fall, after_passing, after_revenues, closed, finished, given_away, left_from, opened, paid_to_owner}
+use Rattle.privates.specs.Sale.{after_sale, gifts, settle, settled, settled_by, settled_of}
+use Rattle.privates.specs.Standing.{after_standing, after_standing_line, after_standing_lines, after_standing_of}
+use Rattle.privates.specs.Turn.{InTurn, after_act, after_line, after_lines, after_obeyed, all_sold, opening_turns}
+use Rattle.rounds.specs.Begun.{rounds_begun, with_round}
+use Rattle.sheets.specs.Part.{Numbered, lines_in_groups, parts_for}
+use Rattle.tables.specs.Roster.{privates, revenue_of}
+use Rattle.tables.specs.Seat.{seat_at}
+use Rattle.tables.specs.Steps.{iterate}
+use Rattle.tables.specs.Turns.{InPlay, after_turn, groups_at, next_group}
+use Rattle.tables.specs.declared.roster.Private.{Private}
+use Rattle.tables.specs.declared.roster.Private.TheVariants as private
+use Rattle.tables.specs.declared.round.Round.{Round}
+use Rattle.tables.specs.declared.seat.Seat.{Seat}
+
+-- the list grows, and nothing that is new begins a round
+pub record Grows (old new : List Event) : Type 0 where
+  pub more : List Event
+  pub longer : new ≡ old ++ more
+  pub quiet : rounds_begun more ≡ []
+
+-- a list that stays as it is
+stays : (events : List Event) → Grows events events
+stays events = record { more = []; longer = sym (append-nil events); quiet = refl }
+
+-- a round in front of rounds of two lists
+round_in_front : (round : Option Round) (front back : List Round) → with_round round (front ++ back) ≡ with_round round front ++ back
+round_in_front None front back = refl
+round_in_front (Some round) front back = refl
+
+-- rounds of one list after those of another
+pub begun_in_both : (front back : List Event) → rounds_begun (front ++ back) ≡ rounds_begun front ++ rounds_begun back
+begun_in_both [] back = refl
+begun_in_both (event ∷ front) back =
+    ap (with_round (round_of event)) (begun_in_both front back) ∙ round_in_front (round_of event) (rounds_begun front) (rounds_begun back)
+
+-- it grows further
+further : (a b c : List Event) → Grows a b → Grows b c → Grows a c
+further a b c first second =
+    record {
+      more = first.more ++ second.more;
+      longer = second.longer ∙ ap (λ (list : List Event). list ++ second.more) first.longer ∙ append_assoc a first.more second.more;
+      quiet = begun_in_both first.more second.more ∙ ap (λ (list : List Round). list ++ rounds_begun second.more) first.quiet ∙ second.quiet;
+    }
+
+-- by each of two cases
+in_either : (old one other : List Event) (b : Bool) → Grows old one → Grows old other → Grows old (if b then one else other)
+in_either old one other true first second = first
+in_either old one other false first second = second
+
+-- by each step
+by_steps : (step : List Event → List Event) → ((events : List Event) → Grows events (step events)) → (n : ℕ) (events : List Event) → Grows events (iterate step n events)
+by_steps step each zero events = stays events
+by_steps step each (suc n) events =
+    further events (iterate step n events) (step (iterate step n events)) (by_steps step each n events) (each (iterate step n events))
+
+-- by standing lines
+standing_lines_grow : (seat : Seat) (events : List Event) (lines : List Numbered) → Grows events (after_standing_lines seat events lines)
+standing_lines_grow seat events [] = stays events
+standing_lines_grow seat events (line ∷ lines) =
+    further events (after_standing_line seat events line) _ (record { more = _; longer = refl; quiet = refl })
+    (standing_lines_grow seat (after_standing_line seat events line) lines)
+
+-- by those of each seat
+pub standing_grows : (file : List ℕ) (round : Round) (events : List Event) (seats : List ℕ) → Grows events (after_standing file round events seats)
+standing_grows file round events [] = stays events
+standing_grows file round events (seat ∷ seats) =
+    further events (after_standing_of file round events seat) _
+    (standing_lines_grow (seat_at seat) events (parts_for file round seat).before)
+    (standing_grows file round (after_standing_of file round events seat) seats)
+
+-- what comes with a sale begins no round
+quiet_gifts : (events : List Event) (private : Private) (buyer : Seat) → rounds_begun (gifts events private buyer) ≡ []
+quiet_gifts events private.SchuylkillValley buyer = refl
+quiet_gifts events private.ChamplainStLawrence buyer = refl
+quiet_gifts events private.DelawareHudson buyer = refl
+quiet_gifts events private.MohawkHudson buyer = refl
+quiet_gifts events private.CamdenAmboy buyer = refl
+quiet_gifts events private.BaltimoreOhio buyer = refl
+
+-- by a sale
+sale_grows : (events : List Event) (private : Private) (buyer : Seat) (price : ℕ) → Grows events (after_sale events private buyer price)
+sale_grows events private buyer price =
+    record { more = _; longer = refl; quiet = quiet_gifts events private buyer }
+
+-- by the sale that the bids on a private bring
+bids_grow : (seats : ℕ) (events : List Event) (private : Private) (bids : List Bid) → Grows events (settled_by seats events private bids)
+bids_grow seats events private [] = stays events
+bids_grow seats events private (bid ∷ []) = sale_grows events private bid.seat bid.amount
+bids_grow seats events private (bid ∷ other ∷ bids) = sale_grows events private _ _
+
+-- by that of the cheapest private
+cheapest_grows : (seats : ℕ) (events : List Event) (cheapest : Option Private) → Grows events (settled_of seats events cheapest)
+cheapest_grows seats events None = stays events
+cheapest_grows seats events (Some private) = bids_grow seats events private (bids_on seats events private)
+
+-- by the sales that follow from a sale
+settled_grows : (seats : ℕ) (events : List Event) → Grows events (settled seats events)
+unfolding settled
+settled_grows seats events =
+    by_steps (settle seats) (λ list. cheapest_grows seats list (cheapest_of list)) 6 events
+
+-- by an order that was obeyed
+act_grows : (seats : ℕ) (seat : Seat) (events : List Event) (done : Order) → Grows events (after_act seats seat events done)
+act_grows seats seat events (order.BuyPrivate private) =
+    let sold : List Event = after_sale events private seat (price_of events private) in
+    further events sold (settled seats sold) (sale_grows events private seat (price_of events private)) (settled_grows seats sold)
+act_grows seats seat events (order.Bid private amount) = record { more = _; longer = refl; quiet = refl }
+act_grows seats seat events other = stays events
+
+-- by what a ruling brings
+ruling_grows : (seats : ℕ) (seat : Seat) (events : List Event) (ruled : Ruling) → Grows events (after_obeyed seats seat events ruled)
+ruling_grows seats seat events (ruling.Obeyed done) = act_grows seats seat events done
+ruling_grows seats seat events other = stays events
+
+-- by the lines of a turn
+lines_grow : (seats : ℕ) (seat : Seat) (turn : InTurn) (lines : List Numbered) → Grows turn.state (after_lines seats seat turn lines).state
+lines_grow seats seat turn [] = stays turn.state
+lines_grow seats seat turn (line ∷ lines) =
+    let ruled : Ruling = ruling_of seats turn.state seat turn.acted line.reading in
+    let told : List Event = turn.state ++ event.Ruled seat line.number ruled ∷ [] in
+    let next : InTurn = after_line seats seat turn line in
+    further turn.state next.state (after_lines seats seat next lines).state
+    (further turn.state told next.state (record { more = _; longer = refl; quiet = refl }) (ruling_grows seats seat told ruled))
+    (lines_grow seats seat next lines)
+
+-- by turns
+pub turns_grow : (seats n : ℕ) (start : InPlay (List Event) Numbered) → Grows start.now (iterate (after_turn (opening_turns seats)) n start).now
+turns_grow seats zero start = stays start.now
+turns_grow seats (suc n) start =
+    let at : InPlay (List Event) Numbered = iterate (after_turn (opening_turns seats)) n start in
+    let lines : List Numbered = next_group (groups_at at.groups at.seat) in
+    let turned : InTurn = after_lines seats (seat_at at.seat) (record { state = at.now; acted = false }) lines in
+    let acts : Grows at.now turned.state = lines_grow seats (seat_at at.seat) (record { state = at.now; acted = false }) lines in
+    further start.now at.now _ (turns_grow seats n start)
+    (in_either at.now turned.state (turned.state ++ event.Passes (seat_at at.seat) ∷ []) turned.acted acts
+    (further at.now turned.state _ acts (record { more = _; longer = refl; quiet = refl })))
+
+-- by a revenue
+owner_grows : (seats : ℕ) (events : List Event) (private : Private) (owner : Option Holder) → Grows events (paid_to_owner seats events private owner)
+owner_grows seats events private None = stays events
+owner_grows seats events private (Some owner) =
+    let paid : List Event = events ++ event.Revenue private owner (revenue_of private) ∷ [] in
+    further events paid _ (record { more = _; longer = refl; quiet = refl })
+    (in_either paid (paid ++ event.Broken ∷ []) paid (breaks seats paid) (record { more = _; longer = refl; quiet = refl }) (stays paid))
+
+-- by the revenues of some privates
+revenues_grow : (seats : ℕ) (events : List Event) (paying : List Private) → Grows events (after_revenues seats events paying)
+revenues_grow seats events [] = stays events
+revenues_grow seats events (private ∷ others) =
+    let paid : List Event = paid_to_owner seats events private (owner_of events private) in
+    further events paid _ (owner_grows seats events private (owner_of events private)) (revenues_grow seats paid others)
+
+-- by the fall of SV's price
+fall_grows : (seats : ℕ) (events : List Event) (price : ℕ) (holder : Seat) → Grows events (after_fall seats events price holder)
+fall_grows seats events price holder =
+    let given : List Event = given_away events holder in
+    in_either events (settled seats given) (events ++ event.Price price ∷ []) (price == 0)
+    (further events given (settled seats given) (record { more = _; longer = append_assoc events (event.Price 0 ∷ []) _; quiet = refl }) (settled_grows seats given))
+    (record { more = _; longer = refl; quiet = refl })
+
+-- by the close
+pub close_grows : (seats : ℕ) (events : List Event) → Grows events (closed seats events)
+close_grows seats events =
+    in_either events events (after_passing seats events) (all_sold events) (stays events)
+    (in_either events (after_revenues seats events privates) (after_fall seats events (sv_price_of events - 5) (priority_of seats events)) (is_sold events private.SchuylkillValley) (revenues_grow seats events privates) (fall_grows seats events (sv_price_of events - 5) (priority_of seats events)))
+
+-- a count of lines that were left begins no round
+quiet_count : (seat : Seat) (count : ℕ) (none : Bool) (events : List Event) → rounds_begun events ≡ [] → rounds_begun (if none then events else event.Left seat count ∷ events) ≡ []
+quiet_count seat count true events quiet = quiet
+quiet_count seat count false events quiet = quiet
+
+-- nor do those of each seat
+quiet_left : (seat : ℕ) (groups : List (List (List Numbered))) → rounds_begun (left_from seat groups) ≡ []
+quiet_left seat [] = refl
+quiet_left seat (group ∷ groups) =
+    quiet_count (seat_at seat) (lines_in_groups group) (lines_in_groups group == 0) (left_from (seat + 1) groups) (quiet_left (seat + 1) groups)
+
+-- an opening round grows by its own ROUND event, and begins no other round
+pub opening_grows : (file : List ℕ) (round : Round) (old new : Game) → IsOpeningRound file round old new → Grows (old.events ++ event.Round round ∷ []) new.events
+opening_grows file round old new played =
+    let begun : List Event = old.events ++ event.Round round ∷ [] in
+    let start : InPlay (List Event) Numbered = opened old.seats file round old.events in
+    let turned : Grows start.now played.last.now =
+    subst (λ (last : InPlay (List Event) Numbered). Grows start.now last.now) played.turns.reached (turns_grow old.seats played.turns.steps start)
+    in
+    let shut : List Event = closed old.seats played.last.now in
+    let whole : Grows begun (finished old.seats played.last) =
+    further begun start.now _ (standing_grows file round begun (range_with_len 0 old.seats))
+    (further start.now played.last.now _ turned
+    (further played.last.now shut _ (close_grows old.seats played.last.now) (record { more = _; longer = refl; quiet = quiet_left 0 played.last.groups })))
+    in
+    subst (λ (game : Game). Grows begun game.events) (sym played.after) whole

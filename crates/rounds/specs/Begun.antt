@@ -1,0 +1,42 @@
+-- The rounds that the events of a game begin.
+use Rattle.std.specs.Prelude.{◌≡◌, ℕ, true, List, [], ◌∷◌, Option, Some, None, IsSome, ⊤}
+use Rattle.history.specs.Event.{round_of}
+use Rattle.history.specs.declared.event.Event.{Event}
+use Rattle.rounds.specs.Play.{Between, Plays}
+use Rattle.sheets.specs.File.{IsAccepted}
+use Rattle.tables.specs.Round.{is_before}
+use Rattle.tables.specs.declared.round.Round.{Round}
+
+-- a round in front of others, if there is one
+abbrev pub with_round : Option Round → List Round → List Round
+with_round None rounds = rounds
+with_round (Some round) rounds = round ∷ rounds
+
+-- the rounds that events begin, in order
+abbrev pub rounds_begun : List Event → List Round
+rounds_begun [] = []
+rounds_begun (event ∷ events) = with_round (round_of event) (rounds_begun events)
+
+-- the first of events begins a round, if there are any
+abbrev pub BeginWithRound : List Event → Type 0
+BeginWithRound [] = ⊤
+BeginWithRound (event ∷ events) = IsSome (round_of event)
+
+-- a round comes before each of these in the order of all rounds
+abbrev pub IsBeforeEach : Round → List Round → Type 0
+IsBeforeEach round [] = ⊤
+IsBeforeEach round (other ∷ others) = (is_before round other ≡ true) × IsBeforeEach round others
+
+-- each round comes before those that follow it
+abbrev pub AreInOrder : List Round → Type 0
+AreInOrder [] = ⊤
+AreInOrder (round ∷ rounds) = IsBeforeEach round rounds × AreInOrder rounds
+
+-- the events of a file's game begin with a round, and the rounds that they begin are in order, so they
+-- all differ
+abbrev pub RoundsFollowInOrder : Type 0
+RoundsFollowInOrder =
+    (file : List ℕ) (last : Between)
+    → IsAccepted file
+    → Plays file last
+    → BeginWithRound last.game.events × AreInOrder (rounds_begun last.game.events)
