@@ -3,3 +3,4 @@ pub mod OneReport
 pub mod Seats
 pub mod Rounds
 pub mod Parts
+pub mod Counts

@@ -1,5 +1,5 @@
 -- The statement after a round: what each player holds, what each started company has, and the bank's cash.
-use Rattle.std.specs.Prelude.{◌≡◌, ℕ, ◌==◌, ℤ, Bool, true, false, ◌||◌, if◌then◌else◌, List, [], ◌∷◌, ◌++◌, codes, decimal, count_by, Option, Some, None, pos, ◌+ℤ◌, ◌-ℤ◌, ◌≤ℤ◌, ◌^◌}
+use Rattle.std.specs.Prelude.{◌≡◌, ℕ, ◌==◌, ◌*◌, ℤ, Bool, true, false, ◌||◌, if◌then◌else◌, List, [], ◌∷◌, ◌++◌, codes, decimal, count_by, Option, Some, None, pos, ◌+ℤ◌, ◌-ℤ◌, ◌≤ℤ◌, ◌^◌}
 use lib.IntN.{neg_ℤ}
 use Rattle.std.specs.List.{flat_map, range_with_len}
 use Rattle.std.specs.Fmt.{signed_decimal}
@@ -9,7 +9,9 @@ use Rattle.history.specs.Shares.{is_started, president_of, shares_of, square_of}
 use Rattle.history.specs.declared.event.Event.{Event}
 use Rattle.history.specs.declared.event.Holder.{Holder}
 use Rattle.history.specs.declared.event.Holder.TheVariants as holder
+use Rattle.history.specs.declared.event.Party.{Party}
 use Rattle.history.specs.declared.event.Party.TheVariants as party
+use Rattle.history.specs.declared.event.Shareholder.{Shareholder}
 use Rattle.history.specs.declared.event.Shareholder.TheVariants.{InitialOffering, BankPool, Seat as OfSeat}
 use Rattle.history.specs.declared.look_back.Past.{Past}
 use Rattle.history.specs.declared.owners.Owners.{Owners}
@@ -68,6 +70,10 @@ counted_of events seat company = if counts_at (square_of events company) then ce
 abbrev pub IsCount : ℤ → Type 0
 IsCount count = (neg_ℤ (pos (2 ^ 101)) ≤ℤ count) × (count ≤ℤ pos (2 ^ 101))
 
+-- the sum of so many such numbers
+abbrev pub IsSumOfCounts : ℕ → ℤ → Type 0
+IsSumOfCounts counts sum = (neg_ℤ (pos (counts * 2 ^ 101)) ≤ℤ sum) × (sum ≤ℤ pos (counts * 2 ^ 101))
+
 -- how many of these companies' certificates count
 abbrev pub counted_among : List Event → Seat → List Company → ℤ
 counted_among events seat [] = pos 0
@@ -77,23 +83,35 @@ counted_among events seat (company ∷ others) = counted_of events seat company 
 abbrev pub privates_of : List Event → Seat → ℕ
 privates_of events seat = count_by (λ private. is_seat seat (owner_of events private)) privates
 
+-- the same, where the owners were looked up before
+abbrev pub privates_in : Owners → Seat → ℕ
+privates_in owners seat = count_by (λ private. is_seat seat (owner_in owners private)) privates
+
 -- how many of a seat's certificates count: its privates, and those of companies
 unfoldable pub counted : List Event → Seat → ℤ
 counted events seat = pos (privates_of events seat) +ℤ counted_among events seat companies
 
--- the tenths of a company that a seat holds, in their column
-abbrev pub tenths_column : List Event → Seat → Company → List ℕ
-tenths_column events seat company = at_right 3 (signed_decimal (shares_of events company (OfSeat seat)))
+-- the tenths of a company at a place, in their column
+unfoldable pub tenths_column : List Event → Company → Shareholder → List ℕ
+tenths_column events company place = at_right 3 (signed_decimal (shares_of events company place))
+
+-- what a party has, in its column
+unfoldable pub cash_column : ℕ → List Event → Party → List ℕ
+cash_column seats events party = at_right 6 (signed_decimal (cash_of seats events party))
+
+-- how many of a seat's certificates count, in their column
+unfoldable pub counted_column : List Event → Seat → List ℕ
+counted_column events seat = at_right 3 (signed_decimal (counted events seat))
 
 -- the tenths of the eight companies that a seat holds
 unfoldable pub holdings : List Event → Seat → List ℕ
-holdings events seat = flat_map (λ company. tenths_column events seat company) companies
+holdings events seat = flat_map (λ company. tenths_column events company (OfSeat seat)) companies
 
 -- a player's line
 unfoldable pub player_line : List ℕ → ℕ → List Event → Seat → List ℕ
 player_line file seats events seat =
-    codes "PLAYER " ++ at_left 8 (name_of file seat) ++ at_right 6 (signed_decimal (cash_of seats events (party_at seat)))
-    ++ at_right 3 (signed_decimal (counted events seat)) ++ holdings events seat
+    codes "PLAYER " ++ at_left 8 (name_of file seat) ++ cash_column seats events (party_at seat)
+    ++ counted_column events seat ++ holdings events seat
     ++ codes_owned events seat ++ 10 ∷ []
 
 -- the same, as a game stood
@@ -110,15 +128,23 @@ abbrev pub president_name : List ℕ → Option Seat → List ℕ
 president_name file None = []
 president_name file (Some seat) = name_of file seat
 
--- a company's line; no tokens are laid and no trains are sold before the first operating round
+-- a company's cash, market price, tenths in the initial offering and the bank pool, and tokens; none is laid
+-- before the first operating round
+unfoldable pub company_figures : ℕ → List Event → Company → List ℕ
+company_figures seats events company =
+    cash_column seats events (party.Holder (holder.Company company))
+    ++ at_right 4 (decimal (price_at (square_of events company)))
+    ++ tenths_column events company InitialOffering ++ tenths_column events company BankPool ++ at_right 2 (decimal 0)
+
+-- the same, as a game stood
+abbrev pub company_figures_at : Past → Company → List ℕ
+company_figures_at past company = company_figures past.seats past.events.now company
+
+-- a company's line; it has no trains before the first operating round
 unfoldable pub company_line : List ℕ → ℕ → List Event → Company → List ℕ
 company_line file seats events company =
-    codes "COMPANY " ++ at_left 4 (code_of_company company)
-    ++ at_right 6 (signed_decimal (cash_of seats events (party.Holder (holder.Company company))))
-    ++ at_right 4 (decimal (price_at (square_of events company)))
-    ++ at_right 3 (signed_decimal (shares_of events company InitialOffering))
-    ++ at_right 3 (signed_decimal (shares_of events company BankPool))
-    ++ at_right 2 (decimal 0) ++ 32 ∷ president_name file (president_of events company) ++ 10 ∷ []
+    codes "COMPANY " ++ at_left 4 (code_of_company company) ++ company_figures seats events company
+    ++ 32 ∷ president_name file (president_of events company) ++ 10 ∷ []
 
 -- the same, as a game stood
 abbrev pub company_line_at : List ℕ → Past → Company → List ℕ
@@ -142,7 +168,7 @@ company_lines_at file past = company_lines file past.seats past.events.now
 
 -- the bank's line
 unfoldable pub bank_line : ℕ → List Event → List ℕ
-bank_line seats events = codes "BANK " ++ at_right 6 (signed_decimal (cash_of seats events party.Bank)) ++ 10 ∷ []
+bank_line seats events = codes "BANK " ++ cash_column seats events party.Bank ++ 10 ∷ []
 
 -- the players' lines
 unfoldable pub player_lines : List ℕ → ℕ → List Event → List ℕ

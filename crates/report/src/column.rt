@@ -28,14 +28,6 @@ pub(crate) fn push_right<I: Integer>(
     out.extend_from_slice(digits)
 }
 
-/// Adds a number as it is.
-pub(crate) fn push_number<I: Integer>(out: &mut Vec<u8>, number: I) -> Result<(), AllocError>
-    ensures { OnOk result (Adds out.old out.new (I.text number)) }
-{
-    let mut buffer = itoa::Buffer::new();
-    out.extend_from_slice(buffer.format(number).as_bytes())
-}
-
 fn push_spaces(out: &mut Vec<u8>, count: usize) -> Result<(), AllocError>
     ensures { OnOk result (Adds out.old out.new (replicate count 32)) }
 {

@@ -2,9 +2,8 @@ ghost use Rattle.std.specs.Prelude.{◌≡◌, OnOk};
 ghost use Rattle.report.specs.Column.{Adds};
 ghost use Rattle.report.specs.Line.{event_line, field_text, field_texts, line_of, line_of_fields, line_of_seat, name_of, private_line, ruled_line};
 
-use crate::column::push_number;
 use history::{Event, Holder, KeptOrder, Ruling};
-use order_grammar::{print_order, print_round};
+use order_grammar::{print_number, print_order, print_round};
 use sheets::Sheets;
 use std::alloc::AllocError;
 use tables::{Amount, Private, Round, Seat};
@@ -170,7 +169,7 @@ fn push_field(out: &mut Vec<u8>, sheets: &Sheets, field: &Field) -> Result<(), A
         Field::Name(seat) => push_name(out, sheets, *seat),
         Field::Holds(Holder::Seat(seat)) => push_name(out, sheets, *seat),
         Field::Holds(Holder::Company(company)) => out.extend_from_slice(company.code().as_bytes()),
-        Field::Number(number) => push_number(out, *number),
+        Field::Number(number) => print_number(out, *number),
         Field::OfRound(round) => print_round(out, round),
         Field::Spelt(order) => print_order(out, &order.order()),
     }

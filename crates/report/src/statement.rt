@@ -1,7 +1,8 @@
-ghost use Rattle.std.specs.Prelude.{◌≡◌, OnOk, length};
-ghost use Rattle.history.specs.LookBack.{owner_of};
+ghost use Rattle.std.specs.Prelude.{◌≡◌, ◌∷◌, OnOk, length};
+ghost use Rattle.history.specs.LookBack.{owner_in};
+ghost use Rattle.tables.specs.Roster.{companies};
 ghost use Rattle.report.specs.Column.{Adds};
-ghost use Rattle.report.specs.Statement.{AreOwnersIn, IsCount, bank_line, codes_owned, company_line_at, company_lines_at, counted, counted_of, counts_at as counts_on, holdings, is_seat, player_line_at, player_lines_at, presided as presides, price_at, privates_of, started_line_at, statement_at};
+ghost use Rattle.report.specs.Statement.{AreOwnersIn, IsCount, IsSumOfCounts, bank_line, cash_column, code_owned, codes_owned, company_figures_at, company_line_at, company_lines_at, counted, counted_among, counted_column, counted_of, counts_at as counts_on, holdings, is_seat, player_line_at, player_lines_at, presided as presides, president_name, price_at, privates_in, started_line_at, statement_at, tenths_column};
 ghost use Rattle.sheets.specs.File.{players_of};
 
 use crate::column::{push_left, push_right};
@@ -52,7 +53,7 @@ fn push_players(out: &mut Vec<u8>, sheets: &Sheets, past: &Past) -> Result<(), A
 {
     let owners = past.owners();
     for seat in 0..sheets.seats() {
-        push_player(out, sheets, past, &owners, Seat::at(seat))?;
+        push_player(out, sheets, past, &owners, Seat(seat as u8))?;
     }
     Ok(())
 }
@@ -74,7 +75,7 @@ fn push_bank(out: &mut Vec<u8>, past: &Past) -> Result<(), AllocError>
     ensures { OnOk result (Adds out.old out.new (bank_line past.now.seats past.now.events.now)) }
 {
     out.extend_from_slice(b"BANK ")?;
-    push_right(out, past.cash(Party::Bank), CASH_WIDTH)?;
+    push_cash(out, past, Party::Bank)?;
     out.push(b'\n')?;
     Ok(())
 }
@@ -93,8 +94,8 @@ fn push_player(
 {
     out.extend_from_slice(b"PLAYER ")?;
     push_left(out, name(sheets, seat), NAME_WIDTH)?;
-    push_right(out, past.cash(Party::of_seat(seat)), CASH_WIDTH)?;
-    push_right(out, certificates(past, owners, seat), COUNT_WIDTH)?;
+    push_cash(out, past, Party::of_seat(seat))?;
+    push_counted(out, past, owners, seat)?;
     push_holdings(out, past, seat)?;
     push_privates(out, past, owners, seat)?;
     out.push(b'\n')?;
@@ -107,8 +108,7 @@ fn push_holdings(out: &mut Vec<u8>, past: &Past, seat: Seat) -> Result<(), Alloc
     ensures { OnOk result (Adds out.old out.new (holdings past.now.events.now seat)) }
 {
     for company in &Company::ALL {
-        let tenths = past.shares(*company, Shareholder::Seat(seat));
-        push_right(out, tenths, COUNT_WIDTH)?;
+        push_tenths(out, past, *company, Shareholder::Seat(seat))?;
     }
     Ok(())
 }
@@ -125,38 +125,57 @@ fn push_privates(
     ensures { OnOk result (Adds out.old out.new (codes_owned past.now.events.now seat)) }
 {
     for private in &Private::ALL {
-        if owns(past, owners, seat, *private) {
-            out.push(b' ')?;
-            out.extend_from_slice(private.code().as_bytes())?;
-        }
+        push_private(out, past, owners, seat, *private)?;
+    }
+    Ok(())
+}
+
+/// Adds the code of a private after a space, if the seat owns it.
+fn push_private(
+    out: &mut Vec<u8>,
+    past: &Past,
+    owners: &Owners,
+    seat: Seat,
+    private: Private,
+) -> Result<(), AllocError>
+    requires { AreOwnersIn past.now.events.now owners.now }
+    ensures { OnOk result (Adds out.old out.new (code_owned past.now.events.now seat private)) }
+{
+    if owns(owners, seat, private) {
+        out.push(b' ')?;
+        out.extend_from_slice(private.code().as_bytes())?;
     }
     Ok(())
 }
 
 /// How many of a seat's certificates count: its privates, and those of companies whose token stands
 /// in no zone.
-#[tactic(auto, unfolding(crate::specs::Statement::counted))]
+#[tactic(auto, using(crate::proofs::Counts::same_privates), unfolding(crate::specs::Statement::counted))]
 fn certificates(past: &Past, owners: &Owners, seat: Seat) -> Tenths
     requires { AreOwnersIn past.now.events.now owners.now }
     ensures { result ≡ counted past.now.events.now seat }
 {
-    let mut count = Tenths::from(privates_owned(past, owners, seat));
-    for company in Company::ALL.iter().rev() {
-        count += certificates_of(past, seat, *company);
-    }
-    count
+    privates_owned(owners, seat) as Tenths + shares_counted(past, seat)
 }
 
 /// How many privates a seat owns.
-fn privates_owned(past: &Past, owners: &Owners, seat: Seat) -> u32
-    requires { AreOwnersIn past.now.events.now owners.now }
-    ensures { result ≡ privates_of past.now.events.now seat }
+fn privates_owned(owners: &Owners, seat: Seat) -> usize
+    ensures { result ≡ privates_in owners.now seat }
+{
+    Private::ALL
+        .iter()
+        .filter(|private| owns(owners, seat, **private))
+        .count()
+}
+
+/// How many certificates of companies count that a seat holds.
+fn shares_counted(past: &Past, seat: Seat) -> Tenths
+    ensures count { result ≡ counted_among past.now.events.now seat companies }
+    ensures within { IsSumOfCounts 8 result }
 {
     let mut count = 0;
-    for private in &Private::ALL {
-        if owns(past, owners, seat, *private) {
-            count += 1;
-        }
+    for company in &Company::ALL {
+        count += certificates_of(past, seat, *company);
     }
     count
 }
@@ -194,9 +213,8 @@ fn presided(seat: Seat, president: Option<Seat>) -> Tenths
 }
 
 /// Whether the seat owns the private.
-fn owns(past: &Past, owners: &Owners, seat: Seat, private: Private) -> bool
-    requires { AreOwnersIn past.now.events.now owners.now }
-    ensures { result ≡ is_seat seat (owner_of past.now.events.now private) }
+fn owns(owners: &Owners, seat: Seat, private: Private) -> bool
+    ensures { result ≡ is_seat seat (owner_in owners.now private) }
 {
     match owners.owner(private) {
         Some(Holder::Seat(owner)) => owner.0 == seat.0,
@@ -232,22 +250,80 @@ fn push_started(
 {
     out.extend_from_slice(b"COMPANY ")?;
     push_left(out, company.code().as_bytes(), CODE_WIDTH)?;
-    push_right(out, past.cash(Party::of_company(company)), CASH_WIDTH)?;
-    push_right(out, market_price(past.square(company)), PRICE_WIDTH)?;
-    push_right(out, past.shares(company, Shareholder::InitialOffering), COUNT_WIDTH)?;
-    push_right(out, past.shares(company, Shareholder::BankPool), COUNT_WIDTH)?;
-    push_right(out, 0u32, TOKEN_WIDTH)?;
-    out.push(b' ')?;
-    if let Some(president) = past.president(company) {
-        push_name(out, sheets, president)?;
-    }
+    push_figures(out, past, company)?;
+    push_president(out, sheets, past.president(company))?;
     out.push(b'\n')?;
     Ok(())
+}
+
+/// Adds a company's cash, market price, tenths in the initial offering and the bank pool, and tokens.
+#[tactic(auto, unfolding(crate::specs::Statement::company_figures))]
+fn push_figures(out: &mut Vec<u8>, past: &Past, company: Company) -> Result<(), AllocError>
+    ensures { OnOk result (Adds out.old out.new (company_figures_at past.now company)) }
+{
+    push_cash(out, past, Party::of_company(company))?;
+    push_right(out, market_price(past.square(company)), PRICE_WIDTH)?;
+    push_tenths(out, past, company, Shareholder::InitialOffering)?;
+    push_tenths(out, past, company, Shareholder::BankPool)?;
+    push_right(out, 0u32, TOKEN_WIDTH)
+}
+
+/// Adds the cash of a party in its column.
+#[tactic(auto, unfolding(crate::specs::Statement::cash_column))]
+fn push_cash(out: &mut Vec<u8>, past: &Past, party: Party) -> Result<(), AllocError>
+    ensures { OnOk result (Adds out.old out.new (cash_column past.now.seats past.now.events.now party)) }
+{
+    push_right(out, past.cash(party), CASH_WIDTH)
+}
+
+/// Adds the tenths of a company that lie at a place in their column.
+#[tactic(auto, unfolding(crate::specs::Statement::tenths_column))]
+fn push_tenths(
+    out: &mut Vec<u8>,
+    past: &Past,
+    company: Company,
+    place: Shareholder,
+) -> Result<(), AllocError>
+    ensures { OnOk result (Adds out.old out.new (tenths_column past.now.events.now company place)) }
+{
+    push_right(out, past.shares(company, place), COUNT_WIDTH)
+}
+
+/// Adds how many certificates of a seat count in their column.
+#[tactic(auto, unfolding(crate::specs::Statement::counted_column))]
+fn push_counted(
+    out: &mut Vec<u8>,
+    past: &Past,
+    owners: &Owners,
+    seat: Seat,
+) -> Result<(), AllocError>
+    requires { AreOwnersIn past.now.events.now owners.now }
+    ensures { OnOk result (Adds out.old out.new (counted_column past.now.events.now seat)) }
+{
+    push_right(out, certificates(past, owners, seat), COUNT_WIDTH)
+}
+
+/// Adds the name of a president after a space.
+fn push_president(
+    out: &mut Vec<u8>,
+    sheets: &Sheets,
+    president: Option<Seat>,
+) -> Result<(), AllocError>
+    ensures { OnOk result (Adds out.old out.new (32 ∷ president_name sheets.now president)) }
+{
+    out.push(b' ')?;
+    match president {
+        None => Ok(()),
+        Some(seat) => push_name(out, sheets, seat),
+    }
 }
 
 /// The market price on a square, in dollars; 0 on none.
 fn market_price(square: Option<Square>) -> Amount
     ensures { result ≡ price_at square }
 {
-    square.map_or(0, price)
+    match square {
+        None => 0,
+        Some(square) => price(square),
+    }
 }

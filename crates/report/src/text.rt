@@ -3,11 +3,10 @@ ghost use Rattle.report.specs.Column.{Adds};
 ghost use Rattle.report.specs.Report.{IsLengthOfRound, awaiting_text, end_text, ends_round as ends_a_round, header, is_round as is_the_round, name_owing, refusal_line, report_of, round_text_of, rounds_text_of, text_between, unread_lines};
 ghost use Rattle.sheets.specs.File.{unread_of};
 
-use crate::column::push_number;
 use crate::line::{push_event, push_name};
 use crate::statement::push_statement;
 use history::{Event, Past};
-use order_grammar::{Fault, print_round};
+use order_grammar::{Fault, print_number, print_round};
 use rounds::{End, Game};
 use sheets::{FileFault, Sheets};
 use std::alloc::{AllocError, Global};
@@ -142,7 +141,7 @@ fn push_unread(out: &mut Vec<u8>, unread: &[Fault]) -> Result<(), AllocError>
 {
     for (i, fault) in unread.iter().enumerate() {
         out.extend_from_slice(b"UNREAD ")?;
-        push_number(out, i as u64 + 1)?;
+        print_number(out, i as u64 + 1)?;
         out.push(b' ')?;
         out.extend_from_slice(fault.code().as_bytes())?;
         out.push(b'\n')?;

@@ -1,8 +1,10 @@
-use Rattle.std.proofs.Common.{decimal}
-use Rattle.report.specs.Column.{at_right}
-use Rattle.report.proofs.Seats.{seats_step}
+use Rattle.report.specs.Statement.{tenths_column}
+use Rattle.report.proofs.Seats.{elements_step}
 use Rattle.report.proofs.statement.push_holdings.Goals as goal
+use Rattle.history.specs.declared.event.Shareholder.TheVariants.{Seat as OfSeat}
+use Rattle.tables.specs.Roster.{companies}
 
-pub loop-preserved : goal.loop-preserved
-loop-preserved c =
-    seats_step (λ company. at_right 3 (decimal 0)) c.loop.index _ _ _ c.loop.invariant c.in_ok-push_right.ensures
+pub loop-company-preserved : goal.loop-company-preserved
+loop-company-preserved c =
+    elements_step (λ company. tenths_column c.args.past.now.events.now company (OfSeat c.args.seat)) companies c.loop-company.company-index _ _ _ _
+    c.loop-company-test.true c.loop-company.invariant c.in_ok-push_tenths.ensures

@@ -1,8 +1,11 @@
-use Rattle.std.proofs.Common.{◌≡◌, ◌++◌, decimal}
-use Rattle.std.specs.List.{flat_map, range_with_len}
-use Rattle.report.specs.Column.{at_right}
+use Rattle.std.proofs.Common.{◌≡◌, ◌++◌, take}
+use Rattle.std.specs.List.{flat_map}
+use Rattle.report.specs.Statement.{tenths_column}
 use Rattle.report.proofs.statement.push_holdings.Given as goal
+use Rattle.history.specs.declared.event.Shareholder.TheVariants.{Seat as OfSeat}
+use Rattle.tables.specs.Roster.{companies}
 
 -- the companies so far
-abbrev pub invariant-loop : goal.invariant-loop
-invariant-loop l = l.out.items ≡ l.fn.out.items ++ flat_map (λ company. at_right 3 (decimal 0)) (range_with_len 0 l.index)
+abbrev pub invariant-loop-company : goal.invariant-loop-company
+invariant-loop-company l =
+    l.out.items ≡ l.fn.out.items ++ flat_map (λ company. tenths_column l.past.events.now company (OfSeat l.seat)) (take l.company-index companies)

@@ -1,8 +1,8 @@
 use Rattle.std.proofs.Common.{◌≡◌, ◌++◌, take}
 use Rattle.std.specs.List.{flat_map}
-use Rattle.history.specs.LookBack.{privates}
 use Rattle.report.specs.Statement.{code_owned}
 use Rattle.report.proofs.statement.push_privates.Given as goal
+use Rattle.tables.specs.Roster.{privates}
 
 -- the privates so far
 abbrev pub invariant-loop-private : goal.invariant-loop-private

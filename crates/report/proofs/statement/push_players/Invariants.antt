@@ -1,7 +1,7 @@
 use Rattle.std.proofs.Common.{◌≡◌, ◌++◌}
 use Rattle.std.specs.List.{flat_map, range_with_len}
 use Rattle.report.specs.Statement.{player_line}
-use Rattle.report.proofs.statement.push_statement.Given as goal
+use Rattle.report.proofs.statement.push_players.Given as goal
 
 -- the players so far
 abbrev pub invariant-loop-seat : goal.invariant-loop-seat

@@ -1,0 +1,9 @@
+use Rattle.report.specs.Statement.{started_line}
+use Rattle.report.proofs.Seats.{elements_step}
+use Rattle.report.proofs.statement.push_companies.Goals as goal
+use Rattle.tables.specs.Roster.{companies}
+
+pub loop-company-preserved : goal.loop-company-preserved
+loop-company-preserved c =
+    elements_step (λ company. started_line c.args.sheets.now c.args.past.now.seats c.args.past.now.events.now company) companies c.loop-company.company-index _ _ _ _
+    c.loop-company-test.true c.loop-company.invariant c.in_ok-push_company.ensures
