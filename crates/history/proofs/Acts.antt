@@ -4,9 +4,9 @@ use Rattle.std.proofs.lemmas.Bool.{cases_eq}
 use Rattle.std.proofs.lemmas.Bool.Decides.{nat_tests}
 use Rattle.std.proofs.lemmas.Int.{ints}
 use Rattle.std.specs.Option.{option_flatten, option_or}
-use Rattle.history.proofs.BidWords.{differ_after_bid, differ_after_sale, elsewhere_kept, bid_silent, sale_silent, same_private_is, small_after_bid, small_after_sale, tied_by_bid, untied_by_sale}
+use Rattle.history.proofs.BidWords.{differ_after_bid, differ_after_sale, elsewhere_kept, bid_silent, sale_silent, same_private_is, seated_after_bid, seated_after_sale, small_after_bid, small_after_sale, tied_by_bid, untied_by_sale}
 use Rattle.history.proofs.EventAtEnd.{bids_of_before, cash_of_at_end, cash_of_before, is_sold_before, last_said_at_end, shares_of_before, square_of_before, sv_price_of_at_end}
-use Rattle.history.proofs.Soundness.{companies_kept, differ_kept, given_kept, held_kept, led_kept, offered_kept, price_kept, small_kept, solvent_kept, ten_kept}
+use Rattle.history.proofs.Soundness.{companies_kept, differ_kept, given_kept, held_kept, led_kept, offered_kept, price_kept, seated_kept, small_kept, solvent_kept, ten_kept}
 use Rattle.history.proofs.Standing.{bids_split}
 use Rattle.history.specs.Bids.{bids_elsewhere_of, free_cash_of, tied_on}
 use Rattle.history.specs.Event.{ownership_of, party_at}
@@ -53,12 +53,13 @@ solvent_after_bid game private seat amount affordable solvent by =
 
 -- a bid of a seat that has its sum free of other bids
 pub bid_sound : BidKeepsSound
-bid_sound game private seat amount low apart affordable sound =
+bid_sound game private seat amount low seated apart affordable sound =
     record {
       solvent = solvent_after_bid game private seat amount affordable sound.solvent;
       companies = companies_kept game (Bids private seat amount) refl sound.companies;
       bids_differ = differ_after_bid game.events private seat amount apart sound.bids_differ;
       bids_small = small_after_bid game.events private seat amount low sound.bids_small;
+      seated = seated_after_bid game.seats game.events private seat amount seated sound.seated;
       price = price_kept game.events (Bids private seat amount) refl sound.price;
       given = given_kept game.events (Bids private seat amount) refl refl sound.given;
       held = held_kept game.events (Bids private seat amount) refl sound.held;
@@ -148,6 +149,7 @@ sale_sound game private seat price unsold affordable sound =
       companies = companies_after_sale game private seat price sound.companies;
       bids_differ = differ_after_sale game.events private seat price sound.bids_differ;
       bids_small = small_after_sale game.events private seat price sound.bids_small;
+      seated = seated_after_sale game.seats game.events private seat price sound.seated;
       price = price_kept game.events (Sold private seat price) refl sound.price;
       given = given_after_sale game.events private seat price sound.given;
       held = held_kept game.events (Sold private seat price) refl sound.held;
@@ -168,6 +170,7 @@ revenue_sound game private owner amount sound =
       companies = λ company. let before = sound.companies company in omega (arith, ints, cash_of_at_end game.seats game.events (Revenue private owner amount) (party.Holder (holder.Company company)), revenue_takes_nothing owner (holder.Company company) amount);
       bids_differ = differ_kept game.events (Revenue private owner amount) refl sound.bids_differ;
       bids_small = small_kept game.events (Revenue private owner amount) refl sound.bids_small;
+      seated = seated_kept game.seats game.events (Revenue private owner amount) refl sound.seated;
       price = price_kept game.events (Revenue private owner amount) refl sound.price;
       given = given_kept game.events (Revenue private owner amount) refl refl sound.given;
       held = held_kept game.events (Revenue private owner amount) refl sound.held;
@@ -185,6 +188,7 @@ price_sound game price some given sound =
       companies = companies_kept game (Price price) refl sound.companies;
       bids_differ = differ_kept game.events (Price price) refl sound.bids_differ;
       bids_small = small_kept game.events (Price price) refl sound.bids_small;
+      seated = seated_kept game.seats game.events (Price price) refl sound.seated;
       price = subst IsSvPrice (sym set) some;
       given = λ none. stays_sold game.events (Price price) SchuylkillValley (given (sym set ∙ none));
       held = held_kept game.events (Price price) refl sound.held;
@@ -208,6 +212,7 @@ gift_sound game seat unsold sound =
       companies = companies_after_sale priced SchuylkillValley seat 0 (companies_kept game (Price 0) refl sound.companies);
       bids_differ = differ_after_sale priced.events SchuylkillValley seat 0 (differ_kept game.events (Price 0) refl sound.bids_differ);
       bids_small = small_after_sale priced.events SchuylkillValley seat 0 (small_kept game.events (Price 0) refl sound.bids_small);
+      seated = seated_after_sale priced.seats priced.events SchuylkillValley seat 0 (seated_kept game.seats game.events (Price 0) refl sound.seated);
       price = inr (inr (inr (inr set)));
       given = λ none. ap is_some (last_said_at_end (λ e. owner_said SchuylkillValley (ownership_of e)) priced.events (Sold SchuylkillValley seat 0));
       held = held_kept priced.events (Sold SchuylkillValley seat 0) refl (held_kept game.events (Price 0) refl sound.held);

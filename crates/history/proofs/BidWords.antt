@@ -1,5 +1,5 @@
 -- What a bid or a sale makes of the standing bids.
-use Rattle.std.proofs.Common.{◌≡◌, ℕ, ◌≤◌, ◌==◌, ◌⊎◌, inl, inr, Bool, true, false, ◌&&◌, if◌then◌else◌, List, [], ◌∷◌, ◌++◌, Option, Some, None, unwrap_or, sum_by, refl, sym, ap, ◌∙◌, arith}
+use Rattle.std.proofs.Common.{◌<◌, ◌≡◌, ℕ, ◌≤◌, ◌==◌, ◌⊎◌, inl, inr, Bool, true, false, ◌&&◌, if◌then◌else◌, List, [], ◌∷◌, ◌++◌, Option, Some, None, unwrap_or, sum_by, refl, sym, ap, ◌∙◌, arith}
 use Rattle.std.proofs.lemmas.Bool.Decides.{Decides-eqb, nat_tests}
 use Rattle.std.specs.Option.{option_flatten, option_or}
 use std.Path.{fun_ext}
@@ -7,7 +7,7 @@ use Rattle.history.proofs.EventAtEnd.{last_said_at_end, now_said_before}
 use Rattle.history.specs.Bids.{bid_of, bid_said, bids_elsewhere_of, tied_on}
 use Rattle.history.specs.Event.{bidding_of}
 use Rattle.history.specs.LookBack.{last_said, now_said}
-use Rattle.history.specs.Sound.{BidsAreSmall, BidsDiffer}
+use Rattle.history.specs.Sound.{BiddersAreSeated, BidsAreSmall, BidsDiffer}
 use Rattle.history.specs.declared.event.Event.{Event}
 use Rattle.history.specs.declared.event.Event.TheVariants.{Bids, Sold}
 use Rattle.tables.specs.Roster.{place_of_private, privates, same_private}
@@ -144,6 +144,18 @@ small_after_bid events private seat amount low small on by said is =
       | inr old ↦ small on by said old.1
     ]
 
+-- two seats are the same where a test says so
+its_seat : (on : Bool) (a b : ℕ) → (on && (a == b)) ≡ true → a ≡ b
+its_seat on a b both = grind (arith, nat_tests)
+
+-- and are of seats at the table after the bid of one
+pub seated_after_bid : (seats : ℕ) (events : List Event) (private : Private) (seat : Seat) (amount : ℕ) → seat.0 < seats → BiddersAreSeated seats events → BiddersAreSeated seats (events ++ Bids private seat amount ∷ [])
+seated_after_bid seats events private seat amount under seated on by said is =
+    elim (bid_cases (same_private private on && (seat.0 == by.0)) amount (bid_of events on by) said (sym (bid_of_at_end events (Bids private seat amount) on by) ∙ is)) [
+      | inl new ↦ let same : seat.0 ≡ by.0 = its_seat (same_private private on) seat.0 by.0 new.0 in omega arith
+      | inr old ↦ seated on by said old.1
+    ]
+
 -- bids differ after a sale
 pub differ_after_sale : (events : List Event) (private : Private) (seat : Seat) (price : ℕ) → BidsDiffer events → BidsDiffer (events ++ Sold private seat price ∷ [])
 differ_after_sale events private seat price differ on a b said of_a of_b =
@@ -153,3 +165,8 @@ differ_after_sale events private seat price differ on a b said of_a of_b =
 pub small_after_sale : (events : List Event) (private : Private) (seat : Seat) (price : ℕ) → BidsAreSmall events → BidsAreSmall (events ++ Sold private seat price ∷ [])
 small_after_sale events private seat price small on by said is =
     small on by said (sale_cases (same_private private on) (bid_of events on by) said (sym (bid_of_at_end events (Sold private seat price) on by) ∙ is))
+
+-- and are of seats at the table
+pub seated_after_sale : (seats : ℕ) (events : List Event) (private : Private) (seat : Seat) (price : ℕ) → BiddersAreSeated seats events → BiddersAreSeated seats (events ++ Sold private seat price ∷ [])
+seated_after_sale seats events private seat price seated on by said is =
+    seated on by said (sale_cases (same_private private on) (bid_of events on by) said (sym (bid_of_at_end events (Sold private seat price) on by) ∙ is))

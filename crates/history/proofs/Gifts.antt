@@ -7,7 +7,7 @@ use Rattle.std.specs.List.{range_with_len}
 use Rattle.std.specs.Option.{option_or}
 use Rattle.history.proofs.Acts.{sale_sound}
 use Rattle.history.proofs.EventAtEnd.{last_said_at_end, par_of_before, president_of_before, shares_of_at_end, shares_of_before, square_of_before}
-use Rattle.history.proofs.Soundness.{companies_kept, differ_kept, given_kept, held_kept, least_offered_before, price_kept, small_kept, solvent_kept, ten_kept}
+use Rattle.history.proofs.Soundness.{companies_kept, differ_kept, given_kept, held_kept, least_offered_before, price_kept, seated_kept, small_kept, solvent_kept, ten_kept}
 use Rattle.history.specs.Event.{office_of, ownership_of, par_set, placed, square_set}
 use Rattle.history.specs.Laws.{CaIsSoldWithItsGift, GiftKeepsSound, StartKeepsSound}
 use Rattle.history.specs.LookBack.{Game, is_closed, is_sold, owner_said, with_event}
@@ -156,6 +156,7 @@ given_sound game company seat tenths seated many more sound =
       companies = companies_kept game (Given company seat tenths) refl sound.companies;
       bids_differ = differ_kept game.events (Given company seat tenths) refl sound.bids_differ;
       bids_small = small_kept game.events (Given company seat tenths) refl sound.bids_small;
+      seated = seated_kept game.seats game.events (Given company seat tenths) refl sound.seated;
       price = price_kept game.events (Given company seat tenths) refl sound.price;
       given = given_kept game.events (Given company seat tenths) refl refl sound.given;
       held = held_after_gift game.events company seat tenths many sound.held;
@@ -319,6 +320,7 @@ started_sound game company seat price is_par unplaced seated sound =
       companies = companies_kept given (President company seat) refl (companies_kept par (Given company seat 2) refl (companies_kept game (Par company price) refl sound.companies));
       bids_differ = differ_kept given.events (President company seat) refl (differ_kept par.events (Given company seat 2) refl (differ_kept game.events (Par company price) refl sound.bids_differ));
       bids_small = small_kept given.events (President company seat) refl (small_kept par.events (Given company seat 2) refl (small_kept game.events (Par company price) refl sound.bids_small));
+      seated = seated_kept game.seats given.events (President company seat) refl (seated_kept game.seats par.events (Given company seat 2) refl (seated_kept game.seats game.events (Par company price) refl sound.seated));
       price = price_kept given.events (President company seat) refl (price_kept par.events (Given company seat 2) refl (price_kept game.events (Par company price) refl sound.price));
       given = given_kept given.events (President company seat) refl refl (given_kept par.events (Given company seat 2) refl refl (given_kept game.events (Par company price) refl refl sound.given));
       held = held_kept given.events (President company seat) refl (held_after_gift par.events company seat 2 many (held_kept game.events (Par company price) refl sound.held));

@@ -55,12 +55,12 @@ QuietSaysTheSame =
 abbrev pub QuietKeepsSound : Type 0
 QuietKeepsSound = (game : Game) (event : Event) → IsQuiet event → IsSound game → IsSound (with_event game event)
 
--- a bid keeps a list sound, where it is at most 99,999, no other seat has that bid on the private, and
--- the seat has the sum free of its other bids
+-- a bid of a seat at the table keeps a list sound, where it is at most 99,999, no other seat has that
+-- bid on the private, and the seat has the sum free of its other bids
 abbrev pub BidKeepsSound : Type 0
 BidKeepsSound =
     (game : Game) (private : Private) (seat : Seat) (amount : ℕ) →
-    amount ≤ 99999 → ((other : Seat) → bid_of game.events private other ≡ Some amount → other ≡ seat) → pos amount ≤ℤ (cash_of game.seats game.events (party_at seat) -ℤ pos (bids_elsewhere_of game.events seat private)) → IsSound game → IsSound (with_event game (Bids private seat amount))
+    amount ≤ 99999 → seat.0 < game.seats → ((other : Seat) → bid_of game.events private other ≡ Some amount → other ≡ seat) → pos amount ≤ℤ (cash_of game.seats game.events (party_at seat) -ℤ pos (bids_elsewhere_of game.events seat private)) → IsSound game → IsSound (with_event game (Bids private seat amount))
 
 -- a sale of an unsold private keeps a list sound, where the seat has the price free of its other bids
 abbrev pub SaleKeepsSound : Type 0
