@@ -2,7 +2,7 @@
 use Rattle.std.proofs.Common.{◌≡◌, ◌==◌, ℕ, ◌<◌, List, ℤ, ◌+ℤ◌, pos, length, get_or, set, if◌then◌else◌, ap, ◌∙◌, arith}
 use Rattle.std.proofs.lemmas.Int.{ints}
 use Rattle.history.specs.Event.{party_at}
-use Rattle.history.specs.LookBack.{Game, cash_of}
+use Rattle.history.specs.LookBack.{Game, IsModerate, cash_of}
 use Rattle.history.specs.declared.event.Event.{Event}
 use Rattle.history.specs.declared.event.Party.{Party}
 use Rattle.history.specs.declared.event.Holder.TheVariants as holder
@@ -11,7 +11,7 @@ use Rattle.tables.specs.Roster.{place_of_company}
 use Rattle.tables.specs.Seat.{seat_at}
 use Rattle.tables.specs.declared.roster.Company.{Company}
 use Rattle.treasury.proofs.Tables.{entry_changed}
-use Rattle.treasury.specs.Accounts.{AreAccountsOf, HasAccount, cash_in, part_of}
+use Rattle.treasury.specs.Accounts.{AreAccountsOf, AreModerate, HasAccount, cash_in, part_of}
 use Rattle.treasury.specs.declared.accounts.Accounts.{Accounts}
 
 -- a game that has the same seats and events has the same cash
@@ -27,6 +27,12 @@ accounts_of game accounts seats events same_seats same_events bank of_seats of_c
     of_seats seat.0 has ∙ same_cash game seats events (party.Holder (holder.Seat seat)) same_seats same_events
 accounts_of game accounts seats events same_seats same_events bank of_seats of_companies (party.Holder (holder.Company company)) has =
     of_companies company ∙ same_cash game seats events (party.Holder (holder.Company company)) same_seats same_events
+
+-- accounts are moderate where those of the bank, the seats and the companies are
+pub moderate_of : (accounts : Accounts) → IsModerate accounts.bank → ((number : ℕ) → number < 6 → IsModerate (get_or accounts.seats number (pos 0))) → ((company : Company) → IsModerate (get_or accounts.companies (place_of_company company) (pos 0))) → AreModerate accounts
+moderate_of accounts bank of_seats of_companies party.Bank has = bank
+moderate_of accounts bank of_seats of_companies (party.Holder (holder.Seat seat)) has = of_seats seat.0 has
+moderate_of accounts bank of_seats of_companies (party.Holder (holder.Company company)) has = of_companies company
 
 -- a change of a company's account
 pub company_changed : (accounts : Accounts) (company : Company) (change cash : ℤ) (place : ℕ) → place ≡ place_of_company company → place < length accounts.companies → cash ≡ get_or accounts.companies place (pos 0) +ℤ change → (other : Party) → HasAccount other → cash_in (record accounts { companies = set accounts.companies place cash }) other ≡ cash_in accounts other +ℤ part_of (party.Holder (holder.Company company)) other change

@@ -1,7 +1,8 @@
 -- The sums of a payment.
 use Rattle.std.proofs.Common.{◌≡◌, ◌+ℤ◌, ◌-ℤ◌, ℤ, Bool, true, false, if◌then◌else◌, pos, arith}
 use Rattle.std.proofs.lemmas.Int.{ints}
-use Rattle.treasury.specs.Accounts.{IsSum, IsWithinReach}
+use Rattle.treasury.specs.Accounts.{IsSum}
+use Rattle.history.specs.LookBack.{IsModerate}
 use mir.Syntax.{w128}
 use mir.Val.{SFits, of_z, to_z}
 
@@ -14,7 +15,7 @@ abbrev less : Bool → ℤ → ℤ
 less pays sum = if pays then passed (pos 0 -ℤ passed sum) else pos 0
 
 -- the cash of the one that is paid stays within bounds, also where it is the one that pays
-pub paid_fits : (pays : Bool) (before between sum : ℤ) → IsWithinReach before → IsSum sum → SFits w128 sum → between ≡ before +ℤ less pays sum → SFits w128 (between +ℤ passed sum)
+pub paid_fits : (pays : Bool) (before between sum : ℤ) → IsModerate before → IsSum sum → SFits w128 sum → between ≡ before +ℤ less pays sum → SFits w128 (between +ℤ passed sum)
 paid_fits true before between sum reach is_sum fits after_first = record { sfits = grind (arith, ints) }
 paid_fits false before between sum reach is_sum fits after_first = record { sfits = grind (arith, ints) }
 

@@ -1,5 +1,5 @@
 -- A table that is filled entry by entry.
-use Rattle.std.proofs.Common.{◌≡◌, ℕ, ◌+◌, ◌+ℤ◌, ◌==◌, ◌<◌, if◌then◌else◌, List, ℤ, pos, length, get_or, set, sym, ap, ◌∙◌, inl, inr, arith}
+use Rattle.std.proofs.Common.{◌≡◌, ℕ, ◌+◌, ◌+ℤ◌, ◌==◌, ◌<◌, if◌then◌else◌, List, ℤ, pos, length, get_or, set, sym, subst, ◌∙◌, inl, inr, arith}
 use Rattle.std.proofs.lemmas.Bool.{cases_eq}
 use Rattle.std.proofs.lemmas.Bool.Decides.{nat_tests}
 use Rattle.std.proofs.lemmas.Grind.{get_or-set_at}
@@ -12,28 +12,27 @@ use mir.Syntax.{w128}
 use mir.Val.{SFits, of_z, to_z}
 
 -- one entry more is as it should be
-pub filled_more : (cash : List ℤ) (n : ℕ) (z : ℤ) (f : ℕ → ℤ) → n < length cash → SFits w128 z → z ≡ f n → ((k : ℕ) → k < n → get_or cash k (pos 0) ≡ f k) → (k : ℕ) → k < n + 1 → get_or (set cash n (to_z w128 (of_z w128 z))) k (pos 0) ≡ f k
-filled_more cash n z f within fits is before k less =
+pub filled_more : (P : ℕ → ℤ → Type 0) (cash : List ℤ) (n : ℕ) (z : ℤ) → n < length cash → SFits w128 z → P n z → ((k : ℕ) → k < n → P k (get_or cash k (pos 0))) → (k : ℕ) → k < n + 1 → P k (get_or (set cash n (to_z w128 (of_z w128 z))) k (pos 0))
+filled_more P cash n z within fits is before k less =
     elim (cases_eq k n) [
       | inl same ↦
-          ap (λ (i : ℕ). get_or (set cash n (to_z w128 (of_z w128 z))) i (pos 0)) same
-          ∙ get_or-set_same cash n (to_z w128 (of_z w128 z)) (pos 0) within
-          ∙ to_z-of_z w128 z fits
-          ∙ is
-          ∙ ap f (sym same)
-      | inr apart ↦ get_or-set_other cash n k (to_z w128 (of_z w128 z)) (pos 0) apart ∙ before k (omega arith)
+          let there : z ≡ get_or (set cash n (to_z w128 (of_z w128 z))) n (pos 0) =
+          sym (get_or-set_same cash n (to_z w128 (of_z w128 z)) (pos 0) within ∙ to_z-of_z w128 z fits)
+          in
+          subst (λ (i : ℕ). P i (get_or (set cash n (to_z w128 (of_z w128 z))) i (pos 0))) (sym same) (subst (λ (x : ℤ). P n x) there is)
+      | inr apart ↦ subst (λ (x : ℤ). P k x) (sym (get_or-set_other cash n k (to_z w128 (of_z w128 z)) (pos 0) apart)) (before k (omega arith))
     ]
 
 -- a table by the places of the roster has each company's entry at its place
-pub at_places : (cash : List ℤ) (f : Company → ℤ) → ((k : ℕ) → k < 8 → get_or cash k (pos 0) ≡ f (get_or companies k Pennsylvania)) → (company : Company) → get_or cash (place_of_company company) (pos 0) ≡ f company
-at_places cash f each Pennsylvania = each 0 (omega arith)
-at_places cash f each NewYorkCentral = each 1 (omega arith)
-at_places cash f each CanadianPacific = each 2 (omega arith)
-at_places cash f each BaltimoreOhio = each 3 (omega arith)
-at_places cash f each ChesapeakeOhio = each 4 (omega arith)
-at_places cash f each Erie = each 5 (omega arith)
-at_places cash f each NewHaven = each 6 (omega arith)
-at_places cash f each BostonMaine = each 7 (omega arith)
+pub at_places : (P : Company → ℤ → Type 0) (cash : List ℤ) → ((k : ℕ) → k < 8 → P (get_or companies k Pennsylvania) (get_or cash k (pos 0))) → (company : Company) → P company (get_or cash (place_of_company company) (pos 0))
+at_places P cash each Pennsylvania = each 0 (omega arith)
+at_places P cash each NewYorkCentral = each 1 (omega arith)
+at_places P cash each CanadianPacific = each 2 (omega arith)
+at_places P cash each BaltimoreOhio = each 3 (omega arith)
+at_places P cash each ChesapeakeOhio = each 4 (omega arith)
+at_places P cash each Erie = each 5 (omega arith)
+at_places P cash each NewHaven = each 6 (omega arith)
+at_places P cash each BostonMaine = each 7 (omega arith)
 
 -- a change of one entry
 pub entry_changed : (table : List ℤ) (i k : ℕ) (change z : ℤ) → i < length table → z ≡ get_or table i (pos 0) +ℤ change → get_or (set table i z) k (pos 0) ≡ get_or table k (pos 0) +ℤ (if i == k then change else pos 0)

@@ -1,9 +1,9 @@
 -- The accounts of a game: the bank's, one for each of six seats, and the companies'. Each holds what its
 -- party has. A payment moves its sum from one party to another and leaves all others as they were; one
 -- that is not the bank, and has less than the sum, is short and pays nothing.
-use Rattle.std.specs.Prelude.{◌≡◌, ◌<◌, ◌^◌, ℤ, pos, ◌+ℤ◌, ◌-ℤ◌, ◌≤ℤ◌, Bool, false, if◌then◌else◌, slice_index_or}
+use Rattle.std.specs.Prelude.{◌≡◌, ◌<◌, ℤ, pos, ◌+ℤ◌, ◌-ℤ◌, ◌≤ℤ◌, Bool, false, if◌then◌else◌, slice_index_or}
 use lib.Signed.{lt_z}
-use Rattle.history.specs.LookBack.{Game, cash_of, same_party}
+use Rattle.history.specs.LookBack.{Game, IsModerate, cash_of, same_party}
 use Rattle.history.specs.declared.event.Holder.TheVariants as holder
 use Rattle.history.specs.declared.event.Party.{Party}
 use Rattle.history.specs.declared.event.Party.TheVariants as party
@@ -27,6 +27,10 @@ abbrev pub AreAccountsOf : Game → Accounts → Type 0
 AreAccountsOf game accounts =
     (party : Party) → HasAccount party → cash_in accounts party ≡ cash_of game.seats game.events party
 
+-- and nobody has, or owes, more than 2 ^ 100
+abbrev pub AreModerate : Accounts → Type 0
+AreModerate accounts = (party : Party) → HasAccount party → IsModerate (cash_in accounts party)
+
 -- a party that is not the bank has less than the sum that it is to pay
 abbrev pub is_short : Accounts → Party → ℤ → Bool
 is_short accounts party.Bank sum = false
@@ -45,7 +49,3 @@ ArePaid old new from to sum =
 -- a sum that an event can name
 abbrev pub IsSum : ℤ → Type 0
 IsSum sum = (pos 0 ≤ℤ sum) × (sum ≤ℤ pos 1000000)
-
--- cash that is not beyond all that events can bring
-abbrev pub IsWithinReach : ℤ → Type 0
-IsWithinReach cash = ((pos 0 -ℤ pos (2 ^ 100)) ≤ℤ cash) × (cash ≤ℤ pos (2 ^ 100))

@@ -1,14 +1,14 @@
 ghost use Rattle.std.specs.Prelude.{◌≡◌, ◌<◌, ◌↔◌, ◌+ℤ◌, ℕ, FitsSigned, IsErr, OnErr, OnOk, pos, slice_index_or, true};
 ghost use Rattle.std.specs.Int.{w128};
 ghost use Rattle.history.specs.Event.{party_at};
-ghost use Rattle.history.specs.LookBack.{cash_of};
+ghost use Rattle.history.specs.LookBack.{IsModerate, cash_of};
 ghost use Rattle.history.specs.declared.event.Holder.TheVariants as holder;
 ghost use Rattle.history.specs.declared.event.Party.{Party};
 ghost use Rattle.history.specs.declared.event.Party.TheVariants as party;
 ghost use Rattle.tables.specs.Roster.{place_of_company};
 ghost use Rattle.tables.specs.Seat.{seat_at};
 ghost use Rattle.tables.specs.declared.roster.Company.{Company};
-ghost use Rattle.treasury.specs.Accounts.{AreAccountsOf, ArePaid, HasAccount, IsSum, IsWithinReach, cash_in, is_short, part_of};
+ghost use Rattle.treasury.specs.Accounts.{AreAccountsOf, AreModerate, ArePaid, HasAccount, IsSum, cash_in, is_short, part_of};
 
 use history::{History, Holder, Party, Past};
 use tables::{Company, Money, PLAYERS_MOST, Seat};
@@ -28,7 +28,8 @@ pub struct Short;
 impl Accounts {
     /// The accounts of a game as it stands, by looking back over its events.
     pub fn of(history: &History) -> Accounts
-        ensures { AreAccountsOf history.now result }
+        ensures accounts { AreAccountsOf history.now result }
+        ensures moderate { AreModerate result }
     {
         let now = history.now();
         Accounts {
@@ -56,8 +57,8 @@ impl Accounts {
         requires from { HasAccount from }
         requires to { HasAccount to }
         requires sum { IsSum sum }
-        requires from_cash { IsWithinReach (cash_in self.old from) }
-        requires to_cash { IsWithinReach (cash_in self.old to) }
+        requires from_cash { IsModerate (cash_in self.old from) }
+        requires to_cash { IsModerate (cash_in self.old to) }
         ensures paid { OnOk result (ArePaid self.old self.new from to sum) }
         ensures short { IsErr result ↔ (is_short self.old from sum ≡ true) }
         ensures unchanged { OnErr result (self.new ≡ self.old) }
@@ -97,7 +98,8 @@ impl Accounts {
 
 /// What each seat has, by its number.
 fn cash_of_seats(now: &Past) -> [Money; PLAYERS_MOST]
-    ensures { (number : ℕ) → number < 6 → slice_index_or result number (pos 0) ≡ cash_of now.now.seats now.now.events.now (party_at (seat_at number)) }
+    ensures cash { (number : ℕ) → number < 6 → slice_index_or result number (pos 0) ≡ cash_of now.now.seats now.now.events.now (party_at (seat_at number)) }
+    ensures moderate { (number : ℕ) → number < 6 → IsModerate (slice_index_or result number (pos 0)) }
 {
     let mut cash = [0; PLAYERS_MOST];
     for number in 0..PLAYERS_MOST {
@@ -108,7 +110,8 @@ fn cash_of_seats(now: &Past) -> [Money; PLAYERS_MOST]
 
 /// What each company has, by its place in the roster.
 fn cash_of_companies(now: &Past) -> [Money; 8]
-    ensures { (company : Company) → slice_index_or result (place_of_company company) (pos 0) ≡ cash_of now.now.seats now.now.events.now (party.Holder (holder.Company company)) }
+    ensures cash { (company : Company) → slice_index_or result (place_of_company company) (pos 0) ≡ cash_of now.now.seats now.now.events.now (party.Holder (holder.Company company)) }
+    ensures moderate { (company : Company) → IsModerate (slice_index_or result (place_of_company company) (pos 0)) }
 {
     let mut cash = [0; 8];
     for (place, company) in Company::ALL.iter().enumerate() {

@@ -1,7 +1,7 @@
-use Rattle.std.proofs.Common.{ℕ, ℤ, ap, ◌∙◌, arith, rules}
+use Rattle.std.proofs.Common.{◌≡◌, ℕ, ℤ, ap, ◌∙◌, arith, rules}
 use Rattle.std.proofs.lemmas.List.{length-set}
 use Rattle.history.specs.Event.{party_at}
-use Rattle.history.specs.LookBack.{cash_of}
+use Rattle.history.specs.LookBack.{IsModerate, cash_of}
 use Rattle.history.specs.declared.event.Party.{Party}
 use Rattle.tables.specs.Seat.{seat_at}
 use Rattle.treasury.proofs.Tables.{filled_more}
@@ -14,4 +14,8 @@ loop-number-preserved c =
     let before = c.loop-number.invariant in
     let fits : SFits w128 c.cash.result = search rules in
     let of : Party → ℤ = λ party. cash_of c.args.now.now.seats c.args.now.now.events.now party in
-    (length-set _ _ _ ∙ before.0, filled_more c.loop-number.cash c.loop-number.number c.cash.result (λ (k : ℕ). of (party_at (seat_at k))) (omega (arith, before.0, c.loop-number-test.true)) fits (c.cash.ensures ∙ ap of (c.of_seat.ensures ∙ ap party_at c.at.ensures)) before.1)
+    record {
+      all_seats = length-set _ _ _ ∙ before.all_seats;
+      cash = filled_more (λ (k : ℕ) (z : ℤ). z ≡ of (party_at (seat_at k))) c.loop-number.cash c.loop-number.number c.cash.result (omega (arith, before.all_seats, c.loop-number-test.true)) fits (c.cash.ensures.sum ∙ ap of (c.of_seat.ensures ∙ ap party_at c.at.ensures)) before.cash;
+      moderate = filled_more (λ (k : ℕ) (z : ℤ). IsModerate z) c.loop-number.cash c.loop-number.number c.cash.result (omega (arith, before.all_seats, c.loop-number-test.true)) fits c.cash.ensures.within before.moderate;
+    }

@@ -1,11 +1,13 @@
 use Rattle.std.proofs.Common.{◌≡◌, ◌<◌, ℕ, get_or, length, pos}
 use Rattle.history.specs.Event.{party_at}
-use Rattle.history.specs.LookBack.{cash_of}
+use Rattle.history.specs.LookBack.{IsModerate, cash_of}
 use Rattle.tables.specs.Seat.{seat_at}
 use Rattle.treasury.proofs.accounts.cash_of_seats.Given as goal
 
 -- the seats so far have their cash
 abbrev pub invariant-loop-number : goal.invariant-loop-number
-invariant-loop-number l =
-    (length l.cash ≡ 6)
-    × ((k : ℕ) → k < l.number → get_or l.cash k (pos 0) ≡ cash_of l.fn.now.seats l.fn.now.events.now (party_at (seat_at k)))
+invariant-loop-number l = record {
+  all_seats : length l.cash ≡ 6;
+  cash : (k : ℕ) → k < l.number → get_or l.cash k (pos 0) ≡ cash_of l.fn.now.seats l.fn.now.events.now (party_at (seat_at k));
+  moderate : (k : ℕ) → k < l.number → IsModerate (get_or l.cash k (pos 0));
+}

@@ -1,11 +1,17 @@
-use Rattle.std.proofs.Common.{◌∙◌, rules}
+use Rattle.std.proofs.Common.{ℤ, subst, sym, ◌∙◌, rules}
 use Rattle.std.proofs.lemmas.Int.{to_z-of_z}
-use Rattle.treasury.proofs.Parties.{accounts_of}
+use Rattle.history.specs.LookBack.{IsModerate}
+use Rattle.treasury.proofs.Parties.{accounts_of, moderate_of}
 use Rattle.treasury.proofs.accounts.Accounts.of.Goals as goal
 use mir.Syntax.{w128}
 use mir.Val.{SFits}
 
-pub returns : goal.returns
-returns c =
+pub returns-clause-accounts : goal.returns-clause-accounts
+returns-clause-accounts c =
     let fits : SFits w128 c.cash.result = search rules in
-    accounts_of c.args.history.now _ c.now-now.result.seats c.now-now.result.events.now c.now-now.ensures.seats c.now-now.ensures.events (to_z-of_z w128 c.cash.result fits ∙ c.cash.ensures) c.cash_of_seats.ensures c.cash_of_companies.ensures
+    accounts_of c.args.history.now _ c.now-now.result.seats c.now-now.result.events.now c.now-now.ensures.seats c.now-now.ensures.events (to_z-of_z w128 c.cash.result fits ∙ c.cash.ensures.sum) c.cash_of_seats.ensures.cash c.cash_of_companies.ensures.cash
+
+pub returns-clause-moderate : goal.returns-clause-moderate
+returns-clause-moderate c =
+    let fits : SFits w128 c.cash.result = search rules in
+    moderate_of _ (subst (λ (z : ℤ). IsModerate z) (sym (to_z-of_z w128 c.cash.result fits)) c.cash.ensures.within) c.cash_of_seats.ensures.moderate c.cash_of_companies.ensures.moderate
