@@ -8,4 +8,3 @@ pub mod Orders
 pub mod Tell
 pub mod Sound
 pub mod Laws
-pub mod Orders
