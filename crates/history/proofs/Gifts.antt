@@ -46,10 +46,6 @@ same_company_is : (a b : Company) → same_company a b ≡ true → a ≡ b
 same_company_is a b same =
     sym (company_at_place a) ∙ ap company_at ((Decides-eqb (place_of_company a) (place_of_company b)).0 same) ∙ company_at_place b
 
--- a company is itself
-company_itself : (company : Company) → same_company company company ≡ true
-company_itself company = (Decides-eqb (place_of_company company) (place_of_company company)).1 refl
-
 -- nothing either way
 nothing : (test : Bool) → ◌≡◌ {A = ℕ} (if test then 0 else 0) 0
 nothing true = refl

@@ -55,8 +55,8 @@ QuietSaysTheSame =
 abbrev pub QuietKeepsSound : Type 0
 QuietKeepsSound = (game : Game) (event : Event) → IsQuiet event → IsSound game → IsSound (with_event game event)
 
--- a bid of a seat at the table keeps a list sound, where it is at most 99,999, no other seat has that bid on the private, and
--- the seat has the sum free of its other bids
+-- a bid of a seat at the table keeps a list sound, where it is at most 99,999, no other seat has that
+-- bid on the private, and the seat has the sum free of its other bids
 abbrev pub BidKeepsSound : Type 0
 BidKeepsSound =
     (game : Game) (private : Private) (seat : Seat) (amount : ℕ) →

@@ -1,9 +1,9 @@
-//! Standing bids.
+//! Standing bids, and what the standing orders of a seat say.
 ghost use Rattle.std.specs.Prelude.{◌≡◌, ◌^◌, ◌<◌, ◌≤◌, option_map, pos};
 ghost use Rattle.history.specs.Orders.{limit_of, par_ordered_of};
 ghost use Rattle.history.specs.Bids.{bid_of, bids_elsewhere_of, bids_of, bids_on, free_cash_of, free_for, tied_on};
 
-use crate::aspect::last_said;
+use crate::aspect::{InRound, last_said};
 use crate::event::{Bid, Holder, Party};
 use crate::look_back::Past;
 use crate::topics::{BidOn, LimitOn, ParOrdered};
@@ -44,7 +44,7 @@ impl Past<'_> {
     pub fn limit(&self, private: Private, seat: Seat) -> Option<Amount>
         ensures { result ≡ limit_of self.now.events.now private seat }
     {
-        last_said(&LimitOn(private, seat), self.events).flatten()
+        last_said(&InRound(LimitOn(private, seat)), self.events).flatten()
     }
 
     /// The par value that a seat sets for BO if it buys BOP, by its last obeyed standing PAR line.

@@ -1,7 +1,7 @@
 //! The things of which events speak, and the accounts that they change.
 ghost use Rattle.history.specs.Bids.{bid_said};
 ghost use Rattle.history.specs.Event.{bidding_of, obeyed_of, office_of, ownership_of, par_set, payment_of, square_set, sv_price_set, transfer_of};
-ghost use Rattle.history.specs.LookBack.{actor_of, in_round, owner_said, paid_by, paid_to};
+ghost use Rattle.history.specs.LookBack.{actor_of, owner_said, paid_by, paid_to};
 ghost use Rattle.history.specs.Orders.{limit_in, par_of_baltimore_in, said_by};
 ghost use Rattle.history.specs.Shares.{brought_to, par_said, president_said, square_said, taken_from};
 
@@ -99,23 +99,22 @@ impl Topic for BidOn {
     }
 }
 
-/// How far a seat goes in an auction of a private: a sum, or nothing.
+/// How far a seat goes in an auction of a private.
 #[derive(Clone, Copy)]
 pub(crate) struct LimitOn(pub Private, pub Seat);
 
 impl Topic for LimitOn {
-    type Word = Option<Amount>;
+    type Word = Amount;
 
-    ghost word = { λ a event. in_round (λ e. said_by a.1 (limit_in a.0) (obeyed_of e)) event };
+    ghost word = { λ a event. said_by a.1 (limit_in a.0) (obeyed_of event) };
 
-    fn word(&self, event: &Event) -> Option<Option<Amount>> {
+    fn word(&self, event: &Event) -> Option<Amount> {
         match event {
-            Event::Round(_) => Some(None),
             Event::Ruled {
                 seat,
                 ruling: Ruling::Obeyed(order),
                 ..
-            } if *seat == self.1 => order.limit_on(self.0).map(Some),
+            } if *seat == self.1 => order.limit_on(self.0),
             _ => None,
         }
     }
