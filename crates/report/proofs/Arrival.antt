@@ -1,15 +1,19 @@
 -- Where files have the same players, sheets and unread lines, a game of theirs is printed the same.
 use Rattle.std.proofs.Common.{◌≡◌, ℕ, List, [], ◌∷◌, ◌++◌, length, ap, refl, ◌∙◌}
-use Rattle.std.specs.Prelude.{Result, Ok, Err, IsOk}
+use Rattle.std.specs.Prelude.{Option, Some, None, Result, Ok, Err, IsOk}
 use Rattle.std.specs.List.{flat_map, range_with_len}
 use Rattle.history.specs.declared.event.Event.{Event}
 use Rattle.history.specs.declared.event.Event.TheVariants.{Round, Ruled, Passes, Left, Sold, Bids, Price, Revenue, Given, Par, President, Broken}
 use Rattle.history.specs.declared.event.Holder.{Holder}
 use Rattle.history.specs.declared.event.Holder.TheVariants as holder
+use Rattle.history.specs.Shares.{president_of}
+use Rattle.tables.specs.Roster.{companies}
+use Rattle.tables.specs.declared.roster.Company.{Company}
+use Rattle.tables.specs.declared.seat.Seat.{Seat}
 use Rattle.report.specs.Laws.{ArrivalChangesNoReport}
 use Rattle.report.specs.Line.{event_line, holder_text}
 use Rattle.report.specs.Report.{IsReportOf, end_text, header, name_owing, owing, report_text, rounds_in, texts_of_rounds}
-use Rattle.report.specs.Statement.{player_line, statement}
+use Rattle.report.specs.Statement.{company_line, company_lines, player_line, player_lines, president_name, started_line, statement}
 use Rattle.rounds.specs.Arrival.{ArrivalChangesNoGame}
 use Rattle.rounds.specs.Play.{end_of}
 use Rattle.rounds.specs.declared.game.End.{End}
@@ -39,10 +43,36 @@ event_same f g (Par company price) players = refl
 event_same f g (President company seat) players = rw players refl
 event_same f g Broken players = refl
 
+-- the same players have the same lines
+players_same : (f g : List ℕ) (seats : ℕ) (events : List Event) → players_of f ≡ players_of g → player_lines f seats events ≡ player_lines g seats events
+unfolding player_lines player_line
+players_same f g seats events players = rw players refl
+
+-- the same president has the same name
+president_same : (f g : List ℕ) (president : Option Seat) → players_of f ≡ players_of g → president_name f president ≡ president_name g president
+president_same f g None players = refl
+president_same f g (Some seat) players = rw players refl
+
+-- the same company has the same line
+company_same : (f g : List ℕ) (seats : ℕ) (events : List Event) (company : Company) → players_of f ≡ players_of g → started_line f seats events company ≡ started_line g seats events company
+unfolding company_line
+company_same f g seats events company players = rw (president_same f g (president_of events company) players) refl
+
+-- the same of these companies have the same lines
+companies_same : (f g : List ℕ) (seats : ℕ) (events : List Event) (list : List Company) → players_of f ≡ players_of g → flat_map (λ company. started_line f seats events company) list ≡ flat_map (λ company. started_line g seats events company) list
+companies_same f g seats events [] players = refl
+companies_same f g seats events (company ∷ others) players =
+    rw (company_same f g seats events company players, companies_same f g seats events others players) refl
+
+-- the same companies have the same lines
+company_lines_same : (f g : List ℕ) (seats : ℕ) (events : List Event) → players_of f ≡ players_of g → company_lines f seats events ≡ company_lines g seats events
+unfolding company_lines
+company_lines_same f g seats events players = companies_same f g seats events companies players
+
 -- the same events give the same statement
 statement_same : (f g : List ℕ) (seats : ℕ) (events : List Event) → players_of f ≡ players_of g → statement f seats events ≡ statement g seats events
-unfolding statement player_line
-statement_same f g seats events players = rw players
+statement_same f g seats events players =
+    rw (players_same f g seats events players, company_lines_same f g seats events players) refl
 
 -- the same events are printed the same
 events_same : (f g : List ℕ) (events : List Event) → players_of f ≡ players_of g → flat_map (event_line f) events ≡ flat_map (event_line g) events

@@ -1,5 +1,5 @@
 -- The texts of a game's rounds, each looked up by its round, are the text of all rounds.
-use Rattle.std.proofs.Common.{◌≡◌, ℕ, Bool, true, false, List, [], ◌∷◌, ◌++◌, Option, Some, None, refl, ap, sym, ◌∙◌, arith}
+use Rattle.std.proofs.Common.{◌≡◌, ℕ, Bool, true, false, List, [], ◌∷◌, ◌++◌, Option, Some, None, refl, ap, sym, subst, ◌∙◌, arith}
 use Rattle.std.specs.List.{flat_map}
 use Rattle.history.specs.declared.event.Event.{Event}
 use Rattle.report.specs.Laws.{BeginDifferentRounds, NoneIs, ReportIsItsParts, rounds_of, with_round}
@@ -46,15 +46,20 @@ module _ (file : List ℕ) (seats : ℕ) where
   all_later before first rounds begun (events ∷ some) is none =
       one_later before first rounds begun (round_begun events) (rounds_of some) is none.0 (all_later before first rounds begun some is none.1)
 
+  -- the first of some rounds is looked up there
+  first_text : (before first : List Event) (rounds : List (List Event)) (round : Round) → is_round round first ≡ true → text_of_one file seats round before (first ∷ rounds) ≡ lines_of_round file seats before first
+  first_text before first rounds round here = rw here refl
+
   -- the texts of rounds that differ
   texts : (before : List Event) (rounds : List (List Event)) → BeginDifferentRounds rounds → flat_map (λ round. text_of_one file seats round before rounds) (rounds_of rounds) ≡ texts_of_rounds file seats before rounds
   texts before [] different = refl
   texts before (first ∷ rounds) different =
       let begun : Round = different.0 in
-      let is : round_begun first ≡ Some begun = different.1.0 in
-      let here : is_round begun first ≡ true = rw is (itself begun) in
-      let later = all_later before first rounds begun rounds is different.1.1.0 in
-      rw (is, here, later, texts (before ++ first) rounds different.1.1.1) refl
+      let is : round_begun first ≡ Some begun = different.1 in
+      let here : is_round begun first ≡ true = subst (λ one. is_the_round begun one ≡ true) (sym is) (itself begun) in
+      ap (λ one. flat_map (λ round. text_of_one file seats round before (first ∷ rounds)) (with_round one (rounds_of rounds))) is
+      ∙ (ap (λ text. text ++ flat_map (λ round. text_of_one file seats round before (first ∷ rounds)) (rounds_of rounds)) (first_text before first rounds begun here)
+      ∙ ap (λ text. lines_of_round file seats before first ++ text) (all_later before first rounds begun rounds is different.2 ∙ texts (before ++ first) rounds different.3))
 
 -- a report is its parts
 pub parts_of_report : ReportIsItsParts

@@ -1,7 +1,7 @@
 -- Laws of reports: in which order the sheets of different players arrive changes nothing in the report,
 -- and the report is its parts, one after the other.
-use Rattle.std.specs.Prelude.{◌≡◌, ℕ, false, List, [], ◌∷◌, ◌++◌}
-use Rattle.std.specs.List.{flat_map, list_any}
+use Rattle.std.specs.Prelude.{◌≡◌, ℕ, false, List, [], ◌∷◌, ◌++◌, Option, Some, None}
+use Rattle.std.specs.List.{flat_map}
 use Rattle.history.specs.declared.event.Event.{Event}
 use Rattle.report.specs.Report.{IsReport, end_text, header, is_round, report_of, round_begun, round_text_of, rounds_in, unread_lines}
 use Rattle.rounds.specs.Play.{Played}

@@ -26,7 +26,11 @@ pub(crate) enum Field<'a> {
 }
 
 /// Adds an event as its line.
-pub(crate) fn push_event(out: &mut Vec<u8>, sheets: &Sheets, event: &Event) -> Result<(), AllocError>
+pub(crate) fn push_event(
+    out: &mut Vec<u8>,
+    sheets: &Sheets,
+    event: &Event,
+) -> Result<(), AllocError>
     ensures { OnOk result (Adds out.old out.new (event_line sheets.now event.now)) }
 {
     match event {
