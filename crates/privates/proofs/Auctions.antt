@@ -1,8 +1,8 @@
 -- The winner of an auction is ahead of all, and pays no more than his limit and no less than each bid.
-use Rattle.std.proofs.Common.{◌≡◌, ◌⊎◌, ℕ, ℤ, pos, ◌+ℤ◌, ◌≤ℤ◌, Bool, true, false, ◌≤◌, List, [], ◌∷◌, length, map, Option, if◌then◌else◌, inl, inr, refl, sym, ap, ◌∙◌, arith}
+use Rattle.std.proofs.Common.{◌≡◌, ℤ, pos, ◌+ℤ◌, ◌≤ℤ◌, Bool, true, false, ◌≤◌, List, [], ◌∷◌, length, map, if◌then◌else◌, inl, inr, refl, arith}
 use Rattle.std.specs.Int.{int_max, int_min}
 use Rattle.std.proofs.lemmas.Int.{ints, clamps}
-use Rattle.privates.specs.Auction.{Bidder, EachBidder, IsAhead, IsAmong, IsWon, LimitsHold, ahead, auction_of, beats, bid_by, greatest_from, highest_bid, limit_by, price_among, second_limit, winner_among}
+use Rattle.privates.specs.Auction.{Bidder, EachBidder, IsAhead, IsAmong, IsWon, LimitsHold, ahead, auction_of, beats, bid_by, greatest_from, highest_bid, limit_by, second_limit, winner_among}
 
 -- a bidder is ahead of himself
 ahead_of_himself : (one : Bidder) → IsAhead one one
@@ -16,9 +16,9 @@ ahead_of_both one middle last before after =
     record {
       limit = omega (arith, ints);
       bid = λ same.
-      let by_first = before.bid (omega (arith, ints)) in
-      let by_second = after.bid (omega (arith, ints)) in
-      omega (arith, ints);
+          let by_first = before.bid (omega (arith, ints)) in
+          let by_second = after.bid (omega (arith, ints)) in
+          omega (arith, ints);
     }
 
 -- who is chosen of two is ahead of the one
@@ -39,9 +39,9 @@ winner_ahead : (first : Bidder) (others : List Bidder) → EachBidder (λ other.
 winner_ahead first [] = (ahead_of_himself first, tt)
 winner_ahead first (other ∷ others) =
     let rest = winner_ahead (ahead first other) others in
-    let winner : Bidder = winner_among (ahead first other) others in
-    ( ahead_of_both winner (ahead first other) first rest.0 (ahead_of_one first other)
-    , (ahead_of_both winner (ahead first other) other rest.0 (ahead_of_other first other), rest.1)
+    let winner : Bidder = winner_among (ahead first other) others in (
+      ahead_of_both winner (ahead first other) first rest.0 (ahead_of_one first other),
+      (ahead_of_both winner (ahead first other) other rest.0 (ahead_of_other first other), rest.1),
     )
 
 -- who is chosen of two is one of them

@@ -1,6 +1,5 @@
 -- The bidders of an auction that follows from a sale, and what its winner pays.
-use Rattle.std.proofs.Common.{◌≡◌, ◌≢◌, ◌⊎◌, ℕ, ◌+◌, ◌<◌, ◌≤◌, List, [], ◌∷◌, length, map, Option, Some, None, ℤ, pos, negsuc, ◌≤ℤ◌, inl, inr, refl, sym, subst, ap, ◌∙◌, arith}
-use Rattle.std.specs.Int.{int_max, int_min}
+use Rattle.std.proofs.Common.{◌≡◌, ◌≢◌, ℕ, ◌<◌, ◌≤◌, List, [], ◌∷◌, length, map, Option, Some, None, ℤ, pos, negsuc, ◌≤ℤ◌, inl, inr, refl, sym, subst, ap, ◌∙◌, arith}
 use Rattle.std.specs.Int.RustNames.{unsigned_abs}
 use Rattle.std.proofs.lemmas.Int.{ints, clamps}
 use Rattle.std.proofs.lemmas.List.{length-map as length_map}
@@ -12,9 +11,9 @@ use Rattle.history.specs.declared.event.Event.{Event}
 use Rattle.privates.proofs.Auctions.{auction_won}
 use Rattle.privates.proofs.StandingBids.{AmountsDiffer, EachBid, Stands, bid_free, bids_differ, bids_stand, cheapest_unsold}
 use Rattle.privates.specs.Act.{MayPay}
-use Rattle.privates.specs.Auction.{Bidder, BidsDiffer, EachBidder, IsAmong, IsWon, LimitsHold, auction_of, bid_by, limit_by}
+use Rattle.privates.specs.Auction.{Bidder, BidsDiffer, EachBidder, IsAmong, LimitsHold, auction_of, bid_by, limit_by}
 use Rattle.privates.specs.Sale.{after_auction, after_sale, bidder_of, limit_from, settled_by}
-use Rattle.privates.specs.Underway.{IsUnderway, LimitsAreSmall}
+use Rattle.privates.specs.Underway.{IsUnderway}
 use Rattle.tables.specs.declared.roster.Private.{Private}
 use Rattle.tables.specs.declared.seat.Seat.{Seat}
 

@@ -1,6 +1,6 @@
 -- An order that breaks no rule can be done, and still can after an event that changes nothing of what
 -- parties have and own.
-use Rattle.std.proofs.Common.{◌≡◌, ℕ, Bool, true, false, T, not, List, [], ◌∷◌, ◌++◌, Option, Some, None, is_some, pos, ◌≤ℤ◌, ◌-ℤ◌, ◌+◌, ◌||◌, nat_lt, unwrap_or, arith, ℤ, refl, sym, subst, ap, ◌∙◌}
+use Rattle.std.proofs.Common.{◌≡◌, ℕ, Bool, false, T, not, List, [], ◌∷◌, ◌++◌, Option, Some, None, is_some, pos, ◌≤ℤ◌, ◌-ℤ◌, ◌+◌, ◌||◌, nat_lt, unwrap_or, arith, ℤ, refl, sym, subst, ap, ◌∙◌}
 use Rattle.std.specs.Int.Signed.{lt_z, lt_z_no}
 use Rattle.history.proofs.EventAtEnd.{quiet_same}
 use Rattle.history.proofs.Standing.{bids_split}
@@ -9,11 +9,10 @@ use Rattle.history.specs.Event.{IsQuiet, party_at}
 use Rattle.history.specs.Laws.{SaysTheSame}
 use Rattle.history.specs.LookBack.{Game, cash_of, with_event}
 use Rattle.history.specs.declared.event.Event.{Event}
-use Rattle.history.specs.declared.ruling.OpeningRule.{OpeningRule}
 use Rattle.order_grammar.specs.declared.order.Order.{Order}
 use Rattle.order_grammar.specs.declared.order.Order.TheVariants.{BuyPrivate, Bid}
 use Rattle.privates.specs.Act.{MayAct, MayPay}
-use Rattle.privates.specs.Judgement.{bid_rules, is_near, is_too_low, judgement_of, price_of, purchase_rules}
+use Rattle.privates.specs.Judgement.{bid_rules, is_near, judgement_of, price_of, purchase_rules}
 use Rattle.tables.specs.Roster.{face_of}
 use Rattle.tables.proofs.Rules.{none_broken}
 use Rattle.tables.specs.declared.roster.Private.{Private}

@@ -1,5 +1,5 @@
 -- The limits of this round are at most 99,999: only an obeyed LIMIT line changes one.
-use Rattle.std.proofs.Common.{◌≡◌, ◌⊎◌, inl, inr, ℕ, ◌≤◌, ◌==◌, Bool, true, false, if◌then◌else◌, List, [], ◌∷◌, ◌++◌, Option, Some, None, option_map, refl, sym, subst, ap, ◌∙◌}
+use Rattle.std.proofs.Common.{◌≡◌, ◌⊎◌, inl, inr, ℕ, ◌≤◌, ◌==◌, Bool, true, false, if◌then◌else◌, List, [], ◌∷◌, ◌++◌, Option, Some, None, option_map, refl, sym, subst, ◌∙◌}
 use Rattle.history.proofs.EventAtEnd.{now_said_before, now_said_here}
 use Rattle.history.specs.Event.{obeyed_of}
 use Rattle.history.specs.LookBack.{in_round}

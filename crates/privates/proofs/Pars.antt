@@ -1,10 +1,9 @@
 -- The par value that a buyer of BOP sets is a par value, so no sum of over 1,000,000.
-use Rattle.std.proofs.Common.{◌≡◌, ℕ, ◌≤◌, ◌==◌, ◌&&◌, Bool, true, false, nat_le, if◌then◌else◌, List, [], ◌∷◌, Option, Some, None, is_some, unwrap_or, refl, sym, subst, ap, ◌∙◌, arith}
+use Rattle.std.proofs.Common.{◌≡◌, ℕ, ◌≤◌, ◌==◌, ◌&&◌, Bool, true, false, nat_le, if◌then◌else◌, List, [], ◌∷◌, Option, Some, None, is_some, unwrap_or, refl, subst, arith}
 use Rattle.std.specs.List.{find, list_all}
 use Rattle.std.specs.Option.{option_or}
 use Rattle.std.proofs.lemmas.Bool.Decides.{nat_tests}
 use Rattle.history.specs.Event.{Obeyance, obeyed_of}
-use Rattle.history.specs.LookBack.{last_said}
 use Rattle.history.specs.Orders.{par_of_baltimore_in, par_ordered_of, said_by}
 use Rattle.history.specs.Shares.{is_par_value}
 use Rattle.history.specs.declared.event.Event.{Event}

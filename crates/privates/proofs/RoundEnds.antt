@@ -1,15 +1,12 @@
 -- An opening round has an outcome: its turns can begin, so they end.
-use Rattle.std.proofs.Common.{◌≡◌, ℕ, zero, suc, ◌+◌, ◌<◌, ◌≤◌, List, [], ◌∷◌, length, map, min, unwrap_or, option_map, refl, sym, ap, ◌∙◌, inl, inr, arith}
+use Rattle.std.proofs.Common.{ℕ, zero, suc, ◌+◌, ◌≤◌, List, length, map, refl, arith}
 use Rattle.std.specs.List.{range_with_len}
-use Rattle.std.proofs.lemmas.Bool.{cases_lt}
-use Rattle.std.proofs.lemmas.Option.{slice_get_past, slice_get-map, unwrap_or-slice_get}
 use Rattle.history.specs.LookBack.{Game}
-use Rattle.history.specs.declared.event.Event.{Event}
 use Rattle.privates.proofs.Turns.{idle, priority_at_table}
-use Rattle.privates.specs.Opening.{EndsSoon, finished, groups_for, opened}
+use Rattle.privates.specs.Opening.{EndsSoon, finished, opened}
 use Rattle.privates.specs.Turn.{opening_turns}
 use Rattle.sheets.proofs.GroupLemmas.{few_groups}
-use Rattle.sheets.specs.Part.{Numbered, groups_of, parts_for}
+use Rattle.sheets.specs.Part.{groups_of, parts_for}
 use Rattle.tables.proofs.Turns.{turns_end_soon}
 use Rattle.tables.specs.Turns.{CanBegin, EndSoon, groups_at}
 use Rattle.tables.specs.declared.round.Round.{Round}

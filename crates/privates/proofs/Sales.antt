@@ -1,36 +1,33 @@
 -- What acts keep an opening round under way: bids, sales with what they bring, revenues, and the fall of SV.
-use Rattle.std.proofs.Common.{◌≡◌, ◌≢◌, ◌⊎◌, ℕ, zero, suc, ◌+◌, ◌-◌, ◌<◌, ◌≤◌, ◌==◌, Bool, true, false, ◌||◌, nat_lt, if◌then◌else◌, List, [], ◌∷◌, ◌++◌, Option, Some, None, is_some, ℤ, pos, ◌≤ℤ◌, append_assoc, inl, inr, refl, sym, subst, ap, ◌∙◌, arith}
-use Rattle.std.specs.Option.{option_or}
+use Rattle.std.proofs.Common.{◌≡◌, ◌≢◌, ℕ, zero, suc, ◌+◌, ◌-◌, ◌<◌, ◌≤◌, Bool, true, false, ◌||◌, nat_lt, List, [], ◌∷◌, ◌++◌, Option, Some, None, is_some, append_assoc, inl, inr, refl, sym, subst, ap, ◌∙◌, arith}
 use Rattle.std.proofs.lemmas.Bool.{cases_eq}
 use Rattle.std.proofs.lemmas.Bool.Decides.{nat_tests}
 use Rattle.history.proofs.Acts.{bid_sound, gift_sound, price_sound, revenue_sound, sale_sound}
-use Rattle.history.proofs.EventAtEnd.{is_sold_before, last_said_at_end, last_said_before, square_of_before}
+use Rattle.history.proofs.EventAtEnd.{last_said_at_end, last_said_before, square_of_before}
 use Rattle.history.proofs.Gifts.{ca_sound, started_sound}
 use Rattle.history.specs.Bids.{as_bid, bid_of, bids_on}
 use Rattle.history.specs.Event.{ownership_of, placed, square_set}
-use Rattle.history.specs.LookBack.{Game, is_sold, last_said, owner_said, sv_price_of, with_event}
+use Rattle.history.specs.LookBack.{Game, is_sold, owner_said, sv_price_of, with_event}
 use Rattle.history.specs.Shares.{is_par_value, square_of, square_said}
 use Rattle.history.specs.Sound.{IsSound, IsSvPrice}
 use Rattle.history.specs.declared.event.Bid.{Bid}
 use Rattle.history.specs.declared.event.Event.{Event}
 use Rattle.history.specs.declared.event.Event.TheVariants as event
 use Rattle.history.specs.declared.event.Holder.{Holder}
-use Rattle.history.specs.declared.event.Holder.TheVariants as holder
 use Rattle.privates.proofs.Limits.{limits_kept}
 use Rattle.privates.proofs.Pars.{par_set_is_par}
 use Rattle.privates.proofs.StandingBids.{EachBid, bids_from}
 use Rattle.privates.proofs.Underway.{event_underway, unsold_before, waiting_silent}
 use Rattle.privates.specs.Act.{MayBid, MayPay}
-use Rattle.privates.specs.Judgement.{is_near, is_too_low}
-use Rattle.privates.specs.Opening.{given_away}
-use Rattle.privates.specs.Sale.{after_sale, par_set_by}
+use Rattle.privates.specs.Judgement.{is_near}
+use Rattle.privates.specs.Sale.{par_set_by}
 use Rattle.privates.specs.Underway.{IsUnderway, IsWaiting}
 use Rattle.tables.specs.Chart.{par_square_of}
 use Rattle.tables.specs.Roster.{face_of}
 use Rattle.tables.specs.Seat.{seat_at}
 use Rattle.tables.specs.declared.roster.Company.TheVariants as company
 use Rattle.tables.specs.declared.roster.Private.{Private}
-use Rattle.tables.specs.declared.roster.Private.TheVariants.{SchuylkillValley, ChamplainStLawrence, DelawareHudson, MohawkHudson, CamdenAmboy, BaltimoreOhio}
+use Rattle.tables.specs.declared.roster.Private.TheVariants.{SchuylkillValley, CamdenAmboy, BaltimoreOhio}
 use Rattle.tables.specs.declared.seat.Seat.{Seat}
 use Rattle.tables.specs.declared.squares.Square.{Square}
 
@@ -107,8 +104,8 @@ par_waiting events price sold before =
     let par : Event = event.Par company.BaltimoreOhio price in
     record {
       pennsylvania = λ unsold.
-      last_said_before (λ e. square_said company.Pennsylvania (square_set e)) (events ++ par ∷ []) events par refl (places_baltimore (par_square_of price))
-      ∙ before.pennsylvania (unsold_before events par CamdenAmboy unsold);
+          last_said_before (λ e. square_said company.Pennsylvania (square_set e)) (events ++ par ∷ []) events par refl (places_baltimore (par_square_of price))
+          ∙ before.pennsylvania (unsold_before events par CamdenAmboy unsold);
       baltimore = λ unsold. let still = unsold_before events par BaltimoreOhio unsold in cc;
       limits = limits_kept events par (λ its seat. refl) before.limits;
     }

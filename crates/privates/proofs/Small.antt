@@ -8,10 +8,10 @@ use Rattle.order_grammar.specs.declared.fault.Fault.{Fault}
 use Rattle.order_grammar.specs.declared.fault.Fault.TheVariants.{PastLastLine}
 use Rattle.order_grammar.specs.declared.order.Order.{Order}
 use Rattle.order_grammar.specs.declared.order.Order.TheVariants.{Bid, Limit}
-use Rattle.privates.specs.Small.{AreSmall, GroupsAreSmall, IsReady, IsSmallOrder, IsSmallReading, PartsAreSmall}
+use Rattle.privates.specs.Small.{IsReady, IsSmallOrder, IsSmallReading, PartsAreSmall}
 use Rattle.sheets.specs.File.{sheet_of}
 use Rattle.sheets.specs.Limits.{lines_most}
-use Rattle.sheets.specs.Part.{Numbered, Parts, after_head, after_line, numbered, opens_part, parts_after, parts_for, reading_at, with_line}
+use Rattle.sheets.specs.Part.{Numbered, Parts, after_head, after_line, numbered, opens_part, parts_after, parts_for, reading_at}
 use Rattle.tables.specs.declared.round.Round.{Round}
 
 -- an order with small numbers is small

@@ -1,11 +1,10 @@
 -- The standing bids on a private, in the order of the seats at the table.
-use Rattle.std.proofs.Common.{◌≡◌, ◌≢◌, ◌⊎◌, ℕ, zero, suc, ◌+◌, ◌<◌, ◌≤◌, Bool, true, false, if◌then◌else◌, List, [], ◌∷◌, ◌++◌, length, map, get_or, Option, Some, None, unwrap_or, ℤ, pos, ◌≤ℤ◌, ◌-ℤ◌, inl, inr, refl, sym, subst, ap, ◌∙◌, arith}
+use Rattle.std.proofs.Common.{◌≡◌, ◌≢◌, ℕ, zero, suc, ◌+◌, ◌<◌, ◌≤◌, Bool, true, false, if◌then◌else◌, List, [], ◌∷◌, ◌++◌, length, map, get_or, Option, Some, None, unwrap_or, pos, ◌≤ℤ◌, refl, sym, subst, ap, ◌∙◌, arith}
 use Rattle.std.specs.List.{flat_map, range_with_len}
 use Rattle.std.proofs.lemmas.Int.{ints}
 use Rattle.history.proofs.Standing.{bids_split}
-use Rattle.history.specs.Bids.{as_bid, bid_of, bids_elsewhere_of, bids_of, bids_on, free_cash_of, free_for, tied_on}
-use Rattle.history.specs.Event.{party_at}
-use Rattle.history.specs.LookBack.{Game, cash_of, cheapest_of, first_unsold, is_sold}
+use Rattle.history.specs.Bids.{as_bid, bid_of, bids_on, free_cash_of, free_for, tied_on}
+use Rattle.history.specs.LookBack.{Game, cheapest_of, first_unsold, is_sold}
 use Rattle.history.specs.Sound.{IsSound}
 use Rattle.history.specs.declared.event.Bid.{Bid}
 use Rattle.history.specs.declared.event.Event.{Event}

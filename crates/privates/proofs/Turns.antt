@@ -10,7 +10,7 @@ use Rattle.privates.specs.Opening.{in_play}
 use Rattle.privates.specs.Turn.{InTurn, after_lines, opening_turns}
 use Rattle.sheets.specs.Part.{Numbered, Parts, groups_of}
 use Rattle.tables.specs.Seat.{left_of, seat_at}
-use Rattle.tables.specs.Turns.{InPlay, IsIdleWithoutLines, after_turn, groups_at, next_group, turn_over, turns_over}
+use Rattle.tables.specs.Turns.{InPlay, IsIdleWithoutLines, after_turn, groups_at, next_group, turn_over}
 use Rattle.tables.specs.declared.seat.Seat.{Seat}
 
 -- no seat acts without lines

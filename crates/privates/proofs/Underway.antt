@@ -1,8 +1,8 @@
 -- What keeps an opening round under way.
 use Rattle.std.proofs.Common.{◌≡◌, ℕ, ◌==◌, Bool, true, false, if◌then◌else◌, List, [], ◌∷◌, ◌++◌, Option, Some, None, is_some, append-nil, refl, sym, subst, ap, ◌∙◌}
 use Rattle.std.specs.Option.{option_or}
-use Rattle.history.proofs.EventAtEnd.{last_said_at_end, quiet_same, square_of_before}
-use Rattle.history.specs.Event.{IsQuiet, ownership_of, square_set}
+use Rattle.history.proofs.EventAtEnd.{last_said_at_end, square_of_before}
+use Rattle.history.specs.Event.{ownership_of, square_set}
 use Rattle.history.specs.LookBack.{Game, is_sold, last_said, owner_said, with_event}
 use Rattle.history.specs.Sound.{IsSound}
 use Rattle.history.specs.Tell.{breaks, with_broken, with_left}

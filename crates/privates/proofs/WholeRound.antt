@@ -1,5 +1,5 @@
 -- A whole opening round from its parts.
-use Rattle.std.proofs.Common.{◌≡◌, ℕ, List, [], ◌∷◌, ◌++◌, length, map, sym, subst, ap, ◌∙◌}
+use Rattle.std.proofs.Common.{◌≡◌, ℕ, List, [], ◌∷◌, ◌++◌, length, sym, subst, ap, ◌∙◌}
 use Rattle.std.specs.List.{range_with_len}
 use Rattle.history.specs.LookBack.{Game, priority_of, with_event}
 use Rattle.history.specs.declared.event.Event.{Event}

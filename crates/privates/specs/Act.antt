@@ -1,5 +1,5 @@
 -- What an order needs so that it can be done, whatever the turn has done before.
-use Rattle.std.specs.Prelude.{◌≡◌, ℕ, List, Bool, false, pos, ◌≤ℤ◌}
+use Rattle.std.specs.Prelude.{◌≡◌, ℕ, List, false, pos, ◌≤ℤ◌}
 use Rattle.history.specs.Bids.{free_for}
 use Rattle.history.specs.LookBack.{is_sold}
 use Rattle.history.specs.declared.event.Event.{Event}

@@ -2,7 +2,7 @@
 -- close where all have passed, and what was left. Once all privates are sold nothing falls and nothing is
 -- paid. Else SV falls by 5 if it is unsold, and at 0 goes to the holder of priority for nothing, with the
 -- sales that follow from it; if it is sold, each sold private pays its revenue, in roster order.
-use Rattle.std.specs.Prelude.{◌≡◌, ℕ, ◌+◌, ◌-◌, ◌*◌, ◌≤◌, ◌==◌, Bool, if◌then◌else◌, List, [], ◌∷◌, ◌++◌, map, Option, Some, None}
+use Rattle.std.specs.Prelude.{◌≡◌, ℕ, ◌+◌, ◌-◌, ◌*◌, ◌≤◌, ◌==◌, if◌then◌else◌, List, [], ◌∷◌, ◌++◌, map, Option, Some, None}
 use Rattle.std.specs.List.{range_with_len}
 use Rattle.history.specs.LookBack.{Game, is_sold, owner_of, priority_of, sv_price_of}
 use Rattle.history.specs.Tell.{with_broken, with_left}

@@ -45,11 +45,11 @@ limit_from bid (Some ordered) free = int_max bid (int_min (pos ordered) free)
 
 -- a bidder in the auction of a private, with his bid and his limit
 abbrev pub bidder_of : ℕ → List Event → Private → Bid → Bidder
-bidder_of seats events private bid =
-    ( bid.seat
-    , pos bid.amount
-    , limit_from (pos bid.amount) (limit_of events private bid.seat) (free_for seats events bid.seat private)
-    )
+bidder_of seats events private bid = (
+  bid.seat,
+  pos bid.amount,
+  limit_from (pos bid.amount) (limit_of events private bid.seat) (free_for seats events bid.seat private),
+)
 
 -- after a sale to the winner of an auction, who pays this; no price is under 0
 abbrev pub after_auction : List Event → Private → Seat × ℤ → List Event

@@ -1,5 +1,5 @@
 -- The sums that the lines of a sheet name are at most 99,999, as those of each order that was read.
-use Rattle.std.specs.Prelude.{ℕ, ◌≤◌, List, [], ◌∷◌, Result, Ok, Err}
+use Rattle.std.specs.Prelude.{◌≤◌, List, [], ◌∷◌, Result, Ok, Err}
 use Rattle.history.specs.declared.ruling.Ruling.{Ruling}
 use Rattle.history.specs.declared.ruling.Ruling.TheVariants.{Obeyed}
 use Rattle.order_grammar.specs.declared.fault.Fault.{Fault}

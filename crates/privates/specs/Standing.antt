@@ -1,7 +1,7 @@
 -- The standing lines of an opening sheet, those before its first group, are ruled at the round's start,
 -- seat by seat. A LIMIT says how far the seat goes in an auction of a private, which must be unsold. A PAR
 -- says the par value that the seat sets for BO if it buys BOP: it must name BO and a par value.
-use Rattle.std.specs.Prelude.{ℕ, Bool, true, false, not, ◌&&◌, if◌then◌else◌, List, [], ◌∷◌, ◌++◌, Option, Some, None, Result, Ok, Err}
+use Rattle.std.specs.Prelude.{ℕ, Bool, true, false, ◌&&◌, if◌then◌else◌, List, [], ◌∷◌, ◌++◌, Option, Some, None, Result, Ok, Err}
 use Rattle.history.specs.LookBack.{is_sold}
 use Rattle.history.specs.declared.event.Event.{Event}
 use Rattle.history.specs.declared.event.Event.TheVariants.{Ruled}

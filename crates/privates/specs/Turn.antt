@@ -1,13 +1,12 @@
 -- A seat's turn: the lines of its group are ruled in order, each on the list that the one before left. An
 -- obeyed purchase is a sale at the price that the bank asks, with the sales that follow from it; an obeyed
 -- bid stands. A seat that neither bought nor bid passes.
-use Rattle.std.specs.Prelude.{ℕ, Bool, true, false, ◌||◌, List, [], ◌∷◌, ◌++◌, is_none, Result}
+use Rattle.std.specs.Prelude.{ℕ, Bool, true, false, ◌||◌, List, [], ◌∷◌, ◌++◌, is_none}
 use Rattle.history.specs.LookBack.{cheapest_of}
 use Rattle.history.specs.declared.event.Event.{Event}
 use Rattle.history.specs.declared.event.Event.TheVariants.{Bids, Passes, Ruled}
 use Rattle.history.specs.declared.ruling.Ruling.{Ruling}
 use Rattle.history.specs.declared.ruling.Ruling.TheVariants.{Obeyed}
-use Rattle.order_grammar.specs.declared.fault.Fault.{Fault}
 use Rattle.order_grammar.specs.declared.order.Order.{Order}
 use Rattle.order_grammar.specs.declared.order.Order.TheVariants.{BuyPrivate, Bid}
 use Rattle.privates.specs.Judgement.{price_of, ruling_of}

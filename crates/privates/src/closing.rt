@@ -8,7 +8,7 @@ ghost use Rattle.tables.specs.Roster.{privates};
 ghost use Rattle.tables.specs.declared.roster.Private.TheVariants.{SchuylkillValley};
 
 use crate::sale::settle_all;
-use history::{Event, Holder, History};
+use history::{Event, History, Holder};
 use std::alloc::AllocError;
 use tables::{Amount, Private, Seat, revenue};
 

@@ -36,12 +36,7 @@ pub fn judge(past: &Past, seat: Seat, order: &Order, turn_used: bool) -> Option<
 }
 
 /// The first rule that a purchase breaks.
-fn judge_purchase(
-    past: &Past,
-    seat: Seat,
-    private: Private,
-    turn_used: bool,
-) -> Option<OpeningRule>
+fn judge_purchase(past: &Past, seat: Seat, private: Private, turn_used: bool) -> Option<OpeningRule>
     ensures { result ≡ first_broken
         (purchase_rules past.now.seats past.now.events.now seat turn_used private) }
 {

@@ -24,7 +24,5 @@ mod turn;
 
 pub use bidding::auction;
 pub use judgement::judge;
-pub use laws::{
-    auction_is_won, nothing_is_left_to_settle, one_opening_round, opening_round_ends,
-};
+pub use laws::{auction_is_won, nothing_is_left_to_settle, one_opening_round, opening_round_ends};
 pub use opening::play_opening;

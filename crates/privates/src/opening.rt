@@ -75,7 +75,7 @@ fn rule_all_standing<'a>(
     ensures seats { OnOk result (history.new.seats ≡ history.old.seats) }
     ensures events { OnOk result (history.new.events
         ≡ after_standing sheets.now round history.old.events
-            (range_with_len 0 (length (players_of sheets.now)))) }
+        (range_with_len 0 (length (players_of sheets.now)))) }
     ensures left { IfOk result (λ unruled. map groups_of unruled.items
         ≡ groups_for (length (players_of sheets.now)) sheets.now round) }
     ensures each { IfOk result (λ unruled. length unruled.items ≡ length (players_of sheets.now)) }
@@ -139,9 +139,9 @@ fn play_turn(
     ensures each { OnOk result (length unruled.new ≡ length unruled.old) }
     ensures turn { IfOk result (λ after.
         in_play history.new.events (left_of history.old.seats (seat_at seat)).0 after
-            (map groups_of unruled.new)
+        (map groups_of unruled.new)
         ≡ after_turn (opening_turns history.old.seats)
-            (in_play history.old.events seat passes (map groups_of unruled.old))) }
+        (in_play history.old.events seat passes (map groups_of unruled.old))) }
     ensures passes { IfOk result (λ after. after ≤ length unruled.old) }
     ensures ready { OnOk result (All IsReady unruled.new) }
     ensures underway { OnOk result (IsUnderway history.new) }

@@ -182,11 +182,7 @@ fn settle_bids(history: &mut History, private: Private) -> Result<(), AllocError
 }
 
 /// Sells the cheapest private to the winner of an auction among those who bid on it.
-fn sell_by_auction(
-    history: &mut History,
-    private: Private,
-    bids: &[Bid],
-) -> Result<(), AllocError>
+fn sell_by_auction(history: &mut History, private: Private, bids: &[Bid]) -> Result<(), AllocError>
     requires few { length bids.now ≤ 6 }
     requires two { 2 ≤ length bids.now }
     requires cheapest { cheapest_of history.old.events ≡ Some private }

@@ -35,7 +35,7 @@ pub(crate) fn take_turn(
     ensures turn { IfOk result (λ acted.
         in_turn history.new.events acted
         ≡ after_lines history.old.seats seat (in_turn history.old.events false)
-            (next_group (groups_of sheet.old))) }
+        (next_group (groups_of sheet.old))) }
     ensures left { OnOk result (groups_of sheet.new ≡ drop 1 (groups_of sheet.old)) }
     ensures ready { OnOk result (IsReady sheet.new) }
     ensures underway { OnOk result (IsUnderway history.new) }
@@ -66,7 +66,7 @@ fn rule_line(
     ensures turn { IfOk result (λ obeyed.
         in_turn history.new.events (turn_used || obeyed)
         ≡ after_line history.old.seats seat (in_turn history.old.events turn_used)
-            (line_read line.now)) }
+        (line_read line.now)) }
     ensures underway { OnOk result (IsUnderway history.new) }
 {
     match placed_order(line) {
@@ -109,9 +109,9 @@ fn rule_order(
     ensures turn { IfOk result (λ obeyed.
         in_turn history.new.events (turn_used || obeyed)
         ≡ after_ruling history.old.seats seat (in_turn history.old.events turn_used)
-            line.now.number
-            (judged order.now
-                (judgement_of history.old.seats history.old.events seat turn_used order.now))) }
+        line.now.number
+        (judged order.now
+        (judgement_of history.old.seats history.old.events seat turn_used order.now))) }
     ensures underway { OnOk result (IsUnderway history.new) }
 {
     let broken = judge(&history.now(), seat, order, turn_used);
@@ -153,7 +153,7 @@ fn buy(history: &mut History, seat: Seat, private: Private) -> Result<(), AllocE
     ensures seats { OnOk result (history.new.seats ≡ history.old.seats) }
     ensures events { OnOk result (history.new.events
         ≡ settled history.old.seats
-            (after_sale history.old.events private seat (price_asked history.old.events private))) }
+        (after_sale history.old.events private seat (price_asked history.old.events private))) }
     ensures underway { OnOk result (IsUnderway history.new) }
 {
     let price = price_of(&history.now(), private);

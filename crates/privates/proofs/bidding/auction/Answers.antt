@@ -1,9 +1,8 @@
 -- The winner among the first bidder and the others buys.
-use Rattle.std.proofs.Common.{◌≡◌, ℤ, pos, ◌+ℤ◌, List, ◌∷◌, arith, ap, ◌∙◌, SFits}
+use Rattle.std.proofs.Common.{◌≡◌, ℤ, pos, ◌+ℤ◌, List, ◌∷◌, arith, SFits}
 use Rattle.std.specs.Int.{int_max, int_min, w128}
 use Rattle.std.proofs.lemmas.Int.{to_z-of_z}
 use Rattle.privates.specs.Auction.{Bidder, auction_of, highest_bid, limit_by, second_limit, winner_among}
-use Rattle.tables.specs.declared.seat.Seat.{Seat}
 use Rattle.privates.proofs.bidding.auction.Goals as goal
 
 -- what the parts of an auction come to

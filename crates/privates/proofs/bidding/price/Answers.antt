@@ -1,7 +1,7 @@
 -- A sum that would be past the greatest is no less than the winner's limit.
-use Rattle.std.proofs.Common.{◌≡◌, ℕ, ℤ, pos, negsuc, ◌+ℤ◌, ◌≤ℤ◌, ap, sym, ◌∙◌, SFits, to_z, of_z, arith}
-use Rattle.std.specs.Int.{int_max, int_min, saturate_signed, w128}
-use Rattle.std.proofs.lemmas.Int.{ints, clamps, to_z-of_z}
+use Rattle.std.proofs.Common.{◌≡◌, ℤ, pos, negsuc, ◌+ℤ◌, SFits, arith}
+use Rattle.std.specs.Int.{int_min, saturate_signed, w128}
+use Rattle.std.proofs.lemmas.Int.{ints, to_z-of_z}
 use Rattle.privates.proofs.bidding.price.Goals as goal
 
 -- to go no further than the greatest sum makes no difference to the lesser of it and a limit

@@ -1,4 +1,4 @@
-use Rattle.std.proofs.Common.{◌≡◌, ◌<◌, ℕ, List, length, map, sym, ap, ◌∙◌, arith}
+use Rattle.std.proofs.Common.{◌≡◌, ◌<◌, List, length, map, sym, ap, ◌∙◌, arith}
 use Rattle.history.specs.LookBack.{priority_of}
 use Rattle.privates.proofs.Turns.{priority_within}
 use Rattle.privates.proofs.WholeRound.{whole_round}

@@ -1,4 +1,4 @@
-use Rattle.std.proofs.Common.{◌≡◌, ◌<◌, length, rules, sym, subst, ◌∙◌, arith}
+use Rattle.std.proofs.Common.{◌<◌, length, rules, sym, subst, ◌∙◌}
 use Rattle.std.proofs.lemmas.List.Elements.{All-push}
 use Rattle.privates.proofs.Seats.{groups_more, standing_goes_on}
 use Rattle.sheets.specs.File.{players_of}

@@ -1,4 +1,4 @@
-use Rattle.std.proofs.Common.{◌≡◌, ◌-◌, ◌++◌, All, length, map}
+use Rattle.std.proofs.Common.{◌≡◌, ◌-◌, All, length, map}
 use Rattle.std.specs.List.{range_with_len}
 use Rattle.privates.specs.Opening.{groups_for}
 use Rattle.privates.specs.Standing.{after_standing}

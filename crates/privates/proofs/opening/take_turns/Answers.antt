@@ -1,4 +1,4 @@
-use Rattle.std.proofs.Common.{◌≡◌, ◌<◌, ◌≤◌, ℕ, List, true, false, Some, is_some, length, map, refl, sym, subst, ap, ◌∙◌, arith, rules}
+use Rattle.std.proofs.Common.{◌≡◌, ◌<◌, ◌≤◌, ℕ, List, true, false, Some, is_some, map, refl, sym, subst, ap, ◌∙◌, arith}
 use Rattle.history.specs.LookBack.{cheapest_of}
 use Rattle.history.specs.declared.event.Event.{Event}
 use Rattle.privates.proofs.Turns.{all_are_sold, all_have_passed, going_on, idle, left_within}

@@ -1,8 +1,7 @@
-use Rattle.std.proofs.Common.{◌≡◌, ◌+◌, ◌<◌, ℕ, List, [], ◌++◌, ◌∷◌, drop, get_or, map, length, sym, ap, ◌∙◌, add-one, arith}
+use Rattle.std.proofs.Common.{◌≡◌, ◌+◌, ◌<◌, ℕ, List, [], ◌++◌, ◌∷◌, drop, get_or, map, length, sym, ap, ◌∙◌, add-one}
 use Rattle.std.proofs.Math.Seq.{drop-cons}
 use Rattle.std.proofs.lemmas.List.Elements.{All-get_or}
 use Rattle.history.specs.Tell.{with_left}
-use Rattle.history.specs.declared.event.Event.{Event}
 use Rattle.privates.proofs.Seats.{left_goes_on}
 use Rattle.privates.specs.Opening.{left_from}
 use Rattle.privates.specs.Small.{IsReady}

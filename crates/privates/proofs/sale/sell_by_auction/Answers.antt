@@ -1,11 +1,9 @@
 -- The winner of the auction can pay, and the sale to him settles the bids.
-use Rattle.std.proofs.Common.{◌≡◌, ◌≤◌, ℕ, List, OnOk, map, sym, subst, ap, ◌∙◌, arith}
+use Rattle.std.proofs.Common.{◌≡◌, ℕ, List, OnOk, sym, subst, arith}
 use Rattle.history.specs.declared.event.Event.{Event}
 use Rattle.privates.proofs.Bidders.{auction_differs, auction_settles, limits_hold, payable, same_bidders}
 use Rattle.privates.specs.Act.{MayPay}
-use Rattle.privates.specs.Auction.{Bidder, BidsDiffer, LimitsHold}
-use Rattle.privates.specs.Sale.{bidder_of}
-use Rattle.tables.specs.declared.roster.Private.{Private}
+use Rattle.privates.specs.Auction.{BidsDiffer, LimitsHold}
 use Rattle.privates.proofs.sale.sell_by_auction.Goals as goal
 
 pub auction-won-requires-clause-differ : goal.auction-won-requires-clause-differ

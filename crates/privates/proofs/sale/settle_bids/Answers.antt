@@ -1,5 +1,5 @@
 -- The only bidder can pay his bid.
-use Rattle.std.proofs.Common.{◌≡◌, ℕ, List, ap, ◌∙◌, arith}
+use Rattle.std.proofs.Common.{ℕ, List, ap, ◌∙◌, arith}
 use Rattle.history.specs.Bids.{bids_on}
 use Rattle.history.specs.declared.event.Event.{Event}
 use Rattle.privates.proofs.StandingBids.{first_stands, may_pay_bid}

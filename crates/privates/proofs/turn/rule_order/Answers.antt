@@ -1,4 +1,4 @@
-use Rattle.std.proofs.Common.{◌≡◌, None, refl, sym, ap, ◌∙◌}
+use Rattle.std.proofs.Common.{◌≡◌, None, refl, sym, ◌∙◌}
 use Rattle.privates.proofs.Judged.{is_nothing, may_act_after}
 use Rattle.privates.specs.Judgement.{judgement_of}
 use Rattle.privates.proofs.turn.rule_order.Goals as goal
