@@ -1,5 +1,5 @@
 -- Marking tokens, stop by stop, and collecting what is marked, stop by stop and link by link.
-use Rattle.std.proofs.Common.{◌≡◌, ◌≢◌, ℕ, zero, suc, ◌+◌, ◌<◌, ◌≤◌, Bool, true, false, Some, None, ◌⊎◌, inl, inr, List, [], ◌∷◌, ◌++◌, length, get_or, take, set, replicate, refl, ap, sym, ◌∙◌, subst, arith, get_or-set_same}
+use Rattle.std.proofs.Common.{◌≡◌, ℕ, zero, suc, ◌+◌, ◌<◌, ◌≤◌, Bool, true, false, Some, None, ◌⊎◌, inl, inr, List, [], ◌∷◌, ◌++◌, length, get_or, take, set, replicate, refl, sym, ◌∙◌, subst, arith, get_or-set_same}
 use Rattle.std.specs.List.{AllByRecursion}
 use Rattle.std.proofs.lemmas.Bool.{cases_eq}
 use Rattle.std.proofs.lemmas.List.{take_all}
@@ -14,10 +14,9 @@ use Rattle.map_tables.specs.declared.track.Link.{Link}
 use Rattle.reach.specs.Lawful.{IsLawful}
 use Rattle.reach.specs.Position.{Position, HasToken, IsAmong, links_of}
 use Rattle.reach.specs.Reached.{StandInOrder, stop_order}
-use Rattle.reach.specs.Search.{spot_number, IsMarked, IsMarkedStop, Collects, Arrives, AllArrive, HasAllTokens}
-use Rattle.reach.specs.Walk.{spot_at, stop_at_end, stop_of, IsTrack}
+use Rattle.reach.specs.Search.{spot_number, IsMarked, IsMarkedStop, Collects, AllArrive, HasAllTokens}
+use Rattle.reach.specs.Walk.{spot_at, stop_at_end}
 use Rattle.reach.specs.declared.walk.Spot.{Spot}
-use Rattle.reach.specs.declared.walk.Step.{Step}
 use Rattle.reach.proofs.Hexes.{same_index}
 use Rattle.reach.proofs.Lists.{among_end, among_before, among_cases, among_next, next_among, among_sooner, all_push, order_push}
 use Rattle.reach.proofs.Marking.{set_cases, set_keeps}

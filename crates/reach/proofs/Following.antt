@@ -1,7 +1,5 @@
 -- Following links from what is marked: walks go on, and marks that nothing is added to hold all walks.
-use Rattle.std.proofs.Common.{◌≡◌, ◌≢◌, ℕ, ◌+◌, ◌<◌, ◌≤◌, Bool, true, false, not, cond, ◌||◌, Option, Some, None, IfSome, ◌⊎◌, inl, inr, List, [], ◌∷◌, length, get_or, set, refl, ap, sym, ◌∙◌, subst, arith, get_or-set_same, get_or-set_other}
-use Rattle.std.proofs.lemmas.List.{set-get_or}
-use Rattle.std.proofs.lemmas.List.Sums.{sum_by-set}
+use Rattle.std.proofs.Common.{◌≡◌, Bool, true, false, Some, None, IfSome, ◌⊎◌, inl, inr, List, [], ◌∷◌, get_or, refl, sym, ◌∙◌, subst}
 use Rattle.map_tables.specs.Place.{joined_stop_of, stop_at}
 use Rattle.map_tables.specs.declared.hex.Hex.{Hex}
 use Rattle.map_tables.specs.declared.place.Stop.{Stop}
@@ -10,7 +8,7 @@ use Rattle.map_tables.specs.declared.track.End.TheVariants.{Side as AtSide, Stop
 use Rattle.reach.specs.Lawful.{IsLawful}
 use Rattle.reach.specs.Position.{Position, HasToken, IsFull}
 use Rattle.reach.specs.Reached.{IsWalkOf}
-use Rattle.reach.specs.Search.{spot_number, IsMarked, CanEnterAt, CanEnter, Arrives, AllArrive, IsClosed, HasAllTokens, marked, Follows}
+use Rattle.reach.specs.Search.{spot_number, IsMarked, CanEnterAt, CanEnter, Arrives, AllArrive, IsClosed, HasAllTokens}
 use Rattle.reach.specs.Walk.{spot_at, entered_at, left_at, stop_at_end, stop_of, across, AreJoined, IsTrack}
 use Rattle.reach.specs.declared.walk.Spot.{Spot}
 use Rattle.reach.specs.declared.walk.Step.{Step}

@@ -1,6 +1,5 @@
 -- The numbers of hexes: each hex has its own, under 93.
-use Rattle.std.proofs.Common.{◌≡◌, ℕ, ◌<◌, List, length, get_or, map, refl, ap, sym, ◌∙◌, arith, lit<}
-use Rattle.std.specs.List.{range_with_len}
+use Rattle.std.proofs.Common.{◌≡◌, ℕ, ◌<◌, get_or, refl, ap, sym, ◌∙◌, arith, lit<}
 use Rattle.std.proofs.lemmas.List.{get_or-map}
 use Rattle.std.proofs.lemmas.List.FromFn.{get_or-range_with_len}
 use Rattle.map_tables.specs.Hex.{hexes, index_of}

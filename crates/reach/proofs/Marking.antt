@@ -1,13 +1,12 @@
 -- What it is to follow steps, by the marks: one step, steps after others, and none.
-use Rattle.std.proofs.Common.{◌≡◌, ◌≢◌, ℕ, ◌+◌, ◌<◌, ◌≤◌, Bool, true, false, not, cond, ◌||◌, ◌⊎◌, inl, inr, List, [], ◌∷◌, length, get_or, set, refl, ap, sym, ◌∙◌, subst, arith, get_or-set_same, get_or-set_other, length-set}
+use Rattle.std.proofs.Common.{◌≡◌, ℕ, ◌<◌, ◌≤◌, Bool, true, false, not, cond, ◌||◌, ◌⊎◌, inl, inr, List, length, get_or, set, refl, ap, sym, ◌∙◌, subst, arith, get_or-set_same, get_or-set_other, length-set}
 use Rattle.std.proofs.lemmas.List.{set-get_or}
 use Rattle.std.proofs.lemmas.List.Sums.{sum_by-set}
 use Rattle.std.proofs.lemmas.Bool.{cases_eq}
 use Rattle.reach.specs.Lawful.{IsLawful}
 use Rattle.reach.specs.Position.{Position}
-use Rattle.reach.specs.Search.{spot_number, IsMarked, CanEnter, Arrives, AllArrive, IsClosed, marked, Follows}
+use Rattle.reach.specs.Search.{spot_number, IsMarked, CanEnter, marked, Follows}
 use Rattle.reach.specs.Walk.{entered_at, left_at, IsTrack}
-use Rattle.reach.specs.declared.walk.Spot.{Spot}
 use Rattle.reach.specs.declared.walk.Step.{Step}
 use Rattle.reach.proofs.Following.{walk_by, arrives_same}
 use Rattle.tables.specs.declared.roster.Company.{Company}

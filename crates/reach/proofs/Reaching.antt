@@ -1,6 +1,6 @@
 -- What is marked once nothing is added is what the company reaches: its stops, and its links.
-use Rattle.std.proofs.Common.{◌≡◌, Bool, true, false, Some, None, ◌⊎◌, inl, inr, List, [], ◌∷◌, get_or, refl, ap, sym, ◌∙◌, subst}
-use Rattle.map_tables.specs.Place.{joined_stop_of, stop_at}
+use Rattle.std.proofs.Common.{◌≡◌, Bool, true, false, Some, None, inl, inr, List, [], ◌∷◌, get_or, refl, ap, sym, ◌∙◌, subst}
+use Rattle.map_tables.specs.Place.{joined_stop_of}
 use Rattle.map_tables.specs.declared.hex.Hex.{Hex}
 use Rattle.map_tables.specs.declared.place.Stop.{Stop}
 use Rattle.map_tables.specs.declared.track.End.{End}
@@ -9,8 +9,8 @@ use Rattle.map_tables.specs.declared.track.Link.{Link}
 use Rattle.reach.specs.Lawful.{IsLawful}
 use Rattle.reach.specs.Position.{Position, HasToken, IsAmong, links_of}
 use Rattle.reach.specs.Reached.{IsWalkOf, ReachesLink, ReachesStop}
-use Rattle.reach.specs.Search.{spot_number, IsMarked, IsMarkedStop, CanEnterAt, CanEnter, CanEnterEither, CanTake, AllArrive, IsClosed, HasAllTokens}
-use Rattle.reach.specs.Walk.{spot_at, entered_at, left_at, stop_at_end, stop_of, IsTrack, EndsAt, TouchesLink, TouchesStop}
+use Rattle.reach.specs.Search.{IsMarked, IsMarkedStop, CanEnterAt, CanEnter, CanEnterEither, CanTake, AllArrive, IsClosed, HasAllTokens}
+use Rattle.reach.specs.Walk.{spot_at, entered_at, left_at, stop_at_end, stop_of, IsTrack, TouchesLink, TouchesStop}
 use Rattle.reach.specs.declared.walk.Spot.{Spot}
 use Rattle.reach.specs.declared.walk.Step.{Step}
 use Rattle.reach.proofs.Following.{walk_by, may_enter}

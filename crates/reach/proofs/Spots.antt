@@ -1,12 +1,11 @@
 -- Spots by their numbers, and what lies across a border.
-use Rattle.std.proofs.Common.{◌≡◌, ℕ, ◌+◌, ◌*◌, ◌<◌, Option, Some, None, ◌⊎◌, inl, inr, refl, ap, sym, ◌∙◌, subst, arith, option_map}
+use Rattle.std.proofs.Common.{◌≡◌, ℕ, ◌+◌, ◌*◌, ◌<◌, Option, Some, None, refl, ap, ◌∙◌, subst, arith, option_map}
 use Rattle.map_tables.specs.Border.{neighbour_of}
 use Rattle.map_tables.specs.Hex.{index_of}
 use Rattle.map_tables.specs.Place.{joined_stop_of, joined_hex, stop_at, stop_index_of}
 use Rattle.map_tables.specs.Side.{number_of, facing_of}
 use Rattle.map_tables.specs.declared.hex.Hex.{Hex}
 use Rattle.map_tables.specs.declared.place.Stop.{Stop}
-use Rattle.map_tables.specs.declared.place.StopNumber.{StopNumber}
 use Rattle.map_tables.specs.declared.side.Side.{Side}
 use Rattle.map_tables.specs.declared.track.End.{End}
 use Rattle.map_tables.specs.declared.track.End.TheVariants.{Side as AtSide, Stop as AtStop}

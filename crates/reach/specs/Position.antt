@@ -2,7 +2,7 @@
 -- links of the hex and its stops, by their numbers; for each stop its value in dollars, whether it is
 -- red, how many slots for tokens it has, and whose tokens lie there. A stop that lies in two hexes is
 -- kept in the hex that names it.
-use Rattle.std.specs.Prelude.{◌≡◌, ℕ, ◌<◌, ◌≤◌, Bool, true, false, ◌⊎◌, List, [], ◌∷◌, length, get_or}
+use Rattle.std.specs.Prelude.{◌≡◌, ℕ, ◌<◌, ◌≤◌, Bool, false, ◌⊎◌, List, [], ◌∷◌, length, get_or}
 use Rattle.map_tables.specs.Hex.{index_of}
 use Rattle.map_tables.specs.Place.{joined_stop_of, stop_index_of}
 use Rattle.map_tables.specs.declared.hex.Hex.{Hex}

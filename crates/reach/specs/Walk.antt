@@ -2,7 +2,7 @@
 -- stop. A walk is a list of links, the latest first: each is entered at one of its ends and left at
 -- the other, and is joined to the next at a stop, or at the border between their two hexes. Nothing
 -- here knows of a search.
-use Rattle.std.specs.Prelude.{◌≡◌, Bool, List, [], ◌∷◌, Option, Some, None, IfSome, option_map, if◌then◌else◌, ◌⊎◌}
+use Rattle.std.specs.Prelude.{◌≡◌, List, [], ◌∷◌, Option, Some, None, IfSome, option_map, if◌then◌else◌, ◌⊎◌}
 use Rattle.map_tables.specs.Border.{neighbour_of}
 use Rattle.map_tables.specs.Place.{joined_stop_of, stop_at}
 use Rattle.map_tables.specs.Side.{facing_of}

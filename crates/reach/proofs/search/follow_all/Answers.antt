@@ -1,9 +1,8 @@
 -- The hex in hand comes after those before it.
-use Rattle.std.proofs.Common.{◌<◌, ◌+◌, ◌⊎◌, inl, inr, arith}
+use Rattle.std.proofs.Common.{◌<◌, ◌+◌, inl, inr, arith}
 use Rattle.map_tables.specs.Hex.{index_of}
 use Rattle.reach.specs.Position.{IsAmong, links_of}
 use Rattle.reach.specs.Walk.{IsTrack}
-use Rattle.reach.specs.declared.walk.Step.{Step}
 use Rattle.reach.proofs.Collected.{hexes_more}
 use Rattle.reach.proofs.Hexes.{index_low}
 use Rattle.reach.proofs.Marking.{follows_on, follows_fewer}

@@ -1,5 +1,5 @@
 -- The two directions of a link, one after the other.
-use Rattle.std.proofs.Common.{◌≡◌, Bool, true, false, ◌⊎◌, inl, inr, refl, ap}
+use Rattle.std.proofs.Common.{◌≡◌, Bool, true, false, ◌⊎◌, inl, inr, ap}
 use Rattle.map_tables.specs.declared.track.Link.{Link}
 use Rattle.reach.specs.declared.walk.Step.{Step}
 use Rattle.reach.proofs.Marking.{follows_on}

@@ -1,10 +1,9 @@
 -- A stop with a token is marked, and walks arrive there.
-use Rattle.std.proofs.Common.{◌≡◌, ◌<◌, true, false, get_or, set, length, subst, sym, ap, ◌∙◌, arith, refl}
+use Rattle.std.proofs.Common.{◌≡◌, true, false, get_or, subst, sym, ap, ◌∙◌, arith}
 use Rattle.map_tables.specs.Place.{joined_stop_of}
-use Rattle.map_tables.specs.declared.place.Stop.{Stop}
 use Rattle.reach.specs.Position.{HasToken}
 use Rattle.reach.specs.Search.{spot_number}
-use Rattle.reach.proofs.Collected.{spot_of, none_marked, token_arrives, token_marked, token_passed, all_tokens}
+use Rattle.reach.proofs.Collected.{none_marked, token_arrives, token_marked, token_passed, all_tokens}
 use Rattle.reach.proofs.search.mark_tokens.Goals as goal
 use Rattle.reach.proofs.search.mark_tokens.Goals.{then-token, else-token}
 

@@ -1,7 +1,7 @@
 -- A link that a walk may take is pushed.
 use Rattle.std.proofs.Common.{◌≡◌, ℕ, ◌+◌, ◌<◌, ◌≤◌, true, false, List, [], ◌∷◌, ◌++◌, length, get_or, take, ap, sym, ◌∙◌, subst, arith}
 use Rattle.map_tables.specs.declared.track.Link.{Link}
-use Rattle.reach.specs.Position.{IsAmong, links_of}
+use Rattle.reach.specs.Position.{links_of}
 use Rattle.reach.specs.Search.{CanEnterEither, Collects}
 use Rattle.reach.proofs.Collected.{link_pushed, link_passed, all_links}
 use Rattle.reach.proofs.search.push_links.Goals as goal

@@ -1,7 +1,7 @@
 -- A stop that is marked is pushed, if it stands under its own name.
-use Rattle.std.proofs.Common.{◌≡◌, true, false, sym, ◌∙◌, subst}
+use Rattle.std.proofs.Common.{◌≡◌, true, false, sym, ◌∙◌}
 use Rattle.map_tables.specs.Place.{joined_stop_of}
-use Rattle.reach.proofs.Collected.{StopsBefore, stop_pushed, stop_passed}
+use Rattle.reach.proofs.Collected.{stop_pushed, stop_passed}
 use Rattle.reach.proofs.Equal.{same_stop, stop_same}
 use Rattle.reach.proofs.search.reached_stops.Goals as goal
 use Rattle.reach.proofs.search.reached_stops.Goals.{then-eq+then-has+in_ok-push, else-eq, else-eq-via-then-eq+else-has, else-eq-via-else-eq}

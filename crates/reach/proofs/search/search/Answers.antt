@@ -1,5 +1,5 @@
 -- What is marked is more each time, and is at most all.
-use Rattle.std.proofs.Common.{◌<◌, arith}
+use Rattle.std.proofs.Common.{arith}
 use Rattle.std.proofs.lemmas.List.Sums.{count_by-le-length}
 use Rattle.reach.proofs.search.search.Goals as goal
 

@@ -1,5 +1,5 @@
 -- The list is searched by an exact comparison.
-use Rattle.std.proofs.Common.{◌≡◌, true, ap, sym, ◌∙◌, subst}
+use Rattle.std.proofs.Common.{◌≡◌, ap, sym, ◌∙◌, subst}
 use Rattle.map_tables.specs.contracts.track.LinkPartialEq.TheImpl.{ghosts}
 use Rattle.reach.specs.Position.{IsAmong}
 use Rattle.reach.specs.Reached.{Reaching}
