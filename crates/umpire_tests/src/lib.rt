@@ -5,7 +5,7 @@
 //! reach them. Games whole, each with its report, are data under `games/`, which `./check` plays.
 //!
 //! Reading order: `support` (readers and writers that give and take as they are told), and then a
-//! module for each library: `chart`, `lines`, `sheets_of_a_file`, `looking_back`, `paying`, `openings`,
+//! module for each library: `chart`, `lines`, `sheets_of_a_file`, `looking_back`, `openings`,
 //! `sequence`, `texts`, `watching`, `running`.
 #![tactic(auto)]
 
@@ -17,8 +17,6 @@ mod lines;
 mod looking_back;
 #[cfg(test)]
 mod openings;
-#[cfg(test)]
-mod paying;
 #[cfg(test)]
 mod running;
 #[cfg(test)]

@@ -12,7 +12,7 @@ fn answer(alloc: Global, line: &[u8]) -> Result<Vec<u8>, AllocError> {
 }
 
 /// Lines, each with the spelling of its order or the code of its fault.
-const LINES: [(&str, &str); 66] = [
+const FILE_LINES: [(&str, &str); 24] = [
     ("", ""),
     ("     ", ""),
     ("# a line of only a comment", ""),
@@ -37,6 +37,10 @@ const LINES: [(&str, &str); 66] = [
     ("PLAYERS A B C D E F # six", "PLAYERS A B C D E F"),
     ("PLAYERS A B C D E F G", "G4"),
     ("PLAYERS A B", "G4"),
+];
+
+/// More of them.
+const SHEET_LINES: [(&str, &str); 22] = [
     ("PLAYERS A B LONGNAME", "PLAYERS A B LONGNAME"),
     ("PLAYERS A B LONGNAMES", "G4"),
     ("PLAYERS A B 2C", "G4"),
@@ -59,6 +63,10 @@ const LINES: [(&str, &str); 66] = [
     ("BUY ca", "BUY CA"),
     ("BUY BOP", "BUY BOP"),
     ("BUY BO", "G4"),
+];
+
+/// More of them.
+const PLAY_LINES: [(&str, &str); 20] = [
     ("BUY#SV", "G4"),
     ("BUY", "G4"),
     ("bid cs 0045", "BID CS 45"),
@@ -82,8 +90,26 @@ const LINES: [(&str, &str); 66] = [
 ];
 
 #[test]
-fn lines_are_read_and_printed(rt: HostRuntime) -> Result<(), Fail> {
-    for (line, want) in LINES {
+fn lines_of_files_are_read_and_printed(rt: HostRuntime) -> Result<(), Fail> {
+    for (line, want) in FILE_LINES {
+        let text = answer(rt.alloc(), line.as_bytes())?;
+        assert_eq!(rt; text.as_slice(), want.as_bytes(), "at {line}");
+    }
+    Ok(())
+}
+
+#[test]
+fn lines_of_sheets_are_read_and_printed(rt: HostRuntime) -> Result<(), Fail> {
+    for (line, want) in SHEET_LINES {
+        let text = answer(rt.alloc(), line.as_bytes())?;
+        assert_eq!(rt; text.as_slice(), want.as_bytes(), "at {line}");
+    }
+    Ok(())
+}
+
+#[test]
+fn lines_of_play_are_read_and_printed(rt: HostRuntime) -> Result<(), Fail> {
+    for (line, want) in PLAY_LINES {
         let text = answer(rt.alloc(), line.as_bytes())?;
         assert_eq!(rt; text.as_slice(), want.as_bytes(), "at {line}");
     }
