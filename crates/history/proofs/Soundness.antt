@@ -7,7 +7,7 @@ use Rattle.history.specs.Event.{bidding_of, office_of, ownership_of, par_set, pa
 use Rattle.history.specs.Laws.{QuietKeepsSound}
 use Rattle.history.specs.LookBack.{Game, cash_of, sv_price_of, with_event}
 use Rattle.history.specs.Shares.{held_by, shares_of}
-use Rattle.history.specs.Sound.{AreLed, AreOffered, AreTenInAll, BidsAreSmall, BidsDiffer, CompaniesAreSolvent, IsGivenAway, IsSound, IsSvPrice, SeatsAreSolvent, TenthsAreHeld, least_offered}
+use Rattle.history.specs.Sound.{AreLed, AreOffered, AreTenInAll, BiddersAreSeated, BidsAreSmall, BidsDiffer, CompaniesAreSolvent, IsGivenAway, IsSound, IsSvPrice, SeatsAreSolvent, TenthsAreHeld, least_offered}
 use Rattle.history.specs.declared.event.Event.{Event}
 use Rattle.history.specs.declared.event.Holder.TheVariants as holder
 use Rattle.history.specs.declared.event.Party.TheVariants as party
@@ -42,6 +42,11 @@ differ_kept events event none differ =
 pub small_kept : (events : List Event) (event : Event) → bidding_of event ≡ None → BidsAreSmall events → BidsAreSmall (events ++ event ∷ [])
 small_kept events event none small =
     λ private seat amount bid. small private seat amount (sym (bid_of_before events event private seat none) ∙ bid)
+
+-- and are of seats at the table as before
+pub seated_kept : (seats : ℕ) (events : List Event) (event : Event) → bidding_of event ≡ None → BiddersAreSeated seats events → BiddersAreSeated seats (events ++ event ∷ [])
+seated_kept seats events event none seated =
+    λ private seat amount bid. seated private seat amount (sym (bid_of_before events event private seat none) ∙ bid)
 
 -- without a new price SV keeps its own
 pub price_kept : (events : List Event) (event : Event) → sv_price_set event ≡ None → IsSvPrice (sv_price_of events) → IsSvPrice (sv_price_of (events ++ event ∷ []))
@@ -106,6 +111,7 @@ quiet_sound game event quiet sound =
       companies = companies_kept game event quiet.payment sound.companies;
       bids_differ = differ_kept game.events event quiet.bidding sound.bids_differ;
       bids_small = small_kept game.events event quiet.bidding sound.bids_small;
+      seated = seated_kept game.seats game.events event quiet.bidding sound.seated;
       price = price_kept game.events event quiet.sv_price sound.price;
       given = given_kept game.events event quiet.sv_price quiet.ownership sound.given;
       held = held_kept game.events event quiet.transfer sound.held;
@@ -142,6 +148,7 @@ start_sound seats =
       companies = λ company. omega (arith, ints);
       bids_differ = λ private a b amount of_a of_b. cc;
       bids_small = λ private seat amount bid. absurd (cc);
+      seated = λ private seat amount bid. absurd (cc);
       price = inl refl;
       given = λ zero. absurd (omega arith);
       held = λ company place. omega (arith, ints);

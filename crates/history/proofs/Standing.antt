@@ -47,10 +47,6 @@ bids_split events seat MohawkHudson = omega (arith, sum_of_six (tied_on events s
 bids_split events seat CamdenAmboy = omega (arith, sum_of_six (tied_on events seat), sum_of_six (tied_elsewhere events seat CamdenAmboy))
 bids_split events seat BaltimoreOhio = omega (arith, sum_of_six (tied_on events seat), sum_of_six (tied_elsewhere events seat BaltimoreOhio))
 
--- a difference of naturals that fits
-pub less_tied : (all elsewhere tied : ℕ) (money : ℤ) → money ≡ pos all → all < 2 ^ 35 → all ≡ elsewhere + tied → to_z w128 (of_z w128 (to_z w128 (of_z w128 money) -ℤ to_z w128 tied)) ≡ pos elsewhere
-less_tied all elsewhere tied money is few split = omega (arith, ints)
-
 -- cash less bids fits
 pub less_bids : (cash tied : ℤ) (bids : ℕ) → IsModerate cash → tied ≡ pos bids → bids < 2 ^ 35 → to_z w128 (of_z w128 (to_z w128 (of_z w128 cash) -ℤ to_z w128 (of_z w128 tied))) ≡ cash -ℤ pos bids
 less_bids cash tied bids moderate is few = omega (arith, ints, moderate.not_under, moderate.not_over)

@@ -49,6 +49,11 @@ tied_elsewhere events seat this other = if same_private other this then 0 else t
 abbrev pub bids_elsewhere_of : List Event → Seat → Private → ℕ
 bids_elsewhere_of events seat private = sum_by (tied_elsewhere events seat private) privates
 
+-- what a seat can spend on a private: its cash less its standing bids on the others
+abbrev pub free_for : ℕ → List Event → Seat → Private → ℤ
+free_for seats events seat private =
+    cash_of seats events (party_at seat) -ℤ pos (bids_elsewhere_of events seat private)
+
 -- a seat's cash less its standing bids
 abbrev pub free_cash_of : ℕ → List Event → Seat → ℤ
 free_cash_of seats events seat = cash_of seats events (party_at seat) -ℤ pos (bids_of events seat)

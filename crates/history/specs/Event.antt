@@ -118,9 +118,10 @@ abbrev pub obeyed_of : Event → Option Obeyance
 obeyed_of (Ruled seat line ruling) = obeyed_by seat line ruling
 obeyed_of other = None
 
--- the order is an act of a turn of an opening round: it buys a private
+-- the order is an act of a turn of an opening round: it buys a private or bids on one
 abbrev pub is_opening_act : Order → Bool
 is_opening_act (order.BuyPrivate private) = true
+is_opening_act (order.Bid private amount) = true
 is_opening_act other = false
 
 -- an event says nothing of what parties have and own, or of SV's price

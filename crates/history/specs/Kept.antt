@@ -7,4 +7,7 @@ use Rattle.history.specs.declared.ruling.Kept.TheVariants as kept
 -- the order that is kept
 abbrev pub order_in : Kept → Order
 order_in (kept.BuyPrivate private) = order.BuyPrivate private
+order_in (kept.Bid private amount) = order.Bid private amount
+order_in (kept.Limit private amount) = order.Limit private amount
+order_in (kept.Par company price) = order.Par company price
 order_in (kept.Boxed order) = order.value

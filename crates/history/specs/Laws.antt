@@ -1,18 +1,22 @@
 -- Laws of games: what a list says once one more event stands at its end, and what keeps it sound.
-use Rattle.std.specs.Prelude.{◌≡◌, ◌≢◌, ◌≤◌, ℕ, List, [], ◌∷◌, ◌++◌, Option, Some, false, pos, ◌-ℤ◌, ◌+ℤ◌}
+use Rattle.std.specs.Prelude.{◌≡◌, ◌≢◌, ◌≤◌, ◌<◌, ℕ, ◌+◌, List, [], ◌∷◌, ◌++◌, Option, Some, None, true, false, ◌≤ℤ◌, pos, ◌-ℤ◌, ◌+ℤ◌}
 use Rattle.std.specs.Option.{option_or}
-use Rattle.history.specs.Event.{IsQuiet, payment_of}
+use Rattle.history.specs.Event.{IsQuiet, party_at, payment_of}
 use Rattle.history.specs.LookBack.{Game, cash_of, cheapest_of, is_sold, last_said, owner_of, paid_by, paid_to, sv_price_of, with_event}
-use Rattle.history.specs.Bids.{bid_of, bids_of, bids_on as the_bids_on}
-use Rattle.history.specs.Shares.{par_of, president_of, shares_of, square_of}
-use Rattle.history.specs.Sound.{IsSound}
+use Rattle.history.specs.Bids.{bid_of, bids_elsewhere_of, bids_of, bids_on as the_bids_on}
+use Rattle.history.specs.Shares.{is_par_value, par_of, president_of, shares_of, square_of}
+use Rattle.history.specs.Sound.{IsSound, IsSvPrice, least_offered}
 use Rattle.history.specs.declared.event.Event.{Event}
+use Rattle.history.specs.declared.event.Event.TheVariants.{Bids, Sold, Price, Revenue, Given, Par, President}
+use Rattle.history.specs.declared.event.Holder.{Holder}
 use Rattle.history.specs.declared.event.Party.{Party}
 use Rattle.history.specs.declared.event.Shareholder.{Shareholder}
+use Rattle.history.specs.declared.event.Shareholder.TheVariants.{InitialOffering}
 use Rattle.tables.specs.Roster.{face_of}
 use Rattle.tables.specs.declared.roster.Company.{Company}
+use Rattle.tables.specs.declared.roster.Company.TheVariants.{Pennsylvania}
 use Rattle.tables.specs.declared.roster.Private.{Private}
-use Rattle.tables.specs.declared.roster.Private.TheVariants.{SchuylkillValley}
+use Rattle.tables.specs.declared.roster.Private.TheVariants.{SchuylkillValley, CamdenAmboy}
 use Rattle.tables.specs.declared.seat.Seat.{Seat}
 
 -- what was said last: what the event at the end says, or else what was said before it
@@ -50,6 +54,56 @@ QuietSaysTheSame =
 -- a quiet event keeps a list sound
 abbrev pub QuietKeepsSound : Type 0
 QuietKeepsSound = (game : Game) (event : Event) → IsQuiet event → IsSound game → IsSound (with_event game event)
+
+-- a bid of a seat at the table keeps a list sound, where it is at most 99,999, no other seat has that
+-- bid on the private, and the seat has the sum free of its other bids
+abbrev pub BidKeepsSound : Type 0
+BidKeepsSound =
+    (game : Game) (private : Private) (seat : Seat) (amount : ℕ) →
+    amount ≤ 99999 → seat.0 < game.seats → ((other : Seat) → bid_of game.events private other ≡ Some amount → other ≡ seat) → pos amount ≤ℤ (cash_of game.seats game.events (party_at seat) -ℤ pos (bids_elsewhere_of game.events seat private)) → IsSound game → IsSound (with_event game (Bids private seat amount))
+
+-- a sale of an unsold private keeps a list sound, where the seat has the price free of its other bids
+abbrev pub SaleKeepsSound : Type 0
+SaleKeepsSound =
+    (game : Game) (private : Private) (seat : Seat) (price : ℕ) →
+    is_sold game.events private ≡ false → pos price ≤ℤ (cash_of game.seats game.events (party_at seat) -ℤ pos (bids_elsewhere_of game.events seat private)) → IsSound game → IsSound (with_event game (Sold private seat price))
+
+-- a revenue of the bank keeps a list sound
+abbrev pub RevenueKeepsSound : Type 0
+RevenueKeepsSound =
+    (game : Game) (private : Private) (owner : Holder) (amount : ℕ) → IsSound game → IsSound (with_event game (Revenue private owner amount))
+
+-- a price of SV keeps a list sound; it is 0 only once SV is sold
+abbrev pub PriceKeepsSound : Type 0
+PriceKeepsSound =
+    (game : Game) (price : ℕ) →
+    IsSvPrice price → (price ≡ 0 → is_sold game.events SchuylkillValley ≡ true) → IsSound game → IsSound (with_event game (Price price))
+
+-- or it comes to 0, and SV is given away
+abbrev pub SvIsGivenAway : Type 0
+SvIsGivenAway =
+    (game : Game) (seat : Seat) →
+    is_sold game.events SchuylkillValley ≡ false → IsSound game → IsSound (with_event (with_event game (Price 0)) (Sold SchuylkillValley seat 0))
+
+-- a gift to a seat at the table keeps a list sound, where the initial offering has so many tenths, and
+-- of a company without a square enough are left
+abbrev pub GiftKeepsSound : Type 0
+GiftKeepsSound =
+    (game : Game) (company : Company) (seat : Seat) (tenths : ℕ) →
+    seat.0 < game.seats → pos tenths ≤ℤ shares_of game.events company InitialOffering → (square_of game.events company ≡ None → pos (least_offered game.events company + tenths) ≤ℤ shares_of game.events company InitialOffering) → IsSound game → IsSound (with_event game (Given company seat tenths))
+
+-- so does the sale of CA with its tenth of PRR, where PRR has no square
+abbrev pub CaIsSoldWithItsGift : Type 0
+CaIsSoldWithItsGift =
+    (game : Game) (seat : Seat) (price : ℕ) →
+    is_sold game.events CamdenAmboy ≡ false → square_of game.events Pennsylvania ≡ None → seat.0 < game.seats → pos price ≤ℤ (cash_of game.seats game.events (party_at seat) -ℤ pos (bids_elsewhere_of game.events seat CamdenAmboy)) → IsSound game → IsSound (with_event (with_event game (Sold CamdenAmboy seat price)) (Given Pennsylvania seat 1))
+
+-- and so does the start of a company that has no square: its par value, two tenths for a seat at the
+-- table, and that seat as its president
+abbrev pub StartKeepsSound : Type 0
+StartKeepsSound =
+    (game : Game) (company : Company) (seat : Seat) (price : ℕ) →
+    is_par_value price ≡ true → square_of game.events company ≡ None → seat.0 < game.seats → IsSound game → IsSound (with_event (with_event (with_event game (Par company price)) (Given company seat 2)) (President company seat))
 
 -- these prices are what the bank asks: SV goes at the price that was set last, another private at its
 -- face value

@@ -1,12 +1,12 @@
 -- A list of events is sound where
 -- no seat has less cash than its standing bids tie, and no company owes anything;
--- standing bids on a private differ, and none is over 99,999;
+-- standing bids are of seats at the table; those on a private differ, and none is over 99,999;
 -- SV's price is 5, 10, 15 or 20, or 0 once it is sold;
 -- each company's tenths are nowhere under 0 and ten in all, and of a company without a square at least
 -- eight are in its initial offering, nine of PRR while CA is unsold and of NYC while MH is open;
 -- a company with a square has one of the six par values and a president with at least two tenths.
 -- Each fact is about a few aspects of events: an event without those keeps it.
-use Rattle.std.specs.Prelude.{◌≡◌, ◌⊎◌, ℕ, ◌≤◌, true, if◌then◌else◌, List, Some, None, pos, ◌≤ℤ◌}
+use Rattle.std.specs.Prelude.{◌≡◌, ◌⊎◌, ℕ, ◌<◌, ◌≤◌, true, if◌then◌else◌, List, Some, None, pos, ◌≤ℤ◌}
 use Rattle.history.specs.Bids.{bid_of, free_cash_of}
 use Rattle.history.specs.LookBack.{Game, cash_of, is_closed, is_sold, sv_price_of}
 use Rattle.history.specs.Shares.{is_par_value, par_of, president_of, shares_of, square_of, tenths_in_all}
@@ -40,6 +40,11 @@ BidsDiffer events =
 abbrev pub BidsAreSmall : List Event → Type 0
 BidsAreSmall events =
     (private : Private) (seat : Seat) (amount : ℕ) → bid_of events private seat ≡ Some amount → amount ≤ 99999
+
+-- only seats at the table bid
+abbrev pub BiddersAreSeated : ℕ → List Event → Type 0
+BiddersAreSeated seats events =
+    (private : Private) (seat : Seat) (amount : ℕ) → bid_of events private seat ≡ Some amount → seat.0 < seats
 
 -- a price that SV may have
 abbrev pub IsSvPrice : ℕ → Type 0
@@ -86,6 +91,7 @@ pub record IsSound (game : Game) : Type 0 where
   pub companies : CompaniesAreSolvent game
   pub bids_differ : BidsDiffer game.events
   pub bids_small : BidsAreSmall game.events
+  pub seated : BiddersAreSeated game.seats game.events
   pub price : IsSvPrice (sv_price_of game.events)
   pub given : IsGivenAway game.events
   pub held : TenthsAreHeld game.events

@@ -1,7 +1,7 @@
 //! The ways of looking back over a list of events, each generic over the aspect of an event that it
 //! looks at.
 ghost use Rattle.std.specs.Prelude.{◌≡◌, ℕ, Option};
-ghost use Rattle.history.specs.LookBack.{IsModerate, balance, last_said};
+ghost use Rattle.history.specs.LookBack.{IsModerate, balance, in_round, last_said};
 ghost use Rattle.history.specs.declared.event.Event.{Event};
 
 use crate::event::Event;
@@ -17,6 +17,26 @@ pub(crate) trait Topic {
     /// What an event says of it; `None` where the event does not speak of it.
     fn word(&self, event: &Event) -> Option<Self::Word>
         ensures { result ≡ word self.now event.now };
+}
+
+/// A thing that holds within a round only: an event that begins a round says that nothing does.
+#[derive(Clone, Copy)]
+pub(crate) struct InRound<T>(pub T);
+
+impl<T: Topic> Topic for InRound<T> {
+    type Word = Option<T::Word>;
+
+    ghost word = { λ a event. in_round (T.word a.0) event };
+
+    fn word(&self, event: &Event) -> Option<Option<T::Word>> {
+        if event.round().is_some() {
+            return Some(None);
+        }
+        match self.0.word(event) {
+            Some(word) => Some(Some(word)),
+            None => None,
+        }
+    }
 }
 
 /// What the last event that speaks of a thing says.

@@ -1,11 +1,12 @@
-//! Standing bids.
+//! Standing bids, and what the standing orders of a seat say.
 ghost use Rattle.std.specs.Prelude.{◌≡◌, ◌^◌, ◌<◌, ◌≤◌, option_map, pos};
-ghost use Rattle.history.specs.Bids.{bid_of, bids_elsewhere_of, bids_of, bids_on, free_cash_of, tied_on};
+ghost use Rattle.history.specs.Orders.{limit_of, par_ordered_of};
+ghost use Rattle.history.specs.Bids.{bid_of, bids_elsewhere_of, bids_of, bids_on, free_cash_of, free_for, tied_on};
 
-use crate::aspect::last_said;
+use crate::aspect::{InRound, last_said};
 use crate::event::{Bid, Holder, Party};
 use crate::look_back::Past;
-use crate::topics::BidOn;
+use crate::topics::{BidOn, LimitOn, ParOrdered};
 use arrayvec::ArrayVec;
 use tables::{Amount, Money, PLAYERS_MOST, Private, Seat};
 
@@ -39,6 +40,20 @@ impl Past<'_> {
         bids
     }
 
+    /// How far a seat goes in an auction of a private, by its last obeyed LIMIT line of this round.
+    pub fn limit(&self, private: Private, seat: Seat) -> Option<Amount>
+        ensures { result ≡ limit_of self.now.events.now private seat }
+    {
+        last_said(&InRound(LimitOn(private, seat)), self.events).flatten()
+    }
+
+    /// The par value that a seat sets for BO if it buys BOP, by its last obeyed standing PAR line.
+    pub fn par_ordered(&self, seat: Seat) -> Option<Amount>
+        ensures { result ≡ par_ordered_of self.now.events.now seat }
+    {
+        last_said(&ParOrdered(seat), self.events)
+    }
+
     /// The sum of a seat's standing bids.
     pub fn bids_of(&self, seat: Seat) -> Money
         ensures sum { result ≡ pos (bids_of self.now.events.now seat) }
@@ -51,9 +66,17 @@ impl Past<'_> {
         Money::from(sum)
     }
 
+    /// What a seat can spend on a private: its cash less its standing bids on the others.
+    pub fn free_for(&self, seat: Seat, private: Private) -> Money
+        ensures { result ≡ free_for self.now.seats self.now.events.now seat private }
+    {
+        self.cash(Party::Holder(Holder::Seat(seat))) - self.bids_elsewhere(seat, private)
+    }
+
     /// The sum of a seat's standing bids on other privates than one.
     pub fn bids_elsewhere(&self, seat: Seat, private: Private) -> Money
-        ensures { result ≡ pos (bids_elsewhere_of self.now.events.now seat private) }
+        ensures sum { result ≡ pos (bids_elsewhere_of self.now.events.now seat private) }
+        ensures within { bids_elsewhere_of self.now.events.now seat private < 2 ^ 35 }
     {
         self.bids_of(seat) - Money::from(self.tied_on(seat, private))
     }

@@ -1,6 +1,6 @@
 //! Laws of games: each function does nothing, and its contract is the law.
 
-ghost use Rattle.history.specs.Laws.{CashMoves, FirstIsCheapest, LastWordIsLast, QuietKeepsSound, QuietSaysTheSame};
+ghost use Rattle.history.specs.Laws.{BidKeepsSound, CaIsSoldWithItsGift, CashMoves, FirstIsCheapest, GiftKeepsSound, LastWordIsLast, PriceKeepsSound, QuietKeepsSound, QuietSaysTheSame, RevenueKeepsSound, SaleKeepsSound, StartKeepsSound, SvIsGivenAway};
 
 /// What was said last of a thing is what the last event says, or else what was said before it.
 pub fn last_word_is_last<T>()
@@ -20,6 +20,40 @@ pub fn quiet_says_the_same()
 /// Such an event keeps a list sound.
 pub fn quiet_keeps_sound()
     ensures { QuietKeepsSound }
+{}
+
+/// A bid that differs from those of other seats on the private keeps a list sound, where the seat has
+/// its sum free of its other bids.
+pub fn bid_keeps_sound()
+    ensures { BidKeepsSound }
+{}
+
+/// A sale of an unsold private keeps a list sound, where the seat has the price free of its other bids.
+pub fn sale_keeps_sound()
+    ensures { SaleKeepsSound }
+{}
+
+/// A revenue keeps a list sound.
+pub fn revenue_keeps_sound()
+    ensures { RevenueKeepsSound }
+{}
+
+/// A price that SV may have keeps a list sound, and so does 0 with the gift of SV.
+pub fn price_keeps_sound()
+    ensures price { PriceKeepsSound }
+    ensures gift { SvIsGivenAway }
+{}
+
+/// A gift of tenths to a seat at the table keeps a list sound, where enough of them are left; so does
+/// the sale of CA with its tenth of PRR.
+pub fn gift_keeps_sound()
+    ensures gift { GiftKeepsSound }
+    ensures ca { CaIsSoldWithItsGift }
+{}
+
+/// The start of a company by a seat at the table keeps a list sound.
+pub fn start_keeps_sound()
+    ensures { StartKeepsSound }
 {}
 
 /// In a sound game the private that `Past::cheapest_unsold` gives is a cheapest of those that are

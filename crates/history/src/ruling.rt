@@ -1,10 +1,12 @@
 ghost use Rattle.std.specs.Prelude.{◌≡◌, IfOk};
+ghost use Rattle.history.specs.Orders.{limit_in, par_of_baltimore_in};
+ghost use Rattle.order_grammar.specs.declared.order.Order.TheVariants as order;
 ghost use Rattle.history.specs.Event.{code_of_opening_rule, code_of_refusal, is_opening_act};
 
 use order_grammar::{Fault, Order};
 use std::alloc::{AllocError, Global};
 use std::marker::Model;
-use tables::Private;
+use tables::{Amount, Company, Private, par_square};
 
 /// Which rule of play an order breaks first, by the family of the rule.
 #[derive(Clone, Copy, Debug, PartialEq, Eq)]
@@ -71,6 +73,9 @@ pub struct KeptOrder {
 #[derive(Debug, Drop)]
 enum Kept {
     BuyPrivate(Private),
+    Bid { private: Private, amount: Amount },
+    Limit { private: Private, amount: Amount },
+    Par { company: Company, price: Amount },
     Boxed(Box<Order>),
 }
 
@@ -92,6 +97,18 @@ impl KeptOrder {
     {
         let kept = match order {
             Order::BuyPrivate(private) => Kept::BuyPrivate(*private),
+            Order::Bid { private, amount } => Kept::Bid {
+                private: *private,
+                amount: *amount,
+            },
+            Order::Limit { private, amount } => Kept::Limit {
+                private: *private,
+                amount: *amount,
+            },
+            Order::Par { company, price } => Kept::Par {
+                company: *company,
+                price: *price,
+            },
             other => Kept::Boxed(Box::new(alloc, other.duplicate())?),
         };
         Ok(KeptOrder { kept })
@@ -103,18 +120,76 @@ impl KeptOrder {
     {
         match &self.kept {
             Kept::BuyPrivate(private) => Order::BuyPrivate(*private),
+            Kept::Bid { private, amount } => Order::Bid {
+                private: *private,
+                amount: *amount,
+            },
+            Kept::Limit { private, amount } => Order::Limit {
+                private: *private,
+                amount: *amount,
+            },
+            Kept::Par { company, price } => Order::Par {
+                company: *company,
+                price: *price,
+            },
             Kept::Boxed(order) => order.duplicate(),
         }
     }
 
-    /// Whether it is an act of a turn of an opening round: the purchase of a private.
+    /// Whether it is an act of a turn of an opening round: the purchase of a private, or a bid on one.
     pub fn is_opening_act(&self) -> bool
         ensures { result ≡ is_opening_act self.now }
     {
         match &self.kept {
-            Kept::BuyPrivate(_) => true,
-            Kept::Boxed(order) => matches!(**order, Order::BuyPrivate(_)),
+            Kept::BuyPrivate(_) | Kept::Bid { .. } => true,
+            Kept::Limit { .. } | Kept::Par { .. } => false,
+            Kept::Boxed(order) => matches!(**order, Order::BuyPrivate(_) | Order::Bid { .. }),
         }
+    }
+
+    /// How far it says to go in an auction of a private, if it does.
+    pub(crate) fn limit_on(&self, private: Private) -> Option<Amount>
+        ensures { result ≡ limit_in private self.now }
+    {
+        match &self.kept {
+            Kept::Limit {
+                private: other,
+                amount,
+            } if *other == private => Some(*amount),
+            Kept::Boxed(order) => match &**order {
+                Order::Limit {
+                    private: other,
+                    amount,
+                } if *other == private => Some(*amount),
+                _ => None,
+            },
+            _ => None,
+        }
+    }
+
+    /// The par value that it says BO is to have, if it does.
+    pub(crate) fn par_of_baltimore(&self) -> Option<Amount>
+        ensures { result ≡ par_of_baltimore_in self.now }
+    {
+        match &self.kept {
+            Kept::Par { company, price } => par_of_baltimore(*company, *price),
+            Kept::Boxed(order) => match &**order {
+                Order::Par { company, price } => par_of_baltimore(*company, *price),
+                _ => None,
+            },
+            _ => None,
+        }
+    }
+}
+
+/// The par value that BO is to have where a company is to have this one.
+fn par_of_baltimore(company: Company, price: Amount) -> Option<Amount>
+    ensures { result ≡ par_of_baltimore_in (order.Par company price) }
+{
+    if company == Company::BaltimoreOhio && par_square(price).is_some() {
+        Some(price)
+    } else {
+        None
     }
 }
 

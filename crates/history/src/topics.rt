@@ -1,11 +1,13 @@
 //! The things of which events speak, and the accounts that they change.
 ghost use Rattle.history.specs.Bids.{bid_said};
-ghost use Rattle.history.specs.Event.{bidding_of, office_of, ownership_of, par_set, payment_of, square_set, sv_price_set, transfer_of};
+ghost use Rattle.history.specs.Event.{bidding_of, obeyed_of, office_of, ownership_of, par_set, payment_of, square_set, sv_price_set, transfer_of};
 ghost use Rattle.history.specs.LookBack.{actor_of, owner_said, paid_by, paid_to};
+ghost use Rattle.history.specs.Orders.{limit_in, par_of_baltimore_in, said_by};
 ghost use Rattle.history.specs.Shares.{brought_to, par_said, president_said, square_said, taken_from};
 
 use crate::aspect::{Account, Topic};
 use crate::event::{Bidding, Event, Holder, Party, Shareholder};
+use crate::ruling::Ruling;
 use tables::{Amount, Company, Private, Seat, Square};
 
 /// The cash of a party.
@@ -92,6 +94,48 @@ impl Topic for BidOn {
                 Some(Some(bid.amount))
             }
             Some(Bidding::Ended(private)) if private == self.0 => Some(None),
+            _ => None,
+        }
+    }
+}
+
+/// How far a seat goes in an auction of a private.
+#[derive(Clone, Copy)]
+pub(crate) struct LimitOn(pub Private, pub Seat);
+
+impl Topic for LimitOn {
+    type Word = Amount;
+
+    ghost word = { λ a event. said_by a.1 (limit_in a.0) (obeyed_of event) };
+
+    fn word(&self, event: &Event) -> Option<Amount> {
+        match event {
+            Event::Ruled {
+                seat,
+                ruling: Ruling::Obeyed(order),
+                ..
+            } if *seat == self.1 => order.limit_on(self.0),
+            _ => None,
+        }
+    }
+}
+
+/// The par value that a seat sets for BO.
+#[derive(Clone, Copy)]
+pub(crate) struct ParOrdered(pub Seat);
+
+impl Topic for ParOrdered {
+    type Word = Amount;
+
+    ghost word = { λ a event. said_by a.0 par_of_baltimore_in (obeyed_of event) };
+
+    fn word(&self, event: &Event) -> Option<Amount> {
+        match event {
+            Event::Ruled {
+                seat,
+                ruling: Ruling::Obeyed(order),
+                ..
+            } if *seat == self.0 => order.par_of_baltimore(),
             _ => None,
         }
     }

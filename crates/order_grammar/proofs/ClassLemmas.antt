@@ -5,15 +5,13 @@ use Rattle.std.proofs.lemmas.Bool.{cases_Bool, le-leb, lt-leb, and_parts}
 use Rattle.std.proofs.lemmas.Bool.Decides.{nat_tests}
 use Rattle.std.proofs.lemmas.List.{drop_more}
 use Rattle.std.specs.Char.{to_ascii_uppercase}
-use Rattle.order_grammar.specs.Class.{are_digits, value_of_digits, capped_value, digits_reading, round_number_reading, private_among}
+use Rattle.order_grammar.specs.Class.{are_digits, value_of_digits, capped_value, digits_reading, round_number_reading, code_reading}
 use Rattle.order_grammar.specs.Name.{is_digit}
 use Rattle.order_grammar.specs.Words.{raised, same_word}
 use Rattle.order_grammar.specs.declared.class.Reading.TheVariants.{Value, TooLarge, Wrong}
 use Rattle.order_grammar.specs.declared.order.Value as values
-use Rattle.order_grammar.specs.declared.order.Value.TheVariants.{Round as round_value, Private as private_value}
-use Rattle.tables.specs.declared.roster.Private.{Private}
+use Rattle.order_grammar.specs.declared.order.Value.TheVariants.{Round as round_value}
 use Rattle.tables.specs.declared.round.Round.TheVariants.{Opening}
-use Rattle.tables.specs.Roster.{code_of_private}
 use Rattle.order_grammar.proofs.NameLemmas.{is_digit-raised}
 
 -- a digit raised
@@ -84,10 +82,10 @@ round_number-digits (digit ∷ digits) some other =
     let test : (to_ascii_uppercase digit == 48) ≡ false = no_zero digit other in
     rw test (digits_reading-raised (λ number. round_value (Opening number)) (digit ∷ digits))
 
--- a private that is not the first
-pub private_among-next : (privates : List Private) (i : ℕ) (d : Private) (word : List ℕ) → i < length privates → same_word word (code_of_private (get_or privates i d)) ≡ false → private_among (drop i privates) word ≡ private_among (drop (i + 1) privates) word
-private_among-next privates i d word lt other = rw (drop_more privates i d lt, other) refl
+-- one that is not the first
+pub code_reading-next : {X : Type 0} (code : X → List ℕ) (stands_for : X → values.Value) (all : List X) (i : ℕ) (d : X) (word : List ℕ) → i < length all → same_word word (code (get_or all i d)) ≡ false → code_reading code stands_for (drop i all) word ≡ code_reading code stands_for (drop (i + 1) all) word
+code_reading-next code stands_for all i d word lt other = rw (drop_more all i d lt, other) refl
 
--- the private whose code it is
-pub private_among-here : (privates : List Private) (i : ℕ) (d : Private) (word : List ℕ) → i < length privates → same_word word (code_of_private (get_or privates i d)) ≡ true → private_among (drop i privates) word ≡ Value (private_value (get_or privates i d))
-private_among-here privates i d word lt here = rw (drop_more privates i d lt, here) refl
+-- the one whose code it is
+pub code_reading-here : {X : Type 0} (code : X → List ℕ) (stands_for : X → values.Value) (all : List X) (i : ℕ) (d : X) (word : List ℕ) → i < length all → same_word word (code (get_or all i d)) ≡ true → code_reading code stands_for (drop i all) word ≡ Value (stands_for (get_or all i d))
+code_reading-here code stands_for all i d word lt here = rw (drop_more all i d lt, here) refl

@@ -1,10 +1,9 @@
 -- What a text holds where memory is refused while it is printed: what it held, and a front of the rest.
-use Rattle.std.proofs.Common.{◌≡◌, ℕ, ◌<◌, List, [], ◌∷◌, ◌++◌, length, take, drop, Result, Ok, Err, OnErr, codes, refl, sym, ap, append_assoc, take-append-drop, ◌∙◌, arith}
-use Rattle.std.proofs.lemmas.Grind.{common_steps, flat_map-append}
-use Rattle.order_grammar.specs.Print.{AddsFront, spaced, spelling_of, text_of_round}
-use Rattle.order_grammar.specs.declared.order.Order.{Order}
-use Rattle.order_grammar.specs.declared.order.Order.TheVariants.{Sheet}
-use Rattle.tables.specs.declared.round.Round.{Round}
+use Rattle.std.proofs.Common.{◌≡◌, ℕ, ◌+◌, ◌<◌, List, [], ◌∷◌, ◌++◌, length, get_or, take, drop, Result, Ok, Err, OnErr, refl, sym, ap, append_assoc, take-append-drop, ◌∙◌}
+use Rattle.std.proofs.lemmas.Grind.{flat_map-append}
+use Rattle.std.proofs.lemmas.List.{append-nil, drop_more, take_more}
+use Rattle.std.proofs.lemmas.List.Concat.{flat_map-cons}
+use Rattle.order_grammar.specs.Print.{AddsFront, spaced}
 
 -- what holds also holds at an error
 pub at_error : {T E P : Type 0} (r : Result T E) → P → OnErr r P
@@ -15,45 +14,56 @@ at_error (Err e) p = p
 pub two_added : (old new first second : List ℕ) → new ≡ old ++ first → new ++ second ≡ old ++ (first ++ second)
 two_added old new first second e = ap (λ (text : List ℕ). text ++ second) e ∙ append_assoc old first second
 
--- names are printed one after another
-names_parted : (names : List (List ℕ)) (count : ℕ) → spaced names ≡ spaced (take count names) ++ spaced (drop count names)
-names_parted names count =
-    ap spaced (sym (take-append-drop count names)) ∙ flat_map-append (λ (word : List ℕ). 32 ∷ word) (take count names) (drop count names)
+-- nothing was added
+pub none_added : (old new text : List ℕ) → new ≡ old → AddsFront old new text
+none_added old new text e = record { front = []; rest = text; added = e ∙ sym (append-nil old); whole = refl }
 
--- a space stands before the first
-space_first : (names : List (List ℕ)) → 0 < length names → spaced names ≡ 32 ∷ drop 1 (spaced names)
-space_first [] some = absurd (grind arith)
-space_first (name ∷ names) some = refl
+-- a front of a first piece is a front of both
+pub front_of_first : (old new first second : List ℕ) → AddsFront old new first → AddsFront old new (first ++ second)
+front_of_first old new first second adds =
+    record { front = adds.front; rest = adds.rest ++ second; added = adds.added; whole = ap (λ (text : List ℕ). text ++ second) adds.whole ∙ append_assoc adds.front adds.rest second }
 
--- the first word of a players line and some of its names
-pub players_front : (old new : List ℕ) (names : List (List ℕ)) (count : ℕ) → new ≡ old ++ codes "PLAYERS" ++ spaced (take count names) → AddsFront old new (codes "PLAYERS" ++ spaced names)
-players_front old new names count added =
+-- a first piece, and a front of the second
+pub front_of_second : (old mid new first second : List ℕ) → mid ≡ old ++ first → AddsFront mid new second → AddsFront old new (first ++ second)
+front_of_second old mid new first second before adds =
     record {
-      front = codes "PLAYERS" ++ spaced (take count names);
-      rest = spaced (drop count names);
-      added = added ∙ append_assoc old (codes "PLAYERS") (spaced (take count names));
-      whole = ap (λ (text : List ℕ). codes "PLAYERS" ++ text) (names_parted names count);
-    }
-
--- with the space before the next
-pub players_front_and_space : (old mid new : List ℕ) (names : List (List ℕ)) (count : ℕ) → count < length names → mid ≡ old ++ codes "PLAYERS" ++ spaced (take count names) → new ≡ mid ++ 32 ∷ [] → AddsFront old new (codes "PLAYERS" ++ spaced names)
-players_front_and_space old mid new names count more before added =
-    record {
-      front = codes "PLAYERS" ++ spaced (take count names) ++ 32 ∷ [];
-      rest = drop 1 (spaced (drop count names));
-      added = grind (arith, append_assoc);
-      whole =
-          ap (λ (text : List ℕ). codes "PLAYERS" ++ text)
-          (names_parted names count ∙ ap (λ (text : List ℕ). spaced (take count names) ++ text) (space_first (drop count names) (grind (arith, common_steps)))
-          ∙ sym (append_assoc (spaced (take count names)) (32 ∷ []) (drop 1 (spaced (drop count names)))));
-    }
-
--- a SHEET line up to its round, and a front of that
-pub sheet_front : (old mid new name : List ℕ) (round : Round) (order : Order) → order ≡ Sheet name round → mid ≡ old ++ codes "SHEET " ++ name ++ 32 ∷ [] → AddsFront mid new (text_of_round round) → AddsFront old new (spelling_of order)
-sheet_front old mid new name round order is before adds =
-    record {
-      front = codes "SHEET " ++ name ++ 32 ∷ adds.front;
+      front = first ++ adds.front;
       rest = adds.rest;
-      added = grind (arith, before, adds.added, common_steps);
-      whole = ap spelling_of is ∙ grind (arith, adds.whole, common_steps);
+      added = adds.added ∙ two_added old mid first adds.front before;
+      whole = ap (λ (text : List ℕ). first ++ text) adds.whole ∙ sym (append_assoc first adds.front adds.rest);
     }
+
+-- words are printed one after another
+pub spaced-parted : (words : List (List ℕ)) (count : ℕ) → spaced words ≡ spaced (take count words) ++ spaced (drop count words)
+spaced-parted words count =
+    ap spaced (sym (take-append-drop count words)) ∙ flat_map-append (λ (word : List ℕ). 32 ∷ word) (take count words) (drop count words)
+
+-- the next of them
+spaced-next : (words : List (List ℕ)) (count : ℕ) (word : List ℕ) → count < length words → word ≡ get_or words count [] → spaced (drop count words) ≡ (32 ∷ word) ++ spaced (drop (count + 1) words)
+spaced-next words count word more is =
+    ap spaced (drop_more words count [] more) ∙ flat_map-cons (λ (w : List ℕ). 32 ∷ w) (get_or words count []) (drop (count + 1) words)
+    ∙ ap (λ (w : List ℕ). (32 ∷ w) ++ spaced (drop (count + 1) words)) (sym is)
+
+-- some of the words
+pub words_front : (old new : List ℕ) (words : List (List ℕ)) (count : ℕ) → new ≡ old ++ spaced (take count words) → AddsFront old new (spaced words)
+words_front old new words count added =
+    record { front = spaced (take count words); rest = spaced (drop count words); added = added; whole = spaced-parted words count }
+
+-- some of them, a space and a front of the next
+pub words_and_front : (old before mid new : List ℕ) (words : List (List ℕ)) (count : ℕ) (word : List ℕ) → count < length words → word ≡ get_or words count [] → before ≡ old ++ spaced (take count words) → mid ≡ before ++ 32 ∷ [] → AddsFront mid new word → AddsFront old new (spaced words)
+words_and_front old before mid new words count word more is so_far space adds =
+    let whole : spaced words ≡ (spaced (take count words) ++ 32 ∷ []) ++ (word ++ spaced (drop (count + 1) words)) =
+    spaced-parted words count ∙ ap (λ (text : List ℕ). spaced (take count words) ++ text) (spaced-next words count word more is)
+    ∙ sym (append_assoc (spaced (take count words)) (32 ∷ []) (word ++ spaced (drop (count + 1) words))) in
+    let added : mid ≡ old ++ (spaced (take count words) ++ 32 ∷ []) = space ∙ two_added old before (spaced (take count words)) (32 ∷ []) so_far in
+    rw whole (front_of_second old mid new (spaced (take count words) ++ 32 ∷ []) (word ++ spaced (drop (count + 1) words)) added (front_of_first mid new word (spaced (drop (count + 1) words)) adds))
+
+-- one word more
+pub words_more : (old before mid new : List ℕ) (words : List (List ℕ)) (count : ℕ) (word : List ℕ) → count < length words → word ≡ get_or words count [] → before ≡ old ++ spaced (take count words) → mid ≡ before ++ 32 ∷ [] → new ≡ mid ++ word → new ≡ old ++ spaced (take (count + 1) words)
+words_more old before mid new words count word more is so_far space added =
+    let next : spaced (take (count + 1) words) ≡ spaced (take count words) ++ 32 ∷ word =
+    ap spaced (take_more words count [] more) ∙ flat_map-append (λ (w : List ℕ). 32 ∷ w) (take count words) (get_or words count [] ∷ [])
+    ∙ ap (λ (text : List ℕ). spaced (take count words) ++ text) (flat_map-cons (λ (w : List ℕ). 32 ∷ w) (get_or words count []) [] ∙ append-nil (32 ∷ get_or words count []) ∙ ap (λ (w : List ℕ). 32 ∷ w) (sym is)) in
+    added ∙ ap (λ (text : List ℕ). text ++ word) (space ∙ two_added old before (spaced (take count words)) (32 ∷ []) so_far)
+    ∙ append_assoc old (spaced (take count words) ++ 32 ∷ []) word
+    ∙ ap (λ (text : List ℕ). old ++ text) (append_assoc (spaced (take count words)) (32 ∷ []) word ∙ sym next)

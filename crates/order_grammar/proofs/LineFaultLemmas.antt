@@ -1,29 +1,27 @@
 -- The fault of a line is what it is read as.
-use Rattle.std.proofs.Common.{◌≡◌, ℕ, suc, ◌≤◌, true, false, ltb, fold, ◌⊎◌, inl, inr, List, [], ◌∷◌, Some, None, lit≤, Result, Ok, Err, Any, Contains, codes, length, drop, refl, sym, ap, subst, ◌∙◌, arith}
-use Rattle.std.specs.List.{list_all}
-use Rattle.std.proofs.lemmas.Bool.{cases_Bool, cases_lt, le-ltb, lt-ltb, and_cases}
-use Rattle.std.proofs.lemmas.List.Elements.{All-contains, All-from_recursion}
-use Rattle.std.proofs.lemmas.List.Folds.{list_all_at}
-use Rattle.order_grammar.specs.Class.{class_reading}
-use Rattle.order_grammar.specs.Form.{Row, row, forms, with_value, values_reading, nearness, nearer, order_of_values, row_reading, words_reading}
+use Rattle.std.proofs.Common.{◌≡◌, ℕ, suc, ◌≤◌, Bool, true, false, ltb, fold, ◌⊎◌, inl, inr, List, [], ◌∷◌, Some, None, lit≤, Result, Ok, Err, Any, Contains, length, get_or, refl, sym, ap, subst, ◌∙◌, arith}
+use Rattle.std.specs.List.{list_all, list_any}
+use Rattle.std.proofs.lemmas.Bool.{cases_Bool, cases_lt, le-ltb, lt-ltb, and_cases, or_parts, false≢true}
+use Rattle.std.proofs.lemmas.List.Folds.{list_all_at, Any-from_list_any}
+use Rattle.order_grammar.specs.Form.{Row, forms, values_reading, nearness, nearer, order_of_values, row_reading, words_reading}
+use Rattle.order_grammar.specs.Keyword.{text_of_keyword}
+use Rattle.order_grammar.specs.Limits.{line_most}
 use Rattle.order_grammar.specs.Line.{reading_of}
 use Rattle.order_grammar.specs.LineFault.{IsTooLong, HasStrayByte, first_words_of_forms, BeginsNoForm, IsFaultOf}
-use Rattle.order_grammar.specs.Order.{order_from}
-use Rattle.order_grammar.specs.Spells.{AreWordsFor}
+use Rattle.order_grammar.specs.Order.{parts_of, order_from}
+use Rattle.order_grammar.specs.Spells.{AreWordsFor, are_small}
 use Rattle.order_grammar.specs.Words.{same_word, before_comment, is_printable, words_of}
-use Rattle.order_grammar.specs.declared.class.Class.{Class}
-use Rattle.order_grammar.specs.declared.class.Class.TheVariants as class
-use Rattle.order_grammar.specs.declared.class.Reading.{Reading}
-use Rattle.order_grammar.specs.declared.class.Reading.TheVariants.{Value, TooLarge, Wrong}
 use Rattle.order_grammar.specs.declared.fault.Fault.{Fault}
 use Rattle.order_grammar.specs.declared.fault.Fault.TheVariants.{TooLong, StrayByte, UnknownWord, WrongWords, NumberTooLarge}
+use Rattle.order_grammar.specs.declared.keyword.Keyword.{Keyword}
 use Rattle.order_grammar.specs.declared.order.Order.{Order}
-use Rattle.order_grammar.specs.declared.order.OrderKind.{OrderKind}
-use Rattle.order_grammar.specs.declared.order.OrderKind.TheVariants as kind
-use Rattle.order_grammar.specs.declared.order.Value as values
+use Rattle.order_grammar.specs.declared.order.Tail.{Tail}
+use Rattle.order_grammar.specs.declared.order.Value.{Value}
 use Rattle.order_grammar.proofs.FormLemmas.{with_row}
-use Rattle.order_grammar.proofs.ReadLemmas.{IsNear, nearer-is, near_words, same_word-is, small_or_large}
-use Rattle.order_grammar.proofs.SpellsLemmas.{words_for_read, large_words_read}
+use Rattle.order_grammar.proofs.KeywordLemmas.{same_word-is}
+use Rattle.order_grammar.proofs.RowLemmas.{IsAmong, among_any, all_among, nearest_has, words_say}
+use Rattle.order_grammar.proofs.ShapeLemmas.{ReadThus, values_made}
+use Rattle.order_grammar.proofs.SpellsLemmas.{spelt_words_read, large_words_read, words_read_spell}
 
 -- a byte that is not printable
 stray_byte : (bytes : List ℕ) → list_all is_printable bytes ≡ false → Any (λ byte. is_printable byte ≡ true → ⊥) bytes
@@ -55,31 +53,62 @@ all_printable line clean =
 -- a line that is not too long and has no stray byte is what its words are
 words_decide : (line : List ℕ) → (IsTooLong line → ⊥) → (HasStrayByte line → ⊥) → reading_of line ≡ words_reading (words_of line)
 words_decide line short clean =
-    let test : ltb 1024 (length line) ≡ false = le-ltb 1024 (length line) (omega arith) in
+    let test : ltb line_most (length line) ≡ false = le-ltb line_most (length line) (omega arith) in
     rw (test, all_printable line clean) refl
 
--- values are an order or do not fit
-found_near : (k : OrderKind) (made : List values.Value) → 1 ≤ nearness (order_of_values k (Ok made))
-found_near k made =
-    elim (order_from k made) as (λ found. 1 ≤ nearness (elim found [ Some order ↦ Ok order | None ↦ Err WrongWords ])) [
+-- whether some form begins with the word
+abbrev begins_form : List ℕ → Row → Bool
+begins_form first row = same_word first (text_of_keyword row.keyword)
+
+-- the first words of the forms are those that are listed
+forms_listed : list_all (λ (row : Row). list_any (same_word (text_of_keyword row.keyword)) first_words_of_forms) forms ≡ true
+forms_listed = refl
+
+listed_begin : list_all (λ (word : List ℕ). list_any (begins_form word) forms) first_words_of_forms ≡ true
+listed_begin = refl
+
+-- a word that is among some
+contained : (words : List (List ℕ)) (word : List ℕ) → list_any (same_word word) words ≡ true → Contains words word
+contained words word some =
+    let one = Any-from_list_any (same_word word) words some in
+    let same = same_word-is word one.1 one.4 in
+    subst (Contains words) (sym same) (one.0, one.2, one.3)
+
+-- a word that a form begins with is listed
+begun_is_listed : (first : List ℕ) → list_any (begins_form first) forms ≡ true → Contains first_words_of_forms first
+begun_is_listed first begun =
+    let row = among_any (begins_form first) forms begun in
+    let listed = all_among (λ (r : Row). list_any (same_word (text_of_keyword r.keyword)) first_words_of_forms) forms row.0 forms_listed row.1 in
+    subst (Contains first_words_of_forms) (sym (same_word-is first (text_of_keyword row.0.keyword) row.2)) (contained first_words_of_forms (text_of_keyword row.0.keyword) listed)
+
+-- a form begins with a listed word
+listed_is_begun : (first : List ℕ) → Contains first_words_of_forms first → list_any (begins_form first) forms ≡ true
+listed_is_begun first listed =
+    elim (cases_Bool (list_any (begins_form first) forms)) [
+      | inl begun ↦ begun
+      | inr none ↦
+          let at : list_any (begins_form (get_or first_words_of_forms listed.0 first)) forms ≡ false = ap (λ (word : List ℕ). list_any (begins_form word) forms) listed.2 ∙ none in
+          let wrong : false ≡ true = sym (list_all_at (λ (word : List ℕ). list_any (begins_form word) forms) first_words_of_forms listed.0 first listed.1 at) ∙ listed_begin in
+          absurd (false≢true wrong)
+    ]
+
+-- a value or wrong words: what comes after the first word is no unknown word
+order_near : (k : Keyword) (read : List Value × Tail) → 1 ≤ nearness (order_of_values k (Ok read))
+order_near k read =
+    elim (order_from k read.0 read.1) as (λ found. 1 ≤ nearness (elim found [ Some order ↦ Ok order | None ↦ Err WrongWords ])) [
       | Some order ↦ lit≤ tt
       | None ↦ lit≤ tt
     ]
 
--- one more word in front of what is no unknown word
-with_value-near : (k : OrderKind) (first : Reading) (rest : Result (List values.Value) Fault) → 1 ≤ nearness (order_of_values k rest) → 1 ≤ nearness (order_of_values k (with_value first rest))
-with_value-near k Wrong rest near = lit≤ tt
-with_value-near k TooLarge (Ok made) near = lit≤ tt
-with_value-near k TooLarge (Err fault) near = near
-with_value-near k (Value v) (Ok made) near = found_near k (v ∷ made)
-with_value-near k (Value v) (Err fault) near = near
+values_near : (row : Row) (rest : List (List ℕ)) (read : Result (List Value × Tail) Fault) → ReadThus row.classes row.repeated rest read → 1 ≤ nearness (order_of_values row.keyword read)
+values_near row rest (Ok read) h = order_near row.keyword read
+values_near row rest (Err NumberTooLarge) h = lit≤ tt
+values_near row rest (Err WrongWords) h = lit≤ tt
+values_near row rest (Err other) h = absurd h
 
--- whatever words come after the first word of a row, they are no unknown word by it
-values_near : (k : OrderKind) (classes : List Class) (words : List (List ℕ)) → 1 ≤ nearness (order_of_values k (values_reading classes words))
-values_near k [] [] = found_near k []
-values_near k [] (word ∷ words) = lit≤ tt
-values_near k (c ∷ classes) [] = lit≤ tt
-values_near k (c ∷ classes) (word ∷ words) = with_value-near k (class_reading c word) (values_reading classes words) (values_near k classes words)
+-- by a row that begins with the word
+row_near : (row : Row) (first : List ℕ) (rest : List (List ℕ)) → same_word first (text_of_keyword row.keyword) ≡ true → 1 ≤ nearness (row_reading row first rest)
+row_near row first rest same = rw same (values_near row rest (values_reading row.classes row.repeated rest) (values_made row.classes row.repeated rest))
 
 -- the nearer of two is at least as near as each
 nearer-le : (a b : Result Order Fault) → (nearness a ≤ nearness (nearer a b)) × (nearness b ≤ nearness (nearer a b))
@@ -95,86 +124,52 @@ rows-le first rest start [] = omega arith
 rows-le first rest start (row ∷ rows) =
     omega (arith, (nearer-le start (row_reading row first rest)).0, rows-le first rest (nearer start (row_reading row first rest)) rows)
 
--- a row that begins with the word comes near
-begun_near : (k : OrderKind) (word : List ℕ) (classes : List Class) (rows : List Row) (rest : List (List ℕ)) → same_word word word ≡ true → 1 ≤ nearness (fold (with_row word rest) (Err UnknownWord) (row k word classes ∷ rows))
-begun_near k word classes rows rest same =
-    let read : row_reading (row k word classes) word rest ≡ order_of_values k (values_reading classes rest) = rw same refl in
-    omega (arith, values_near k classes rest, ap nearness read, (nearer-le (Err UnknownWord) (row_reading (row k word classes) word rest)).1, rows-le word rest (nearer (Err UnknownWord) (row_reading (row k word classes) word rest)) rows)
+-- each row comes no nearer than the nearest
+row-le : (rows : List Row) (row : Row) (first : List ℕ) (rest : List (List ℕ)) (start : Result Order Fault) → IsAmong row rows → nearness (row_reading row first rest) ≤ nearness (fold (with_row first rest) start rows)
+row-le [] row first rest start among = absurd among
+row-le (other ∷ rows) row first rest start (inl is) =
+    omega (arith, ap (λ (r : Row). nearness (row_reading r first rest)) is, (nearer-le start (row_reading other first rest)).1, rows-le first rest (nearer start (row_reading other first rest)) rows)
+row-le (other ∷ rows) row first rest start (inr later) = row-le rows row first rest (nearer start (row_reading other first rest)) later
 
--- whatever words come after it, it is no unknown word
-abbrev IsKnown : List ℕ → Type 0
-IsKnown first = (rest : List (List ℕ)) → 1 ≤ nearness (words_reading (first ∷ rest))
+-- a word that no form begins with is unknown
+unknown : (rows : List Row) (first : List ℕ) (rest : List (List ℕ)) → list_any (begins_form first) rows ≡ false → fold (with_row first rest) (Err UnknownWord) rows ≡ Err UnknownWord
+unknown [] first rest none = refl
+unknown (row ∷ rows) first rest none =
+    let parts = or_parts (begins_form first row) (list_any (begins_form first) rows) none in
+    rw parts.0 (unknown rows first rest parts.1)
 
--- a word that a form begins with is known
-known_word : (first : List ℕ) → Contains first_words_of_forms first → IsKnown first
-known_word first among = All-contains IsKnown first_words_of_forms first (All-from_recursion IsKnown first_words_of_forms (
-  (λ rest. begun_near kind.Game (codes "GAME") (class.Number ∷ class.Number ∷ []) (drop 1 forms) rest refl),
-  (
-    (λ rest. begun_near kind.Players (codes "PLAYERS") (class.Name ∷ class.Name ∷ class.Name ∷ []) (drop 2 forms) rest refl),
-    (
-      (λ rest. begun_near kind.Sheet (codes "SHEET") (class.Name ∷ class.Round ∷ []) (drop 6 forms) rest refl),
-      (
-        (λ rest. begun_near kind.Turn (codes "TURN") [] (drop 7 forms) rest refl),
-        ((λ rest. begun_near kind.BuyPrivate (codes "BUY") (class.Private ∷ []) (drop 8 forms) rest refl), tt),
-      ),
-    ),
-  ),
-)) among
-
--- words that are read as an unknown word begin with one
+-- words begin no form exactly where they are read as an unknown word
 unknown_begins : (words : List (List ℕ)) → words_reading words ≡ Err UnknownWord → BeginsNoForm words
 unknown_begins [] e = absurd cc
-unknown_begins (first ∷ rest) e = λ among.
-    let near = known_word first among rest in
-    let wrong : 1 ≤ 0 = rw e at near in
+unknown_begins (first ∷ rest) e = λ listed.
+    let row = among_any (begins_form first) forms (listed_is_begun first listed) in
+    let near = row_near row.0 first rest row.2 in
+    let le = row-le forms row.0 first rest (Err UnknownWord) row.1 in
+    let wrong : 1 ≤ 0 = rw e at (let all : 1 ≤ nearness (words_reading (first ∷ rest)) = omega (arith, near, le) in all) in
     omega arith
 
--- another word
-other_word : (a b : List ℕ) → (a ≡ b → ⊥) → same_word a b ≡ false
-other_word a b other =
-    elim (cases_Bool (same_word a b)) [
-      | inl same ↦ absurd (other (same_word-is a b same))
-      | inr different ↦ different
-    ]
-
--- words that begin with no form's first word are read as an unknown word
 no_form_read : (words : List (List ℕ)) → BeginsNoForm words → words_reading words ≡ Err UnknownWord
 no_form_read [] none = absurd none
 no_form_read (first ∷ rest) none =
-    let game = other_word first (codes "GAME") (λ e. none (0, omega arith, sym e)) in
-    let players = other_word first (codes "PLAYERS") (λ e. none (1, omega arith, sym e)) in
-    let sheet = other_word first (codes "SHEET") (λ e. none (2, omega arith, sym e)) in
-    let turn = other_word first (codes "TURN") (λ e. none (3, omega arith, sym e)) in
-    let buy = other_word first (codes "BUY") (λ e. none (4, omega arith, sym e)) in
-    rw (game, players, sheet, turn, buy) refl
+    elim (cases_Bool (list_any (begins_form first) forms)) [
+      | inl begun ↦ absurd (none (begun_is_listed first begun))
+      | inr other ↦ unknown forms first rest other
+    ]
 
 -- what words are read as: an order, an unknown word, wrong words or a number that is too large
 abbrev IsOfWords : Result Order Fault → Type 0
 IsOfWords reading = (reading ≡ Err UnknownWord) ⊎ (1 ≤ nearness reading)
 
--- by a row
 row_of_words : (row : Row) (first : List ℕ) (rest : List (List ℕ)) → IsOfWords (row_reading row first rest)
 row_of_words row first rest =
-    elim (cases_Bool (same_word first row.first)) [
-      | inl same ↦ inr (rw same (values_near row.order row.classes rest))
+    elim (cases_Bool (same_word first (text_of_keyword row.keyword))) [
+      | inl same ↦ inr (row_near row first rest same)
       | inr other ↦ inl (rw other refl)
     ]
 
--- by some rows
-rows_of_words : (rows : List Row) (first : List ℕ) (rest : List (List ℕ)) (start : Result Order Fault) → IsOfWords start → IsOfWords (fold (with_row first rest) start rows)
-rows_of_words [] first rest start h = h
-rows_of_words (row ∷ rows) first rest start h =
-    let next : IsOfWords (nearer start (row_reading row first rest)) =
-    elim (nearer-is start (row_reading row first rest)) [
-      | inl is ↦ subst IsOfWords (sym is) h
-      | inr is ↦ subst IsOfWords (sym is) (row_of_words row first rest)
-    ] in
-    rows_of_words rows first rest (nearer start (row_reading row first rest)) next
-
--- by the forms
 reading_of_words : (words : List (List ℕ)) → IsOfWords (words_reading words)
 reading_of_words [] = inr (lit≤ tt)
-reading_of_words (first ∷ rest) = rows_of_words forms first rest (Err UnknownWord) (inl refl)
+reading_of_words (first ∷ rest) = nearest_has IsOfWords forms first rest (Err UnknownWord) (inl refl) (λ row among. row_of_words row first rest)
 
 -- no other fault is of words
 other_fault : (words : List (List ℕ)) (fault : Fault) → nearness (Err fault) ≡ 0 → (fault ≡ UnknownWord → ⊥) → words_reading words ≡ Err fault → ⊥
@@ -186,19 +181,28 @@ other_fault words fault none other e =
       | inr near ↦ let wrong : 1 ≤ nearness (Err fault) = rw e at near in omega arith
     ]
 
--- words that spell an order, but that its numbers may be too large, are near
-loosely_near : (words : List (List ℕ)) (order : Order) → AreWordsFor words order → IsNear (words_reading words)
-loosely_near words order spelt =
-    elim (small_or_large order) [
-      | inl small ↦ rw (words_for_read words order spelt small) (lit≤ tt)
-      | inr large ↦ rw (large_words_read words order spelt large) (lit≤ tt)
+-- words that would spell an order, if numbers had no greatest value, are near to it
+loosely_near : (words : List (List ℕ)) (order : Order) → AreWordsFor order words → (words_reading words ≡ Err WrongWords) → ⊥
+loosely_near words order spelt wrong =
+    elim (cases_Bool (are_small (parts_of order))) [
+      | inl small ↦ let no : ◌≡◌ {A = Result Order Fault} (Ok order) (Err WrongWords) = sym (spelt_words_read words order spelt small) ∙ wrong in cc
+      | inr large ↦
+          let no : ◌≡◌ {A = Result Order Fault} (Err NumberTooLarge) (Err WrongWords) = sym (large_words_read words order spelt (λ small. false≢true (sym large ∙ small))) ∙ wrong in
+          cc
     ]
 
 -- words with another fault begin a form
-begins_form : (words : List (List ℕ)) (fault : Fault) → (fault ≡ UnknownWord → ⊥) → words_reading words ≡ Err fault → BeginsNoForm words → ⊥
-begins_form words fault other e none =
+begins_some_form : (words : List (List ℕ)) (fault : Fault) → (fault ≡ UnknownWord → ⊥) → words_reading words ≡ Err fault → BeginsNoForm words → ⊥
+begins_some_form words fault other e none =
     let same : ◌≡◌ {A = Result Order Fault} (Err fault) (Err UnknownWord) = sym e ∙ no_form_read words none in
     other cc
+
+-- words of which a number is too large would spell an order
+large_spell : (words : List (List ℕ)) → words_reading words ≡ Err NumberTooLarge → (order : Order) × AreWordsFor order words
+large_spell [] e = absurd cc
+large_spell (first ∷ rest) e =
+    let says = words_say first rest in
+    rw e at says
 
 -- the fault of words is that of their line
 words_fault : (line : List ℕ) (fault : Fault) → (IsTooLong line → ⊥) → (HasStrayByte line → ⊥) → words_reading (words_of line) ≡ Err fault → IsFaultOf line fault
@@ -206,21 +210,17 @@ words_fault line UnknownWord short clean e = (short, clean, unknown_begins (word
 words_fault line WrongWords short clean e = (
   short,
   clean,
-  begins_form (words_of line) WrongWords (λ same. cc) e,
-  λ loosely.
-      let near = loosely_near (words_of line) loosely.0 loosely.1.words in
-      let wrong : 2 ≤ 1 = rw e at near in
-      omega arith,
+  begins_some_form (words_of line) WrongWords (λ same. cc) e,
+  λ loosely. loosely_near (words_of line) loosely.0 loosely.1.words e,
 )
 words_fault line NumberTooLarge short clean e =
-    let near : IsNear (words_reading (words_of line)) = rw e (lit≤ tt) in
-    let some = near_words (words_of line) near in (
+    let some = large_spell (words_of line) e in (
       short,
       clean,
-      begins_form (words_of line) NumberTooLarge (λ same. cc) e,
+      begins_some_form (words_of line) NumberTooLarge (λ same. cc) e,
       (some.0, record { short = omega arith; printable = all_printable line clean; words = some.1 }),
       λ spelt.
-          let wrong : ◌≡◌ {A = Result Order Fault} (Ok spelt.0) (Err NumberTooLarge) = sym (words_for_read (words_of line) spelt.0 spelt.1.loosely.words spelt.1.small) ∙ e in
+          let wrong : ◌≡◌ {A = Result Order Fault} (Ok spelt.0) (Err NumberTooLarge) = sym (spelt_words_read (words_of line) spelt.0 spelt.1.loosely.words spelt.1.small) ∙ e in
           cc,
     )
 words_fault line other short clean e = absurd (other_fault (words_of line) other refl (λ same. cc) e)
@@ -228,9 +228,9 @@ words_fault line other short clean e = absurd (other_fault (words_of line) other
 -- a line that is read as a fault has it
 pub fault_had : (line : List ℕ) (fault : Fault) → reading_of line ≡ Err fault → IsFaultOf line fault
 fault_had line fault e =
-    elim (cases_lt 1024 (length line)) [
+    elim (cases_lt line_most (length line)) [
       | inl long ↦
-          let test : ltb 1024 (length line) ≡ true = lt-ltb 1024 (length line) long in
+          let test : ltb line_most (length line) ≡ true = lt-ltb line_most (length line) long in
           let same : ◌≡◌ {A = Result Order Fault} (Err TooLong) (Err fault) = rw test at e in
           subst (IsFaultOf line) (let is : TooLong ≡ fault = cc in is) long
       | inr short ↦
@@ -240,34 +240,32 @@ fault_had line fault e =
                 let not_long : IsTooLong line → ⊥ = λ long. omega arith in
                 words_fault line fault not_long clean (sym (words_decide line not_long clean) ∙ e)
             | inr stray ↦
-                let test : ltb 1024 (length line) ≡ false = le-ltb 1024 (length line) short in
+                let test : ltb line_most (length line) ≡ false = le-ltb line_most (length line) short in
                 let same : ◌≡◌ {A = Result Order Fault} (Err StrayByte) (Err fault) = rw (test, stray) at e in
                 subst (IsFaultOf line) (let is : StrayByte ≡ fault = cc in is) ((λ long. omega arith), stray_byte (before_comment line) stray)
           ]
     ]
 
--- words that begin a form and are not near are wrong words
-wrong_words : (words : List (List ℕ)) (reading : Result Order Fault) → words_reading words ≡ reading → (BeginsNoForm words → ⊥) → (IsNear reading → ⊥) → reading ≡ Err WrongWords
-wrong_words words (Ok order) e known far = absurd (far (lit≤ tt))
-wrong_words words (Err NumberTooLarge) e known far = absurd (far (lit≤ tt))
-wrong_words words (Err WrongWords) e known far = refl
-wrong_words words (Err UnknownWord) e known far = absurd (known (unknown_begins words e))
-wrong_words words (Err other) e known far = absurd (other_fault words other refl (λ same. cc) e)
+-- words that begin a form, and would spell no order, are wrong words
+wrong_words : (words : List (List ℕ)) (reading : Result Order Fault) → words_reading words ≡ reading → (BeginsNoForm words → ⊥) → ((order : Order) → AreWordsFor order words → ⊥) → reading ≡ Err WrongWords
+wrong_words words (Ok order) e known none = absurd (none order (words_read_spell words order e).0)
+wrong_words words (Err NumberTooLarge) e known none = let some = large_spell words e in absurd (none some.0 some.1)
+wrong_words words (Err WrongWords) e known none = refl
+wrong_words words (Err UnknownWord) e known none = absurd (known (unknown_begins words e))
+wrong_words words (Err other) e known none = absurd (other_fault words other refl (λ same. cc) e)
 
 -- a line that has a fault is read as it
 pub fault_read : (line : List ℕ) (fault : Fault) → IsFaultOf line fault → reading_of line ≡ Err fault
-fault_read line TooLong long = let test : ltb 1024 (length line) ≡ true = lt-ltb 1024 (length line) long in rw test refl
+fault_read line TooLong long = let test : ltb line_most (length line) ≡ true = lt-ltb line_most (length line) long in rw test refl
 fault_read line StrayByte is =
     let short = is.0 in
-    let test : ltb 1024 (length line) ≡ false = le-ltb 1024 (length line) (omega arith) in
+    let test : ltb line_most (length line) ≡ false = le-ltb line_most (length line) (omega arith) in
     rw (test, not_printable (before_comment line) is.1) refl
 fault_read line UnknownWord is = words_decide line is.0 is.1 ∙ no_form_read (words_of line) is.2
 fault_read line WrongWords is =
-    let far : IsNear (words_reading (words_of line)) → ⊥ = λ near.
     let short = is.0 in
-    let some = near_words (words_of line) near in
-    is.3 (some.0, record { short = omega arith; printable = all_printable line is.1; words = some.1 }) in
-    words_decide line is.0 is.1 ∙ wrong_words (words_of line) (words_reading (words_of line)) refl is.2 far
+    words_decide line is.0 is.1
+    ∙ wrong_words (words_of line) (words_reading (words_of line)) refl is.2 (λ order are. is.3 (order, record { short = omega arith; printable = all_printable line is.1; words = are }))
 fault_read line NumberTooLarge is =
     let order = is.3.0 in
     let loosely = is.3.1 in

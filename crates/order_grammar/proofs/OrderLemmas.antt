@@ -1,7 +1,111 @@
--- Names among values.
-use Rattle.std.proofs.Common.{List, ◌++◌, Option, option_map}
-use Rattle.order_grammar.specs.declared.name.Name.{Name}
+-- Orders and their parts: an order is made of its parts, and words spell it as they spell those.
+use Rattle.std.proofs.Common.{◌≡◌, ℕ, true, inl, inr, List, [], ◌∷◌, Option, Some, None, unwrap_or, refl, sym, ap, subst, ◌∙◌}
+use Rattle.std.specs.List.{list_any}
+use Rattle.std.proofs.lemmas.Bool.{cases_Bool, false≢true, le-leb, leb-true, and_parts}
+use Rattle.order_grammar.specs.Form.{forms, is_row_of, has_form, are_names}
+use Rattle.order_grammar.specs.Keyword.{text_of_keyword}
+use Rattle.order_grammar.specs.Order.{made_of, parts_of, order_from}
+use Rattle.order_grammar.specs.Spells.{IsWord, IsNumber, IsName, IsRoundOfLine, IsPrivate, IsCompany, AreNames, Then, End, AreWordsFor}
+use Rattle.order_grammar.specs.declared.keyword.Keyword.{Keyword}
+use Rattle.order_grammar.specs.declared.keyword.Keyword.TheVariants as keyword
+use Rattle.order_grammar.specs.declared.order.Order.{Order}
+use Rattle.order_grammar.specs.declared.order.Order.TheVariants.{Blank, Game, Players, Sheet, Turn, BuyPrivate, Bid, Limit, Par}
+use Rattle.order_grammar.specs.declared.order.Parts.{Parts}
+use Rattle.order_grammar.specs.declared.order.Tail.{Tail}
+use Rattle.order_grammar.specs.declared.order.Tail.TheVariants as tail
+use Rattle.order_grammar.specs.declared.order.Value.{Value}
+use Rattle.order_grammar.specs.declared.order.Value.TheVariants as value
 
--- names so far, in front of those to come
-abbrev pub with_front : List Name → Option (List Name) → Option (List Name)
-with_front front names = option_map (λ (rest : List Name). front ++ rest) names
+-- an order that is made of parts
+pub record IsFormed (k : Keyword) (values : List Value) (t : Tail) : Type 0 where
+  pub order : Order
+  pub made : order_from k values t ≡ Some order
+  pub parts : parts_of order ≡ made_of k values t
+
+-- parts that have a form make an order
+pub formed : (k : Keyword) (values : List Value) (t : Tail) → list_any (is_row_of k values t) forms ≡ true → IsFormed k values t
+formed keyword.Game ((value.Number game) ∷ (value.Number version) ∷ []) tail.Nothing h = record { order = Game game version; made = refl; parts = refl }
+formed keyword.Players [] (tail.Names names) h = record { order = Players names; made = refl; parts = refl }
+formed keyword.Sheet ((value.Name name) ∷ (value.Round round) ∷ []) tail.Nothing h = record { order = Sheet name round; made = refl; parts = refl }
+formed keyword.Turn [] tail.Nothing h = record { order = Turn; made = refl; parts = refl }
+formed keyword.Buy ((value.Private private) ∷ []) tail.Nothing h = record { order = BuyPrivate private; made = refl; parts = refl }
+formed keyword.Bid ((value.Private private) ∷ (value.Number amount) ∷ []) tail.Nothing h = record { order = Bid private amount; made = refl; parts = refl }
+formed keyword.Limit ((value.Private private) ∷ (value.Number amount) ∷ []) tail.Nothing h = record { order = Limit private amount; made = refl; parts = refl }
+formed keyword.Par ((value.Company company) ∷ (value.Number price) ∷ []) tail.Nothing h = record { order = Par company price; made = refl; parts = refl }
+formed k values t h = absurd (false≢true h)
+
+-- an order is made again of its parts
+abbrev pub IsMadeAgain : Order → Option Parts → Type 0
+IsMadeAgain order None = order ≡ Blank
+IsMadeAgain order (Some parts) = order_from parts.keyword parts.values.items parts.tail ≡ Some order
+
+pub made_again : (order : Order) → IsMadeAgain order (parts_of order)
+made_again Blank = refl
+made_again other = refl
+
+-- the word of a value
+abbrev pub IsTextOf : Value → List ℕ → Type 0
+IsTextOf (value.Number number) text = IsNumber number text
+IsTextOf (value.Name name) text = IsName name text
+IsTextOf (value.Round round) text = IsRoundOfLine round text
+IsTextOf (value.Private private) text = IsPrivate private text
+IsTextOf (value.Company company) text = IsCompany company text
+IsTextOf (value.Word k) text = IsWord (text_of_keyword k) text
+
+-- the words of what is repeated
+abbrev pub AreWordsOfTail : Tail → List (List ℕ) → Type 0
+AreWordsOfTail tail.Nothing words = End words
+AreWordsOfTail (tail.Names names) words = words ≡ names.items
+
+-- the words of values, and then of what is repeated
+abbrev pub AreTextsOf : List Value → Tail → List (List ℕ) → Type 0
+AreTextsOf [] t words = AreWordsOfTail t words
+AreTextsOf (v ∷ values) t words = Then (IsTextOf v) (AreTextsOf values t) words
+
+-- the words of parts
+abbrev pub AreWordsByParts : Option Parts → List (List ℕ) → Type 0
+AreWordsByParts None words = End words
+AreWordsByParts (Some parts) words =
+    Then (IsWord (text_of_keyword parts.keyword)) (AreTextsOf parts.values.items parts.tail) words × (has_form parts ≡ true)
+
+-- the words of a players line
+players_by_parts : (words names : List (List ℕ)) → Then (IsWord (text_of_keyword keyword.Players)) (AreNames names) words → AreWordsByParts (made_of keyword.Players [] (tail.Names (record { items = names }))) words
+players_by_parts [] names h = absurd h
+players_by_parts (first ∷ words) names h =
+    let least = le-leb 3 _ h.1.least in
+    let most = le-leb _ 6 h.1.most in
+    let each = h.1.each in
+    ((h.0, h.1.same), rw (least, most, each) refl)
+
+-- words that spell an order are those of its parts
+pub by_parts : (order : Order) (words : List (List ℕ)) → AreWordsFor order words → AreWordsByParts (parts_of order) words
+by_parts Blank words h = h
+by_parts (Players names) words h = players_by_parts words names.items h
+by_parts other words h = (h, refl)
+
+-- of the forms only that of a players line has names
+players_names : (names : List (List ℕ)) → has_form (record { keyword = keyword.Players; values = record { items = [] }; tail = tail.Names (record { items = names }) }) ≡ true → are_names 3 6 names ≡ true
+players_names names h =
+    elim (cases_Bool (are_names 3 6 names)) [
+      | inl some ↦ some
+      | inr none ↦ let wrong = rw none at h in absurd (false≢true wrong)
+    ]
+
+players_of_parts : (words names : List (List ℕ)) → AreWordsByParts (made_of keyword.Players [] (tail.Names (record { items = names }))) words → Then (IsWord (text_of_keyword keyword.Players)) (AreNames names) words
+players_of_parts [] names h = absurd h.0
+players_of_parts (first ∷ words) names h =
+    let counted = and_parts _ _ (players_names names h.1) in
+    let least_and_most = and_parts _ _ counted.0 in
+    (h.0.0, record { same = h.0.1; least = leb-true 3 _ least_and_most.0; most = leb-true _ 6 least_and_most.1; each = counted.1 })
+
+-- the words of an order's parts spell it
+pub of_parts : (order : Order) (words : List (List ℕ)) → AreWordsByParts (parts_of order) words → AreWordsFor order words
+of_parts Blank words h = h
+of_parts (Players names) words h = players_of_parts words names.items h
+of_parts other words h = h.0
+
+-- the order that parts make is that of which they are
+pub remade : (order : Order) (parts : Parts) (made : Option Order) → Some parts ≡ parts_of order → made ≡ order_from parts.keyword parts.values.items parts.tail → unwrap_or made Blank ≡ order
+remade order parts made is by =
+    let again : order_from parts.keyword parts.values.items parts.tail ≡ Some order = subst (IsMadeAgain order) (sym is) (made_again order) in
+    ap (λ (o : Option Order). unwrap_or o Blank) (by ∙ again)

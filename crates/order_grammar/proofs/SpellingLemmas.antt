@@ -1,75 +1,103 @@
 -- The spelling of an order is a line of its words.
-use Rattle.std.proofs.Common.{◌≡◌, ℕ, ◌+◌, ◌-◌, ◌*◌, ◌/◌, ◌%◌, ◌^◌, ◌<◌, ◌≤◌, ◌==◌, ltb, nat_le, true, false, ◌&&◌, List, [], ◌∷◌, ◌++◌, Ok, codes, length, drop, map, refl, sym, ap, ◌∙◌, arith}
+use Rattle.std.proofs.Common.{◌≡◌, ℕ, ◌+◌, ◌-◌, ◌*◌, ◌/◌, ◌%◌, ◌^◌, ◌<◌, ◌≤◌, ◌==◌, Bool, ltb, nat_le, true, false, not, ◌&&◌, List, [], ◌∷◌, ◌++◌, Option, Some, None, Ok, codes, length, drop, map, refl, sym, ap, subst, ◌∙◌, arith}
 use Rattle.std.specs.Char.{to_ascii_uppercase}
 use Rattle.std.specs.Fmt.{decimal}
 use Rattle.std.specs.List.{list_all}
-use Rattle.std.proofs.lemmas.Bool.{le-ltb, leb-true, and_parts, and_from, or_left, or_right, false≢true}
+use Rattle.std.proofs.lemmas.Bool.{le-ltb, leb-true, eqb-true, and_parts, and_from, or_left, or_right, false≢true}
 use Rattle.std.proofs.lemmas.Bool.Decides.{nat_tests}
 use Rattle.std.proofs.lemmas.Fmt.{decimal_by_steps, decimal_nonempty, first_decimal, length-decimal-le}
-use Rattle.std.proofs.lemmas.List.{drop_at, length-append, append-nil}
+use Rattle.std.proofs.lemmas.List.{drop_at, length-append, length-map, append-nil}
 use Rattle.std.proofs.lemmas.List.Concat.{flat_map-cons}
 use Rattle.std.proofs.lemmas.List.Folds.{list_all-append}
 use Rattle.std.proofs.lemmas.List.Sums.{fold_push}
-use Rattle.tables.specs.Roster.{code_of_private}
+use Rattle.tables.specs.Roster.{code_of_company, code_of_private}
+use Rattle.tables.specs.declared.roster.Company.{Company}
+use Rattle.tables.specs.declared.roster.Company.TheVariants as company
 use Rattle.tables.specs.declared.roster.Private.{Private}
 use Rattle.tables.specs.declared.roster.Private.TheVariants as private
 use Rattle.tables.specs.declared.round.Round.{Round}
 use Rattle.tables.specs.declared.round.Round.TheVariants.{Opening, Stock, Operating}
-use Rattle.order_grammar.specs.Class.{are_digits, value_of_digits}
-use Rattle.order_grammar.specs.Form.{words_reading}
+use Rattle.order_grammar.specs.Class.{are_digits, value_of_digits, is_of_class}
+use Rattle.order_grammar.specs.Form.{forms, words_reading, is_row_of, has_form, are_of_classes, is_of_repeated}
+use Rattle.order_grammar.specs.Keyword.{text_of_keyword}
+use Rattle.order_grammar.specs.Limits.{line_most}
+use Rattle.tables.specs.Round.{number_most}
 use Rattle.order_grammar.specs.Line.{reading_of}
 use Rattle.order_grammar.specs.Name.{is_name, is_capital, is_digit, is_letter_or_digit}
-use Rattle.order_grammar.specs.Print.{spaced, joined, words_of_order, spelling_of, text_of_round}
-use Rattle.order_grammar.specs.Spells.{IsNumber, IsRound, AreWordsFor, IsSmallRound, HasSmallNumbers, IsOpeningRound, IsOrder}
-use Rattle.order_grammar.specs.Words.{before, with_word, words_from, raised, words_of, is_printable}
+use Rattle.order_grammar.specs.Order.{parts_of}
+use Rattle.order_grammar.specs.Print.{spaced, joined, text_of_value, words_of_tail, words_of_parts, spelling_of}
+use Rattle.order_grammar.specs.Row.{has_room, is_short}
+use Rattle.order_grammar.specs.Spells.{IsNumber, is_small, are_small, is_round_of_line, has_word, have_words, IsOrder}
+use Rattle.order_grammar.specs.Words.{before, with_word, words_from, raised, words_of, is_printable, same_word}
+use Rattle.order_grammar.specs.declared.class.Class.{Class}
+use Rattle.order_grammar.specs.declared.form.Repeated.{Repeated}
+use Rattle.order_grammar.specs.declared.form.Repeated.TheVariants as repeated
+use Rattle.order_grammar.specs.declared.keyword.Keyword.{Keyword}
+use Rattle.order_grammar.specs.declared.keyword.Keyword.TheVariants as keyword
 use Rattle.order_grammar.specs.declared.order.Order.{Order}
-use Rattle.order_grammar.specs.declared.order.Order.TheVariants.{Blank, Game, Players, Sheet, Turn, BuyPrivate}
+use Rattle.order_grammar.specs.declared.order.Parts.{Parts}
+use Rattle.order_grammar.specs.declared.order.Tail.{Tail}
+use Rattle.order_grammar.specs.declared.order.Tail.TheVariants as tail
+use Rattle.order_grammar.specs.declared.order.Value.{Value}
+use Rattle.order_grammar.specs.declared.order.Value.TheVariants as value
+use Rattle.order_grammar.proofs.OrderLemmas.{IsTextOf, AreTextsOf, AreWordsOfTail, AreWordsByParts, of_parts}
+use Rattle.order_grammar.proofs.RowLemmas.{among_any, all_among}
+use Rattle.order_grammar.proofs.SpellsLemmas.{spelt_words_read}
 use Rattle.order_grammar.proofs.WordLemmas.{words_from-word}
-use Rattle.order_grammar.proofs.SpellsLemmas.{words_for_read}
 
--- a word as it is printed: letters in upper case and digits, and not long
+-- a byte of a printed word: printable, no space, no `#`, and no letter in lower case
+abbrev is_plain : ℕ → Bool
+is_plain byte = is_printable byte && (not (byte == 32) && (not (byte == 35) && to_ascii_uppercase byte == byte))
+
+-- a printed word
 record IsPlain (word : List ℕ) : Type 0 where
   some : 0 < length word
-  few : length word ≤ 8
-  plain : list_all is_letter_or_digit word ≡ true
+  few : length word ≤ 16
+  plain : list_all is_plain word ≡ true
 
 ArePlain : List (List ℕ) → Type 0
 ArePlain [] = Unit {0}
 ArePlain (word ∷ words) = IsPlain word × ArePlain words
 
--- a letter in upper case or a digit is no space, no `#`, is printable and stays as it is
-no_space : (byte : ℕ) → is_letter_or_digit byte ≡ true → (byte == 32) ≡ false
-no_space byte h = grind (arith, nat_tests)
+-- what is denied does not hold
+denied : (b : Bool) → not b ≡ true → b ≡ false
+denied true e = absurd (false≢true e)
+denied false e = refl
 
-no_comment : (byte : ℕ) → is_letter_or_digit byte ≡ true → (byte == 35) ≡ false
-no_comment byte h = grind (arith, nat_tests)
+-- what is known of a plain byte
+record PlainByte (byte : ℕ) : Type 0 where
+  printable : is_printable byte ≡ true
+  no_space : (byte == 32) ≡ false
+  no_comment : (byte == 35) ≡ false
+  stays : to_ascii_uppercase byte ≡ byte
 
-prints : (byte : ℕ) → is_letter_or_digit byte ≡ true → is_printable byte ≡ true
-prints byte h = grind (arith, nat_tests)
-
-stays : (byte : ℕ) → is_letter_or_digit byte ≡ true → to_ascii_uppercase byte ≡ byte
-stays byte h = grind (arith, nat_tests)
+plain_byte : (byte : ℕ) → is_plain byte ≡ true → PlainByte byte
+plain_byte byte h =
+    let a = and_parts (is_printable byte) (not (byte == 32) && (not (byte == 35) && to_ascii_uppercase byte == byte)) h in
+    let b = and_parts (not (byte == 32)) (not (byte == 35) && to_ascii_uppercase byte == byte) a.1 in
+    let d = and_parts (not (byte == 35)) (to_ascii_uppercase byte == byte) b.1 in
+    record { printable = a.0; no_space = denied (byte == 32) b.0; no_comment = denied (byte == 35) d.0; stays = eqb-true (to_ascii_uppercase byte) byte d.1 }
 
 -- a plain word is as it is when it is raised
-raised-plain : (word : List ℕ) → list_all is_letter_or_digit word ≡ true → raised word ≡ word
+raised-plain : (word : List ℕ) → list_all is_plain word ≡ true → raised word ≡ word
 raised-plain [] h = refl
 raised-plain (byte ∷ bytes) h =
-    let parts = and_parts (is_letter_or_digit byte) (list_all is_letter_or_digit bytes) h in
-    rw (stays byte parts.0, raised-plain bytes parts.1) refl
+    let parts = and_parts (is_plain byte) (list_all is_plain bytes) h in
+    rw ((plain_byte byte parts.0).stays, raised-plain bytes parts.1) refl
 
 -- no byte of a plain word ends it
-before-plain : (stop : ℕ) (word rest : List ℕ) → ((byte : ℕ) → is_letter_or_digit byte ≡ true → (byte == stop) ≡ false) → list_all is_letter_or_digit word ≡ true → before stop (word ++ rest) ≡ word ++ before stop rest
+before-plain : (stop : ℕ) (word rest : List ℕ) → ((byte : ℕ) → PlainByte byte → (byte == stop) ≡ false) → list_all is_plain word ≡ true → before stop (word ++ rest) ≡ word ++ before stop rest
 before-plain stop [] rest other h = refl
 before-plain stop (byte ∷ bytes) rest other h =
-    let parts = and_parts (is_letter_or_digit byte) (list_all is_letter_or_digit bytes) h in
-    rw (other byte parts.0, before-plain stop bytes rest other parts.1) refl
+    let parts = and_parts (is_plain byte) (list_all is_plain bytes) h in
+    rw (other byte (plain_byte byte parts.0), before-plain stop bytes rest other parts.1) refl
 
 -- a plain word is printable
-printable-plain : (word : List ℕ) → list_all is_letter_or_digit word ≡ true → list_all is_printable word ≡ true
+printable-plain : (word : List ℕ) → list_all is_plain word ≡ true → list_all is_printable word ≡ true
 printable-plain [] h = refl
 printable-plain (byte ∷ bytes) h =
-    let parts = and_parts (is_letter_or_digit byte) (list_all is_letter_or_digit bytes) h in
-    rw (prints byte parts.0, printable-plain bytes parts.1) refl
+    let parts = and_parts (is_plain byte) (list_all is_plain bytes) h in
+    rw ((plain_byte byte parts.0).printable, printable-plain bytes parts.1) refl
 
 -- the first of spaced words
 spaced-cons : (word : List ℕ) (words : List (List ℕ)) → spaced (word ∷ words) ≡ (32 ∷ word) ++ spaced words
@@ -81,7 +109,7 @@ unfolding ArePlain
 before-spaced [] h = refl
 before-spaced (word ∷ words) h =
     ap (before 35) (spaced-cons word words)
-    ∙ ap (λ (bytes : List ℕ). 32 ∷ bytes) (before-plain 35 word (spaced words) no_comment h.0.plain ∙ ap (λ (bytes : List ℕ). word ++ bytes) (before-spaced words h.1))
+    ∙ ap (λ (bytes : List ℕ). 32 ∷ bytes) (before-plain 35 word (spaced words) (λ byte p. p.no_comment) h.0.plain ∙ ap (λ (bytes : List ℕ). word ++ bytes) (before-spaced words h.1))
     ∙ sym (spaced-cons word words)
 
 -- they are printable
@@ -93,7 +121,7 @@ printable-spaced (word ∷ words) h =
     ∙ and_from (list_all is_printable (32 ∷ word)) (list_all is_printable (spaced words)) (printable-plain word h.0.plain) (printable-spaced words h.1)
 
 -- they are not long
-length-spaced : (words : List (List ℕ)) → ArePlain words → length (spaced words) ≤ 9 * length words
+length-spaced : (words : List (List ℕ)) → ArePlain words → length (spaced words) ≤ 17 * length words
 unfolding ArePlain
 length-spaced [] h = omega arith
 length-spaced (word ∷ words) h =
@@ -112,7 +140,7 @@ in_front (byte ∷ bytes) words h = refl
 -- a word in front of them
 words_from-joined : (word : List ℕ) (words : List (List ℕ)) → IsPlain word → words_from [] (spaced words) ≡ words → words_from [] (word ++ spaced words) ≡ word ∷ words
 words_from-joined word words plain rest =
-    let first : before 32 (word ++ spaced words) ≡ word = before-plain 32 word (spaced words) no_space plain.plain ∙ ap (λ (bytes : List ℕ). word ++ bytes) (before_next words) ∙ append-nil word in
+    let first : before 32 (word ++ spaced words) ≡ word = before-plain 32 word (spaced words) (λ byte p. p.no_space) plain.plain ∙ ap (λ (bytes : List ℕ). word ++ bytes) (before_next words) ∙ append-nil word in
     words_from-word [] (word ++ spaced words)
     ∙ ap (λ (w : List ℕ). with_word w (words_from [] (drop (length w) (word ++ spaced words)))) first
     ∙ ap (λ (bytes : List ℕ). with_word word (words_from [] bytes)) (drop_at word (spaced words) (length word) refl)
@@ -130,19 +158,29 @@ unfolding ArePlain
 raised-words [] h = refl
 raised-words (word ∷ words) h = rw (raised-plain word h.0.plain, raised-words words h.1) refl
 
--- at most seven plain words with single spaces between them are what the words are
-reading_of-joined : (words : List (List ℕ)) → ArePlain words → length words ≤ 7 → reading_of (joined words) ≡ words_reading words
+-- at most 20 plain words with single spaces between them are what the words are
+reading_of-joined : (words : List (List ℕ)) → ArePlain words → length words ≤ 20 → reading_of (joined words) ≡ words_reading words
 unfolding ArePlain
 reading_of-joined [] h few = refl
 reading_of-joined (word ∷ words) h few =
     let line = joined (word ∷ words) in
-    let clear : before 35 line ≡ line = before-plain 35 word (spaced words) no_comment h.0.plain ∙ ap (λ (bytes : List ℕ). word ++ bytes) (before-spaced words h.1) in
-    let short : ltb 1024 (length line) ≡ false = le-ltb 1024 (length line) (omega (arith, h.0.few, length-append word (spaced words), length-spaced words h.1)) in
+    let clear : before 35 line ≡ line = before-plain 35 word (spaced words) (λ byte p. p.no_comment) h.0.plain ∙ ap (λ (bytes : List ℕ). word ++ bytes) (before-spaced words h.1) in
+    let short : ltb line_most (length line) ≡ false = le-ltb line_most (length line) (omega (arith, h.0.few, length-append word (spaced words), length-spaced words h.1)) in
     let printable : list_all is_printable (before 35 line) ≡ true =
     ap (list_all is_printable) clear ∙ list_all-append is_printable word (spaced words) ∙ and_from _ _ (printable-plain word h.0.plain) (printable-spaced words h.1) in
     let here : words_of line ≡ word ∷ words =
     ap (λ (bytes : List ℕ). map raised (words_from [] bytes)) clear ∙ ap (map raised) (words_from-joined word words h.0 (words_from-spaced words h.1)) ∙ raised-words (word ∷ words) h in
     rw (short, printable) (ap words_reading here)
+
+-- letters in upper case and digits are plain
+plain_letter : (byte : ℕ) → is_letter_or_digit byte ≡ true → is_plain byte ≡ true
+plain_letter byte h = grind (arith, nat_tests)
+
+plain_letters : (word : List ℕ) → list_all is_letter_or_digit word ≡ true → list_all is_plain word ≡ true
+plain_letters [] all = refl
+plain_letters (byte ∷ bytes) all =
+    let parts = and_parts (is_letter_or_digit byte) (list_all is_letter_or_digit bytes) all in
+    rw (plain_letter byte parts.0, plain_letters bytes parts.1) refl
 
 -- what is known of the digits of a number
 abbrev DigitsOf : ℕ → List ℕ → Type 0
@@ -167,22 +205,21 @@ some_digits [] some all = absurd (omega arith)
 some_digits (digit ∷ digits) some all = all
 
 -- the spelling of a number is that number
-decimal_number : (number : ℕ) → number ≤ 99999 → IsNumber (decimal number) number
+decimal_number : (number : ℕ) → number ≤ number_most → IsNumber number (decimal number)
 decimal_number number small =
     let long : number < 2 ^ 64 = omega arith in
     let digits = decimal_by_steps DigitsOf digits_one digits_more number long in
     record { digits = some_digits (decimal number) (decimal_nonempty number long) digits.0; value = digits.1 }
 
 -- digits are plain
-plain_digits : (digits : List ℕ) → list_all is_digit digits ≡ true → list_all is_letter_or_digit digits ≡ true
+plain_digits : (digits : List ℕ) → list_all is_digit digits ≡ true → list_all is_plain digits ≡ true
 plain_digits [] all = refl
 plain_digits (digit ∷ digits) all =
     let parts = and_parts (is_digit digit) (list_all is_digit digits) all in
-    let here : is_letter_or_digit digit ≡ true = or_right (is_capital digit) (is_digit digit) parts.0 in
-    rw (here, plain_digits digits parts.1) refl
+    rw (plain_letter digit (or_right (is_capital digit) (is_digit digit) parts.0), plain_digits digits parts.1) refl
 
 -- the spelling of a number is plain
-decimal_plain : (number : ℕ) → number ≤ 99999 → IsPlain (decimal number)
+decimal_plain : (number : ℕ) → number ≤ number_most → IsPlain (decimal number)
 decimal_plain number small =
     let long : number < 2 ^ 64 = omega arith in
     let digits = decimal_by_steps DigitsOf digits_one digits_more number long in
@@ -197,9 +234,8 @@ name_plain (first ∷ rest) is =
     let others = and_parts (nat_le (length rest) 7) (list_all is_letter_or_digit rest) parts.1 in
     let few = leb-true (length rest) 7 others.0 in
     let here : is_letter_or_digit first ≡ true = or_left (is_capital first) (is_digit first) parts.0 in
-    record { some = omega arith; few = omega (arith, few); plain = and_from (is_letter_or_digit first) (list_all is_letter_or_digit rest) here others.1 }
+    record { some = omega arith; few = omega (arith, few); plain = plain_letters (first ∷ rest) (and_from (is_letter_or_digit first) (list_all is_letter_or_digit rest) here others.1) }
 
--- names are plain
 names_plain : (names : List (List ℕ)) → list_all is_name names ≡ true → ArePlain names
 unfolding ArePlain
 names_plain [] all = tt
@@ -207,81 +243,131 @@ names_plain (name ∷ names) all =
     let parts = and_parts (is_name name) (list_all is_name names) all in
     (name_plain name parts.0, names_plain names parts.1)
 
--- the spelling of a round
-round_plain : (round : Round) → IsOpeningRound round → IsPlain (text_of_round round)
-round_plain (Opening number) is =
-    let long : number < 2 ^ 64 = omega (arith, is.1) in
-    let digits = decimal_plain number is.1 in
-    let few = length-decimal-le 5 number (omega arith) (omega (arith, is.1)) long in
-    record { some = omega arith; few = omega (arith, few, length-append (codes "PR") (decimal number)); plain = digits.plain }
-round_plain (Stock number) is = absurd is
-round_plain (Operating set number) is = absurd is
+-- whether a word that is known is plain
+abbrev is_plain_word : List ℕ → Bool
+is_plain_word word = nat_le 1 (length word) && (nat_le (length word) 16 && list_all is_plain word)
 
--- the code of a private
-code_plain : (p : Private) → IsPlain (code_of_private p)
-code_plain private.SchuylkillValley = record { some = omega arith; few = omega arith; plain = refl }
-code_plain private.ChamplainStLawrence = record { some = omega arith; few = omega arith; plain = refl }
-code_plain private.DelawareHudson = record { some = omega arith; few = omega arith; plain = refl }
-code_plain private.MohawkHudson = record { some = omega arith; few = omega arith; plain = refl }
-code_plain private.CamdenAmboy = record { some = omega arith; few = omega arith; plain = refl }
-code_plain private.BaltimoreOhio = record { some = omega arith; few = omega arith; plain = refl }
+plain_word : (word : List ℕ) → is_plain_word word ≡ true → IsPlain word
+plain_word word h =
+    let a = and_parts (nat_le 1 (length word)) (nat_le (length word) 16 && list_all is_plain word) h in
+    let b = and_parts (nat_le (length word) 16) (list_all is_plain word) a.1 in
+    record { some = leb-true 1 (length word) a.0; few = leb-true (length word) 16 b.0; plain = b.1 }
 
--- the first word of a form
-form_plain : (word : List ℕ) → nat_le 1 (length word) ≡ true → nat_le (length word) 8 ≡ true → list_all is_letter_or_digit word ≡ true → IsPlain word
-form_plain word some few plain = record { some = leb-true 1 (length word) some; few = leb-true (length word) 8 few; plain = plain }
+keyword_plain : (k : Keyword) → is_plain_word (text_of_keyword k) ≡ true
+keyword_plain keyword.Game = refl
+keyword_plain other = refl
 
--- the words of an order are plain
-order_plain : (order : Order) → IsOrder order → ArePlain (words_of_order order)
+code_plain : (p : Private) → is_plain_word (code_of_private p) ≡ true
+code_plain private.SchuylkillValley = refl
+code_plain other = refl
+
+company_plain : (co : Company) → is_plain_word (code_of_company co) ≡ true
+company_plain company.Pennsylvania = refl
+company_plain other = refl
+
+-- what is known of the word of a value
+record IsSpelt (v : Value) : Type 0 where
+  text : IsTextOf v (text_of_value v)
+  small : is_small v ≡ true
+  plain : IsPlain (text_of_value v)
+
+-- a round
+round_spelt : (round : Round) → is_round_of_line round ≡ true → IsSpelt (value.Round round)
+round_spelt (Opening number) has =
+    let parts = and_parts (nat_le 1 number) (nat_le number number_most) has in
+    let least = leb-true 1 number parts.0 in
+    let most = leb-true number number_most parts.1 in
+    let long : number < 2 ^ 64 = omega (arith, most) in
+    let first = first_decimal number (omega (arith, least)) (omega (arith, most)) in
+    let digits = decimal_plain number most in
+    let few = length-decimal-le 5 number (omega arith) (omega (arith, most)) long in
+    record {
+      text = (decimal number, refl, (λ e. omega (arith, first, e)), decimal_number number most);
+      small = parts.1;
+      plain = record { some = omega arith; few = omega (arith, few, length-append (codes "PR") (decimal number)); plain = digits.plain };
+    }
+round_spelt (Stock number) has = absurd (false≢true has)
+round_spelt (Operating set number) has = absurd (false≢true has)
+
+-- the word of a value is its text
+value_spelt : (v : Value) → has_word v ≡ true → IsSpelt v
+value_spelt (value.Number number) has =
+    let small = leb-true number number_most has in
+    record { text = decimal_number number small; small = has; plain = decimal_plain number small }
+value_spelt (value.Name name) has = record { text = (refl, has); small = refl; plain = name_plain name has }
+value_spelt (value.Round round) has = round_spelt round has
+value_spelt (value.Private p) has = record { text = refl; small = refl; plain = plain_word (code_of_private p) (code_plain p) }
+value_spelt (value.Company co) has = record { text = refl; small = refl; plain = plain_word (code_of_company co) (company_plain co) }
+value_spelt (value.Word k) has = record { text = refl; small = refl; plain = plain_word (text_of_keyword k) (keyword_plain k) }
+
+-- the words of values and of what is repeated
+record AreSpelt (values : List Value) (t : Tail) : Type 0 where
+  texts : AreTextsOf values t (map text_of_value values ++ words_of_tail t)
+  small : list_all is_small values ≡ true
+  plain : ArePlain (map text_of_value values ++ words_of_tail t)
+
+-- what is repeated
+tail_texts : (t : Tail) → AreWordsOfTail t (words_of_tail t)
+tail_texts tail.Nothing = tt
+tail_texts (tail.Names names) = refl
+
+values_spelt : (values : List Value) (t : Tail) → list_all has_word values ≡ true → ArePlain (words_of_tail t) → AreSpelt values t
 unfolding ArePlain
-order_plain Blank is = tt
-order_plain (Game game version) is = (form_plain (codes "GAME") refl refl refl, (decimal_plain game is.0, (decimal_plain version is.1, tt)))
-order_plain (Players names) is = (form_plain (codes "PLAYERS") refl refl refl, names_plain names.items is.each)
-order_plain (Sheet name round) is = (form_plain (codes "SHEET") refl refl refl, (name_plain name is.0, (round_plain round is.1, tt)))
-order_plain Turn is = (form_plain (codes "TURN") refl refl refl, tt)
-order_plain (BuyPrivate p) is = (form_plain (codes "BUY") refl refl refl, (code_plain p, tt))
+values_spelt [] t has plain = record { texts = tail_texts t; small = refl; plain = plain }
+values_spelt (v ∷ values) t has plain =
+    let parts = and_parts (has_word v) (list_all has_word values) has in
+    let first = value_spelt v parts.0 in
+    let rest = values_spelt values t parts.1 plain in
+    record { texts = (first.text, rest.texts); small = and_from (is_small v) (list_all is_small values) first.small rest.small; plain = (first.plain, rest.plain) }
 
--- there are at most seven of them
-order_few : (order : Order) → IsOrder order → length (words_of_order order) ≤ 7
-order_few Blank is = omega arith
-order_few (Game game version) is = omega arith
-order_few (Players names) is = omega (arith, is.most)
-order_few (Sheet name round) is = omega arith
-order_few Turn is = omega arith
-order_few (BuyPrivate p) is = omega arith
+-- what is repeated is plain, and not much
+record IsShortTail (t : Tail) : Type 0 where
+  plain : ArePlain (words_of_tail t)
+  few : length (words_of_tail t) ≤ 6
 
--- the spelling of a round is that round
-round_text : (round : Round) → IsOpeningRound round → IsRound (text_of_round round) round
-round_text (Opening number) is =
-    let first = first_decimal number (omega (arith, is.0)) (omega (arith, is.1)) in
-    (decimal number, refl, (λ e. omega (arith, first, e)), decimal_number number is.1)
-round_text (Stock number) is = absurd is
-round_text (Operating set number) is = absurd is
+tail_short : (r : Repeated) (t : Tail) → has_room r ≡ true → is_of_repeated r t ≡ true → IsShortTail t
+unfolding ArePlain
+tail_short repeated.Nothing tail.Nothing room of = record { plain = tt; few = omega arith }
+tail_short (repeated.Names least most) (tail.Names names) room of =
+    let named = and_parts (nat_le least (length names.items) && nat_le (length names.items) most) (list_all is_name names.items) of in
+    let counted = and_parts (nat_le least (length names.items)) (nat_le (length names.items) most) named.0 in
+    record { plain = names_plain names.items named.1; few = omega (arith, leb-true most 6 room, leb-true (length names.items) most counted.1) }
+tail_short r t room of = absurd (false≢true of)
 
--- the words of an order spell it
-order_words : (order : Order) → IsOrder order → AreWordsFor (words_of_order order) order
-order_words Blank is = refl
-order_words (Game game version) is = (decimal game, decimal version, refl, decimal_number game is.0, decimal_number version is.1)
-order_words (Players names) is = (refl, is)
-order_words (Sheet name round) is = (text_of_round round, refl, is.0, round_text round is.1)
-order_words Turn is = refl
-order_words (BuyPrivate p) is = (refl, is)
+-- as many values as classes, and then what is repeated
+values_short : (classes : List Class) (r : Repeated) (values : List Value) (t : Tail) → has_room r ≡ true → are_of_classes classes r values t ≡ true → (length values ≡ length classes) × IsShortTail t
+values_short [] r [] t room of = (refl, tail_short r t room of)
+values_short [] r (v ∷ values) t room of = absurd (false≢true of)
+values_short (c ∷ classes) r [] t room of = absurd (false≢true of)
+values_short (c ∷ classes) r (v ∷ values) t room of =
+    let parts = and_parts (is_of_class c v) (are_of_classes classes r values t) of in
+    let rest = values_short classes r values t room parts.1 in
+    (omega (arith, rest.0), rest.1)
 
--- a round that has a spelling has a small number
-round_small : (round : Round) → IsOpeningRound round → IsSmallRound round
-round_small (Opening number) is = is.1
-round_small (Stock number) is = absurd is
-round_small (Operating set number) is = absurd is
+-- each form is short
+forms_short : list_all is_short forms ≡ true
+forms_short = refl
 
--- an order that has a spelling has small numbers
-order_small : (order : Order) → IsOrder order → HasSmallNumbers order
-order_small Blank is = tt
-order_small (Game game version) is = is
-order_small (Players names) is = tt
-order_small (Sheet name round) is = round_small round is.1
-order_small Turn is = tt
-order_small (BuyPrivate p) is = tt
+-- parts of a form that have words are read as what they make
+parts_read : (order : Order) (parts : Option Parts) → parts_of order ≡ parts → have_words parts ≡ true → reading_of (joined (words_of_parts parts)) ≡ Ok order
+unfolding ArePlain
+parts_read order None is has =
+    reading_of-joined [] tt (omega arith) ∙ spelt_words_read [] order (of_parts order [] (subst (λ (p : Option Parts). AreWordsByParts p []) (sym is) tt)) (ap are_small is)
+parts_read order (Some parts) is has =
+    let values = parts.values.items in
+    let h = and_parts (has_form parts) (list_all has_word values) has in
+    let row = among_any (is_row_of parts.keyword values parts.tail) forms h.0 in
+    let fits = and_parts (same_word (text_of_keyword row.0.keyword) (text_of_keyword parts.keyword)) (are_of_classes row.0.classes row.0.repeated values parts.tail) row.2 in
+    let short = and_parts (nat_le (length row.0.classes) 5) (has_room row.0.repeated) (all_among is_short forms row.0 forms_short row.1) in
+    let counted = values_short row.0.classes row.0.repeated values parts.tail short.1 fits.1 in
+    let spelt = values_spelt values parts.tail h.1 counted.1.plain in
+    let words = words_of_parts (Some parts) in
+    let plain : ArePlain words = (plain_word (text_of_keyword parts.keyword) (keyword_plain parts.keyword), spelt.plain) in
+    let few : length words ≤ 20 =
+    omega (arith, length-append (map text_of_value values) (words_of_tail parts.tail), length-map values text_of_value, counted.0, leb-true (length row.0.classes) 5 short.0, counted.1.few) in
+    reading_of-joined words plain few
+    ∙ spelt_words_read words order (of_parts order words (subst (λ (p : Option Parts). AreWordsByParts p words) (sym is) ((refl, spelt.texts), h.0))) (ap are_small is ∙ spelt.small)
 
 -- the spelling of an order is read as it
 pub spelling_read : (order : Order) → IsOrder order → reading_of (spelling_of order) ≡ Ok order
-spelling_read order is =
-    reading_of-joined (words_of_order order) (order_plain order is) (order_few order is) ∙ words_for_read (words_of_order order) order (order_words order is) (order_small order is)
+spelling_read order is = parts_read order (parts_of order) refl is

@@ -1,12 +1,13 @@
 -- Words of a text: where they end, and how they come one after the other.
-use Rattle.std.proofs.Common.{◌≡◌, ℕ, suc, ◌+◌, ◌-◌, ◌<◌, ◌≤◌, ◌==◌, Bool, true, false, ◌&&◌, not, cond, List, [], ◌∷◌, ◌++◌, Option, Some, None, unwrap_or, ltb, length, get_or, take, drop, map, refl, sym, ap, ◌∙◌, inl, inr, ◌⊎◌, slice_range, arith}
-use Rattle.std.specs.List.{list_any, position_or_len}
-use Rattle.std.proofs.lemmas.Bool.{cases_Bool, cases_lt, lt-ltb, le-ltb}
-use Rattle.std.proofs.lemmas.List.{append-nil, map_push, drop_more, drop-drop, drop-take, take-take, take_at, take_all, length-take, append_assoc}
+use Rattle.std.proofs.Common.{◌≡◌, ℕ, suc, ◌+◌, ◌-◌, ◌<◌, ◌≤◌, ◌==◌, Bool, true, false, ◌&&◌, not, cond, List, [], ◌∷◌, ◌++◌, Option, Some, None, unwrap_or, is_some, ltb, length, take, drop, map, refl, sym, ap, subst, ◌∙◌, inl, inr, slice_range, arith}
+use Rattle.std.specs.Char.{to_ascii_uppercase}
+use Rattle.std.specs.List.{list_all, position_or_len, zip}
+use Rattle.std.proofs.lemmas.Bool.{cases_Bool, cases_lt, lt-ltb, le-ltb, ne_eqb}
+use Rattle.std.proofs.lemmas.List.{append-nil, drop_at, at_drop_all, drop-drop, take_at, length-append, append_assoc}
 use Rattle.std.proofs.lemmas.List.Sums.{prefix_len-le-length}
 use Rattle.std.proofs.lemmas.List.Recursion.{is_position_or_len}
-use Rattle.order_grammar.specs.Token.{placed}
-use Rattle.order_grammar.specs.Words.{Placed, StandFrom, before, with_word, words_from, raised, first_of_words, has_words, same_word}
+use Rattle.order_grammar.specs.Token.{GivesFirst}
+use Rattle.order_grammar.specs.Words.{Placed, StandFrom, before, with_word, words_from, raised, same_word, with_placed, placed_from, first_of_words, has_words, texts_of}
 use Rattle.order_grammar.specs.declared.words.Token.{Token}
 
 -- where the part before a byte ends
@@ -24,6 +25,17 @@ take-before stop (byte ∷ bytes) =
       | false ↦ ap (λ (rest : List ℕ). byte ∷ rest) (take-before stop bytes)
     ]
 
+-- where the first byte is that passes, or the end of the text
+pub position-end : (p : ℕ → Bool) (text : List ℕ) (r : Option ℕ) → r ≡ cond (ltb (position_or_len p text) (length text)) (Some (position_or_len p text)) None → unwrap_or r (length text) ≡ position_or_len p text
+position-end p text r e =
+    elim (cases_lt (position_or_len p text) (length text)) [
+      | inl lt ↦ let t = lt-ltb _ _ lt in ap (λ o. unwrap_or o (length text)) e ∙ rw t refl
+      | inr le ↦
+          let t = le-ltb _ _ le in
+          let end : position_or_len p text ≡ length text = omega (arith, prefix_len-le-length (λ b. not (p b)) text) in
+          ap (λ o. unwrap_or o (length text)) e ∙ rw t (sym end)
+    ]
+
 -- the word that has begun ends before the next space, and the other words come after it
 pub words_from-word : (word text : List ℕ) → words_from word text ≡ with_word (word ++ before 32 text) (words_from [] (drop (length (before 32 text)) text))
 words_from-word word [] = ap (λ (w : List ℕ). with_word w []) (sym (append-nil word))
@@ -32,31 +44,6 @@ words_from-word word (byte ∷ bytes) =
       | inl e ↦ rw e (rw e (ap (λ (w : List ℕ). with_word w (words_from [] bytes)) (sym (append-nil word))))
       | inr e ↦ rw e (words_from-word (word ++ byte ∷ []) bytes ∙ ap (λ (w : List ℕ). with_word w (words_from [] (drop (length (before 32 bytes)) bytes))) (append_assoc word (byte ∷ []) (before 32 bytes)))
     ]
-
--- the first word of a text
-pub first_of_words-words_from : (text : List ℕ) → first_of_words (words_from [] text) ≡ before 32 (drop (position_or_len (λ byte. not (byte == 32)) text) text)
-first_of_words-words_from [] = refl
-first_of_words-words_from (byte ∷ bytes) =
-    elim (cases_Bool (byte == 32)) [
-      | inl e ↦
-          let n : 1 + position_or_len (λ b. not (b == 32)) bytes ≡ suc (position_or_len (λ b. not (b == 32)) bytes) = omega arith in
-          rw (e, n) (first_of_words-words_from bytes)
-      | inr e ↦ rw e (rw e (ap first_of_words (words_from-word (byte ∷ []) bytes)))
-    ]
-
--- a text has words where it has a byte that is no space
-pub has_words-words_from : (text : List ℕ) → list_any (λ byte. not (byte == 32)) text ≡ has_words (words_from [] text)
-has_words-words_from [] = refl
-has_words-words_from (byte ∷ bytes) =
-    elim (cases_Bool (byte == 32)) [
-      | inl e ↦ rw e (has_words-words_from bytes)
-      | inr e ↦ rw e (rw (words_from-word (byte ∷ []) bytes) refl)
-    ]
-
--- raised words are as many
-pub has_words-raised : (words : List (List ℕ)) → has_words (map raised words) ≡ has_words words
-has_words-raised [] = refl
-has_words-raised (word ∷ words) = refl
 
 -- words of unequal lengths are not the same
 pub same_word-lengths : (a b : List ℕ) → (length a ≡ length b → ⊥) → same_word a b ≡ false
@@ -69,77 +56,171 @@ same_word-lengths (x ∷ xs) (y ∷ ys) h =
       | false ↦ refl
     ]
 
--- where the first byte is that passes, or the end of the text
-pub position-end : (p : ℕ → Bool) (text : List ℕ) (r : Option ℕ) → r ≡ cond (ltb (position_or_len p text) (length text)) (Some (position_or_len p text)) None → unwrap_or r (length text) ≡ position_or_len p text
-position-end p text r e =
-    elim (cases_lt (position_or_len p text) (length text)) [
-      | inl lt ↦ let t = lt-ltb _ _ lt in ap (λ o. unwrap_or o (length text)) e ∙ rw t refl
-      | inr le ↦
-          let t = le-ltb _ _ le in
-          let end : position_or_len p text ≡ length text = omega (arith, prefix_len-le-length (λ b. not (p b)) text) in
-          ap (λ o. unwrap_or o (length text)) e ∙ rw t (sym end)
+-- words of equal lengths are the same where they are byte by byte
+pub same_word-zip : (a b : List ℕ) → length a ≡ length b → list_all (λ (pair : ℕ × ℕ). to_ascii_uppercase pair.0 == pair.1) (zip a b) ≡ same_word (raised a) b
+same_word-zip [] [] e = refl
+same_word-zip [] (y ∷ ys) e = absurd (omega arith)
+same_word-zip (x ∷ xs) [] e = absurd (omega arith)
+same_word-zip (x ∷ xs) (y ∷ ys) e = rw (same_word-zip xs ys (omega arith)) refl
+
+-- a word in front of others
+texts_of-with : (start : ℕ) (word : List ℕ) (others : List Placed) (words : List (List ℕ)) → texts_of others ≡ map raised words → texts_of (with_placed start word others) ≡ map raised (with_word word words)
+texts_of-with start [] others words e = e
+texts_of-with start (byte ∷ bytes) others words e = ap (λ (texts : List (List ℕ)). raised (byte ∷ bytes) ∷ texts) e
+
+-- the words at their places are the words
+pub texts_of-placed : (start : ℕ) (word text : List ℕ) → texts_of (placed_from start word text) ≡ map raised (words_from word text)
+texts_of-placed start [] [] = refl
+texts_of-placed start (byte ∷ bytes) [] = refl
+texts_of-placed start word (byte ∷ bytes) =
+    elim (cases_Bool (byte == 32)) [
+      | inl e ↦ rw e (texts_of-with start word _ _ (texts_of-placed (start + length word + 1) [] bytes))
+      | inr e ↦ rw e (texts_of-placed start (word ++ byte ∷ []) bytes)
     ]
 
--- a word with bytes stands in front of others
-with_word-some : (word : List ℕ) (words : List (List ℕ)) → 0 < length word → with_word word words ≡ word ∷ words
-with_word-some [] words h = absurd (omega arith)
-with_word-some (byte ∷ bytes) words h = refl
-
--- a space parts no word from the others
-pub words_from-space : (text : List ℕ) (at : ℕ) → at < length text → length (before 32 (drop at text)) ≡ 0 → words_from [] (drop at text) ≡ words_from [] (drop (at + 1) text)
-words_from-space text at lt none =
-    let more = drop_more text at 0 lt in
-    let none' : length (before 32 (get_or text at 0 ∷ drop (at + 1) text)) ≡ 0 = ap (λ (t : List ℕ). length (before 32 t)) (sym more) ∙ none in
-    elim (cases_Bool (get_or text at 0 == 32)) [
-      | inl e ↦ rw (more, e) refl
-      | inr e ↦ let wrong = rw e at none' in absurd (omega (arith, wrong))
+-- spaces before the words are passed over
+pub placed_from-spaces : (at : ℕ) (text : List ℕ) → placed_from at [] text ≡ placed_from (at + position_or_len (λ byte. not (byte == 32)) text) [] (drop (position_or_len (λ byte. not (byte == 32)) text) text)
+placed_from-spaces at [] = refl
+placed_from-spaces at (byte ∷ bytes) =
+    elim (cases_Bool (byte == 32)) [
+      | inl e ↦
+          let n : at + 0 + 1 ≡ at + 1 = omega arith in
+          let m : at + 1 + position_or_len (λ b. not (b == 32)) bytes ≡ at + suc (position_or_len (λ b. not (b == 32)) bytes) = omega arith in
+          let o : 1 + position_or_len (λ b. not (b == 32)) bytes ≡ suc (position_or_len (λ b. not (b == 32)) bytes) = omega arith in
+          rw (e, o) (ap (λ (k : ℕ). placed_from k [] bytes) n ∙ placed_from-spaces (at + 1) bytes ∙ ap (λ (k : ℕ). placed_from k [] (drop (position_or_len (λ b. not (b == 32)) bytes) bytes)) m)
+      | inr e ↦
+          let n : at + 0 ≡ at = omega arith in
+          rw (e, n, e) refl
     ]
 
--- a word stands in front of those after it
-pub words_from-next : (text : List ℕ) (at count : ℕ) → count ≡ length (before 32 (drop at text)) → 0 < count → words_from [] (drop at text) ≡ slice_range text at (at + count) ∷ words_from [] (drop (at + count) text)
-words_from-next text at count e some =
-    let word : take count (drop at text) ≡ before 32 (drop at text) = rw e (take-before 32 (drop at text)) in
-    let size : at + count - at ≡ count = omega arith in
-    words_from-word [] (drop at text)
-    ∙ with_word-some (before 32 (drop at text)) (words_from [] (drop (length (before 32 (drop at text))) (drop at text))) (omega (arith, e))
-    ∙ rw (size, word, ← e, drop-drop count at text) refl
+-- the word that has begun ends before the next space, and the other words come after it
+pub placed_from-word : (start : ℕ) (word text : List ℕ) → placed_from start word text ≡ with_placed start (word ++ before 32 text) (placed_from (start + length (word ++ before 32 text)) [] (drop (length (before 32 text)) text))
+placed_from-word start word [] = ap (λ (w : List ℕ). with_placed start w []) (sym (append-nil word))
+placed_from-word start word (byte ∷ bytes) =
+    elim (cases_Bool (byte == 32)) [
+      | inl e ↦
+          let n : start + length word + 1 ≡ start + length word + 0 + 1 = omega arith in
+          let w = append-nil word in
+          rw e (rw (w, e) (ap (λ (k : ℕ). with_placed start word (placed_from k [] bytes)) n))
+      | inr e ↦
+          let w = append_assoc word (byte ∷ []) (before 32 bytes) in
+          rw e (placed_from-word start (word ++ byte ∷ []) bytes ∙ ap (λ (w : List ℕ). with_placed start w (placed_from (start + length w) [] (drop (length (before 32 bytes)) bytes))) w)
+    ]
 
 -- what stands from a later place on stands from an earlier one on
-pub StandFrom-sooner : (from later : ℕ) (line : List ℕ) (words : List Placed) → from ≤ later → StandFrom later line words → StandFrom from line words
+StandFrom-sooner : (from later : ℕ) (line : List ℕ) (words : List Placed) → from ≤ later → StandFrom later line words → StandFrom from line words
 StandFrom-sooner from later line [] le h = tt
 StandFrom-sooner from later line (word ∷ words) le h = (omega arith, h.1, h.2, h.3, h.4)
 
--- a place in the front of a line is a place in the line
-slice_range-take : (line : List ℕ) (n start end : ℕ) → start ≤ end → end ≤ n → slice_range (take n line) start end ≡ slice_range line start end
-slice_range-take line n start end le within =
-    let whole : n ≡ start + (n - start) = omega arith in
-    let cut : drop start (take n line) ≡ take (n - start) (drop start line) = ap (λ m. drop start (take m line)) whole ∙ drop-take start (n - start) line in
-    rw cut (take-take (end - start) (n - start) (drop start line) (omega arith))
+-- a word between a front and a rest
+slice_of : (front word rest whole : List ℕ) → whole ≡ front ++ (word ++ rest) → slice_range whole (length front) (length front + length word) ≡ word
+slice_of front word rest whole is =
+    let size : length front + length word - length front ≡ length word = omega arith in
+    rw (is, size, drop_at front (word ++ rest) (length front) refl) (take_at word rest (length word) refl)
 
--- words of the front of a line stand in the line
-pub StandFrom-take : (n from : ℕ) (line : List ℕ) (words : List Placed) → StandFrom from (take n line) words → StandFrom from line words
-StandFrom-take n from line [] h = tt
-StandFrom-take n from line (word ∷ words) h =
-    (h.0, h.1, omega (arith, length-take n line), h.3 ∙ slice_range-take line n word.start word.end (omega arith) (omega (arith, length-take n line)), StandFrom-take n word.end line words h.4)
+-- a word that begins after a front, in front of others
+with_placed-stand : (front word rest whole : List ℕ) (words : List Placed) → whole ≡ front ++ (word ++ rest) → StandFrom (length front + length word) whole words → StandFrom (length front) whole (with_placed (length front) word words)
+with_placed-stand front [] rest whole words is h = StandFrom-sooner (length front) (length front + 0) whole words (omega arith) h
+with_placed-stand front (byte ∷ bytes) rest whole words is h =
+    let size : length whole ≡ length front + (length (byte ∷ bytes) + length rest) = ap length is ∙ length-append front ((byte ∷ bytes) ++ rest) ∙ ap (λ n. length front + n) (length-append (byte ∷ bytes) rest) in
+    (omega arith, omega arith, omega (arith, size), sym (slice_of front (byte ∷ bytes) rest whole is), h)
 
--- one more word goes in front of those to come
-pub StandFrom-next : (text : List ℕ) (at count : ℕ) (so_far : List Token) (token : Token) → 0 < count → at + count ≤ length text → placed token ≡ record { text = slice_range text at (at + count); start = at; end = at + count }
-    → ((more : List Placed) → StandFrom at text more → StandFrom 0 text (map placed so_far ++ more))
-    → (more : List Placed) → StandFrom (at + count) text more → StandFrom 0 text (map placed (so_far ++ token ∷ []) ++ more)
-StandFrom-next text at count so_far token some within is holds more h =
-    let p : Placed = record { text = slice_range text at (at + count); start = at; end = at + count } in
-    let e : map placed (so_far ++ token ∷ []) ++ more ≡ map placed so_far ++ (p ∷ more) =
-    ap (λ (ws : List Placed). ws ++ more) (map_push placed so_far token) ∙ append_assoc (map placed so_far) (placed token ∷ []) more ∙ ap (λ (w : Placed). map placed so_far ++ (w ∷ more)) is in
-    rw e (holds (p ∷ more) (omega arith, omega arith, within, refl, h))
+-- the words of a text stand in it
+placed_stand : (front word text whole : List ℕ) → whole ≡ front ++ (word ++ text) → StandFrom (length front) whole (placed_from (length front) word text)
+placed_stand front word [] whole is = with_placed-stand front word [] whole [] is tt
+placed_stand front word (byte ∷ bytes) whole is =
+    elim (cases_Bool (byte == 32)) [
+      | inl e ↦
+          let later = front ++ (word ++ (byte ∷ [])) in
+          let size : length later ≡ length front + length word + 1 = length-append front (word ++ (byte ∷ [])) ∙ ap (λ n. length front + n) (length-append word (byte ∷ [])) ∙ omega arith in
+          let split : whole ≡ later ++ ([] ++ bytes) = is ∙ sym (append_assoc front (word ++ (byte ∷ [])) bytes ∙ ap (λ (t : List ℕ). front ++ t) (append_assoc word (byte ∷ []) bytes)) in
+          let rest : StandFrom (length front + length word + 1) whole (placed_from (length front + length word + 1) [] bytes) =
+          subst (λ n. StandFrom n whole (placed_from n [] bytes)) size (placed_stand later [] bytes whole split) in
+          rw e (with_placed-stand front word (byte ∷ bytes) whole _ is (StandFrom-sooner (length front + length word) (length front + length word + 1) whole _ (omega arith) rest))
+      | inr e ↦ rw e (placed_stand front (word ++ byte ∷ []) bytes whole (is ∙ ap (λ (t : List ℕ). front ++ t) (sym (append_assoc word (byte ∷ []) bytes))))
+    ]
 
--- the texts of tokens at their places
-pub texts-placed : (tokens : List Token) → map (λ (word : Placed). word.text) (map placed tokens) ≡ map (λ (token : Token). token.text.now) tokens
-texts-placed [] = refl
-texts-placed (token ∷ tokens) = ap (λ (texts : List (List ℕ)). token.text.now ∷ texts) (texts-placed tokens)
+-- all words of a text
+pub words_stand : (text : List ℕ) → StandFrom 0 text (placed_from 0 [] text)
+words_stand text = placed_stand [] [] text text refl
 
--- the first eight words, where there are no others or eight have come
-pub first_eight : (kept rest all : List (List ℕ)) → kept ++ rest ≡ all → length kept ≤ 8 → (length kept ≡ 8) ⊎ (rest ≡ []) → kept ≡ take 8 all
-first_eight kept rest all e le (inl full) = rw (← e) (sym (take_at kept rest 8 full))
-first_eight kept rest all e le (inr none) =
-    let whole : kept ≡ all = sym (append-nil kept) ∙ ap (λ (r : List (List ℕ)). kept ++ r) (sym none) ∙ e in
-    rw (← whole) (sym (take_all 8 kept le))
+-- where no byte is other than a space, there are no words
+pub no_word : (at : ℕ) (rest : List ℕ) (r : Option ℕ) → r ≡ cond (ltb (position_or_len (λ byte. not (byte == 32)) rest) (length rest)) (Some (position_or_len (λ byte. not (byte == 32)) rest)) None → r ≡ None → placed_from at [] rest ≡ []
+no_word at rest r is none =
+    elim (cases_lt (position_or_len (λ byte. not (byte == 32)) rest) (length rest)) [
+      | inl lt ↦ let t = lt-ltb _ _ lt in let some = rw t at is in absurd (let wrong : ◌≡◌ {A = Option ℕ} None (Some (position_or_len (λ byte. not (byte == 32)) rest)) = sym none ∙ some in cc)
+      | inr le ↦
+          placed_from-spaces at rest
+          ∙ at_drop_all (placed_from (at + position_or_len (λ byte. not (byte == 32)) rest) []) rest (position_or_len (λ byte. not (byte == 32)) rest) le
+    ]
+
+-- a word with bytes stands in front of others
+with_placed-some : (start : ℕ) (word : List ℕ) (words : List Placed) → 0 < length word → with_placed start word words ≡ record { text = word; start = start; end = start + length word } ∷ words
+with_placed-some start [] words some = absurd (omega arith)
+with_placed-some start (byte ∷ bytes) words some = refl
+
+-- the word that begins at the first byte that is no space has bytes
+some_bytes : (text : List ℕ) → position_or_len (λ byte. not (byte == 32)) text < length text → 0 < length (before 32 (drop (position_or_len (λ byte. not (byte == 32)) text) text))
+some_bytes [] lt = absurd (omega arith)
+some_bytes (byte ∷ bytes) lt =
+    elim (cases_Bool (byte == 32)) [
+      | inl e ↦
+          let o : 1 + position_or_len (λ b. not (b == 32)) bytes ≡ suc (position_or_len (λ b. not (b == 32)) bytes) = omega arith in
+          let later = rw e at lt in
+          rw (e, o) (some_bytes bytes (omega arith))
+      | inr e ↦ rw e (rw e (omega arith))
+    ]
+
+-- else the first word begins at the first such byte
+pub first_placed : (at : ℕ) (text : List ℕ) (spaces count : ℕ) (r : Option ℕ) → at ≤ length text → r ≡ cond (ltb (position_or_len (λ byte. not (byte == 32)) (drop at text)) (length (drop at text))) (Some (position_or_len (λ byte. not (byte == 32)) (drop at text))) None → r ≡ Some spaces → count ≡ length (before 32 (drop (at + spaces) text)) →
+    placed_from at [] (drop at text) ≡ record { text = slice_range text (at + spaces) (at + spaces + count); start = at + spaces; end = at + spaces + count } ∷ placed_from (at + spaces + count) [] (drop (at + spaces + count) text)
+first_placed at text spaces count r within is some size =
+    elim (cases_lt (position_or_len (λ byte. not (byte == 32)) (drop at text)) (length (drop at text))) [
+      | inr le ↦ let t = le-ltb _ _ le in let none = rw t at is in absurd (let wrong : ◌≡◌ {A = Option ℕ} (Some spaces) None = sym some ∙ none in cc)
+      | inl lt ↦
+          let t = lt-ltb _ _ lt in
+          let found = rw t at is in
+          let same : spaces ≡ position_or_len (λ byte. not (byte == 32)) (drop at text) = cc in
+          let here : drop spaces (drop at text) ≡ drop (at + spaces) text = drop-drop spaces at text in
+          let rest = drop (at + spaces) text in
+          let begins : drop (position_or_len (λ byte. not (byte == 32)) (drop at text)) (drop at text) ≡ rest = ap (λ n. drop n (drop at text)) (sym same) ∙ here in
+          let some_byte : 0 < length (before 32 rest) = subst (λ (t : List ℕ). 0 < length (before 32 t)) begins (some_bytes (drop at text) lt) in
+          let word : slice_range text (at + spaces) (at + spaces + count) ≡ before 32 rest =
+          ap (λ n. take n rest) (let n : at + spaces + count - (at + spaces) ≡ length (before 32 rest) = omega arith in n) ∙ take-before 32 rest in
+          let later : drop count rest ≡ drop (at + spaces + count) text = drop-drop count (at + spaces) text in
+          placed_from-spaces at (drop at text)
+          ∙ ap (λ n. placed_from (at + n) [] (drop (position_or_len (λ byte. not (byte == 32)) (drop at text)) (drop at text))) (sym same)
+          ∙ ap (placed_from (at + spaces) []) begins ∙ placed_from-word (at + spaces) [] rest
+          ∙ with_placed-some (at + spaces) (before 32 rest) (placed_from (at + spaces + length (before 32 rest)) [] (drop (length (before 32 rest)) rest)) some_byte
+          ∙ rw (← size, later, word) refl
+    ]
+
+-- the words of a line at their places are its words
+pub texts_of-line : (line : List ℕ) (words : List Placed) → words ≡ placed_from 0 [] (before 35 line) → texts_of words ≡ map raised (words_from [] (before 35 line))
+texts_of-line line words is = ap texts_of is ∙ texts_of-placed 0 [] (before 35 line)
+
+-- a word is given where there is one
+pub gives_some : (words left : List Placed) (given : Option Token) → GivesFirst words given left → is_some given ≡ has_words (texts_of words)
+gives_some [] left given h = ap is_some h.0
+gives_some (word ∷ words) left given h = ap is_some h.1
+
+-- and is the first
+pub gives_first : (words left : List Placed) (given : Option Token) (token : Token) → GivesFirst words given left → given ≡ Some token → first_of_words (texts_of words) ≡ raised token.text.now
+gives_first [] left given token h some = absurd (let wrong : ◌≡◌ {A = Option Token} None (Some token) = sym h.0 ∙ some in cc)
+gives_first (word ∷ words) left given token h some =
+    let same : h.0 ≡ token = let both : ◌≡◌ {A = Option Token} (Some h.0) (Some token) = sym h.1 ∙ some in cc in
+    ap (λ (w : Placed). raised w.text) (sym h.2) ∙ ap (λ (t : Token). raised t.text.now) same
+
+pub gives_no_first : (words left : List Placed) (given : Option Token) → GivesFirst words given left → given ≡ None → first_of_words (texts_of words) ≡ []
+gives_no_first [] left given h none = refl
+gives_no_first (word ∷ words) left given h none = absurd (let wrong : ◌≡◌ {A = Option Token} None (Some h.0) = sym none ∙ h.1 in cc)
+
+-- no words are left after none
+pub none_left : (words left : List Placed) (given : Option Token) → GivesFirst words given left → given ≡ None → texts_of words ≡ []
+none_left [] left given h none = refl
+none_left (word ∷ words) left given h none = absurd (let wrong : ◌≡◌ {A = Option Token} None (Some h.0) = sym none ∙ h.1 in cc)
+
+-- an empty word is the same as no word
+pub empty_word : (word : List ℕ) → (length word == 0) ≡ same_word [] word
+empty_word [] = refl
+empty_word (byte ∷ bytes) = ne_eqb _ 0 (λ e. omega arith)

@@ -1,11 +1,11 @@
 -- The classes of words: which texts may stand at a place of a form, and what each says. A word that
 -- would be such a text if numbers had no greatest value is too large.
-use Rattle.std.specs.Prelude.{ℕ, ◌+◌, ◌*◌, ◌-◌, ◌==◌, Bool, false, nat_le, if◌then◌else◌, List, [], ◌∷◌, codes, take, drop, fold, min, Option, Some, None}
+use Rattle.std.specs.Prelude.{ℕ, ◌+◌, ◌*◌, ◌-◌, ◌==◌, Bool, true, false, nat_le, if◌then◌else◌, List, [], ◌∷◌, codes, take, drop, fold, min, Option, Some, None}
 use Rattle.std.specs.List.{list_all}
-use Rattle.tables.specs.declared.roster.Private as private
-use Rattle.tables.specs.declared.roster.Private.TheVariants as privates
 use Rattle.tables.specs.declared.round.Round.TheVariants.{Opening}
-use Rattle.tables.specs.Roster.{code_of_private}
+use Rattle.tables.specs.Roster.{companies, code_of_company, privates, code_of_private}
+use Rattle.order_grammar.specs.Keyword.{text_of_keyword}
+use Rattle.tables.specs.Round.{number_most}
 use Rattle.order_grammar.specs.Name.{is_name, is_digit}
 use Rattle.order_grammar.specs.Words.{same_word}
 use Rattle.order_grammar.specs.declared.class.Class.{Class}
@@ -24,15 +24,15 @@ are_digits (digit ∷ digits) = list_all is_digit (digit ∷ digits)
 abbrev pub value_of_digits : List ℕ → ℕ
 value_of_digits digits = fold (λ value digit. value * 10 + (digit - 48)) 0 digits
 
--- the value of digits, or 100,000 where it is over 99,999; nothing for other words
+-- the value of digits, or one more than the greatest number where it is over that; nothing for other words
 abbrev pub capped_value : List ℕ → Option ℕ
-capped_value word = if are_digits word then Some (min (value_of_digits word) 100000) else None
+capped_value word = if are_digits word then Some (min (value_of_digits word) (number_most + 1)) else None
 
--- digits of a value up to 99,999, which stands for a value of some kind
+-- digits of a value up to the greatest number, which stands for a value of some kind
 abbrev pub digits_reading : (ℕ → values.Value) → List ℕ → Reading
 digits_reading stands_for digits =
     if are_digits digits
-    then (if nat_le (value_of_digits digits) 99999 then Value (stands_for (value_of_digits digits)) else TooLarge)
+    then (if nat_le (value_of_digits digits) number_most then Value (stands_for (value_of_digits digits)) else TooLarge)
     else Wrong
 
 -- digits, with leading zeros allowed
@@ -49,20 +49,36 @@ round_number_reading (digit ∷ digits) =
 abbrev pub round_reading : List ℕ → Reading
 round_reading word = if same_word (take 2 word) (codes "PR") then round_number_reading (drop 2 word) else Wrong
 
--- the first of these privates whose code it is
-abbrev pub private_among : List private.Private → List ℕ → Reading
-private_among [] word = Wrong
-private_among (private ∷ others) word =
-    if same_word word (code_of_private private) then Value (value.Private private) else private_among others word
+-- what stands for the first of some things whose code it is
+abbrev pub code_reading : {X : Type 0} → (X → List ℕ) → (X → values.Value) → List X → List ℕ → Reading
+code_reading code stands_for [] word = Wrong
+code_reading code stands_for (one ∷ others) word =
+    if same_word word (code one) then Value (stands_for one) else code_reading code stands_for others word
 
--- the privates that are bought by their code alone
-abbrev pub bought_alone : List private.Private
-bought_alone =
-    privates.SchuylkillValley ∷ privates.ChamplainStLawrence ∷ privates.DelawareHudson ∷ privates.MohawkHudson ∷ []
+-- the code of a private
+abbrev pub private_reading : List ℕ → Reading
+private_reading word = code_reading code_of_private value.Private privates word
+
+-- the code of a company
+abbrev pub company_reading : List ℕ → Reading
+company_reading word = code_reading code_of_company value.Company companies word
 
 -- what a word, letters raised, is as a text of a class
 abbrev pub class_reading : Class → List ℕ → Reading
 class_reading class.Number word = number_reading word
 class_reading class.Name word = if is_name word then Value (value.Name word) else Wrong
 class_reading class.Round word = round_reading word
-class_reading class.Private word = private_among bought_alone word
+class_reading class.Private word = private_reading word
+class_reading class.Company word = company_reading word
+class_reading (class.Word keyword) word =
+    if same_word word (text_of_keyword keyword) then Value (value.Word keyword) else Wrong
+
+-- whether a value is of a class
+abbrev pub is_of_class : Class → values.Value → Bool
+is_of_class class.Number (value.Number number) = true
+is_of_class class.Name (value.Name name) = true
+is_of_class class.Round (value.Round round) = true
+is_of_class class.Private (value.Private private) = true
+is_of_class class.Company (value.Company company) = true
+is_of_class (class.Word keyword) (value.Word other) = same_word (text_of_keyword keyword) (text_of_keyword other)
+is_of_class class other = false

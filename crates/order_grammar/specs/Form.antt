@@ -1,7 +1,10 @@
 -- The table of forms, and what the words of a line are by it: the order that they spell, or why they
 -- spell none.
-use Rattle.std.specs.Prelude.{ℕ, List, [], ◌∷◌, codes, Some, None, Result, Ok, Err, nat_lt, nat_le, Bool, length, fold, if◌then◌else◌}
-use Rattle.order_grammar.specs.Class.{class_reading}
+use Rattle.std.specs.Prelude.{ℕ, List, [], ◌∷◌, Option, Some, None, Result, Ok, Err, nat_lt, nat_le, Bool, true, false, ◌&&◌, length, fold, if◌then◌else◌}
+use Rattle.std.specs.List.{list_all, list_any}
+use Rattle.order_grammar.specs.Class.{class_reading, is_of_class}
+use Rattle.order_grammar.specs.Keyword.{text_of_keyword}
+use Rattle.order_grammar.specs.Name.{is_name}
 use Rattle.order_grammar.specs.Words.{same_word}
 use Rattle.order_grammar.specs.Order.{order_from}
 use Rattle.order_grammar.specs.declared.class.Class.{Class}
@@ -10,63 +13,84 @@ use Rattle.order_grammar.specs.declared.class.Reading.{Reading}
 use Rattle.order_grammar.specs.declared.class.Reading.TheVariants as reading
 use Rattle.order_grammar.specs.declared.fault.Fault.{Fault}
 use Rattle.order_grammar.specs.declared.fault.Fault.TheVariants.{UnknownWord, WrongWords, NumberTooLarge}
+use Rattle.order_grammar.specs.declared.form.Repeated.{Repeated}
+use Rattle.order_grammar.specs.declared.form.Repeated.TheVariants as repeated
+use Rattle.order_grammar.specs.declared.keyword.Keyword.{Keyword}
+use Rattle.order_grammar.specs.declared.keyword.Keyword.TheVariants as keyword
 use Rattle.order_grammar.specs.declared.order.Order.{Order}
 use Rattle.order_grammar.specs.declared.order.Order.TheVariants.{Blank}
-use Rattle.order_grammar.specs.declared.order.OrderKind.{OrderKind}
-use Rattle.order_grammar.specs.declared.order.OrderKind.TheVariants as kind
+use Rattle.order_grammar.specs.declared.order.Parts.{Parts}
+use Rattle.order_grammar.specs.declared.order.Tail.{Tail}
+use Rattle.order_grammar.specs.declared.order.Tail.TheVariants as tail
 use Rattle.order_grammar.specs.declared.order.Value.{Value}
 
--- a row of the table: the first word, and the classes of the words after it
+-- a row of the table: the first word, the classes of the words after it, and the class that is
+-- repeated at the end
 pub record Row : Type 0 where
-  pub order : OrderKind
-  pub first : List ℕ
+  pub keyword : Keyword
   pub classes : List Class
+  pub repeated : Repeated
 
-abbrev pub row : OrderKind → List ℕ → List Class → Row
-row order first classes = record { order = order; first = first; classes = classes }
+abbrev pub row : Keyword → List Class → Repeated → Row
+row keyword classes repeated = record { keyword = keyword; classes = classes; repeated = repeated }
 
 -- the forms of lines
 abbrev pub forms : List Row
 forms =
-    row kind.Game (codes "GAME") (class.Number ∷ class.Number ∷ [])
-    ∷ row kind.Players (codes "PLAYERS") (class.Name ∷ class.Name ∷ class.Name ∷ [])
-    ∷ row kind.Players (codes "PLAYERS") (class.Name ∷ class.Name ∷ class.Name ∷ class.Name ∷ [])
-    ∷ row kind.Players (codes "PLAYERS") (class.Name ∷ class.Name ∷ class.Name ∷ class.Name ∷ class.Name ∷ [])
-    ∷ row kind.Players (codes "PLAYERS") (class.Name ∷ class.Name ∷ class.Name ∷ class.Name ∷ class.Name ∷ class.Name ∷ [])
-    ∷ row kind.Sheet (codes "SHEET") (class.Name ∷ class.Round ∷ [])
-    ∷ row kind.Turn (codes "TURN") []
-    ∷ row kind.BuyPrivate (codes "BUY") (class.Private ∷ [])
+    row keyword.Game (class.Number ∷ class.Number ∷ []) repeated.Nothing
+    ∷ row keyword.Players [] (repeated.Names 3 6)
+    ∷ row keyword.Sheet (class.Name ∷ class.Round ∷ []) repeated.Nothing
+    ∷ row keyword.Turn [] repeated.Nothing
+    ∷ row keyword.Buy (class.Private ∷ []) repeated.Nothing
+    ∷ row keyword.Bid (class.Private ∷ class.Number ∷ []) repeated.Nothing
+    ∷ row keyword.Limit (class.Private ∷ class.Number ∷ []) repeated.Nothing
+    ∷ row keyword.Par (class.Company ∷ class.Number ∷ []) repeated.Nothing
     ∷ []
 
--- a row has at most six classes
-abbrev pub is_short : Row → Bool
-is_short row = nat_le (length row.classes) 6
+-- names, at least and at most so many
+abbrev pub are_names : ℕ → ℕ → List (List ℕ) → Bool
+are_names least most words = nat_le least (length words) && nat_le (length words) most && list_all is_name words
+
+-- what words are as those of a repeated class
+abbrev pub tail_reading : Repeated → List (List ℕ) → Option Tail
+tail_reading repeated.Nothing [] = Some tail.Nothing
+tail_reading repeated.Nothing (word ∷ words) = None
+tail_reading (repeated.Names least most) words =
+    if are_names least most words then Some (tail.Names (record { items = words })) else None
 
 -- the value of a word in front of the values of the later words; a word that is no text of its class
 -- spoils all, a number that is too large all but that
-abbrev pub with_value : Reading → Result (List Value) Fault → Result (List Value) Fault
-with_value reading.Wrong values = Err WrongWords
-with_value reading.TooLarge (Ok values) = Err NumberTooLarge
+abbrev pub with_value : Reading → Result (List Value × Tail) Fault → Result (List Value × Tail) Fault
+with_value reading.Wrong read = Err WrongWords
+with_value reading.TooLarge (Ok read) = Err NumberTooLarge
 with_value reading.TooLarge (Err fault) = Err fault
-with_value (reading.Value value) (Ok values) = Ok (value ∷ values)
+with_value (reading.Value value) (Ok read) = Ok (value ∷ read.0, read.1)
 with_value (reading.Value value) (Err fault) = Err fault
 
--- the values of words as texts of these classes, one for one
-abbrev pub values_reading : List Class → List (List ℕ) → Result (List Value) Fault
-values_reading [] [] = Ok []
-values_reading (class ∷ classes) (word ∷ words) = with_value (class_reading class word) (values_reading classes words)
-values_reading [] (word ∷ words) = Err WrongWords
-values_reading (class ∷ classes) [] = Err WrongWords
+-- the values of words as texts of these classes, one for one, and then of the class that is repeated
+abbrev pub values_reading : List Class → Repeated → List (List ℕ) → Result (List Value × Tail) Fault
+values_reading [] repeated words =
+    elim (tail_reading repeated words) [ Some tail ↦ Ok ([], tail) | None ↦ Err WrongWords ]
+values_reading (class ∷ classes) repeated [] = Err WrongWords
+values_reading (class ∷ classes) repeated (word ∷ words) =
+    with_value (class_reading class word) (values_reading classes repeated words)
+
+-- the values of the words after the first by a row
+abbrev pub values_by_row : Row → List (List ℕ) → Result (List Value × Tail) Fault
+values_by_row row words = values_reading row.classes row.repeated words
 
 -- an order of values that were read
-abbrev pub order_of_values : OrderKind → Result (List Value) Fault → Result Order Fault
-order_of_values kind (Err fault) = Err fault
-order_of_values kind (Ok values) = elim (order_from kind values) [ Some order ↦ Ok order | None ↦ Err WrongWords ]
+abbrev pub order_of_values : Keyword → Result (List Value × Tail) Fault → Result Order Fault
+order_of_values keyword (Err fault) = Err fault
+order_of_values keyword (Ok read) =
+    elim (order_from keyword read.0 read.1) [ Some order ↦ Ok order | None ↦ Err WrongWords ]
 
 -- what a first word and the words after it are by a row
 abbrev pub row_reading : Row → List ℕ → List (List ℕ) → Result Order Fault
 row_reading row first rest =
-    if same_word first row.first then order_of_values row.order (values_reading row.classes rest) else Err UnknownWord
+    if same_word first (text_of_keyword row.keyword)
+    then order_of_values row.keyword (values_by_row row rest)
+    else Err UnknownWord
 
 -- how near to an order it is
 abbrev pub nearness : Result Order Fault → ℕ
@@ -88,3 +112,27 @@ rows_reading rows first rest =
 abbrev pub words_reading : List (List ℕ) → Result Order Fault
 words_reading [] = Ok Blank
 words_reading (first ∷ rest) = rows_reading forms first rest
+
+-- whether what stands at the end is of the class that is repeated there
+abbrev pub is_of_repeated : Repeated → Tail → Bool
+is_of_repeated repeated.Nothing tail.Nothing = true
+is_of_repeated (repeated.Names least most) (tail.Names names) = are_names least most names.items
+is_of_repeated repeated other = false
+
+-- whether values are of these classes, one for one, and of the class that is repeated
+abbrev pub are_of_classes : List Class → Repeated → List Value → Tail → Bool
+are_of_classes [] repeated [] tail = is_of_repeated repeated tail
+are_of_classes [] repeated (value ∷ values) tail = false
+are_of_classes (class ∷ classes) repeated [] tail = false
+are_of_classes (class ∷ classes) repeated (value ∷ values) tail =
+    is_of_class class value && are_of_classes classes repeated values tail
+
+-- whether a row is the form of an order of these parts
+abbrev pub is_row_of : Keyword → List Value → Tail → Row → Bool
+is_row_of keyword values tail row =
+    same_word (text_of_keyword row.keyword) (text_of_keyword keyword)
+    && are_of_classes row.classes row.repeated values tail
+
+-- whether some form is that of an order of these parts
+abbrev pub has_form : Parts → Bool
+has_form parts = list_any (is_row_of parts.keyword parts.values.items parts.tail) forms

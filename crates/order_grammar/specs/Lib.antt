@@ -1,5 +1,7 @@
+pub mod Limits
 pub mod Name
 pub mod Words
+pub mod Keyword
 pub mod Class
 pub mod Order
 pub mod Form

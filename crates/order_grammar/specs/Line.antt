@@ -3,6 +3,7 @@
 use Rattle.std.specs.Prelude.{ℕ, nat_lt, if◌then◌else◌, List, length, Result, Ok, Err}
 use Rattle.std.specs.List.{list_all}
 use Rattle.order_grammar.specs.Form.{words_reading}
+use Rattle.order_grammar.specs.Limits.{line_most}
 use Rattle.order_grammar.specs.Words.{words_of, before_comment, is_printable}
 use Rattle.order_grammar.specs.declared.fault.Fault.{Fault}
 use Rattle.order_grammar.specs.declared.fault.Fault.TheVariants.{TooLong, StrayByte}
@@ -12,7 +13,7 @@ use Rattle.order_grammar.specs.declared.read.Line.{Line}
 -- the order of a line, or its first fault
 abbrev pub reading_of : List ℕ → Result Order Fault
 reading_of line =
-    if nat_lt 1024 (length line)
+    if nat_lt line_most (length line)
     then Err TooLong
     else (if list_all is_printable (before_comment line) then words_reading (words_of line) else Err StrayByte)
 

@@ -1,14 +1,15 @@
 -- Which fault a line has by itself, said without the table of forms: the first of five that applies.
 use Rattle.std.specs.Prelude.{ℕ, ◌<◌, IsTrue, List, [], ◌∷◌, length, codes, Any, Contains}
+use Rattle.order_grammar.specs.Limits.{line_most}
 use Rattle.order_grammar.specs.Spells.{LooselySpells, Spells}
 use Rattle.order_grammar.specs.Words.{words_of, before_comment, is_printable}
 use Rattle.order_grammar.specs.declared.fault.Fault.{Fault}
 use Rattle.order_grammar.specs.declared.fault.Fault.TheVariants.{TooLong, StrayByte, UnknownWord, WrongWords, NumberTooLarge}
 use Rattle.order_grammar.specs.declared.order.Order.{Order}
 
--- the line has over 1,024 bytes
+-- the line has too many bytes
 abbrev pub IsTooLong : List ℕ → Type 0
-IsTooLong line = 1024 < length line
+IsTooLong line = line_most < length line
 
 -- a byte before its comment is not printable
 abbrev pub HasStrayByte : List ℕ → Type 0
@@ -16,7 +17,9 @@ HasStrayByte line = Any (λ byte. ¬ IsTrue (is_printable byte)) (before_comment
 
 -- the words that forms begin with
 abbrev pub first_words_of_forms : List (List ℕ)
-first_words_of_forms = codes "GAME" ∷ codes "PLAYERS" ∷ codes "SHEET" ∷ codes "TURN" ∷ codes "BUY" ∷ []
+first_words_of_forms =
+    codes "GAME" ∷ codes "PLAYERS" ∷ codes "SHEET" ∷ codes "TURN" ∷ codes "BUY"
+    ∷ codes "BID" ∷ codes "LIMIT" ∷ codes "PAR" ∷ []
 
 -- there is a first word, and no form begins with it
 abbrev pub BeginsNoForm : List (List ℕ) → Type 0

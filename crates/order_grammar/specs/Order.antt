@@ -1,29 +1,40 @@
--- Orders and their values: a form's row names the kind of order, and the values of the words fill it.
-use Rattle.std.specs.Prelude.{List, [], ◌∷◌, Option, Some, None, option_map}
-use Rattle.order_grammar.specs.declared.name.Name.{Name}
+-- What an order is made of, and which order that makes. A line has these parts in turn: a keyword,
+-- then words with a value each, then what a class that is repeated at the end has.
+use Rattle.std.specs.Prelude.{List, [], ◌∷◌, Option, Some, None}
+use Rattle.order_grammar.specs.declared.keyword.Keyword.{Keyword}
+use Rattle.order_grammar.specs.declared.keyword.Keyword.TheVariants as keyword
 use Rattle.order_grammar.specs.declared.order.Order.{Order}
-use Rattle.order_grammar.specs.declared.order.Order.TheVariants.{Game, Players, Sheet, Turn, BuyPrivate}
-use Rattle.order_grammar.specs.declared.order.OrderKind.{OrderKind}
-use Rattle.order_grammar.specs.declared.order.OrderKind.TheVariants as kind
+use Rattle.order_grammar.specs.declared.order.Order.TheVariants.{Blank, Game, Players, Sheet, Turn, BuyPrivate, Bid, Limit, Par}
+use Rattle.order_grammar.specs.declared.order.Parts.{Parts}
+use Rattle.order_grammar.specs.declared.order.Tail.{Tail}
+use Rattle.order_grammar.specs.declared.order.Tail.TheVariants as tail
 use Rattle.order_grammar.specs.declared.order.Value.{Value}
 use Rattle.order_grammar.specs.declared.order.Value.TheVariants as value
 
--- a name in front of others
-abbrev pub with_name : Name → Option (List Name) → Option (List Name)
-with_name name None = None
-with_name name (Some names) = Some (name ∷ names)
+-- an order that is made of these
+abbrev pub made_of : Keyword → List Value → Tail → Option Parts
+made_of keyword values tail = Some (record { keyword = keyword; values = record { items = values }; tail = tail })
 
--- the names that the values are, if they are names
-abbrev pub names_from : List Value → Option (List Name)
-names_from [] = Some []
-names_from ((value.Name name) ∷ values) = with_name name (names_from values)
-names_from (other ∷ values) = None
+-- the parts of an order; a blank line has none
+abbrev pub parts_of : Order → Option Parts
+parts_of Blank = None
+parts_of (Game game version) = made_of keyword.Game (value.Number game ∷ value.Number version ∷ []) tail.Nothing
+parts_of (Players names) = made_of keyword.Players [] (tail.Names names)
+parts_of (Sheet name round) = made_of keyword.Sheet (value.Name name ∷ value.Round round ∷ []) tail.Nothing
+parts_of Turn = made_of keyword.Turn [] tail.Nothing
+parts_of (BuyPrivate private) = made_of keyword.Buy (value.Private private ∷ []) tail.Nothing
+parts_of (Bid private amount) = made_of keyword.Bid (value.Private private ∷ value.Number amount ∷ []) tail.Nothing
+parts_of (Limit private amount) = made_of keyword.Limit (value.Private private ∷ value.Number amount ∷ []) tail.Nothing
+parts_of (Par company price) = made_of keyword.Par (value.Company company ∷ value.Number price ∷ []) tail.Nothing
 
--- the order of a kind with these values
-abbrev pub order_from : OrderKind → List Value → Option Order
-order_from kind.Game ((value.Number game) ∷ (value.Number version) ∷ []) = Some (Game game version)
-order_from kind.Players values = option_map (λ names. Players (record { items = names })) (names_from values)
-order_from kind.Sheet ((value.Name name) ∷ (value.Round round) ∷ []) = Some (Sheet name round)
-order_from kind.Turn [] = Some Turn
-order_from kind.BuyPrivate ((value.Private private) ∷ []) = Some (BuyPrivate private)
-order_from other values = None
+-- the order of these parts, where there is one
+abbrev pub order_from : Keyword → List Value → Tail → Option Order
+order_from keyword.Game ((value.Number game) ∷ (value.Number version) ∷ []) tail.Nothing = Some (Game game version)
+order_from keyword.Players [] (tail.Names names) = Some (Players names)
+order_from keyword.Sheet ((value.Name name) ∷ (value.Round round) ∷ []) tail.Nothing = Some (Sheet name round)
+order_from keyword.Turn [] tail.Nothing = Some Turn
+order_from keyword.Buy ((value.Private private) ∷ []) tail.Nothing = Some (BuyPrivate private)
+order_from keyword.Bid ((value.Private private) ∷ (value.Number amount) ∷ []) tail.Nothing = Some (Bid private amount)
+order_from keyword.Limit ((value.Private private) ∷ (value.Number amount) ∷ []) tail.Nothing = Some (Limit private amount)
+order_from keyword.Par ((value.Company company) ∷ (value.Number price) ∷ []) tail.Nothing = Some (Par company price)
+order_from other values tail = None

@@ -1,11 +1,17 @@
 -- The one spelling of an order: upper case, single spaces, no leading zeros.
-use Rattle.std.specs.Prelude.{◌≡◌, ℕ, List, [], ◌∷◌, ◌++◌, codes, decimal}
+use Rattle.std.specs.Prelude.{◌≡◌, ℕ, List, [], ◌∷◌, ◌++◌, Option, Some, None, map, codes, decimal}
 use Rattle.std.specs.List.{flat_map}
-use Rattle.tables.specs.Roster.{code_of_private}
+use Rattle.tables.specs.Roster.{code_of_company, code_of_private}
 use Rattle.tables.specs.declared.round.Round.{Round}
 use Rattle.tables.specs.declared.round.Round.TheVariants.{Opening, Stock, Operating}
+use Rattle.order_grammar.specs.Keyword.{text_of_keyword}
+use Rattle.order_grammar.specs.Order.{parts_of}
 use Rattle.order_grammar.specs.declared.order.Order.{Order}
-use Rattle.order_grammar.specs.declared.order.Order.TheVariants.{Blank, Game, Players, Sheet, Turn, BuyPrivate}
+use Rattle.order_grammar.specs.declared.order.Parts.{Parts}
+use Rattle.order_grammar.specs.declared.order.Tail.{Tail}
+use Rattle.order_grammar.specs.declared.order.Tail.TheVariants as tail
+use Rattle.order_grammar.specs.declared.order.Value.{Value}
+use Rattle.order_grammar.specs.declared.order.Value.TheVariants as value
 
 -- a round: PR1, SR1 or OR1.1
 abbrev pub text_of_round : Round → List ℕ
@@ -13,23 +19,42 @@ text_of_round (Opening number) = codes "PR" ++ decimal number
 text_of_round (Stock number) = codes "SR" ++ decimal number
 text_of_round (Operating set number) = codes "OR" ++ decimal set ++ codes "." ++ decimal number
 
+-- the word of a value
+abbrev pub text_of_value : Value → List ℕ
+text_of_value (value.Number number) = decimal number
+text_of_value (value.Name name) = name
+text_of_value (value.Round round) = text_of_round round
+text_of_value (value.Private private) = code_of_private private
+text_of_value (value.Company company) = code_of_company company
+text_of_value (value.Word keyword) = text_of_keyword keyword
+
+-- the words of a class that is repeated
+abbrev pub words_of_tail : Tail → List (List ℕ)
+words_of_tail tail.Nothing = []
+words_of_tail (tail.Names names) = names.items
+
 -- words, each with a space before it
 abbrev pub spaced : List (List ℕ) → List ℕ
 spaced words = flat_map (λ word. 32 ∷ word) words
+
+-- the words of values, each with a space before it
+abbrev pub values_text : List Value → List ℕ
+values_text values = spaced (map text_of_value values)
 
 -- words with one space between them
 abbrev pub joined : List (List ℕ) → List ℕ
 joined [] = []
 joined (word ∷ words) = word ++ spaced words
 
+-- the words of parts
+abbrev pub words_of_parts : Option Parts → List (List ℕ)
+words_of_parts None = []
+words_of_parts (Some parts) =
+    text_of_keyword parts.keyword ∷ map text_of_value parts.values.items ++ words_of_tail parts.tail
+
 -- the words of an order
 abbrev pub words_of_order : Order → List (List ℕ)
-words_of_order Blank = []
-words_of_order (Game game version) = codes "GAME" ∷ decimal game ∷ decimal version ∷ []
-words_of_order (Players names) = codes "PLAYERS" ∷ names.items
-words_of_order (Sheet name round) = codes "SHEET" ∷ name ∷ text_of_round round ∷ []
-words_of_order Turn = codes "TURN" ∷ []
-words_of_order (BuyPrivate private) = codes "BUY" ∷ code_of_private private ∷ []
+words_of_order order = words_of_parts (parts_of order)
 
 -- its spelling
 abbrev pub spelling_of : Order → List ℕ

@@ -1,16 +1,34 @@
 -- What the code's values are as those of the definitions.
-use Rattle.std.specs.Prelude.{List, Result, Ok, Err}
+use Rattle.std.specs.Prelude.{ℕ, Bool, true, ◌&&◌, nat_le, length, if◌then◌else◌, List, Option, Some, None, Result, Ok, Err}
 use Rattle.arrayvec.specs.ArrayVec.{ArrayVec}
-use Rattle.order_grammar.specs.Form.{Row, row}
+use Rattle.order_grammar.specs.Form.{Row, row, are_names}
 use Rattle.order_grammar.specs.declared.fault.Fault.{Fault}
 use Rattle.order_grammar.specs.declared.form.Form.{Form}
+use Rattle.order_grammar.specs.declared.form.Repeated.{Repeated}
+use Rattle.order_grammar.specs.declared.form.Repeated.TheVariants as repeated
+use Rattle.order_grammar.specs.declared.name.Name.{Name}
+use Rattle.order_grammar.specs.declared.order.Parts.{Parts}
+use Rattle.order_grammar.specs.declared.order.Tail.{Tail}
 use Rattle.order_grammar.specs.declared.order.Value.{Value}
 
 -- the row that a form of the code is
 abbrev pub row_of : Form → Row
-row_of form = row form.kind form.first.now form.classes.now
+row_of form = row form.keyword form.classes.now form.repeated
 
--- values as a list
-abbrev pub values_of : Result (ArrayVec Value) Fault → Result (List Value) Fault
-values_of (Ok values) = Ok values.items
+-- the values of the parts that were read
+abbrev pub values_of : Result Parts Fault → Result (List Value × Tail) Fault
+values_of (Ok parts) = Ok (parts.values.items, parts.tail)
 values_of (Err fault) = Err fault
+
+-- whether the code has room for what is repeated
+abbrev pub has_room : Repeated → Bool
+has_room repeated.Nothing = true
+has_room (repeated.Names least most) = nat_le most 6
+
+-- whether the code has room for the values of a row
+abbrev pub is_short : Row → Bool
+is_short row = nat_le (length row.classes) 5 && has_room row.repeated
+
+-- the names that words are
+abbrev pub names_reading : ℕ → ℕ → List (List ℕ) → Option (ArrayVec Name)
+names_reading least most words = if are_names least most words then Some (record { items = words }) else None

@@ -1,82 +1,137 @@
 -- Which lines spell which orders, each form by itself, and which orders have a spelling. A line is
 -- loosely spelt where it would spell an order if numbers had no greatest value.
-use Rattle.std.specs.Prelude.{◌≡◌, ◌≢◌, ℕ, ◌≤◌, IsTrue, List, [], ◌∷◌, ◌++◌, length, codes, slice_index, Contains}
+use Rattle.std.specs.Prelude.{◌≡◌, ◌≢◌, ℕ, ◌≤◌, Bool, true, false, ◌&&◌, nat_le, IsTrue, List, [], ◌∷◌, ◌++◌, Option, Some, None, length, codes, slice_index}
 use Rattle.std.specs.List.{list_all}
-use Rattle.tables.specs.Roster.{code_of_private}
+use Rattle.tables.specs.Roster.{code_of_company, code_of_private}
+use Rattle.tables.specs.declared.roster.Company.{Company}
+use Rattle.tables.specs.declared.roster.Private.{Private}
 use Rattle.tables.specs.declared.round.Round.{Round}
 use Rattle.tables.specs.declared.round.Round.TheVariants.{Opening, Stock, Operating}
-use Rattle.order_grammar.specs.Class.{are_digits, value_of_digits, bought_alone}
+use Rattle.order_grammar.specs.Class.{are_digits, value_of_digits}
+use Rattle.order_grammar.specs.Form.{has_form}
+use Rattle.order_grammar.specs.Limits.{line_most}
+use Rattle.tables.specs.Round.{number_most}
 use Rattle.order_grammar.specs.Name.{is_name}
+use Rattle.order_grammar.specs.Order.{parts_of}
 use Rattle.order_grammar.specs.Words.{words_of, before_comment, is_printable}
 use Rattle.order_grammar.specs.declared.order.Order.{Order}
-use Rattle.order_grammar.specs.declared.order.Order.TheVariants.{Blank, Game, Players, Sheet, Turn, BuyPrivate}
+use Rattle.order_grammar.specs.declared.order.Order.TheVariants.{Blank, Game, Players, Sheet, Turn, BuyPrivate, Bid, Limit, Par}
+use Rattle.order_grammar.specs.declared.order.Parts.{Parts}
+use Rattle.order_grammar.specs.declared.order.Value.{Value}
+use Rattle.order_grammar.specs.declared.order.Value.TheVariants as value
+
+-- this very word
+abbrev pub IsWord : List ℕ → List ℕ → Type 0
+IsWord word text = text ≡ word
 
 -- digits, with leading zeros or without, of a number, however large
-pub record IsNumber (text : List ℕ) (number : ℕ) : Type 0 where
+pub record IsNumber (number : ℕ) (text : List ℕ) : Type 0 where
   pub digits : IsTrue (are_digits text)
   pub value : value_of_digits text ≡ number
 
+-- a name
+abbrev pub IsName : List ℕ → List ℕ → Type 0
+IsName name text = (text ≡ name) × IsTrue (is_name name)
+
 -- PR and the number of an opening round, without leading zeros
-abbrev pub IsRound : List ℕ → Round → Type 0
-IsRound text (Opening number) =
-    (digits : List ℕ) × (text ≡ codes "PR" ++ digits) × (slice_index digits 0 ≢ 48) × IsNumber digits number
-IsRound text (Stock number) = ⊥
-IsRound text (Operating set number) = ⊥
+abbrev pub IsRoundOfLine : Round → List ℕ → Type 0
+IsRoundOfLine (Opening number) text =
+    (digits : List ℕ) × (text ≡ codes "PR" ++ digits) × (slice_index digits 0 ≢ 48) × IsNumber number digits
+IsRoundOfLine (Stock number) text = ⊥
+IsRoundOfLine (Operating set number) text = ⊥
+
+-- the code of a private
+abbrev pub IsPrivate : Private → List ℕ → Type 0
+IsPrivate private text = text ≡ code_of_private private
+
+-- the code of a company
+abbrev pub IsCompany : Company → List ℕ → Type 0
+IsCompany company text = text ≡ code_of_company company
 
 -- three to six names
-pub record AreNames (names : List (List ℕ)) : Type 0 where
+pub record AreNames (names : List (List ℕ)) (words : List (List ℕ)) : Type 0 where
+  pub same : words ≡ names
   pub least : 3 ≤ length names
   pub most : length names ≤ 6
   pub each : IsTrue (list_all is_name names)
 
+-- a word, and then other words
+abbrev pub Then : (List ℕ → Type 0) → (List (List ℕ) → Type 0) → List (List ℕ) → Type 0
+Then first rest [] = ⊥
+Then first rest (word ∷ words) = first word × rest words
+
+-- no words
+abbrev pub End : List (List ℕ) → Type 0
+End [] = Unit {0}
+End (word ∷ words) = ⊥
+
 -- these words spell the order, but that its numbers may be too large
-abbrev pub AreWordsFor : List (List ℕ) → Order → Type 0
-AreWordsFor words Blank = words ≡ []
-AreWordsFor words (Game game version) =
-    (first : List ℕ) × (second : List ℕ) × (words ≡ codes "GAME" ∷ first ∷ second ∷ []) × IsNumber first game × IsNumber second version
-AreWordsFor words (Players names) = (words ≡ codes "PLAYERS" ∷ names.items) × AreNames names.items
-AreWordsFor words (Sheet name round) =
-    (text : List ℕ) × (words ≡ codes "SHEET" ∷ name ∷ text ∷ []) × IsTrue (is_name name) × IsRound text round
-AreWordsFor words Turn = words ≡ codes "TURN" ∷ []
-AreWordsFor words (BuyPrivate private) = (words ≡ codes "BUY" ∷ code_of_private private ∷ []) × Contains bought_alone private
+abbrev pub AreWordsFor : Order → List (List ℕ) → Type 0
+AreWordsFor Blank words = End words
+AreWordsFor (Game game version) words =
+    Then (IsWord (codes "GAME")) (Then (IsNumber game) (Then (IsNumber version) End)) words
+AreWordsFor (Players names) words = Then (IsWord (codes "PLAYERS")) (AreNames names.items) words
+AreWordsFor (Sheet name round) words =
+    Then (IsWord (codes "SHEET")) (Then (IsName name) (Then (IsRoundOfLine round) End)) words
+AreWordsFor Turn words = Then (IsWord (codes "TURN")) End words
+AreWordsFor (BuyPrivate private) words = Then (IsWord (codes "BUY")) (Then (IsPrivate private) End) words
+AreWordsFor (Bid private amount) words =
+    Then (IsWord (codes "BID")) (Then (IsPrivate private) (Then (IsNumber amount) End)) words
+AreWordsFor (Limit private amount) words =
+    Then (IsWord (codes "LIMIT")) (Then (IsPrivate private) (Then (IsNumber amount) End)) words
+AreWordsFor (Par company price) words =
+    Then (IsWord (codes "PAR")) (Then (IsCompany company) (Then (IsNumber price) End)) words
 
 -- the line would spell the order if numbers had no greatest value
 pub record LooselySpells (line : List ℕ) (order : Order) : Type 0 where
-  pub short : length line ≤ 1024
+  pub short : length line ≤ line_most
   pub printable : IsTrue (list_all is_printable (before_comment line))
-  pub words : AreWordsFor (words_of line) order
+  pub words : AreWordsFor order (words_of line)
 
--- a round's number, or that of its set, is at most 99,999
-abbrev pub IsSmallRound : Round → Type 0
-IsSmallRound (Opening number) = number ≤ 99999
-IsSmallRound (Stock number) = number ≤ 99999
-IsSmallRound (Operating set number) = set ≤ 99999
+-- whether a round's number, or that of its set, is small enough for a line
+abbrev pub is_small_round : Round → Bool
+is_small_round (Opening number) = nat_le number number_most
+is_small_round (Stock number) = nat_le number number_most
+is_small_round (Operating set number) = nat_le set number_most
 
--- each number of the order is at most 99,999
+-- whether a value has no number that is too large
+abbrev pub is_small : Value → Bool
+is_small (value.Number number) = nat_le number number_most
+is_small (value.Round round) = is_small_round round
+is_small other = true
+
+-- whether parts have no number that is too large
+abbrev pub are_small : Option Parts → Bool
+are_small None = true
+are_small (Some parts) = list_all is_small parts.values.items
+
+-- each number of the order is small enough for a line
 abbrev pub HasSmallNumbers : Order → Type 0
-HasSmallNumbers Blank = Unit {0}
-HasSmallNumbers (Game game version) = (game ≤ 99999) × (version ≤ 99999)
-HasSmallNumbers (Players names) = Unit {0}
-HasSmallNumbers (Sheet name round) = IsSmallRound round
-HasSmallNumbers Turn = Unit {0}
-HasSmallNumbers (BuyPrivate private) = Unit {0}
+HasSmallNumbers order = IsTrue (are_small (parts_of order))
 
 -- the line spells the order
 pub record Spells (line : List ℕ) (order : Order) : Type 0 where
   pub loosely : LooselySpells line order
   pub small : HasSmallNumbers order
 
--- a round that a line may name
-abbrev pub IsOpeningRound : Round → Type 0
-IsOpeningRound (Opening number) = (1 ≤ number) × (number ≤ 99999)
-IsOpeningRound (Stock number) = ⊥
-IsOpeningRound (Operating set number) = ⊥
+-- whether a line may name the round
+abbrev pub is_round_of_line : Round → Bool
+is_round_of_line (Opening number) = nat_le 1 number && nat_le number number_most
+is_round_of_line (Stock number) = false
+is_round_of_line (Operating set number) = false
+
+-- whether a value has a word
+abbrev pub has_word : Value → Bool
+has_word (value.Number number) = nat_le number number_most
+has_word (value.Name name) = is_name name
+has_word (value.Round round) = is_round_of_line round
+has_word other = true
+
+-- whether parts are those of a form, and have words
+abbrev pub have_words : Option Parts → Bool
+have_words None = true
+have_words (Some parts) = has_form parts && list_all has_word parts.values.items
 
 -- an order that has a spelling
 abbrev pub IsOrder : Order → Type 0
-IsOrder Blank = Unit {0}
-IsOrder (Game game version) = (game ≤ 99999) × (version ≤ 99999)
-IsOrder (Players names) = AreNames names.items
-IsOrder (Sheet name round) = IsTrue (is_name name) × IsOpeningRound round
-IsOrder Turn = Unit {0}
-IsOrder (BuyPrivate private) = Contains bought_alone private
+IsOrder order = IsTrue (have_words (parts_of order))

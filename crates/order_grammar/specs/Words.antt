@@ -1,6 +1,6 @@
 -- The words of a line are the longest runs of bytes other than space before its first `#`, letters
 -- raised.
-use Rattle.std.specs.Prelude.{ℕ, ◌==◌, Bool, true, false, ◌&&◌, nat_le, ◌<◌, ◌≤◌, ◌≡◌, length, slice_range, if◌then◌else◌, List, [], ◌∷◌, ◌++◌, map}
+use Rattle.std.specs.Prelude.{ℕ, ◌+◌, ◌==◌, Bool, true, false, ◌&&◌, nat_le, ◌<◌, ◌≤◌, ◌≡◌, length, slice_range, if◌then◌else◌, List, [], ◌∷◌, ◌++◌, map}
 use Rattle.std.specs.Char.{to_ascii_uppercase}
 
 -- the part of a text before the first byte that is this one; all of it where there is none
@@ -56,20 +56,39 @@ same_word (a ∷ as_) (b ∷ bs) = a == b && same_word as_ bs
 same_word [] (b ∷ bs) = false
 same_word (a ∷ as_) [] = false
 
--- a word as it is written, and where it stands in its line: from start, up to and without end
+-- a word as it is written, and where it stands in its text: from start, up to and without end
 pub record Placed : Type 0 where
   pub text : List ℕ
   pub start : ℕ
   pub end : ℕ
 
--- each word is what the line has at its place, and begins no sooner than the one before it ends; the first no sooner than from
+-- each word is what the text has at its place, and begins no sooner than the one before it ends; the first no sooner than from
 abbrev pub StandFrom : ℕ → List ℕ → List Placed → Type 0
-StandFrom from line [] = Unit {0}
-StandFrom from line (word ∷ words) =
-    (from ≤ word.start) × (word.start < word.end) × (word.end ≤ length line)
-    × (word.text ≡ slice_range line word.start word.end) × StandFrom word.end line words
+StandFrom from text [] = Unit {0}
+StandFrom from text (word ∷ words) =
+    (from ≤ word.start) × (word.start < word.end) × (word.end ≤ length text)
+    × (word.text ≡ slice_range text word.start word.end) × StandFrom word.end text words
 
--- these are the words of a line, each at its place
+-- the words, letters raised
+abbrev pub texts_of : List Placed → List (List ℕ)
+texts_of words = map (λ word. raised word.text) words
+
+-- these are the words of a line, each at its place before the comment
 pub record AreWordsOf (line : List ℕ) (words : List Placed) : Type 0 where
-  pub texts : map (λ word. raised word.text) words ≡ words_of line
-  pub places : StandFrom 0 line words
+  pub texts : texts_of words ≡ words_of line
+  pub places : StandFrom 0 (before_comment line) words
+
+-- a word that begins at a place, in front of others, if it has any bytes
+abbrev pub with_placed : ℕ → List ℕ → List Placed → List Placed
+with_placed start [] words = words
+with_placed start (byte ∷ bytes) words =
+    record { text = byte ∷ bytes; start = start; end = start + length (byte ∷ bytes) } ∷ words
+
+-- the words of the rest of a text at their places; of the first word, which begins at start, these
+-- bytes have come
+abbrev pub placed_from : ℕ → List ℕ → List ℕ → List Placed
+placed_from start word [] = with_placed start word []
+placed_from start word (byte ∷ bytes) =
+    if byte == 32
+    then with_placed start word (placed_from (start + length word + 1) [] bytes)
+    else placed_from start (word ++ byte ∷ []) bytes

@@ -1,22 +1,20 @@
 ghost use Rattle.std.specs.Prelude.{◌≡◌};
 ghost use Rattle.order_grammar.specs.Class.{
-  bought_alone,
   capped_value,
   class_reading,
+  company_reading,
   number_reading,
-  private_among,
+  private_reading,
   round_number_reading,
   round_reading,
 };
 ghost use Rattle.order_grammar.specs.Words.{raised};
 
+use crate::keyword::Keyword;
 use crate::name::Name;
 use crate::order::Value;
 use crate::words::is_word;
-use tables::{Private, Round};
-
-/// The greatest number that a line may name.
-pub(crate) const NUMBER_MOST: u32 = 99_999;
+use tables::{Company, NUMBER_MOST, Private, Round};
 
 /// A class of words: the texts that may stand at one place of a form.
 #[derive(Clone, Copy, Debug, PartialEq, Eq)]
@@ -27,8 +25,12 @@ pub(crate) enum Class {
     Name,
     /// `PR` and a number from 1 without leading zeros.
     Round,
-    /// A private that can be bought by its code alone: SV, CS, DH or MH.
+    /// The code of a private: SV, CS, DH, MH, CA or BOP.
     Private,
+    /// The code of a company: PRR, NYC, CPR, BO, CO, ERIE, NYNH or BM.
+    Company,
+    /// This very word.
+    Word(Keyword),
 }
 
 /// What a word is as a text of a class.
@@ -55,11 +57,17 @@ impl Class {
             },
             Class::Round => read_round(word),
             Class::Private => read_private(word),
+            Class::Company => read_company(word),
+            Class::Word(keyword) if is_word(word, keyword.text()) => {
+                Reading::Value(Value::Word(keyword))
+            }
+            Class::Word(_) => Reading::Wrong,
         }
     }
 }
 
-/// The value of a word of digits, or `NUMBER_MOST + 1` where it is over that; `None` for other words.
+/// The value of a word of digits, or `NUMBER_MOST + 1` where it is over that; `None` for other
+/// words.
 fn digits_value(word: &[u8]) -> Option<u32>
     ensures { result ≡ capped_value word.now }
 {
@@ -111,20 +119,23 @@ fn read_round_number(digits: &[u8]) -> Reading
     }
 }
 
-/// The privates that can be bought by their code alone.
-const BOUGHT_ALONE: [Private; 4] = [
-    Private::SchuylkillValley,
-    Private::ChamplainStLawrence,
-    Private::DelawareHudson,
-    Private::MohawkHudson,
-];
-
 fn read_private(word: &[u8]) -> Reading
-    ensures { result ≡ private_among bought_alone (raised word.now) }
+    ensures { result ≡ private_reading (raised word.now) }
 {
-    for private in BOUGHT_ALONE {
+    for private in Private::ALL {
         if is_word(word, private.code().as_bytes()) {
             return Reading::Value(Value::Private(private));
+        }
+    }
+    Reading::Wrong
+}
+
+fn read_company(word: &[u8]) -> Reading
+    ensures { result ≡ company_reading (raised word.now) }
+{
+    for company in Company::ALL {
+        if is_word(word, company.code().as_bytes()) {
+            return Reading::Value(Value::Company(company));
         }
     }
     Reading::Wrong

@@ -7,28 +7,28 @@ use thiserror::Error;
 #[derive(Clone, Copy, Debug, PartialEq, Eq, Drop, Error)]
 pub enum Fault {
     /// G1: the line has over 1,024 bytes.
-    #[error("G1")]
+    #[error("the line has over 1,024 bytes")]
     TooLong,
     /// G2: a byte before the comment is no printable ASCII.
-    #[error("G2")]
+    #[error("a byte before the comment is no printable ASCII")]
     StrayByte,
     /// G3: no form of line begins with its first word.
-    #[error("G3")]
+    #[error("no form of line begins with the first word")]
     UnknownWord,
     /// G4: the words after the first fit no form.
-    #[error("G4")]
+    #[error("the words after the first fit no form")]
     WrongWords,
     /// G5: they would, but for a number over 99,999.
-    #[error("G5")]
+    #[error("a number is over 99,999")]
     NumberTooLarge,
     /// G6: a line or an order that has no place where it stands.
-    #[error("G6")]
+    #[error("the line has no place where it stands")]
     OutOfPlace,
     /// G7: a sheet of nobody who plays.
-    #[error("G7")]
+    #[error("nobody who plays has this name")]
     UnknownPlayer,
     /// G8: a line past the 512th of its sheet.
-    #[error("G8")]
+    #[error("the line is past the last of its sheet")]
     PastLastLine,
 }
 

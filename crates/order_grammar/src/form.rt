@@ -1,92 +1,101 @@
-ghost use Rattle.std.specs.Prelude.{◌≡◌, ◌≤◌, IsTrue, length, map};
+ghost use Rattle.std.specs.Prelude.{◌≡◌, ◌≤◌, IfOk, IsTrue, map};
 ghost use Rattle.std.specs.List.{list_all};
-ghost use Rattle.order_grammar.specs.Form.{is_short, nearer, row_reading, rows_reading, values_reading, words_reading};
-ghost use Rattle.order_grammar.specs.Row.{row_of, values_of};
-ghost use Rattle.order_grammar.specs.Token.{texts_of};
-ghost use Rattle.order_grammar.specs.Words.{raised};
+ghost use Rattle.order_grammar.specs.Form.{
+  nearer,
+  row_reading,
+  rows_reading,
+  tail_reading,
+  values_by_row,
+  words_reading,
+};
+ghost use Rattle.order_grammar.specs.Row.{has_room, is_short, names_reading, row_of, values_of};
+ghost use Rattle.order_grammar.specs.Words.{raised, texts_of};
 
 use crate::class::{Class, Reading};
 use crate::fault::Fault;
-use crate::order::{Order, OrderKind, Values, order_from};
-use crate::words::{Token, is_word};
+use crate::keyword::Keyword;
+use crate::name::Name;
+use crate::order::{Order, Parts, Tail, Values, order_from};
+use crate::words::{Words, is_word};
+use arrayvec::ArrayVec;
+use tables::{PLAYERS_LEAST, PLAYERS_MOST};
 
-/// A form of line: its first word, and the classes of the words after it.
+/// A form of line: its first word, the classes of the words after it, and the class that is
+/// repeated at the end.
 pub(crate) struct Form {
-    pub(crate) kind: OrderKind,
-    pub(crate) first: &'static [u8],
+    pub(crate) keyword: Keyword,
     pub(crate) classes: &'static [Class],
+    pub(crate) repeated: Repeated,
+}
+
+/// A class that is repeated at the end of a form, at least and at most so many times.
+#[derive(Clone, Copy, Debug, PartialEq, Eq)]
+pub(crate) enum Repeated {
+    Nothing,
+    Names { least: usize, most: usize },
 }
 
 /// The forms of lines. A line spells an order where its words fit a row.
 pub(crate) const FORMS: [Form; 8] = [
     Form {
-        kind: OrderKind::Game,
-        first: b"GAME",
+        keyword: Keyword::Game,
         classes: &[Class::Number, Class::Number],
+        repeated: Repeated::Nothing,
     },
     Form {
-        kind: OrderKind::Players,
-        first: b"PLAYERS",
-        classes: &[Class::Name, Class::Name, Class::Name],
-    },
-    Form {
-        kind: OrderKind::Players,
-        first: b"PLAYERS",
-        classes: &[Class::Name, Class::Name, Class::Name, Class::Name],
-    },
-    Form {
-        kind: OrderKind::Players,
-        first: b"PLAYERS",
-        classes: &[
-            Class::Name,
-            Class::Name,
-            Class::Name,
-            Class::Name,
-            Class::Name,
-        ],
-    },
-    Form {
-        kind: OrderKind::Players,
-        first: b"PLAYERS",
-        classes: &[
-            Class::Name,
-            Class::Name,
-            Class::Name,
-            Class::Name,
-            Class::Name,
-            Class::Name,
-        ],
-    },
-    Form {
-        kind: OrderKind::Sheet,
-        first: b"SHEET",
-        classes: &[Class::Name, Class::Round],
-    },
-    Form {
-        kind: OrderKind::Turn,
-        first: b"TURN",
+        keyword: Keyword::Players,
         classes: &[],
+        repeated: Repeated::Names {
+            least: PLAYERS_LEAST,
+            most: PLAYERS_MOST,
+        },
     },
     Form {
-        kind: OrderKind::BuyPrivate,
-        first: b"BUY",
+        keyword: Keyword::Sheet,
+        classes: &[Class::Name, Class::Round],
+        repeated: Repeated::Nothing,
+    },
+    Form {
+        keyword: Keyword::Turn,
+        classes: &[],
+        repeated: Repeated::Nothing,
+    },
+    Form {
+        keyword: Keyword::Buy,
         classes: &[Class::Private],
+        repeated: Repeated::Nothing,
+    },
+    Form {
+        keyword: Keyword::Bid,
+        classes: &[Class::Private, Class::Number],
+        repeated: Repeated::Nothing,
+    },
+    Form {
+        keyword: Keyword::Limit,
+        classes: &[Class::Private, Class::Number],
+        repeated: Repeated::Nothing,
+    },
+    Form {
+        keyword: Keyword::Par,
+        classes: &[Class::Company, Class::Number],
+        repeated: Repeated::Nothing,
     },
 ];
 
 /// The order that the words of a line spell, or why they spell none: what comes nearest over all
 /// the forms.
-pub(crate) fn order_of_words(words: &[Token]) -> Result<Order, Fault>
+pub(crate) fn order_of_words(words: &Words) -> Result<Order, Fault>
     ensures { result ≡ words_reading (texts_of words.now) }
 {
-    let [first, rest @ ..] = words else {
+    let mut rest = words.duplicate();
+    let Some(first) = rest.next() else {
         return Ok(Order::Blank);
     };
-    nearest_reading(&FORMS, first.text, rest)
+    nearest_reading(&FORMS, first.text, &rest)
 }
 
 /// What comes nearest to an order over some forms.
-fn nearest_reading(forms: &[Form], first: &[u8], rest: &[Token]) -> Result<Order, Fault>
+fn nearest_reading(forms: &[Form], first: &[u8], rest: &Words) -> Result<Order, Fault>
     requires { IsTrue (list_all is_short (map row_of forms.now)) }
     ensures { result ≡ rows_reading (map row_of forms.now) (raised first.now) (texts_of rest.now) }
 {
@@ -113,41 +122,93 @@ fn nearer(first: Fault, second: Fault) -> Fault
 
 impl Form {
     /// The order that the words spell by this form; else `UnknownWord` where the first word is
-    /// another, `WrongWords` where the later words do not fit, `NumberTooLarge` where only numbers do not.
-    fn read(&self, first: &[u8], rest: &[Token]) -> Result<Order, Fault>
-        requires { length self.now.classes.now ≤ 6 }
+    /// another, `WrongWords` where the later words do not fit, `NumberTooLarge` where only
+    /// numbers do not.
+    fn read(&self, first: &[u8], rest: &Words) -> Result<Order, Fault>
+        requires { IsTrue (is_short (row_of self.now)) }
         ensures { result ≡ row_reading (row_of self.now) (raised first.now) (texts_of rest.now) }
     {
-        if !is_word(first, self.first) {
+        if !is_word(first, self.keyword.text()) {
             return Err(Fault::UnknownWord);
         }
-        let values = read_values(self.classes, rest)?;
-        match order_from(self.kind, values.as_slice()) {
+        let Parts {
+            keyword,
+            values,
+            tail,
+        } = self.read_parts(rest)?;
+        match order_from(keyword, values.as_slice(), tail) {
             Some(order) => Ok(order),
             None => Err(Fault::WrongWords),
         }
     }
+
+    /// What words are as texts of the form's classes.
+    fn read_parts(&self, words: &Words) -> Result<Parts, Fault>
+        requires { IsTrue (is_short (row_of self.now)) }
+        ensures values { values_of result ≡ values_by_row (row_of self.now) (texts_of words.now) }
+        ensures keyword { IfOk result (λ parts. parts.keyword ≡ self.now.keyword) }
+    {
+        let mut rest = words.duplicate();
+        let mut values = Values::new();
+        let mut too_large = false;
+        for class in self.classes {
+            let Some(word) = rest.next() else {
+                return Err(Fault::WrongWords);
+            };
+            match class.read(word.text) {
+                Reading::Wrong => return Err(Fault::WrongWords),
+                Reading::TooLarge => too_large = true,
+                Reading::Value(value) => values.push(value),
+            }
+        }
+        let Some(tail) = self.repeated.read_tail(&rest) else {
+            return Err(Fault::WrongWords);
+        };
+        if too_large {
+            return Err(Fault::NumberTooLarge);
+        }
+        Ok(Parts {
+            keyword: self.keyword,
+            values,
+            tail,
+        })
+    }
 }
 
-/// The values of words as texts of these classes, one for one.
-fn read_values(classes: &[Class], words: &[Token]) -> Result<Values, Fault>
-    requires { length classes.now ≤ 6 }
-    ensures { values_of result ≡ values_reading classes.now (texts_of words.now) }
-{
-    if classes.len() != words.len() {
-        return Err(Fault::WrongWords);
-    }
-    let mut values = Values::new();
-    let mut too_large = false;
-    for (i, class) in classes.iter().enumerate() {
-        match class.read(words[i].text) {
-            Reading::Wrong => return Err(Fault::WrongWords),
-            Reading::TooLarge => too_large = true,
-            Reading::Value(value) => values.push(value),
+impl Repeated {
+    /// What words are as those of this class; `None` where they do not fit.
+    fn read_tail(self, words: &Words) -> Option<Tail>
+        requires { IsTrue (has_room self) }
+        ensures { result ≡ tail_reading self (texts_of words.now) }
+    {
+        match self {
+            Repeated::Nothing => {
+                let mut rest = words.duplicate();
+                match rest.next() {
+                    Some(_) => None,
+                    None => Some(Tail::Nothing),
+                }
+            }
+            Repeated::Names { least, most } => Some(Tail::Names(read_names(words, least, most)?)),
         }
     }
-    if too_large {
-        return Err(Fault::NumberTooLarge);
+}
+
+/// The names that words are; `None` where one is no name, or they are too few or too many.
+fn read_names(words: &Words, least: usize, most: usize) -> Option<ArrayVec<Name, PLAYERS_MOST>>
+    requires { most ≤ 6 }
+    ensures { result ≡ names_reading least most (texts_of words.now) }
+{
+    let mut rest = words.duplicate();
+    let mut names = ArrayVec::new();
+    while let Some(word) = rest.next() {
+        if names.len() == most {
+            return None;
+        }
+        names.push(Name::from_word(word.text)?);
     }
-    Ok(values)
+    if names.len() < least {
+        return None;
+    }
+    Some(names)
 }

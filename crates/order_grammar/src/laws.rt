@@ -19,5 +19,6 @@ pub fn read_where_spelt()
 
 /// A line is read as a fault exactly where it has that fault: the first of five that applies.
 pub fn faulty_where_it_has_one()
-    ensures { (line : List ℕ) (fault : Fault) → (reading_of line ≡ Err fault) ↔ IsFaultOf line fault }
+    ensures { (line : List ℕ) (fault : Fault) →
+        (reading_of line ≡ Err fault) ↔ IsFaultOf line fault }
 {}

@@ -5,13 +5,15 @@
 //! equal. The forms of lines stand in one table; a line spells the order of the row that its words
 //! fit. Reading takes no memory; printing takes it for its text alone.
 //!
-//! Reading order: `name`, `fault`, `words` (a line and its words), `order` (orders and their
-//! parts), `class` (the texts of each class of words), `form` (the table), `read`, `print`, `laws`.
+//! Reading order: `name`, `fault`, `words` (a line and its words), `keyword` (the literal words),
+//! `order` (orders and what they are made of), `class` (the texts of each class of words), `form`
+//! (the table), `read`, `print`, `laws`.
 #![tactic(auto)]
 
 mod class;
 mod fault;
 mod form;
+mod keyword;
 mod laws;
 mod name;
 mod order;
@@ -23,9 +25,6 @@ pub use fault::Fault;
 pub use laws::{faulty_where_it_has_one, read_where_spelt, spelling_is_read_again};
 pub use name::{NAME_MOST, Name};
 pub use order::Order;
-pub use print::{print_line, print_order, print_round};
+pub use print::{print_line, print_number, print_order, print_round};
 pub use read::{LINE_MOST, Line, read_line};
-pub use words::{Span, Token, WORDS_MOST, Words, begins_with_word, has_word};
-
-#[cfg(test)]
-mod tests;
+pub use words::{Span, Token, Words, begins_with_word, has_word};

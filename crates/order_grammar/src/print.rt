@@ -1,8 +1,9 @@
-ghost use Rattle.std.specs.Prelude.{◌≡◌, ◌++◌, IfOk, OnErr, OnOk, codes, decimal};
-ghost use Rattle.order_grammar.specs.Print.{AddsFront, spaced, spelling_of, text_of_round};
+ghost use Rattle.std.specs.Prelude.{◌≡◌, ◌++◌, IfOk, OnErr, OnOk};
+ghost use Rattle.order_grammar.specs.Print.{AddsFront, spaced, values_text, spelling_of, text_of_round, text_of_value};
 
 use crate::name::Name;
-use crate::order::Order;
+use crate::order::{Order, Tail, Value};
+use itoa::Integer;
 use std::alloc::{AllocError, Global};
 use tables::Round;
 
@@ -21,48 +22,54 @@ pub fn print_order(text: &mut Vec<u8>, order: &Order) -> Result<(), AllocError>
     ensures ok { OnOk result (text.new.items ≡ text.old.items ++ spelling_of order.now) }
     ensures err { OnErr result (AddsFront text.old.items text.new.items (spelling_of order.now)) }
 {
-    match order {
-        Order::Blank => Ok(()),
-        Order::Game { game, version } => {
-            text.extend_from_slice(b"GAME ")?;
-            print_number(text, *game)?;
-            text.push(b' ')?;
-            print_number(text, *version)
-        }
-        Order::Players(names) => print_players(text, names.as_slice()),
-        Order::Sheet { name, round } => {
-            text.extend_from_slice(b"SHEET ")?;
-            print_name(text, name)?;
-            text.push(b' ')?;
-            print_round(text, round)
-        }
-        Order::Turn => text.extend_from_slice(b"TURN"),
-        Order::BuyPrivate(private) => {
-            text.extend_from_slice(b"BUY ")?;
-            text.extend_from_slice(private.code().as_bytes())
-        }
+    let Some(parts) = order.parts() else {
+        return Ok(());
+    };
+    text.extend_from_slice(parts.keyword.text())?;
+    print_values(text, parts.values.as_slice())?;
+    match parts.tail {
+        Tail::Nothing => Ok(()),
+        Tail::Names(names) => print_names(text, names.as_slice()),
     }
 }
 
-/// Adds the players line.
-fn print_players(text: &mut Vec<u8>, names: &[Name]) -> Result<(), AllocError>
-    ensures ok { OnOk result (text.new.items ≡ text.old.items ++ codes "PLAYERS" ++ spaced names.now) }
-    ensures err { OnErr result (AddsFront text.old.items text.new.items (codes "PLAYERS" ++ spaced names.now)) }
+/// Adds words of values, each with a space before it.
+fn print_values(text: &mut Vec<u8>, values: &[Value]) -> Result<(), AllocError>
+    ensures ok { OnOk result (text.new.items ≡ text.old.items ++ values_text values.now) }
+    ensures err { OnErr result (AddsFront text.old.items text.new.items (values_text values.now)) }
 {
-    text.extend_from_slice(b"PLAYERS")?;
-    for name in names {
+    for value in values {
         text.push(b' ')?;
-        print_name(text, name)?;
+        print_value(text, value)?;
     }
     Ok(())
 }
 
-/// Adds a name. At want of memory the text is as it was.
-fn print_name(text: &mut Vec<u8>, name: &Name) -> Result<(), AllocError>
-    ensures ok { OnOk result (text.new.items ≡ text.old.items ++ name.now) }
-    ensures err { OnErr result (text.new.items ≡ text.old.items) }
+/// Adds names, each with a space before it.
+fn print_names(text: &mut Vec<u8>, names: &[Name]) -> Result<(), AllocError>
+    ensures ok { OnOk result (text.new.items ≡ text.old.items ++ spaced names.now) }
+    ensures err { OnErr result (AddsFront text.old.items text.new.items (spaced names.now)) }
 {
-    text.extend_from_slice(name.text())
+    for name in names {
+        text.push(b' ')?;
+        text.extend_from_slice(name.text())?;
+    }
+    Ok(())
+}
+
+/// Adds the word of a value. At want of memory a front of that may have been added.
+fn print_value(text: &mut Vec<u8>, value: &Value) -> Result<(), AllocError>
+    ensures ok { OnOk result (text.new.items ≡ text.old.items ++ text_of_value value.now) }
+    ensures err { OnErr result (AddsFront text.old.items text.new.items (text_of_value value.now)) }
+{
+    match value {
+        Value::Number(number) => print_number(text, *number),
+        Value::Name(name) => text.extend_from_slice(name.text()),
+        Value::Round(round) => print_round(text, round),
+        Value::Private(private) => text.extend_from_slice(private.code().as_bytes()),
+        Value::Company(company) => text.extend_from_slice(company.code().as_bytes()),
+        Value::Word(keyword) => text.extend_from_slice(keyword.text()),
+    }
 }
 
 /// Adds a round: `PR1`, `SR1` or `OR1.1`. At want of memory a front of that may have been added.
@@ -83,13 +90,15 @@ pub fn print_round(text: &mut Vec<u8>, round: &Round) -> Result<(), AllocError>
             text.extend_from_slice(b"OR")?;
             print_number(text, *set)?;
             text.push(b'.')?;
-            print_number(text, u32::from(*number))
+            print_number(text, *number)
         }
     }
 }
 
-fn print_number(text: &mut Vec<u8>, number: u32) -> Result<(), AllocError>
-    ensures ok { OnOk result (text.new.items ≡ text.old.items ++ decimal number) }
+/// Adds a number in digits, with a minus sign where it is under 0. At want of memory the text is as
+/// it was.
+pub fn print_number<I: Integer>(text: &mut Vec<u8>, number: I) -> Result<(), AllocError>
+    ensures ok { OnOk result (text.new.items ≡ text.old.items ++ I.text number) }
     ensures err { OnErr result (text.new.items ≡ text.old.items) }
 {
     let mut buffer = itoa::Buffer::new();

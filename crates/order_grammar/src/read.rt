@@ -10,6 +10,10 @@ use crate::words::{Words, before_comment};
 /// The most bytes of a line, without its LF and a CR before that.
 pub const LINE_MOST: usize = 1024;
 
+const _: () = prove!(size_of::<Line>() <= 1024);
+
+const _: () = prove!(size_of::<Words>() <= 1024);
+
 /// A line that was read: its order, and its words as they are written.
 #[derive(Debug, Drop)]
 pub struct Line<'a> {
@@ -21,7 +25,7 @@ pub struct Line<'a> {
 pub fn read_line(line: &[u8]) -> Result<Line<'_>, Fault>
     // The order, or the fault.
     ensures order { order_of result ≡ reading_of line.now }
-    // The words, at their places.
+    // The words, at their places before the comment.
     ensures words { IfOk result (λ read. AreWordsOf line.now read.words) }
 {
     if line.len() > LINE_MOST {
@@ -31,7 +35,7 @@ pub fn read_line(line: &[u8]) -> Result<Line<'_>, Fault>
         return Err(Fault::StrayByte);
     }
     let words = Words::of(line);
-    let order = order_of_words(words.as_slice())?;
+    let order = order_of_words(&words)?;
     Ok(Line { order, words })
 }
 

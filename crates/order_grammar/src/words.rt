@@ -1,26 +1,17 @@
-ghost use Rattle.std.specs.Prelude.{◌≡◌, ◌≤◌, [], length, map, take};
-ghost use Rattle.order_grammar.specs.Token.{placed};
+ghost use Rattle.std.specs.Prelude.{◌≡◌, ◌≤◌, [], IfSome, length, take};
+ghost use Rattle.order_grammar.specs.Token.{GivesWord};
 ghost use Rattle.order_grammar.specs.Words.{
-  StandFrom,
   before,
   before_comment,
   first_of_words,
   has_words,
+  placed_from,
   raised,
   same_word,
   words_of,
-  words_from,
-  written_words,
 };
 
-use arrayvec::ArrayVec;
 use std::marker::Model;
-
-/// The most words that a form of line has.
-pub const WORDS_MOST: usize = 7;
-
-/// One word more than any form has, so that a line with too many words shows it.
-pub(crate) const WORDS_KEPT: usize = WORDS_MOST + 1;
 
 /// Where a word stands in its line: from `start`, up to and without `end`.
 #[derive(Clone, Copy, Debug, Default, PartialEq, Eq)]
@@ -36,55 +27,81 @@ pub struct Token<'a> {
     pub span: Span,
 }
 
-/// The words of a line, in order.
+/// The words of a line, in order: each is looked for in the line when it is asked for.
 #[derive(Debug, Drop)]
 pub struct Words<'a> {
-    tokens: ArrayVec<Token<'a>, WORDS_KEPT>,
+    /// The part of the line before its comment.
+    text: &'a [u8],
+    /// Where the rest of it begins: no word, or a word from its first byte on.
+    at: usize,
 }
 
 /// To a contract they are a list of words at their places.
 impl<'a> Model for Words<'a> {
-    ghost use Rattle.std.specs.Prelude.{List, map};
-    ghost use Rattle.order_grammar.specs.Words.{Placed};
+    ghost use Rattle.std.specs.Prelude.{[], List, drop, length, ◌≤◌};
+    ghost use Rattle.order_grammar.specs.Words.{Placed, placed_from};
 
     ghost Value = { List Placed };
 
-    ghost use Rattle.order_grammar.specs.Token.{placed};
+    ghost view = { λ words. placed_from words.at [] (drop words.at words.text.now) };
 
-    ghost view = { λ words. map placed words.tokens.items };
+    ghost invariant = { λ words. words.at ≤ length words.text.now };
 }
 
 impl<'a> Words<'a> {
-    /// The words before a line's comment, the first eight of them.
+    /// The words before a line's comment.
     pub(crate) fn of(line: &'a [u8]) -> Words<'a>
-        ensures texts { map (λ word. word.text) result ≡ take 8 (written_words line.now) }
-        ensures places { StandFrom 0 line.now result }
+        ensures { result ≡ placed_from 0 [] (before_comment line.now) }
     {
-        let text = before_comment(line);
-        let mut tokens = ArrayVec::new();
-        let mut at = 0;
-        while at < text.len() && !tokens.is_full() {
-            let count = length_before(&text[at..], b' ');
-            if count == 0 {
-                at += 1;
-            } else {
-                let end = at + count;
-                tokens.push(Token {
-                    text: &text[at..end],
-                    span: Span { start: at, end },
-                });
-                at = end;
-            }
+        Words {
+            text: before_comment(line),
+            at: 0,
         }
-        Words { tokens }
     }
 
-    /// The words, in order.
-    pub fn as_slice(&self) -> &[Token<'a>]
-        ensures { map placed result.now ≡ self.now }
+    /// The same words.
+    pub fn duplicate(&self) -> Words<'a>
+        ensures { result ≡ self.now }
     {
-        self.tokens.as_slice()
+        Words {
+            text: self.text,
+            at: self.at,
+        }
     }
+}
+
+impl<'a> Iterator for Words<'a> {
+    ghost use Rattle.std.specs.Iterator.{item_count};
+    ghost use Rattle.order_grammar.specs.Token.{GivesFirst};
+
+    type Item = Token<'a>;
+
+    ghost next_gives = { GivesFirst };
+
+    ghost remaining = { item_count (λ words. words) };
+
+    /// The first of the words; `None` where there is none.
+    fn next(&mut self) -> Option<Token<'a>> {
+        let word = word_from(self.text, self.at)?;
+        self.at = word.span.end;
+        Some(word)
+    }
+}
+
+/// The first word of a text from a place on; `None` where there is none.
+fn word_from(text: &[u8], at: usize) -> Option<Token<'_>>
+    requires { at ≤ length text.now }
+    ensures word { GivesWord text.now at result }
+    ensures within { IfSome result (λ word. word.span.end ≤ length text.now) }
+{
+    let rest = &text[at..];
+    let spaces = rest.iter().position(|byte| *byte != b' ')?;
+    let start = at + spaces;
+    let end = start + length_before(&text[start..], b' ');
+    Some(Token {
+        text: &text[start..end],
+        span: Span { start, end },
+    })
 }
 
 /// How many bytes of a text stand before the first that is `stop`.
@@ -109,39 +126,26 @@ pub(crate) fn before_comment(line: &[u8]) -> &[u8]
 pub fn has_word(line: &[u8]) -> bool
     ensures { result ≡ has_words (words_of line.now) }
 {
-    before_comment(line).iter().any(|byte| *byte != b' ')
-}
-
-/// The first word of a text, as it is written there; empty where there is none.
-fn first_word(text: &[u8]) -> &[u8]
-    ensures { result.now ≡ first_of_words (words_from [] text.now) }
-{
-    let start = text
-        .iter()
-        .position(|byte| *byte != b' ')
-        .unwrap_or(text.len());
-    let rest = &text[start..];
-    &rest[..length_before(rest, b' ')]
+    Words::of(line).next().is_some()
 }
 
 /// Whether the first word of a line, in either case, is this one in upper case.
 pub fn begins_with_word(line: &[u8], word: &[u8]) -> bool
     ensures { result ≡ same_word (first_of_words (words_of line.now)) word.now }
 {
-    is_word(first_word(before_comment(line)), word)
+    match Words::of(line).next() {
+        Some(first) => is_word(first.text, word),
+        None => word.is_empty(),
+    }
 }
 
 /// Whether a word as it is written, in either case, is this one in upper case.
 pub(crate) fn is_word(written: &[u8], word: &[u8]) -> bool
     ensures { result ≡ same_word (raised written.now) word.now }
 {
-    if written.len() != word.len() {
-        return false;
-    }
-    for (i, byte) in written.iter().enumerate() {
-        if byte.to_ascii_uppercase() != word[i] {
-            return false;
-        }
-    }
-    true
+    written.len() == word.len()
+        && written
+            .iter()
+            .zip(word.iter())
+            .all(|(byte, letter)| byte.to_ascii_uppercase() == *letter)
 }

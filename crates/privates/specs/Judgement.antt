@@ -1,21 +1,22 @@
--- The rules that a purchase of a private may break, in their order, and what becomes of a line.
-use Rattle.std.specs.Prelude.{ℕ, Bool, false, not, List, [], ◌∷◌, Option, Some, None, is_some, Result, Ok, Err, pos}
-use lib.Signed.{lt_z}
-use Rattle.history.specs.LookBack.{cash_of, owner_of, sv_price_of, cheapest_of, same_private}
+-- The rules of a turn of an opening round. A seat may buy the cheapest private that is unsold, at the
+-- price that the bank asks, or bid on a dearer one, at least 5 over its face and over each standing bid on
+-- it. Either takes cash that the seat's standing bids on other privates leave free, and there is one a turn.
+use Rattle.std.specs.Prelude.{ℕ, ◌+◌, Bool, false, not, ◌||◌, nat_lt, List, [], ◌∷◌, Option, Some, None, Result, Ok, Err, pos}
+use Rattle.std.specs.Int.Signed.{lt_z}
+use Rattle.history.specs.Bids.{bids_on, free_for}
+use Rattle.history.specs.LookBack.{cheapest_of, is_sold, sv_price_of}
+use Rattle.history.specs.declared.event.Bid.{Bid as StandingBid}
 use Rattle.history.specs.declared.event.Event.{Event}
-use Rattle.history.specs.declared.event.Event.TheVariants.{Ruled}
-use Rattle.history.specs.declared.event.Party.TheVariants as party
-use Rattle.history.specs.declared.ruling.KeptOrder.TheVariants as kept
-use Rattle.history.specs.declared.ruling.Refusal.{Refusal}
-use Rattle.history.specs.declared.ruling.Refusal.TheVariants.{Sold, NotCheapest, CashTooSmall, TurnUsed}
+use Rattle.history.specs.declared.ruling.OpeningRule.{OpeningRule}
+use Rattle.history.specs.declared.ruling.OpeningRule.TheVariants.{NotOfOpening, Sold, NotCheapest, BidTooLow, CashTooSmall, TurnUsed, BidForCheapest}
+use Rattle.history.specs.declared.ruling.Refusal.TheVariants.{Opening}
 use Rattle.history.specs.declared.ruling.Ruling.{Ruling}
 use Rattle.history.specs.declared.ruling.Ruling.TheVariants.{Obeyed, Refused, Faulty}
 use Rattle.order_grammar.specs.declared.fault.Fault.{Fault}
-use Rattle.order_grammar.specs.declared.fault.Fault.TheVariants.{OutOfPlace}
 use Rattle.order_grammar.specs.declared.order.Order.{Order}
-use Rattle.order_grammar.specs.declared.order.Order.TheVariants.{BuyPrivate}
-use Rattle.privates.specs.Part.{Numbered, standing_reading}
-use Rattle.tables.specs.Roster.{face_of}
+use Rattle.order_grammar.specs.declared.order.Order.TheVariants.{BuyPrivate, Bid}
+use Rattle.sheets.specs.Place.{is_of_file, placed}
+use Rattle.tables.specs.Roster.{face_of, same_private}
 use Rattle.tables.specs.Rules.{Rule, first_broken}
 use Rattle.tables.specs.declared.roster.Private.{Private}
 use Rattle.tables.specs.declared.roster.Private.TheVariants.{SchuylkillValley}
@@ -31,40 +32,63 @@ abbrev pub is_the : Private → Option Private → Bool
 is_the private None = false
 is_the private (Some other) = same_private private other
 
--- the rules that a purchase may break: the private is sold; it is not the cheapest that is unsold;
--- its price is over the seat's cash; the seat has bought in this turn
-abbrev pub purchase_rules : ℕ → List Event → Seat → Private → Bool → List (Rule Refusal)
-purchase_rules seats events seat private used =
-    record { code = Sold; broken = is_some (owner_of events private) }
-    ∷ record { code = NotCheapest; broken = not (is_the private (cheapest_of events)) }
-    ∷ record { code = CashTooSmall; broken = lt_z (cash_of seats events (party.Seat seat)) (pos (price_of events private)) }
+-- the private is the cheapest that is unsold
+abbrev pub is_cheapest : List Event → Private → Bool
+is_cheapest events private = is_the private (cheapest_of events)
+
+-- a sum is less than 5 over one of these bids
+abbrev pub is_near : ℕ → List StandingBid → Bool
+is_near amount [] = false
+is_near amount (bid ∷ bids) = nat_lt amount (bid.amount + 5) || is_near amount bids
+
+-- a bid is too low: it is less than 5 over the face, or over a standing bid on the private
+abbrev pub is_too_low : ℕ → List Event → Private → ℕ → Bool
+is_too_low seats events private amount =
+    nat_lt amount (face_of private + 5) || is_near amount (bids_on seats events private)
+
+-- the rules that a purchase may break, in a turn that has bought or bid before or not: the private is
+-- sold; it is not the cheapest that is unsold; its price is over what the seat can spend on it; the turn
+-- is used
+abbrev pub purchase_rules : ℕ → List Event → Seat → Bool → Private → List (Rule OpeningRule)
+purchase_rules seats events seat used private =
+    record { code = Sold; broken = is_sold events private }
+    ∷ record { code = NotCheapest; broken = not (is_cheapest events private) }
+    ∷ record { code = CashTooSmall; broken = lt_z (free_for seats events seat private) (pos (price_of events private)) }
     ∷ record { code = TurnUsed; broken = used }
     ∷ []
 
--- the first rule that it breaks
-abbrev pub refusal_of : ℕ → List Event → Seat → Private → Bool → Option Refusal
-refusal_of seats events seat private used = first_broken (purchase_rules seats events seat private used)
+-- the rules that a bid may break: the private is sold; the bid is too low; it is over what the seat can
+-- spend on the private; the turn is used; the private is the cheapest that is unsold
+abbrev pub bid_rules : ℕ → List Event → Seat → Bool → Private → ℕ → List (Rule OpeningRule)
+bid_rules seats events seat used private amount =
+    record { code = Sold; broken = is_sold events private }
+    ∷ record { code = BidTooLow; broken = is_too_low seats events private amount }
+    ∷ record { code = CashTooSmall; broken = lt_z (free_for seats events seat private) (pos amount) }
+    ∷ record { code = TurnUsed; broken = used }
+    ∷ record { code = BidForCheapest; broken = is_cheapest events private }
+    ∷ []
 
--- what becomes of a purchase
-abbrev pub purchase_ruling : Private → Option Refusal → Ruling
-purchase_ruling private None = Obeyed (kept.BuyPrivate private)
-purchase_ruling private (Some refusal) = Refused refusal (kept.BuyPrivate private)
+-- the first rule that an order breaks in a turn; any order but a purchase or a bid breaks the first
+abbrev pub judgement_of : ℕ → List Event → Seat → Bool → Order → Option OpeningRule
+judgement_of seats events seat used (BuyPrivate private) = first_broken (purchase_rules seats events seat used private)
+judgement_of seats events seat used (Bid private amount) = first_broken (bid_rules seats events seat used private amount)
+judgement_of seats events seat used other = Some NotOfOpening
 
--- what becomes of a line of a group with this order or fault
-abbrev pub reading_ruling : ℕ → List Event → Seat → Bool → Result Order Fault → Ruling
-reading_ruling seats events seat used (Err fault) = Faulty fault
-reading_ruling seats events seat used (Ok (BuyPrivate private)) = purchase_ruling private (refusal_of seats events seat private used)
-reading_ruling seats events seat used (Ok other) = Faulty OutOfPlace
+-- what becomes of an order that breaks this rule first, or none
+abbrev pub judged : Order → Option OpeningRule → Ruling
+judged order None = Obeyed order
+judged order (Some rule) = Refused (Opening rule) order
 
--- the fault of a line before the first group: none has a place there
-abbrev pub fault_outside : Result Order Fault → Fault
-fault_outside (Err fault) = fault
-fault_outside (Ok order) = OutOfPlace
+-- an order of a group is one of play
+abbrev pub has_place_in_group : Order → Bool
+has_place_in_group order = not (is_of_file order)
 
--- what becomes of a line before the first group
-abbrev pub outside_ruling : Numbered → Ruling
-outside_ruling line = Faulty (fault_outside (standing_reading line))
+-- what becomes of an order that has a place, or of a fault
+abbrev pub placed_ruling : ℕ → List Event → Seat → Bool → Result Order Fault → Ruling
+placed_ruling seats events seat used (Err fault) = Faulty fault
+placed_ruling seats events seat used (Ok order) = judged order (judgement_of seats events seat used order)
 
--- the event of a line before the first group
-abbrev pub outside_event : Seat → Numbered → Event
-outside_event seat line = Ruled seat line.number (outside_ruling line)
+-- what becomes of a line of a group with this reading
+abbrev pub ruling_of : ℕ → List Event → Seat → Bool → Result Order Fault → Ruling
+ruling_of seats events seat used reading =
+    placed_ruling seats events seat used (placed has_place_in_group reading)

@@ -1,5 +1,9 @@
-pub mod Part
 pub mod Judgement
+pub mod Standing
+pub mod Auction
+pub mod Sale
+pub mod Act
+pub mod Small
 pub mod Turn
-pub mod Left
 pub mod Opening
+pub mod Underway

@@ -1,53 +1,42 @@
--- An opening round, from a list to a list: the ROUND event, the lines before the first groups, the
--- turns, the close where all have passed, and what was left.
-use Rattle.std.specs.Prelude.{◌≡◌, ℕ, ◌+◌, ◌-◌, ◌==◌, Bool, ◌&&◌, not, if◌then◌else◌, List, [], ◌∷◌, ◌++◌, length, map, sum_by, Option, Some, None, is_none, unwrap_or, pos}
-use Rattle.std.specs.List.{flat_map, range_with_len}
-use lib.Signed.{le_z}
-use Rattle.history.specs.LookBack.{Game, cash_of, owner_of, broken_in, sv_price_of, priority_of, privates}
+-- An opening round, from a list to a list: the ROUND event, the standing lines seat by seat, the turns, the
+-- close where all have passed, and what was left. Once all privates are sold nothing falls and nothing is
+-- paid. Else SV falls by 5 if it is unsold, and at 0 goes to the holder of priority for nothing, with the
+-- sales that follow from it; if it is sold, each sold private pays its revenue, in roster order.
+use Rattle.std.specs.Prelude.{◌≡◌, ℕ, ◌+◌, ◌-◌, ◌*◌, ◌≤◌, ◌==◌, Bool, if◌then◌else◌, List, [], ◌∷◌, ◌++◌, map, Option, Some, None}
+use Rattle.std.specs.List.{range_with_len}
+use Rattle.history.specs.LookBack.{Game, is_sold, owner_of, priority_of, sv_price_of}
+use Rattle.history.specs.Tell.{with_broken, with_left}
 use Rattle.history.specs.declared.event.Event.{Event}
 use Rattle.history.specs.declared.event.Event.TheVariants as event
-use Rattle.history.specs.declared.event.Party.{Party}
-use Rattle.history.specs.declared.event.Party.TheVariants as party
-use Rattle.privates.specs.Judgement.{outside_event}
-use Rattle.privates.specs.Part.{Numbered, Parts, parts_of}
-use Rattle.privates.specs.Turn.{InPlay, seat_at, after_turn, turns_over, all_sold}
-use Rattle.sheets.specs.File.{sheet_of}
-use Rattle.tables.specs.Roster.{revenue_of}
-use Rattle.tables.specs.Steps.{Ends}
+use Rattle.history.specs.declared.event.Holder.{Holder}
+use Rattle.privates.specs.Sale.{after_sale, settled}
+use Rattle.privates.specs.Standing.{after_standing}
+use Rattle.privates.specs.Turn.{all_sold, opening_turns}
+use Rattle.sheets.specs.Part.{Numbered, groups_of, lines_in_groups, parts_for}
+use Rattle.tables.specs.Roster.{privates, revenue_of}
+use Rattle.tables.specs.Seat.{seat_at}
+use Rattle.tables.specs.Turns.{InPlay, TurnsEnd}
 use Rattle.tables.specs.declared.roster.Private.{Private}
 use Rattle.tables.specs.declared.roster.Private.TheVariants.{SchuylkillValley}
 use Rattle.tables.specs.declared.round.Round.{Round}
 use Rattle.tables.specs.declared.seat.Seat.{Seat}
 
--- the parts of a seat's sheet for a round
-abbrev pub seat_parts : List ℕ → Round → ℕ → Parts
-seat_parts file round seat = parts_of (unwrap_or (sheet_of file seat round) [])
+-- the groups of each seat's sheet
+abbrev pub groups_for : ℕ → List ℕ → Round → List (List (List Numbered))
+groups_for seats file round = map (λ seat. groups_of (parts_for file round seat)) (range_with_len 0 seats)
 
--- the events of the lines before the first group of a seat's sheet
-abbrev pub outside_events : List ℕ → Round → ℕ → List Event
-outside_events file round seat =
-    map (outside_event (seat_at seat)) (seat_parts file round seat).before
+-- turns in play
+abbrev pub in_play : List Event → ℕ → ℕ → List (List (List Numbered)) → InPlay (List Event) Numbered
+in_play events seat passes groups = record { now = events; seat = seat; passes = passes; groups = groups }
 
 -- the round before its first turn: that is of the holder of priority
-abbrev pub opened : ℕ → List ℕ → Round → List Event → InPlay
+abbrev pub opened : ℕ → List ℕ → Round → List Event → InPlay (List Event) Numbered
 opened seats file round events =
-    record {
-      events = events ++ event.Round round ∷ flat_map (outside_events file round) (range_with_len 0 seats);
-      seat = (priority_of seats events).0;
-      passes = 0;
-      groups = map (λ seat. (seat_parts file round seat).groups) (range_with_len 0 seats);
-    }
-
--- the bank's cash is 0 or less, and nothing has told so yet
-abbrev pub breaks : ℕ → List Event → Bool
-breaks seats events = le_z (cash_of seats events party.Bank) (pos 0) && not (broken_in events)
-
--- with BROKEN after an event that breaks the bank
-abbrev pub with_broken : ℕ → List Event → List Event
-with_broken seats events = if breaks seats events then events ++ event.Broken ∷ [] else events
+    in_play
+    (after_standing file round (events ++ event.Round round ∷ []) (range_with_len 0 seats)) (priority_of seats events).0 0 (groups_for seats file round)
 
 -- after the revenue of a private to its owner, if it has one
-abbrev pub paid_to_owner : ℕ → List Event → Private → Option Party → List Event
+abbrev pub paid_to_owner : ℕ → List Event → Private → Option Holder → List Event
 paid_to_owner seats events private None = events
 paid_to_owner seats events private (Some owner) =
     with_broken seats (events ++ event.Revenue private owner (revenue_of private) ∷ [])
@@ -58,37 +47,50 @@ after_revenues seats events [] = events
 after_revenues seats events (private ∷ others) =
     after_revenues seats (paid_to_owner seats events private (owner_of events private)) others
 
--- after SV's price has come to this; at 0 SV goes to the holder of priority for nothing
-abbrev pub after_fall : ℕ → List Event → ℕ → List Event
-after_fall seats events price =
-    events ++ event.Price price ∷ (if price == 0 then event.Sold SchuylkillValley (priority_of seats events) 0 ∷ [] else [])
+-- after SV's price has come to 0, and SV has gone to a seat for nothing
+abbrev pub given_away : List Event → Seat → List Event
+given_away events seat = after_sale (events ++ event.Price 0 ∷ []) SchuylkillValley seat 0
+
+-- after SV's price has come to this; at 0 SV goes to this holder of priority, with the sales that follow
+abbrev pub after_fall : ℕ → List Event → ℕ → Seat → List Event
+after_fall seats events price holder =
+    if price == 0 then settled seats (given_away events holder) else events ++ event.Price price ∷ []
 
 -- after all have passed: SV falls by 5 if it is unsold, and else each sold private pays
 abbrev pub after_passing : ℕ → List Event → List Event
 after_passing seats events =
-    if is_none (owner_of events SchuylkillValley)
-    then after_fall seats events (sv_price_of events - 5)
-    else after_revenues seats events privates
+    if is_sold events SchuylkillValley
+    then after_revenues seats events privates
+    else after_fall seats events (sv_price_of events - 5) (priority_of seats events)
 
 -- after the turns: once all privates are sold nothing falls and nothing is paid
 abbrev pub closed : ℕ → List Event → List Event
 closed seats events = if all_sold events then events else after_passing seats events
 
--- a LEFT event for a count over 0, in front of others
-abbrev pub with_left : Seat → ℕ → List Event → List Event
-with_left seat count events = if count == 0 then events else event.Left seat count ∷ events
-
 -- the lines that were not taken up, seat by seat
 abbrev pub left_from : ℕ → List (List (List Numbered)) → List Event
 left_from seat [] = []
-left_from seat (groups ∷ others) = with_left (seat_at seat) (sum_by (λ group. length group) groups) (left_from (seat + 1) others)
+left_from seat (groups ∷ others) = with_left (seat_at seat) (lines_in_groups groups) (left_from (seat + 1) others)
 
 -- the list at the end of the round
-abbrev pub finished : ℕ → InPlay → List Event
-finished seats last = closed seats last.events ++ left_from 0 last.groups
+abbrev pub finished : ℕ → InPlay (List Event) Numbered → List Event
+finished seats last = closed seats last.now ++ left_from 0 last.groups
+
+-- the turns lead from a round in play to these events and these groups that are left
+pub record TurnsLead (seats : ℕ) (from : InPlay (List Event) Numbered) (events : List Event) (groups : List (List (List Numbered))) : Type 0 where
+  pub last : InPlay (List Event) Numbered
+  pub turns : TurnsEnd (opening_turns seats) from last
+  pub events_then : last.now ≡ events
+  pub groups_then : last.groups ≡ groups
 
 -- new is old after an opening round with the sheets of the file
 pub record IsOpeningRound (file : List ℕ) (round : Round) (old new : Game) : Type 0 where
-  pub last : InPlay
-  pub turns : Ends (after_turn old.seats) (turns_over old.seats) (opened old.seats file round old.events) last
+  pub last : InPlay (List Event) Numbered
+  pub turns : TurnsEnd (opening_turns old.seats) (opened old.seats file round old.events) last
   pub after : new ≡ record { seats = old.seats; events = finished old.seats last }
+
+-- an opening round with the sheets of the file has an outcome, after at most 513 turns for each seat
+pub record EndsSoon (file : List ℕ) (round : Round) (old : Game) : Type 0 where
+  pub new : Game
+  pub played : IsOpeningRound file round old new
+  pub few_turns : played.turns.steps ≤ 513 * old.seats

@@ -1,8 +1,16 @@
-ghost use Rattle.std.specs.Prelude.{◌≡◌};
-ghost use Rattle.privates.specs.Judgement.{price_of as asked_price, refusal_of};
+ghost use Rattle.std.specs.Prelude.{◌≡◌, ◌≤◌, ◌||◌, pos};
+ghost use Rattle.std.specs.Int.Signed.{lt_z};
+ghost use Rattle.history.specs.Bids.{free_for};
+ghost use Rattle.history.specs.LookBack.{cheapest_in};
+ghost use Rattle.privates.specs.Judgement.{bid_rules, is_near as is_near_one_of, is_the, is_too_low as is_too_low_for, judgement_of, price_of as asked_price, purchase_rules};
+ghost use Rattle.tables.specs.Rules.{first_broken};
 
-use history::{Party, Past, Refusal};
+use history::{Bid, OpeningRule, Owners, Past};
+use order_grammar::Order;
 use tables::{Amount, Money, Private, Seat, face};
+
+/// What a bid is over the face, and over each standing bid on the private, at least.
+const STEP: u64 = 5;
 
 /// What the bank asks for a private: SV's price may have fallen, the others' is their face.
 pub(crate) fn price_of(past: &Past, private: Private) -> Amount
@@ -14,22 +22,107 @@ pub(crate) fn price_of(past: &Past, private: Private) -> Amount
     }
 }
 
-/// The first rule that a purchase of a private by a seat breaks, in a turn that has bought before
-/// or not; `None` if it breaks none.
-pub fn judge(past: &Past, seat: Seat, private: Private, turn_used: bool) -> Option<Refusal>
-    ensures { result ≡ refusal_of past.now.seats past.now.events.now seat private turn_used }
+/// The first rule that an order of a seat breaks in its turn, which is used or not; `None` if it
+/// breaks none. There are at most six seats.
+pub fn judge(past: &Past, seat: Seat, order: &Order, turn_used: bool) -> Option<OpeningRule>
+    requires { past.now.seats ≤ 6 }
+    ensures { result ≡ judgement_of past.now.seats past.now.events.now seat turn_used order.now }
 {
-    if past.owner(private).is_some() {
-        return Some(Refusal::Sold);
+    match order {
+        Order::BuyPrivate(private) => judge_purchase(past, seat, *private, turn_used),
+        Order::Bid { private, amount } => judge_bid(past, seat, *private, *amount, turn_used),
+        _ => Some(OpeningRule::NotOfOpening),
     }
-    if past.cheapest_unsold() != Some(private) {
-        return Some(Refusal::NotCheapest);
+}
+
+/// The first rule that a purchase breaks.
+fn judge_purchase(
+    past: &Past,
+    seat: Seat,
+    private: Private,
+    turn_used: bool,
+) -> Option<OpeningRule>
+    ensures { result ≡ first_broken
+        (purchase_rules past.now.seats past.now.events.now seat turn_used private) }
+{
+    let owners = past.owners();
+    if owners.is_sold(private) {
+        return Some(OpeningRule::Sold);
     }
-    if past.cash(Party::Seat(seat)) < Money::from(price_of(past, private)) {
-        return Some(Refusal::CashTooSmall);
+    if !is_cheapest(&owners, private) {
+        return Some(OpeningRule::NotCheapest);
+    }
+    if is_short(past, seat, private, price_of(past, private)) {
+        return Some(OpeningRule::CashTooSmall);
     }
     if turn_used {
-        return Some(Refusal::TurnUsed);
+        return Some(OpeningRule::TurnUsed);
     }
     None
+}
+
+/// The first rule that a bid breaks.
+fn judge_bid(
+    past: &Past,
+    seat: Seat,
+    private: Private,
+    amount: Amount,
+    turn_used: bool,
+) -> Option<OpeningRule>
+    requires { past.now.seats ≤ 6 }
+    ensures { result ≡ first_broken
+        (bid_rules past.now.seats past.now.events.now seat turn_used private amount) }
+{
+    let owners = past.owners();
+    if owners.is_sold(private) {
+        return Some(OpeningRule::Sold);
+    }
+    if is_too_low(past, private, amount) {
+        return Some(OpeningRule::BidTooLow);
+    }
+    if is_short(past, seat, private, amount) {
+        return Some(OpeningRule::CashTooSmall);
+    }
+    if turn_used {
+        return Some(OpeningRule::TurnUsed);
+    }
+    if is_cheapest(&owners, private) {
+        return Some(OpeningRule::BidForCheapest);
+    }
+    None
+}
+
+/// Whether a private is the cheapest that is unsold.
+fn is_cheapest(owners: &Owners, private: Private) -> bool
+    ensures { result ≡ is_the private (cheapest_in owners.now) }
+{
+    owners.cheapest_unsold() == Some(private)
+}
+
+/// Whether a sum is over what a seat can spend on a private.
+fn is_short(past: &Past, seat: Seat, private: Private, sum: Amount) -> bool
+    ensures { result ≡ lt_z (free_for past.now.seats past.now.events.now seat private) (pos sum) }
+{
+    past.free_for(seat, private) < Money::from(sum)
+}
+
+/// Whether a bid on a private is too low.
+fn is_too_low(past: &Past, private: Private, amount: Amount) -> bool
+    requires { past.now.seats ≤ 6 }
+    ensures { result ≡ is_too_low_for past.now.seats past.now.events.now private amount }
+{
+    let bids = past.bids_on(private);
+    u64::from(amount) < u64::from(face(private)) + STEP || is_near(amount, bids.as_slice())
+}
+
+/// Whether a sum is less than the step over one of these bids.
+fn is_near(amount: Amount, bids: &[Bid]) -> bool
+    ensures { result ≡ is_near_one_of amount bids.now }
+{
+    for bid in bids {
+        if u64::from(amount) < u64::from(bid.amount) + STEP {
+            return true;
+        }
+    }
+    false
 }

@@ -1,21 +1,35 @@
 //! Laws of the definitions, each the contract of a function that does nothing.
-ghost use Rattle.std.specs.Prelude.{◌≡◌, ◌*◌, ◌≤◌, ℕ, List};
+ghost use Rattle.std.specs.Prelude.{◌≡◌, ◌≤◌, ℕ, List, length};
+ghost use Rattle.privates.specs.Auction.{Bidder, IsWon, LimitsHold, auction_of};
 ghost use Rattle.history.specs.LookBack.{Game};
-ghost use Rattle.privates.specs.Opening.{IsOpeningRound};
+ghost use Rattle.privates.specs.Opening.{EndsSoon, IsOpeningRound};
+ghost use Rattle.history.specs.declared.event.Event.{Event};
+ghost use Rattle.privates.specs.Sale.{settle, settled};
 ghost use Rattle.tables.specs.declared.round.Round.{Round};
+
+/// An auction is won by a bidder who is ahead of all, by his limit and then by his bid, at a price
+/// within his limit and over no bid.
+pub fn auction_is_won()
+    ensures { (bidders : List Bidder) → 1 ≤ length bidders → LimitsHold bidders
+        → IsWon bidders (auction_of bidders) }
+{}
+
+/// The sales that follow from a sale come to an end: after them no bids are left on the cheapest
+/// private that is unsold.
+pub fn nothing_is_left_to_settle()
+    ensures { (seats : ℕ) (events : List Event) → settle seats (settled seats events)
+        ≡ settled seats events }
+{}
 
 /// An opening round has at most one outcome: the sheets and the game before it say what the game
 /// after it is.
 pub fn one_opening_round()
-    ensures { (file : List ℕ) (round : Round) (old : Game) (a : Game) (b : Game) → IsOpeningRound file round old a → IsOpeningRound file round old b → a ≡ b }
+    ensures { (file : List ℕ) (round : Round) (old : Game) (a : Game) (b : Game)
+        → IsOpeningRound file round old a → IsOpeningRound file round old b → a ≡ b }
 {}
 
-/// An opening round has an outcome: its turns come to an end, whatever the sheets say.
+/// An opening round has an outcome, whatever the sheets say: its turns come to an end, after at
+/// most 513 for each seat.
 pub fn opening_round_ends()
-    ensures { (file : List ℕ) (round : Round) (old : Game) → (new : Game) × IsOpeningRound file round old new }
-{}
-
-/// An opening round has at most six turns for each seat.
-pub fn six_turns_each()
-    ensures { (file : List ℕ) (round : Round) (old : Game) (new : Game) → (played : IsOpeningRound file round old new) → played.turns.steps ≤ 6 * old.seats }
+    ensures { (file : List ℕ) (round : Round) (old : Game) → EndsSoon file round old }
 {}

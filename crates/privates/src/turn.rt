@@ -1,198 +1,185 @@
-ghost use Rattle.std.specs.Prelude.{◌≡◌, ◌<◌, ◌≤◌, ◌||◌, ◌++◌, ◌∷◌, [], Err, IfOk, MatchResult, Ok, OnOk, drop, false, length, map, pos, true, ◌≤ℤ◌};
-ghost use Rattle.history.specs.LookBack.{cash_of};
-ghost use Rattle.history.specs.Sound.{IsSound};
+ghost use Rattle.std.specs.Prelude.{◌≡◌, ◌≤◌, ◌<◌, ◌||◌, OnOk, IfOk, MatchResult, Ok, Err, drop, false};
+ghost use Rattle.history.specs.LookBack.{with_event};
 ghost use Rattle.history.specs.declared.event.Event.TheVariants as event;
-ghost use Rattle.history.specs.declared.event.Party.TheVariants as party;
-ghost use Rattle.privates.specs.Judgement.{fault_outside, outside_event, purchase_ruling as ruling_of_purchase, reading_ruling, refusal_of};
-ghost use Rattle.privates.specs.Left.{StandsAtGroup, groups_left, parts_left};
-ghost use Rattle.privates.specs.Part.{is_turn, reading_where};
-ghost use Rattle.privates.specs.Turn.{after_lines, after_reading, bought_by as private_bought_by, next_group};
+ghost use Rattle.privates.specs.Act.{MayAct, MayBid, MayPay};
+ghost use Rattle.privates.specs.Judgement.{has_place_in_group, judged, judgement_of, price_of as price_asked};
+ghost use Rattle.privates.specs.Sale.{after_sale, settled};
+ghost use Rattle.privates.specs.Small.{IsReady, IsSmallOrder, IsSmallReading};
+ghost use Rattle.privates.specs.Turn.{after_act, after_line, after_lines, after_ruling, in_turn};
+ghost use Rattle.privates.specs.Underway.{IsUnderway};
+ghost use Rattle.sheets.specs.Part.{groups_of, line_read};
+ghost use Rattle.sheets.specs.Place.{placed};
+ghost use Rattle.tables.specs.Turns.{next_group};
 
 use crate::judgement::{judge, price_of};
-use crate::tell::tell;
-use history::{Event, History, KeptOrder, Ruling};
+use crate::ruling::{ruling_of, tell_ruling};
+use crate::sale::{sell, settle_all};
+use history::{Event, History, Ruling};
 use order_grammar::{Fault, Order};
-use sheets::{Lines, NumberedLine};
+use sheets::{NumberedLine, PartsLeft, is_of_file};
 use std::alloc::AllocError;
 use tables::{Amount, Private, Seat};
 
-/// The last line of a sheet that may be an order.
-pub(crate) const LINES_MOST: u32 = 512;
-
-/// Whether a line begins a group.
-pub(crate) fn opens_group(line: &NumberedLine) -> bool
-    ensures { result ≡ is_turn (reading_where line.now) }
-{
-    matches!(standing_reading(line), Ok(Order::Turn))
-}
-
-/// The order of a line where it stands in its sheet, or its first fault: a line past the last that
-/// may be an order has that fault before any other.
-fn standing_reading<'a>(line: &'a NumberedLine) -> Result<&'a Order, Fault>
-    ensures { MatchResult result (λ order. reading_where line.now ≡ Ok order.now) (λ fault. reading_where line.now ≡ Err fault) }
-{
-    if line.number > LINES_MOST {
-        return Err(Fault::PastLastLine);
-    }
-    match &line.reading {
-        Ok(read) => Ok(&read.order),
-        Err(fault) => Err(*fault),
-    }
-}
-
-/// Rules the lines of a sheet that stand before its first group. None of them has a place there.
-pub(crate) fn rule_standing(
-    history: &mut History,
-    seat: Seat,
-    lines: &mut Lines,
-) -> Result<(), AllocError>
-    requires { IsSound history.old }
-    ensures seats { OnOk result (history.new.seats ≡ history.old.seats) }
-    ensures events { OnOk result (history.new.events ≡ history.old.events ++ map (outside_event seat) (parts_left lines.old).before) }
-    ensures left { OnOk result (parts_left lines.new ≡ record { before = []; groups = groups_left lines.old }) }
-    ensures sound { OnOk result (IsSound history.new) }
-{
-    let mut ahead = lines.duplicate();
-    while let Some(line) = ahead.take_line() {
-        if opens_group(&line) {
-            return Ok(());
-        }
-        *lines = ahead.duplicate();
-        let ruling = Ruling::Faulty(standing_fault(&line));
-        tell_ruling(history, seat, &line, ruling)?;
-    }
-    Ok(())
-}
-
-/// The fault of a line that stands before the first group.
-fn standing_fault(line: &NumberedLine) -> Fault
-    ensures { result ≡ fault_outside (reading_where line.now) }
-{
-    match standing_reading(line) {
-        Ok(_) => Fault::OutOfPlace,
-        Err(fault) => fault,
-    }
-}
-
 /// A seat's turn: it takes up the next group of its sheet, if there is one. Answers whether the
-/// seat bought.
+/// seat bought or bid.
 pub(crate) fn take_turn(
     history: &mut History,
     seat: Seat,
-    lines: &mut Lines,
+    sheet: &mut PartsLeft,
 ) -> Result<bool, AllocError>
-    requires stand { StandsAtGroup lines.old }
-    requires sound { IsSound history.old }
-    ensures shorter { IfOk result (λ bought. bought ≡ true → length lines.new.lines < length lines.old.lines) }
-    ensures no_longer { length lines.new.lines ≤ length lines.old.lines }
+    requires few { history.old.seats ≤ 6 }
+    requires at_table { seat.0 < history.old.seats }
+    requires ready { IsReady sheet.old }
+    requires underway { IsUnderway history.old }
     ensures seats { OnOk result (history.new.seats ≡ history.old.seats) }
-    ensures turn { IfOk result (λ bought. record { events = history.new.events; bought = bought } ≡ after_lines history.old.seats seat (record { events = history.old.events; bought = false }) (next_group (groups_left lines.old))) }
-    ensures left { OnOk result (parts_left lines.new ≡ record { before = []; groups = drop 1 (groups_left lines.old) }) }
-    ensures sound { OnOk result (IsSound history.new) }
+    ensures turn { IfOk result (λ acted.
+        in_turn history.new.events acted
+        ≡ after_lines history.old.seats seat (in_turn history.old.events false)
+            (next_group (groups_of sheet.old))) }
+    ensures left { OnOk result (groups_of sheet.new ≡ drop 1 (groups_of sheet.old)) }
+    ensures ready { OnOk result (IsReady sheet.new) }
+    ensures underway { OnOk result (IsUnderway history.new) }
 {
-    let Some(_head) = lines.take_line() else {
+    let Some(_head) = sheet.take_head() else {
         return Ok(false);
     };
-    let mut bought = false;
-    let mut ahead = lines.duplicate();
-    while let Some(line) = ahead.take_line() {
-        if opens_group(&line) {
-            return Ok(bought);
-        }
-        *lines = ahead.duplicate();
-        let obeyed = rule_line(history, seat, &line, bought)?;
-        bought |= obeyed;
+    let mut acted = false;
+    while let Some(line) = sheet.take_line() {
+        let obeyed = rule_line(history, seat, &line, acted)?;
+        acted |= obeyed;
     }
-    Ok(bought)
+    Ok(acted)
 }
 
-/// Rules a line of a group. Answers whether it was obeyed.
+/// Rules a line of a group, and does what it orders if it is obeyed. Answers whether it is.
 fn rule_line(
     history: &mut History,
     seat: Seat,
     line: &NumberedLine,
     turn_used: bool,
 ) -> Result<bool, AllocError>
-    requires { IsSound history.old }
+    requires few { history.old.seats ≤ 6 }
+    requires at_table { seat.0 < history.old.seats }
+    requires small { IsSmallReading (line_read line.now).reading }
+    requires underway { IsUnderway history.old }
     ensures seats { OnOk result (history.new.seats ≡ history.old.seats) }
-    ensures turn { IfOk result (λ obeyed. record { events = history.new.events; bought = turn_used || obeyed } ≡ after_reading history.old.seats seat (record { events = history.old.events; bought = turn_used }) line.now.number (reading_where line.now)) }
-    ensures sound { OnOk result (IsSound history.new) }
+    ensures turn { IfOk result (λ obeyed.
+        in_turn history.new.events (turn_used || obeyed)
+        ≡ after_line history.old.seats seat (in_turn history.old.events turn_used)
+            (line_read line.now)) }
+    ensures underway { OnOk result (IsUnderway history.new) }
 {
-    let ruling = ruling_of(history, seat, line, turn_used);
-    let Some(private) = bought_by(ruling) else {
-        tell_ruling(history, seat, line, ruling)?;
-        return Ok(false);
-    };
-    let price = price_of(&history.now(), private);
-    tell_ruling(history, seat, line, ruling)?;
-    sell(history, private, seat, price)?;
-    Ok(true)
-}
-
-/// The private that a ruling lets a seat buy.
-fn bought_by(ruling: Ruling) -> Option<Private>
-    ensures { result ≡ private_bought_by ruling }
-{
-    match ruling {
-        Ruling::Obeyed(KeptOrder::BuyPrivate(private)) => Some(private),
-        _ => None,
+    match placed_order(line) {
+        Ok(order) => rule_order(history, seat, line, order, turn_used),
+        Err(fault) => {
+            tell_ruling(history, seat, line, Ruling::Faulty(fault))?;
+            Ok(false)
+        }
     }
 }
 
-/// Tells what becomes of a line.
-fn tell_ruling(
+/// The order of a line of a group, or its fault: that it has no place there is the last.
+fn placed_order<'a>(line: &'a NumberedLine) -> Result<&'a Order, Fault>
+    requires { IsSmallReading (line_read line.now).reading }
+    ensures small { IfOk result (λ order. IsSmallOrder order.now) }
+    ensures order { MatchResult result
+        (λ order. placed has_place_in_group (line_read line.now).reading ≡ Ok order.now)
+        (λ fault. placed has_place_in_group (line_read line.now).reading ≡ Err fault) }
+{
+    let order = line.order()?;
+    if is_of_file(order) {
+        return Err(Fault::OutOfPlace);
+    }
+    Ok(order)
+}
+
+/// Rules an order in a seat's turn, and does it if it is obeyed. Answers whether it is.
+fn rule_order(
     history: &mut History,
     seat: Seat,
     line: &NumberedLine,
-    ruling: Ruling,
-) -> Result<(), AllocError>
-    requires { IsSound history.old }
-    ensures event { OnOk result (history.new ≡ record { seats = history.old.seats; events = history.old.events ++ event.Ruled seat line.now.number ruling ∷ [] }) }
-    ensures sound { OnOk result (IsSound history.new) }
+    order: &Order,
+    turn_used: bool,
+) -> Result<bool, AllocError>
+    requires few { history.old.seats ≤ 6 }
+    requires at_table { seat.0 < history.old.seats }
+    requires small { IsSmallOrder order.now }
+    requires underway { IsUnderway history.old }
+    ensures seats { OnOk result (history.new.seats ≡ history.old.seats) }
+    ensures turn { IfOk result (λ obeyed.
+        in_turn history.new.events (turn_used || obeyed)
+        ≡ after_ruling history.old.seats seat (in_turn history.old.events turn_used)
+            line.now.number
+            (judged order.now
+                (judgement_of history.old.seats history.old.events seat turn_used order.now))) }
+    ensures underway { OnOk result (IsUnderway history.new) }
 {
-    let line = line.number;
-    tell(history, Event::Ruled { seat, line, ruling })
+    let broken = judge(&history.now(), seat, order, turn_used);
+    let obeyed = broken.is_none();
+    let ruling = ruling_of(history, order, broken)?;
+    tell_ruling(history, seat, line, ruling)?;
+    if obeyed {
+        act(history, seat, order)?;
+    }
+    Ok(obeyed)
 }
 
-/// Sells a private to a seat that has its price.
-fn sell(
-    history: &mut History,
-    private: Private,
-    seat: Seat,
-    price: Amount,
-) -> Result<(), AllocError>
-    requires small { price ≤ 1000000 }
-    requires affordable { pos price ≤ℤ cash_of history.old.seats history.old.events (party.Seat seat) }
-    requires sound { IsSound history.old }
-    ensures event { OnOk result (history.new ≡ record { seats = history.old.seats; events = history.old.events ++ event.Sold private seat price ∷ [] }) }
-    ensures sound { OnOk result (IsSound history.new) }
+/// Does what a seat orders in its turn.
+fn act(history: &mut History, seat: Seat, order: &Order) -> Result<(), AllocError>
+    requires few { history.old.seats ≤ 6 }
+    requires at_table { seat.0 < history.old.seats }
+    requires small { IsSmallOrder order.now }
+    requires may { MayAct history.old.seats history.old.events seat order.now }
+    requires underway { IsUnderway history.old }
+    ensures seats { OnOk result (history.new.seats ≡ history.old.seats) }
+    ensures events { OnOk result (history.new.events
+        ≡ after_act history.old.seats seat history.old.events order.now) }
+    ensures underway { OnOk result (IsUnderway history.new) }
 {
-    history.append(Event::Sold {
+    match order {
+        Order::BuyPrivate(private) => buy(history, seat, *private),
+        Order::Bid { private, amount } => bid(history, seat, *private, *amount),
+        _ => Ok(()),
+    }
+}
+
+/// A seat buys a private at the price that the bank asks.
+fn buy(history: &mut History, seat: Seat, private: Private) -> Result<(), AllocError>
+    requires few { history.old.seats ≤ 6 }
+    requires at_table { seat.0 < history.old.seats }
+    requires may { MayPay history.old.seats history.old.events seat private
+        (price_asked history.old.events private) }
+    requires underway { IsUnderway history.old }
+    ensures seats { OnOk result (history.new.seats ≡ history.old.seats) }
+    ensures events { OnOk result (history.new.events
+        ≡ settled history.old.seats
+            (after_sale history.old.events private seat (price_asked history.old.events private))) }
+    ensures underway { OnOk result (IsUnderway history.new) }
+{
+    let price = price_of(&history.now(), private);
+    sell(history, private, seat, price)?;
+    settle_all(history)
+}
+
+/// A seat bids on a private.
+fn bid(
+    history: &mut History,
+    seat: Seat,
+    private: Private,
+    amount: Amount,
+) -> Result<(), AllocError>
+    requires at_table { seat.0 < history.old.seats }
+    requires small { amount ≤ 99999 }
+    requires may { MayBid history.old.seats history.old.events seat private amount }
+    requires underway { IsUnderway history.old }
+    ensures event { OnOk result (history.new
+        ≡ with_event history.old (event.Bids private seat amount)) }
+    ensures underway { OnOk result (IsUnderway history.new) }
+{
+    history.append(Event::Bids {
         private,
         seat,
-        price,
+        amount,
     })?;
     Ok(())
-}
-
-/// What becomes of a line of a group.
-fn ruling_of(history: &History, seat: Seat, line: &NumberedLine, turn_used: bool) -> Ruling
-    ensures { result ≡ reading_ruling history.now.seats history.now.events seat turn_used (reading_where line.now) }
-{
-    match standing_reading(line) {
-        Ok(Order::BuyPrivate(private)) => purchase_ruling(history, seat, *private, turn_used),
-        Ok(_) => Ruling::Faulty(Fault::OutOfPlace),
-        Err(fault) => Ruling::Faulty(fault),
-    }
-}
-
-/// What becomes of a purchase.
-fn purchase_ruling(history: &History, seat: Seat, private: Private, turn_used: bool) -> Ruling
-    ensures { result ≡ ruling_of_purchase private (refusal_of history.now.seats history.now.events seat private turn_used) }
-{
-    let kept = KeptOrder::BuyPrivate(private);
-    match judge(&history.now(), seat, private, turn_used) {
-        Some(refusal) => Ruling::Refused(refusal, kept),
-        None => Ruling::Obeyed(kept),
-    }
 }

@@ -1,7 +1,8 @@
+pub mod Posted
+pub mod Forward
+pub mod OneGame
+pub mod Ending
+pub mod SameSheets
 pub mod Causal
 pub mod Arrival
-pub mod Ending
-pub mod Posted
-pub mod Numbers
-pub mod OneGame
 pub mod Example

@@ -1,9 +1,25 @@
--- Two files that agree on the sheets of the first rounds.
+-- Sheets for later rounds change nothing in the rounds before them.
 use Rattle.std.specs.Prelude.{◌≡◌, ℕ, ◌≤◌, List}
-use Rattle.sheets.specs.File.{players_of, sheet_of}
-use Rattle.tables.specs.declared.round.Round.TheVariants.{Opening}
+use Rattle.rounds.specs.Play.{AreRounds, Between, IsRound, before_play}
+use Rattle.sheets.specs.File.{IsAccepted, players_of, sheet_of}
+use Rattle.tables.specs.Round.{rank_of}
+use Rattle.tables.specs.declared.round.Round.{Round}
 
--- the files have the same players, and the same sheet of each seat for each opening round up to this number
-pub record AgreeUpTo (number : ℕ) (first second : List ℕ) : Type 0 where
+-- the files have the same players, and the same sheet of each seat for each round up to this one
+pub record AgreeUpTo (last : Round) (first second : List ℕ) : Type 0 where
   pub players : players_of first ≡ players_of second
-  pub sheets : (seat k : ℕ) → k ≤ number → sheet_of first seat (Opening k) ≡ sheet_of second seat (Opening k)
+  pub sheets : (seat : ℕ) (round : Round) → rank_of round ≤ rank_of last → sheet_of first seat round ≡ sheet_of second seat round
+
+-- the game of the file comes to this round, and plays it from old to new
+pub record PlaysRound (file : List ℕ) (round : Round) (old new : Between) : Type 0 where
+  pub rounds : ℕ
+  pub before : AreRounds file rounds (before_play file) old
+  pub comes : old.next ≡ round
+  pub step : IsRound file old new
+
+-- where two files agree up to a round, and the first plays it, the second plays it too, and the same
+-- has happened before it and in it
+abbrev pub LaterSheetsChangeNothing : Type 0
+LaterSheetsChangeNothing =
+    (round : Round) (first second : List ℕ) (old new : Between)
+    → IsAccepted first → AgreeUpTo round first second → PlaysRound first round old new → PlaysRound second round old new

@@ -3,12 +3,11 @@
 use Rattle.std.specs.Prelude.{ℕ, List, [], ◌∷◌, codes}
 use Rattle.history.specs.declared.event.Event.{Event}
 use Rattle.history.specs.declared.event.Event.TheVariants as event
-use Rattle.history.specs.declared.event.Party.TheVariants as party
-use Rattle.history.specs.declared.ruling.KeptOrder.TheVariants as kept
+use Rattle.history.specs.declared.event.Holder.TheVariants as holder
 use Rattle.history.specs.declared.ruling.Ruling.TheVariants.{Obeyed}
-use Rattle.privates.specs.Turn.{seat_at}
+use Rattle.order_grammar.specs.declared.order.Order.TheVariants.{BuyPrivate}
 use Rattle.rounds.specs.Play.{Between}
-use Rattle.rounds.specs.declared.following.Next.TheVariants as next
+use Rattle.tables.specs.Seat.{seat_at}
 use Rattle.tables.specs.declared.roster.Private.TheVariants.{SchuylkillValley}
 use Rattle.tables.specs.declared.round.Round.TheVariants.{Opening}
 
@@ -20,14 +19,14 @@ first_file = codes "GAME 1830 1\nPLAYERS ANN BOB CYD\nSHEET ANN PR1\nTURN\nBUY S
 abbrev pub first_events : List Event
 first_events =
     event.Round (Opening 1)
-    ∷ event.Ruled (seat_at 0) 2 (Obeyed (kept.BuyPrivate SchuylkillValley))
+    ∷ event.Ruled (seat_at 0) 2 (Obeyed (BuyPrivate SchuylkillValley))
     ∷ event.Sold SchuylkillValley (seat_at 0) 20
     ∷ event.Passes (seat_at 1)
     ∷ event.Passes (seat_at 2)
     ∷ event.Passes (seat_at 0)
-    ∷ event.Revenue SchuylkillValley (party.Seat (seat_at 0)) 5
+    ∷ event.Revenue SchuylkillValley (holder.Seat (seat_at 0)) 5
     ∷ []
 
 -- where its game ends
 abbrev pub first_end : Between
-first_end = record { game = record { seats = 3; events = first_events }; next = next.Round (Opening 2) }
+first_end = record { game = record { seats = 3; events = first_events }; in_set = 1; next = Opening 2 }

@@ -1,47 +1,71 @@
--- The one game of a file: whole opening rounds in their sequence, each with a sheet of every seat, until a
--- seat has none for the next round, or that is no opening, or nothing comes next.
-use Rattle.std.specs.Prelude.{◌≡◌, ℕ, zero, suc, Bool, true, false, List, [], length, is_some}
+-- The one game of a file: whole rounds in their sequence, each with a sheet of every seat, until a seat
+-- has none for the next round, or that is of a kind that is not played yet. Of the three kinds, the
+-- opening rounds are played; so no set ends, and nothing but an awaited round ends a game.
+use Rattle.std.specs.Prelude.{◌≡◌, ℕ, zero, suc, Bool, true, false, ◌&&◌, List, [], length, is_some}
 use Rattle.std.specs.List.{list_all, range_with_len}
 use Rattle.history.specs.LookBack.{Game}
 use Rattle.privates.specs.Opening.{IsOpeningRound}
 use Rattle.privates.specs.Turn.{all_sold}
-use Rattle.rounds.specs.Sequence.{following}
-use Rattle.rounds.specs.declared.following.Next.{Next}
-use Rattle.rounds.specs.declared.following.Next.TheVariants as next
+use Rattle.rounds.specs.Sequence.{round_after}
 use Rattle.rounds.specs.declared.game.End.{End}
-use Rattle.rounds.specs.declared.game.End.TheVariants.{Awaiting, Bank}
-use Rattle.sheets.specs.File.{sheet_of, players_of}
+use Rattle.rounds.specs.declared.game.End.TheVariants.{Awaiting}
+use Rattle.sheets.specs.File.{IsAccepted, sheet_of, players_of}
+use Rattle.tables.specs.Train.{rounds_in_set_of}
+use Rattle.tables.specs.declared.rolling_stock.Kind.TheVariants.{Two}
 use Rattle.tables.specs.declared.round.Round.{Round}
 use Rattle.tables.specs.declared.round.Round.TheVariants.{Opening, Stock, Operating}
 
--- a game between two rounds: its events so far, and what comes next
+-- a game between two rounds: what has happened, how many operating rounds its set has, and the round
+-- that comes next
 pub record Between : Type 0 where
   pub game : Game
-  pub next : Next
+  pub in_set : ℕ
+  pub next : Round
+
+-- how many operating rounds a set has that begins now: that goes by the phase, which is the first, since
+-- no train has been sold
+abbrev pub rounds_of_new_set : ℕ
+rounds_of_new_set = rounds_in_set_of Two
+
+-- how many the set has where this round comes next: its number is fixed as its stock round comes
+abbrev pub in_set_before : Round → ℕ → ℕ
+in_set_before (Stock set) in_set = rounds_of_new_set
+in_set_before round in_set = in_set
 
 -- before the first round
 abbrev pub before_play : List ℕ → Between
 before_play file =
-    record { game = record { seats = length (players_of file); events = [] }; next = next.Round (Opening 1) }
+    record {
+      game = record { seats = length (players_of file); events = [] };
+      in_set = rounds_of_new_set;
+      next = Opening 1;
+    }
 
 -- every seat has a sheet for the round
 abbrev pub all_posted : List ℕ → Round → Bool
 all_posted file round = list_all (λ seat. is_some (sheet_of file seat round)) (range_with_len 0 (length (players_of file)))
 
--- what comes next can be played: it is an opening round with all its sheets
-abbrev pub can_play : List ℕ → Next → Bool
-can_play file (next.Round (Opening number)) = all_posted file (Opening number)
-can_play file (next.Round (Stock set)) = false
-can_play file (next.Round (Operating set number)) = false
-can_play file next.Ended = false
+-- rounds of this kind are played
+abbrev pub is_playable : Round → Bool
+is_playable (Opening number) = true
+is_playable other = false
+
+-- the round can be played: it is of a kind that is, and has all its sheets
+abbrev pub can_play : List ℕ → Round → Bool
+can_play file round = is_playable round && all_posted file round
+
+-- the round was played, by its kind
+abbrev pub IsPlayed : List ℕ → Round → Game → Game → Type 0
+IsPlayed file (Opening number) old new = IsOpeningRound file (Opening number) old new
+IsPlayed file (Stock set) old new = ⊥
+IsPlayed file (Operating set number) old new = ⊥
 
 -- one round was played between them
 pub record IsRound (file : List ℕ) (old new : Between) : Type 0 where
-  pub round : Round
-  pub was_next : old.next ≡ next.Round round
-  pub posted : can_play file old.next ≡ true
-  pub played : IsOpeningRound file round old.game new.game
-  pub then_next : new.next ≡ following round 1 (all_sold new.game.events) false
+  pub can : can_play file old.next ≡ true
+  pub played : IsPlayed file old.next old.game new.game
+  pub next_then : new.next ≡ round_after old.next old.in_set (all_sold new.game.events)
+  pub in_set_then : new.in_set ≡ in_set_before new.next old.in_set
 
 -- so many rounds were played between them
 abbrev pub AreRounds : List ℕ → ℕ → Between → Between → Type 0
@@ -54,10 +78,9 @@ pub record Plays (file : List ℕ) (last : Between) : Type 0 where
   pub reached : AreRounds file rounds (before_play file) last
   pub stopped : can_play file last.next ≡ false
 
--- why play stopped
-abbrev pub end_of : Next → End
-end_of (next.Round round) = Awaiting round
-end_of next.Ended = Bank
+-- why play stopped where this round comes next
+abbrev pub end_of : Round → End
+end_of round = Awaiting round
 
 -- a game as it was played: its file, its events, and why play stopped
 pub record Played : Type 0 where
@@ -71,3 +94,11 @@ pub record IsTheGame (played : Played) : Type 0 where
   pub plays : Plays played.file last
   pub game : played.game ≡ last.game
   pub end : played.end ≡ end_of last.next
+
+-- a file has at most one game
+abbrev pub OneGame : Type 0
+OneGame = (file : List ℕ) (a b : Between) → Plays file a → Plays file b → a ≡ b
+
+-- each file that is not refused has a game
+abbrev pub SomeGame : Type 0
+SomeGame = (file : List ℕ) → IsAccepted file → (last : Between) × Plays file last

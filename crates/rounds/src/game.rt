@@ -1,25 +1,23 @@
-ghost use Rattle.std.specs.Prelude.{◌≡◌, ◌↔◌, true, IfOk, IfSome, IsSome, length};
+ghost use Rattle.std.specs.Prelude.{◌≡◌, true, IfOk, length};
+ghost use Rattle.history.specs.Sound.{IsSound};
+ghost use Rattle.privates.specs.Underway.{BaltimoreWaits, PennsylvaniaWaits};
+ghost use Rattle.rounds.specs.Play.{IsPlayed, IsTheGame, all_posted, can_play as may_be_played, in_set_before as set_before, is_playable as is_of_played_kind, rounds_of_new_set};
 ghost use Rattle.sheets.specs.File.{players_of};
-ghost use Rattle.rounds.specs.Play.{IsTheGame, all_posted, can_play, end_of as the_end_of};
-ghost use Rattle.rounds.specs.Sequence.{is_opening};
 
-use crate::following::Next;
-use crate::laws::sheets_are_numbered_to_99999;
-use crate::sequence::next;
+use crate::sequence::round_after;
 use history::History;
 use privates::play_opening;
-use sheets::Sheets;
+use sheets::{Sheets, sheets_are_numbered};
 use std::alloc::{AllocError, Global};
 use std::marker::Model;
-use tables::{Round, Seat};
+use tables::{Kind, Round, Seat, rounds_in_set};
 
 /// Why play stopped.
 #[derive(Clone, Copy, Debug, PartialEq, Eq)]
 pub enum End {
-    /// This round comes next, and some seat has no sheet for it or it is no opening.
+    /// This round comes next, and some seat has no sheet for it, or rounds of its kind are not
+    /// played yet.
     Awaiting(Round),
-    /// The bank is broken and its set of rounds is over.
-    Bank,
 }
 
 /// A game that was played as far as its sheets go.
@@ -73,50 +71,77 @@ pub fn play<'a>(alloc: Global, sheets: &'a Sheets<'a>) -> Result<Game<'a>, Alloc
     ensures game { IfOk result IsTheGame }
 {
     let mut history = History::start(alloc, sheets.seats());
-    let mut upcoming = Next::Round(Round::Opening(1));
+    let mut in_set = rounds_of_new_set();
+    let mut upcoming = Round::Opening(1);
     // A law, which does nothing when it runs: by it the loop comes to an end.
-    sheets_are_numbered_to_99999();
-    while let Some(round) = playable(sheets, upcoming) {
-        history = play_opening(history, sheets, round)?;
+    sheets_are_numbered();
+    while can_play(sheets, upcoming) {
+        history = play_round(history, sheets, upcoming)?;
         let all_sold = history.now().cheapest_unsold().is_none();
-        // Only openings are played: neither the length of a set, here the least, nor a broken bank
-        // decides what follows one.
-        upcoming = next(round, 1, all_sold, false);
+        // No set is played to its end yet, so the bank, broken or not, ends no game.
+        upcoming = round_after(upcoming, in_set, all_sold);
+        in_set = in_set_before(upcoming, in_set);
     }
     Ok(Game {
         sheets,
         history,
-        end: end_of(upcoming),
+        end: End::Awaiting(upcoming),
     })
 }
 
-/// Why play stops where this comes next.
-fn end_of(upcoming: Next) -> End
-    ensures { result ≡ the_end_of upcoming }
+/// Plays a round of a kind that is played, by its kind: as yet an opening round. An `Err` comes
+/// from want of memory alone, and the game is dropped.
+fn play_round(history: History, sheets: &Sheets, round: Round) -> Result<History, AllocError>
+    requires sound { IsSound history }
+    requires seats { history.seats ≡ length (players_of sheets.now) }
+    requires pennsylvania { PennsylvaniaWaits history.events }
+    requires baltimore { BaltimoreWaits history.events }
+    requires playable { is_of_played_kind round ≡ true }
+    ensures round { IfOk result (IsPlayed sheets.now round history) }
+    ensures seats { IfOk result (λ new. new.seats ≡ history.seats) }
+    ensures sound { IfOk result IsSound }
+    ensures pennsylvania { IfOk result (λ new. PennsylvaniaWaits new.events) }
+    ensures baltimore { IfOk result (λ new. BaltimoreWaits new.events) }
+{
+    play_opening(history, sheets, round)
+}
+
+/// How many operating rounds a set has that begins now: in the first phase, since no train has been
+/// sold.
+fn rounds_of_new_set() -> u8
+    ensures { result ≡ rounds_of_new_set }
+{
+    rounds_in_set(Kind::Two)
+}
+
+/// How many operating rounds the set has where this round comes next: the number is fixed as the
+/// stock round of the set comes.
+fn in_set_before(upcoming: Round, in_set: u8) -> u8
+    ensures { result ≡ set_before upcoming in_set }
 {
     match upcoming {
-        Next::Round(round) => End::Awaiting(round),
-        Next::Ended => End::Bank,
+        Round::Stock(_) => rounds_of_new_set(),
+        Round::Opening(_) | Round::Operating { .. } => in_set,
     }
 }
 
-/// The round that comes next, if it can be played: if it is an opening for which every seat has a
-/// sheet.
-fn playable(sheets: &Sheets, upcoming: Next) -> Option<Round>
-    ensures can { IsSome result ↔ (can_play sheets.now upcoming ≡ true) }
-    ensures is_next { IfSome result (λ round. upcoming ≡ Next.Round round) }
-    ensures posted { IfSome result (λ round. all_posted sheets.now round ≡ true) }
-    ensures opening { IfSome result (λ round. is_opening round ≡ true) }
+/// Whether a round can be played: it is of a kind that is, and every seat has a sheet for it.
+fn can_play(sheets: &Sheets, round: Round) -> bool
+    ensures { result ≡ may_be_played sheets.now round }
 {
-    match upcoming {
-        Next::Round(round @ Round::Opening(_)) if are_all_posted(sheets, &round) => Some(round),
-        _ => None,
-    }
+    is_playable(round) && are_all_posted(sheets, round)
+}
+
+/// Whether rounds of this kind are played.
+fn is_playable(round: Round) -> bool
+    ensures { result ≡ is_of_played_kind round }
+{
+    matches!(round, Round::Opening(_))
 }
 
 /// Whether every seat has a sheet for a round.
-fn are_all_posted(sheets: &Sheets, round: &Round) -> bool
-    ensures { result ≡ all_posted sheets.now round.now }
+fn are_all_posted(sheets: &Sheets, round: Round) -> bool
+    ensures { result ≡ all_posted sheets.now round }
 {
-    (0..sheets.seats()).all(|seat| sheets.sheet(Seat(seat as u8), round).is_some())
+    (0..sheets.seats()).all(|seat| sheets.sheet(Seat(seat as u8), &round).is_some())
 }

@@ -1,8 +1,7 @@
 //! The sequence of rounds, and the one game of an order file.
 //!
 //! A game is played by whole rounds, each once every seat has a sheet for it, until a sheet is
-//! missing or the game is over. Of the rounds, the openings are played; what follows the last of
-//! them is awaited.
+//! missing. Of the rounds, the openings are played; what follows the last of them is awaited.
 //!
 //! Reading order: `following`, `sequence` (`next`), `game` (`Game`, `play`), `laws`.
 #![tactic(auto)]
@@ -11,13 +10,11 @@ mod following;
 mod game;
 mod laws;
 mod sequence;
-#[cfg(test)]
-mod tests;
 
 pub use following::Next;
 pub use game::{End, Game, play};
 pub use laws::{
-    arrival_changes_no_game, empty_example, first_example, later_sheets_change_nothing, one_game,
-    some_game,
+    arrival_changes_no_game, bank_alone_ends_it, empty_example, first_example,
+    later_sheets_change_nothing, one_game, sequence_goes_forward, some_game,
 };
 pub use sequence::next;

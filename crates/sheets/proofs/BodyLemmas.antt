@@ -1,27 +1,29 @@
 -- What is kept and what is left are together what the whole body has, from line to line.
 use Rattle.std.proofs.Common.{◌≡◌, ℕ, ◌+◌, ◌<◌, ◌≤◌, List, [], ◌∷◌, ◌++◌, Bool, true, false, cond, Option, Some, None, take, suc, zero-add, refl, sym, ◌∙◌, ap, append_assoc, arith}
 use Rattle.std.specs.Prelude.{not}
+use Rattle.std.specs.Option.{option_or}
 use Rattle.std.specs.List.{prefix_len}
 use Rattle.std.proofs.lemmas.List.{append-nil}
 use Rattle.order_grammar.specs.declared.fault.Fault.{Fault}
-use Rattle.sheets.specs.File.{is_sheet_line, begins, same_post, block, later_or, sheet_in, good_lines, unread_fault, unread_in}
+use Rattle.sheets.specs.File.{is_sheet_line, begins, same_post, block, sheet_in, good_lines, unread_fault, unread_in}
 use Rattle.sheets.specs.Collecting.{Open, open_with, Stands}
+use Rattle.sheets.specs.Limits.{sheets_most}
 use Rattle.sheets.specs.declared.post.Post.{Post}
 
 -- the later of a sheet and nothing
-pub later_or-none : (a : Option (List (List ℕ))) → later_or a None ≡ a
-later_or-none None = refl
-later_or-none (Some a) = refl
+pub option_or-none : (a : Option (List (List ℕ))) → option_or a None ≡ a
+option_or-none None = refl
+option_or-none (Some a) = refl
 
 -- the later of three
-later_or-later_or : (a b c : Option (List (List ℕ))) → later_or (later_or a b) c ≡ later_or a (later_or b c)
-later_or-later_or None b c = refl
-later_or-later_or (Some a) b c = refl
+option_or-option_or : (a b c : Option (List (List ℕ))) → option_or (option_or a b) c ≡ option_or a (option_or b c)
+option_or-option_or None b c = refl
+option_or-option_or (Some a) b c = refl
 
 -- one choice after another
-pub later_or-cond : (t : Bool) (a : List (List ℕ)) (c : Option (List (List ℕ))) → later_or (cond t (Some a) None) c ≡ cond t (Some a) c
-later_or-cond true a c = refl
-later_or-cond false a c = refl
+pub option_or-cond : (t : Bool) (a : List (List ℕ)) (c : Option (List (List ℕ))) → option_or (cond t (Some a) None) c ≡ cond t (Some a) c
+option_or-cond true a c = refl
+option_or-cond false a c = refl
 
 -- a line with another first word begins no sheet
 pub begins_none : (players : List (List ℕ)) (line : List ℕ) → is_sheet_line line ≡ false → begins players line ≡ None
@@ -30,7 +32,7 @@ begins_none players line e = rw e refl
 
 -- a line that begins no sheet changes none
 skipped : (players lines : List (List ℕ)) (line : List ℕ) (post : Post) → begins players line ≡ None → sheet_in players (line ∷ lines) post ≡ sheet_in players lines post
-skipped players lines line post e = rw e (later_or-none (sheet_in players lines post))
+skipped players lines line post e = rw e (option_or-none (sheet_in players lines post))
 
 -- nor is it counted
 uncounted : (players lines : List (List ℕ)) (line : List ℕ) → begins players line ≡ None → good_lines players (line ∷ lines) ≡ good_lines players lines
@@ -81,14 +83,14 @@ open-end : (post q : Post) (had lines : List (List ℕ)) (line : List ℕ) → i
 open-end post q had lines line e = ap (λ b. cond (same_post post q) (Some b) None) (ap (λ b. had ++ b) (block-end line lines e) ∙ append-nil had)
 
 -- a sheet that begins
-begun : (players lines : List (List ℕ)) (line : List ℕ) (post q : Post) (had : Option (List (List ℕ))) → begins players line ≡ Some post → later_or (sheet_in players (line ∷ lines) q) had ≡ later_or (sheet_in players lines q) (later_or (open_with (Some (record { post = post; lines = [] })) lines q) had)
-begun players lines line post q had e = rw e (later_or-later_or (sheet_in players lines q) (cond (same_post post q) (Some (block lines)) None) had)
+begun : (players lines : List (List ℕ)) (line : List ℕ) (post q : Post) (had : Option (List (List ℕ))) → begins players line ≡ Some post → option_or (sheet_in players (line ∷ lines) q) had ≡ option_or (sheet_in players lines q) (option_or (open_with (Some (record { post = post; lines = [] })) lines q) had)
+begun players lines line post q had e = rw e (option_or-option_or (sheet_in players lines q) (cond (same_post post q) (Some (block lines)) None) had)
 
 module _ (players body : List (List ℕ)) (sheets : Post → Option (List (List ℕ))) (unread : List Fault) (good : ℕ) where
   -- other sheets with the same look-ups
   pub stands_same : (others : Post → Option (List (List ℕ))) (lines : List (List ℕ)) (current : Option Open) → ((post : Post) → others post ≡ sheets post) → Stands players body lines current sheets unread good → Stands players body lines current others unread good
   stands_same others lines current same s = record {
-    sheets_are = λ post. ap (λ o. later_or (sheet_in players lines post) (later_or (open_with current lines post) o)) (same post) ∙ s.sheets_are post;
+    sheets_are = λ post. ap (λ o. option_or (sheet_in players lines post) (option_or (open_with current lines post) o)) (same post) ∙ s.sheets_are post;
     unread_are = s.unread_are;
     good_are = s.good_are;
     few = s.few;
@@ -99,7 +101,7 @@ module _ (players body : List (List ℕ)) (sheets : Post → Option (List (List 
   stands_inside line lines post had other s =
       let none : begins players line ≡ None = begins_none players line other in
       record {
-        sheets_are = λ q. ap (λ o. later_or o (later_or (open_with (Some (record { post = post; lines = had ++ line ∷ [] })) lines q) (sheets q))) (sym (skipped players lines line q none)) ∙ sym (ap (λ o. later_or (sheet_in players (line ∷ lines) q) (later_or o (sheets q))) (open-line post q had lines line other)) ∙ s.sheets_are q;
+        sheets_are = λ q. ap (λ o. option_or o (option_or (open_with (Some (record { post = post; lines = had ++ line ∷ [] })) lines q) (sheets q))) (sym (skipped players lines line q none)) ∙ sym (ap (λ o. option_or (sheet_in players (line ∷ lines) q) (option_or o (sheets q))) (open-line post q had lines line other)) ∙ s.sheets_are q;
         unread_are = ap (λ codes. unread ++ codes) (sym (unread-inside players lines line other)) ∙ s.unread_are;
         good_are = ap (λ n. good + n) (sym (uncounted players lines line none)) ∙ s.good_are;
         few = s.few;
@@ -110,7 +112,7 @@ module _ (players body : List (List ℕ)) (sheets : Post → Option (List (List 
   stands_stray line lines other s =
       let none : begins players line ≡ None = begins_none players line other in
       record {
-        sheets_are = λ q. ap (λ o. later_or o (sheets q)) (sym (skipped players lines line q none)) ∙ s.sheets_are q;
+        sheets_are = λ q. ap (λ o. option_or o (sheets q)) (sym (skipped players lines line q none)) ∙ s.sheets_are q;
         unread_are = append_assoc unread (unread_fault line ∷ []) (unread_in players false lines) ∙ ap (λ codes. unread ++ codes) (sym (unread-outside players lines line other)) ∙ s.unread_are;
         good_are = ap (λ n. good + n) (sym (uncounted players lines line none)) ∙ s.good_are;
         few = s.few;
@@ -120,14 +122,14 @@ module _ (players body : List (List ℕ)) (sheets : Post → Option (List (List 
   pub stands_closed : (line : List ℕ) (lines : List (List ℕ)) (post : Post) (had : List (List ℕ)) → is_sheet_line line ≡ true → Stands players body (line ∷ lines) (Some (record { post = post; lines = had })) sheets unread good → Stands players body (line ∷ lines) None (λ q. cond (same_post post q) (Some had) (sheets q)) unread good
   stands_closed line lines post had is s =
       record {
-        sheets_are = λ q. ap (λ o. later_or (sheet_in players (line ∷ lines) q) o) (sym (later_or-cond (same_post post q) had (sheets q)) ∙ ap (λ o. later_or o (sheets q)) (sym (open-end post q had lines line is))) ∙ s.sheets_are q;
+        sheets_are = λ q. ap (λ o. option_or (sheet_in players (line ∷ lines) q) o) (sym (option_or-cond (same_post post q) had (sheets q)) ∙ ap (λ o. option_or o (sheets q)) (sym (open-end post q had lines line is))) ∙ s.sheets_are q;
         unread_are = ap (λ codes. unread ++ codes) (sym (unread-either players lines line is)) ∙ s.unread_are;
         good_are = s.good_are;
         few = s.few;
       }
 
   -- a good SHEET line begins a sheet
-  pub stands_begun : (line : List ℕ) (lines : List (List ℕ)) (post : Post) → is_sheet_line line ≡ true → begins players line ≡ Some post → good < 4096 → Stands players body (line ∷ lines) None sheets unread good → Stands players body lines (Some (record { post = post; lines = [] })) sheets unread (good + 1)
+  pub stands_begun : (line : List ℕ) (lines : List (List ℕ)) (post : Post) → is_sheet_line line ≡ true → begins players line ≡ Some post → good < sheets_most → Stands players body (line ∷ lines) None sheets unread good → Stands players body lines (Some (record { post = post; lines = [] })) sheets unread (good + 1)
   stands_begun line lines post is some below s =
       record {
         sheets_are = λ q. sym (begun players lines line post q (sheets q) some) ∙ s.sheets_are q;
@@ -140,12 +142,12 @@ module _ (players body : List (List ℕ)) (sheets : Post → Option (List (List 
   pub stands_bad : (line : List ℕ) (lines : List (List ℕ)) → is_sheet_line line ≡ true → begins players line ≡ None → Stands players body (line ∷ lines) None sheets unread good → Stands players body lines None sheets (unread ++ unread_fault line ∷ []) good
   stands_bad line lines is none s =
       record {
-        sheets_are = λ q. ap (λ o. later_or o (sheets q)) (sym (skipped players lines line q none)) ∙ s.sheets_are q;
+        sheets_are = λ q. ap (λ o. option_or o (sheets q)) (sym (skipped players lines line q none)) ∙ s.sheets_are q;
         unread_are = append_assoc unread (unread_fault line ∷ []) (unread_in players false lines) ∙ ap (λ codes. unread ++ codes) (sym (unread-bad players lines line false is none)) ∙ s.unread_are;
         good_are = ap (λ n. good + n) (sym (uncounted players lines line none)) ∙ s.good_are;
         few = s.few;
       }
 
   -- one good SHEET line too many
-  pub too_many : (line : List ℕ) (lines : List (List ℕ)) (post : Post) → begins players line ≡ Some post → 4096 ≤ good → Stands players body (line ∷ lines) None sheets unread good → 4096 < good_lines players body
+  pub too_many : (line : List ℕ) (lines : List (List ℕ)) (post : Post) → begins players line ≡ Some post → sheets_most ≤ good → Stands players body (line ∷ lines) None sheets unread good → sheets_most < good_lines players body
   too_many line lines post some full s = omega (arith, s.good_are, counted players lines line post some)

@@ -3,30 +3,31 @@ use Rattle.std.proofs.Common.{◌≡◌, ℕ, ◌<◌, ◌≤◌, List, true, fa
 use Rattle.std.proofs.lemmas.Bool.{lt-ltb, le-ltb}
 use Rattle.std.specs.Prelude.{nat_lt}
 use Rattle.order_grammar.specs.declared.fault.Fault.{Fault}
-use Rattle.sheets.specs.Collecting.{Fails, StopsBy, IsCollected}
-use Rattle.sheets.specs.File.{Content, content_of, lines_content, body_content, players_of, body_of, sheet_of, unread_of, sheet_in, unread_in, good_lines}
+use Rattle.sheets.specs.Collecting.{StopsBy, IsCollected}
+use Rattle.sheets.specs.File.{Content, Fails, content_of, lines_content, body_content, players_of, body_of, sheet_of, unread_of, sheet_in, unread_in, good_lines}
+use Rattle.sheets.specs.Limits.{file_most, sheets_most}
 use Rattle.sheets.specs.Text.{written_lines}
 use Rattle.sheets.specs.declared.fault.FileFault.{FileFault}
 use Rattle.sheets.specs.declared.fault.FileFault.TheVariants.{Header, Players, TooLong, TooManySheets, Memory}
 use Rattle.sheets.specs.declared.post.Post.{Post}
 
 -- a file with too many bytes
-pub too_long : (file : List ℕ) → 4194304 < length file → content_of file ≡ Err TooLong
+pub too_long : (file : List ℕ) → file_most < length file → content_of file ≡ Err TooLong
 unfolding content_of
-too_long file h = let t : nat_lt 4194304 (length file) ≡ true = lt-ltb 4194304 (length file) h in rw t refl
+too_long file h = let t : nat_lt file_most (length file) ≡ true = lt-ltb file_most (length file) h in rw t refl
 
 -- another file
-pub short_enough : (file : List ℕ) → length file ≤ 4194304 → content_of file ≡ lines_content (written_lines file)
+pub short_enough : (file : List ℕ) → length file ≤ file_most → content_of file ≡ lines_content (written_lines file)
 unfolding content_of
-short_enough file h = let t : nat_lt 4194304 (length file) ≡ false = le-ltb 4194304 (length file) h in rw t refl
+short_enough file h = let t : nat_lt file_most (length file) ≡ false = le-ltb file_most (length file) h in rw t refl
 
 -- a body with too many good SHEET lines
-many : (players body : List (List ℕ)) → 4096 < good_lines players body → body_content body (Some players) ≡ Err TooManySheets
-many players body h = let t : nat_lt 4096 (good_lines players body) ≡ true = lt-ltb 4096 (good_lines players body) h in rw t refl
+many : (players body : List (List ℕ)) → sheets_most < good_lines players body → body_content body (Some players) ≡ Err TooManySheets
+many players body h = let t : nat_lt sheets_most (good_lines players body) ≡ true = lt-ltb sheets_most (good_lines players body) h in rw t refl
 
 -- another body
-pub few_enough : (players body : List (List ℕ)) → good_lines players body ≤ 4096 → body_content body (Some players) ≡ Ok (record { players = players; body = body })
-few_enough players body h = let t : nat_lt 4096 (good_lines players body) ≡ false = le-ltb 4096 (good_lines players body) h in rw t refl
+pub few_enough : (players body : List (List ℕ)) → good_lines players body ≤ sheets_most → body_content body (Some players) ≡ Ok (record { players = players; body = body })
+few_enough players body h = let t : nat_lt sheets_most (good_lines players body) ≡ false = le-ltb sheets_most (good_lines players body) h in rw t refl
 
 -- a fault of the file
 pub fails : (fault : FileFault) (content : Result Content FileFault) → content ≡ Err fault → Fails fault content

@@ -5,3 +5,6 @@ pub mod ReachLemmas
 pub mod PostLemmas
 pub mod ContentLemmas
 pub mod LawLemmas
+pub mod AcceptedLemmas
+pub mod NumberLemmas
+pub mod GroupLemmas

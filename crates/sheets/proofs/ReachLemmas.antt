@@ -1,18 +1,17 @@
 -- How far the lines after the players line have come, after each of them.
-use Rattle.std.proofs.Common.{◌≡◌, ℕ, ◌+◌, ◌-◌, ◌<◌, ◌≤◌, List, [], ◌∷◌, ◌++◌, true, false, cond, Option, Some, None, length, take, refl, sym, ◌∙◌, ap, arith, subst}
+use Rattle.std.proofs.Common.{◌≡◌, ℕ, ◌-◌, List, [], ◌∷◌, ◌++◌, true, false, cond, Option, Some, None, length, take, refl, sym, ◌∙◌, ap, arith, subst}
 use Rattle.std.proofs.Math.Seq.{take-length}
-use Rattle.std.specs.Prelude.{MatchOption, is_some}
+use Rattle.std.specs.Prelude.{is_some}
 use Rattle.order_grammar.specs.Line.{reading_of}
 use Rattle.order_grammar.specs.declared.fault.Fault.{Fault}
-use Rattle.sheets.specs.Collecting.{Open, IsOpen, Stands, Reaches, closed, IsBegun, StopsBy}
+use Rattle.sheets.specs.Collecting.{HasBegun, Open, IsOpen, Stands, Reaches, closed, StopsAt, StopsBy}
 use Rattle.sheets.specs.File.{is_sheet_line, begins, post_begun, fault_of_reading, unread_fault, same_post, sheet_in, good_lines}
 use Rattle.sheets.specs.Text.{written_lines, BeginsWith}
 use Rattle.sheets.specs.declared.open_sheet.OpenSheet.{OpenSheet}
 use Rattle.sheets.specs.declared.fault.FileFault.{FileFault}
-use Rattle.sheets.specs.declared.fault.FileFault.TheVariants.{TooManySheets, Memory}
 use Rattle.sheets.specs.declared.post.Post.{Post}
 use Rattle.sheets.proofs.TextLemmas.{begins_with_nothing, one_after_another, front_by_rest, lines_of_both}
-use Rattle.sheets.proofs.BodyLemmas.{later_or-cond, stands_same, stands_inside, stands_stray, stands_closed, stands_begun, stands_bad, too_many}
+use Rattle.sheets.proofs.BodyLemmas.{option_or-cond, stands_same, stands_inside, stands_stray, stands_closed, stands_begun, stands_bad, too_many}
 
 module _ (players body : List (List ℕ)) (sheets : Post → Option (List (List ℕ))) (unread : List Fault) (good : ℕ) where
   -- a SHEET line comes, and the sheet before it is kept
@@ -45,12 +44,8 @@ module _ (players body : List (List ℕ)) (sheets : Post → Option (List (List 
   reaches_stray line rest text None (Some had) none other h s = absurd h
   reaches_stray line rest text (Some sheet) current none other h s = absurd (let wrong : true ≡ false = none in cc)
 
-  -- a SHEET line where no sheet is open
-  abbrev Begun : List ℕ → List ℕ → Option Post → Option OpenSheet → List Fault → ℕ → Type 0
-  Begun line rest begun sheet codes count = MatchOption begun ((sheet ≡ None) × (count ≡ good) × (codes ≡ unread ++ fault_of_reading (reading_of line) ∷ [])) (λ post. IsBegun post rest sheet × (good < 4096) × (count ≡ good + 1) × (codes ≡ unread))
-
-  -- the same, by the sheet that the line begins
-  reaches_by : (line rest : List ℕ) (begun : Option Post) (sheet : Option OpenSheet) (codes : List Fault) (count : ℕ) → is_sheet_line line ≡ true → begins players line ≡ begun → Begun line rest begun sheet codes count → Stands players body (line ∷ written_lines rest) None sheets unread good → Reaches players body rest sheet sheets codes count
+  -- a SHEET line where no sheet is open, by the sheet that it begins
+  reaches_by : (line rest : List ℕ) (begun : Option Post) (sheet : Option OpenSheet) (codes : List Fault) (count : ℕ) → is_sheet_line line ≡ true → begins players line ≡ begun → HasBegun rest (fault_of_reading (reading_of line)) good unread begun sheet count codes → Stands players body (line ∷ written_lines rest) None sheets unread good → Reaches players body rest sheet sheets codes count
   unfolding unread_fault
   reaches_by line rest None sheet codes count is b h s =
       rw (h.0, h.1, h.2) (None, tt, stands_bad players body sheets unread good line (written_lines rest) is b s)
@@ -59,17 +54,17 @@ module _ (players body : List (List ℕ)) (sheets : Post → Option (List (List 
       rw (h.2, h.3) (Some (record { post = post; lines = [] }), (h.0.0, ([], subst (λ t. BeginsWith [] [] rest t) (sym h.0.1) (begins_with_nothing rest))), stands_begun players body sheets unread good line (written_lines rest) post is b h.1 s)
 
   -- after a SHEET line
-  pub reaches_begun : (line rest : List ℕ) (sheet : Option OpenSheet) (codes : List Fault) (count : ℕ) → is_sheet_line line ≡ true → Begun line rest (post_begun players (reading_of line)) sheet codes count → Stands players body (line ∷ written_lines rest) None sheets unread good → Reaches players body rest sheet sheets codes count
+  pub reaches_begun : (line rest : List ℕ) (sheet : Option OpenSheet) (codes : List Fault) (count : ℕ) → is_sheet_line line ≡ true → HasBegun rest (fault_of_reading (reading_of line)) good unread (post_begun players (reading_of line)) sheet count codes → Stands players body (line ∷ written_lines rest) None sheets unread good → Reaches players body rest sheet sheets codes count
   unfolding begins
   reaches_begun line rest sheet codes count is h s = reaches_by line rest (post_begun players (reading_of line)) sheet codes count is (rw is refl) h s
 
   -- why reading stops, by the sheet that the line begins
-  stops_by : (line : List ℕ) (lines : List (List ℕ)) (begun : Option Post) (fault : FileFault) → begins players line ≡ begun → MatchOption begun (fault ≡ Memory) (λ _. (fault ≡ TooManySheets) × (4096 ≤ good)) → Stands players body (line ∷ lines) None sheets unread good → StopsBy (good_lines players body) fault
+  stops_by : (line : List ℕ) (lines : List (List ℕ)) (begun : Option Post) (fault : FileFault) → begins players line ≡ begun → StopsAt good begun fault → Stands players body (line ∷ lines) None sheets unread good → StopsBy (good_lines players body) fault
   stops_by line lines None fault b h s = rw h tt
   stops_by line lines (Some post) fault b h s = rw h.0 (too_many players body sheets unread good line lines post b h.1 s)
 
   -- why reading stops at a SHEET line
-  pub stops_begun : (line : List ℕ) (lines : List (List ℕ)) (fault : FileFault) → is_sheet_line line ≡ true → MatchOption (post_begun players (reading_of line)) (fault ≡ Memory) (λ _. (fault ≡ TooManySheets) × (4096 ≤ good)) → Stands players body (line ∷ lines) None sheets unread good → StopsBy (good_lines players body) fault
+  pub stops_begun : (line : List ℕ) (lines : List (List ℕ)) (fault : FileFault) → is_sheet_line line ≡ true → StopsAt good (post_begun players (reading_of line)) fault → Stands players body (line ∷ lines) None sheets unread good → StopsBy (good_lines players body) fault
   unfolding begins
   stops_begun line lines fault is h s = stops_by line lines (post_begun players (reading_of line)) fault (rw is refl) h s
 
@@ -92,7 +87,7 @@ module _ (players body : List (List ℕ)) (sheets : Post → Option (List (List 
       ap written_lines whole ∙ lines_of_both h.1.0 had.lines text sheet.text.now h.1.1 ∙ ap (λ ls. had.lines ++ ls) none in
       ap (λ p. cond (same_post p post) (Some (written_lines (take (length sheet.text.now - 0) sheet.text.now))) (sheets post)) h.0
       ∙ ap (λ ls. cond (same_post had.post post) (Some ls) (sheets post)) lines
-      ∙ sym (later_or-cond (same_post had.post post) (had.lines ++ []) (sheets post)) ∙ s.sheets_are post
+      ∙ sym (option_or-cond (same_post had.post post) (had.lines ++ []) (sheets post)) ∙ s.sheets_are post
 
   -- the sheets of the whole body
   pub sheets_at_end : (text : List ℕ) (sheet : Option OpenSheet) → written_lines text ≡ [] → Reaches players body text sheet sheets unread good → (post : Post) → closed sheet [] sheets post ≡ sheet_in players body post

@@ -1,7 +1,9 @@
 -- How far the sheets of a file are collected: what is kept, what is open, and what is left to read.
-use Rattle.std.specs.Prelude.{◌≡◌, ℕ, ◌+◌, ◌-◌, ◌<◌, ◌≤◌, false, if◌then◌else◌, List, ◌++◌, length, take, Option, Some, None, Result, Err, is_some}
+use Rattle.std.specs.Prelude.{◌≡◌, ℕ, ◌+◌, ◌-◌, ◌<◌, ◌≤◌, false, if◌then◌else◌, List, [], ◌∷◌, ◌++◌, length, take, Option, Some, None, is_some}
+use Rattle.std.specs.Option.{option_or}
 use Rattle.order_grammar.specs.declared.fault.Fault.{Fault}
-use Rattle.sheets.specs.File.{same_post, block, later_or, sheet_in, good_lines, unread_in, players_of, unread_of, sheet_of, IsAccepted, Content}
+use Rattle.sheets.specs.File.{same_post, block, sheet_in, good_lines, unread_in, players_of, unread_of, sheet_of, IsAccepted}
+use Rattle.sheets.specs.Limits.{sheets_most}
 use Rattle.sheets.specs.Text.{written_lines, BeginsWith}
 use Rattle.sheets.specs.declared.fault.FileFault.{FileFault}
 use Rattle.sheets.specs.declared.fault.FileFault.TheVariants.{TooManySheets, Memory}
@@ -29,14 +31,14 @@ open_with (Some current) more post = if same_post current.post post then Some (c
 -- a sheet once these lines are read too
 abbrev pub sheet_with : List (List ℕ) → Option Open → (Post → Option (List (List ℕ))) → List (List ℕ) → Post → Option (List (List ℕ))
 sheet_with players current sheets lines post =
-    later_or (sheet_in players lines post) (later_or (open_with current lines post) (sheets post))
+    option_or (sheet_in players lines post) (option_or (open_with current lines post) (sheets post))
 
 -- what is kept and what is left are together what the whole body has
 pub record Stands (players body lines : List (List ℕ)) (current : Option Open) (sheets : Post → Option (List (List ℕ))) (unread : List Fault) (good : ℕ) : Type 0 where
   pub sheets_are : (post : Post) → sheet_with players current sheets lines post ≡ sheet_in players body post
   pub unread_are : unread ++ unread_in players (is_some current) lines ≡ unread_in players false body
   pub good_are : good + good_lines players lines ≡ good_lines players body
-  pub few : good ≤ 4096
+  pub few : good ≤ sheets_most
 
 -- the same, where this text is left
 abbrev pub Reaches : List (List ℕ) → List (List ℕ) → List ℕ → Option OpenSheet → (Post → Option (List (List ℕ))) → List Fault → ℕ → Type 0
@@ -56,16 +58,25 @@ abbrev pub IsBegun : Post → List ℕ → Option OpenSheet → Type 0
 IsBegun post rest None = ⊥
 IsBegun post rest (Some sheet) = (sheet.post ≡ post) × (sheet.text.now ≡ rest)
 
+-- A SHEET line came where no sheet was open and so many good ones had come: it begins the sheet of this
+-- post, or it has a fault.
+abbrev pub HasBegun : List ℕ → Fault → ℕ → List Fault → Option Post → Option OpenSheet → ℕ → List Fault → Type 0
+HasBegun rest fault good unread None sheet count codes =
+    (sheet ≡ None) × (count ≡ good) × (codes ≡ unread ++ fault ∷ [])
+HasBegun rest fault good unread (Some post) sheet count codes =
+    IsBegun post rest sheet × (good < sheets_most) × (count ≡ good + 1) × (codes ≡ unread)
+
+-- why reading stops at a SHEET line that would begin the sheet of this post, where so many good ones
+-- had come
+abbrev pub StopsAt : ℕ → Option Post → FileFault → Type 0
+StopsAt good None fault = fault ≡ Memory
+StopsAt good (Some post) fault = (fault ≡ TooManySheets) × (sheets_most ≤ good)
+
 -- why reading stops, where there are so many good SHEET lines
 abbrev pub StopsBy : ℕ → FileFault → Type 0
 StopsBy good Memory = Unit {0}
-StopsBy good TooManySheets = 4096 < good
+StopsBy good TooManySheets = sheets_most < good
 StopsBy good other = ⊥
-
--- a file is refused by the first fault that it has, or for want of memory
-abbrev pub Fails : FileFault → Result Content FileFault → Type 0
-Fails Memory content = Unit {0}
-Fails fault content = content ≡ Err fault
 
 -- what a file is kept as
 pub record IsCollected (file : List ℕ) (players : List (List ℕ)) (sheets : Post → Option (List (List ℕ))) (unread : List Fault) : Type 0 where

@@ -1,6 +1,7 @@
 -- What an order file says: whether it is refused, who plays, the sheet of a player for a round, and
 -- the lines that are in no sheet.
-use Rattle.std.specs.Prelude.{ℕ, ◌==◌, ◌+◌, Bool, true, false, ◌&&◌, not, nat_le, nat_lt, if◌then◌else◌, List, [], ◌∷◌, ◌++◌, length, codes, Option, Some, None, Result, Ok, Err, IsOk, take_while, is_some}
+use Rattle.std.specs.Prelude.{◌≡◌, ℕ, ◌==◌, ◌+◌, Bool, true, false, ◌&&◌, not, nat_le, nat_lt, if◌then◌else◌, List, [], ◌∷◌, ◌++◌, length, codes, Option, Some, None, Result, Ok, Err, IsOk, take_while, is_some}
+use Rattle.std.specs.Option.{option_or}
 use Rattle.std.specs.List.{list_any}
 use Rattle.order_grammar.specs.Line.{reading_of}
 use Rattle.order_grammar.specs.Words.{words_of, first_of_words, same_word}
@@ -8,12 +9,13 @@ use Rattle.order_grammar.specs.declared.fault.Fault.{Fault}
 use Rattle.order_grammar.specs.declared.fault.Fault.TheVariants.{OutOfPlace, UnknownPlayer}
 use Rattle.order_grammar.specs.declared.order.Order.{Order}
 use Rattle.order_grammar.specs.declared.order.Order.TheVariants as order
+use Rattle.sheets.specs.Limits.{file_most, sheets_most}
 use Rattle.sheets.specs.Text.{written_lines}
 use Rattle.sheets.specs.declared.fault.FileFault.{FileFault}
 use Rattle.sheets.specs.declared.fault.FileFault.TheVariants.{Header, Players, TooLong, TooManySheets, Memory}
 use Rattle.sheets.specs.declared.post.Post.{Post}
+use Rattle.tables.specs.Round.{same_round}
 use Rattle.tables.specs.declared.round.Round.{Round}
-use Rattle.tables.specs.declared.round.Round.TheVariants.{Opening, Stock, Operating}
 use Rattle.tables.specs.declared.seat.Seat.{Seat}
 
 -- the code of a fault: that which the report of a refused file prints; no report prints that of want
@@ -73,36 +75,24 @@ post_begun players other = None
 unfoldable pub begins : List (List ℕ) → List ℕ → Option Post
 begins players line = if is_sheet_line line then post_begun players (reading_of line) else None
 
--- two rounds are the same
-abbrev pub same_round : Round → Round → Bool
-same_round (Opening a) (Opening b) = a == b
-same_round (Stock a) (Stock b) = a == b
-same_round (Operating a m) (Operating b n) = a == b && m == n
-same_round a b = false
-
 -- the same seat and the same round
 abbrev pub same_post : Post → Post → Bool
 same_post a b = a.seat.0 == b.seat.0 && same_round a.round b.round
-
--- the line begins this sheet
-abbrev pub is_post : Post → Option Post → Bool
-is_post post None = false
-is_post post (Some begun) = same_post begun post
 
 -- the lines up to the next whose first word is SHEET
 abbrev pub block : List (List ℕ) → List (List ℕ)
 block lines = take_while (λ line. not (is_sheet_line line)) lines
 
--- a later sheet replaces an earlier one whole
-abbrev pub later_or : Option (List (List ℕ)) → Option (List (List ℕ)) → Option (List (List ℕ))
-later_or (Some later) earlier = Some later
-later_or None earlier = earlier
+-- these lines, if they are of the sheet that a line begins
+abbrev pub lines_begun : Post → List (List ℕ) → Option Post → Option (List (List ℕ))
+lines_begun post lines None = None
+lines_begun post lines (Some begun) = if same_post begun post then Some lines else None
 
--- the lines after the last good SHEET line of a sheet
+-- the lines after the last good SHEET line of a sheet: a later sheet replaces an earlier one whole
 abbrev pub sheet_in : List (List ℕ) → List (List ℕ) → Post → Option (List (List ℕ))
 sheet_in players [] post = None
 sheet_in players (line ∷ lines) post =
-    later_or (sheet_in players lines post) (if is_post post (begins players line) then Some (block lines) else None)
+    option_or (sheet_in players lines post) (lines_begun post (block lines) (begins players line))
 
 -- how many good SHEET lines there are
 abbrev pub good_lines : List (List ℕ) → List (List ℕ) → ℕ
@@ -137,7 +127,7 @@ pub record Content : Type 0 where
 abbrev pub body_content : List (List ℕ) → Option (List (List ℕ)) → Result Content FileFault
 body_content body None = Err Players
 body_content body (Some players) =
-    if nat_lt 4096 (good_lines players body) then Err TooManySheets else Ok (record { players = players; body = body })
+    if nat_lt sheets_most (good_lines players body) then Err TooManySheets else Ok (record { players = players; body = body })
 
 -- what the lines after the header line say
 abbrev pub players_content : List (List ℕ) → Result Content FileFault
@@ -151,7 +141,12 @@ lines_content (line ∷ lines) = if is_header (reading_of line) then players_con
 
 -- what a file says, or why it is refused
 unfoldable pub content_of : List ℕ → Result Content FileFault
-content_of file = if nat_lt 4194304 (length file) then Err TooLong else lines_content (written_lines file)
+content_of file = if nat_lt file_most (length file) then Err TooLong else lines_content (written_lines file)
+
+-- why a file has no sheets: it is refused by this fault, or memory was short
+abbrev pub Fails : FileFault → Result Content FileFault → Type 0
+Fails Memory content = Unit {0}
+Fails fault content = content ≡ Err fault
 
 -- the players, where there are any
 abbrev pub players_in : Result Content FileFault → List (List ℕ)
@@ -206,4 +201,4 @@ posts_of file seat = sent_in (players_of file) (body_of file) seat
 -- the last of some sheets that is for a round
 abbrev pub last_for : Round → List Sent → Option (List (List ℕ))
 last_for round [] = None
-last_for round (sent ∷ more) = later_or (last_for round more) (if same_round sent.round round then Some sent.lines else None)
+last_for round (sent ∷ more) = option_or (last_for round more) (if same_round sent.round round then Some sent.lines else None)

@@ -1,6 +1,9 @@
--- What an order file says: its lines, its sheets, and how they are collected and taken.
+-- What an order file says: its lines, its sheets and their parts, and how they are collected and taken.
+pub mod Limits
 pub mod Text
 pub mod File
 pub mod Collecting
 pub mod Sheet
+pub mod Part
+pub mod Place
 pub mod Laws

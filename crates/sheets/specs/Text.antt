@@ -1,6 +1,7 @@
 -- The lines of a text: the pieces between LFs. A CR before an LF is dropped, a last line without LF
 -- counts. A line without words is blank, unless it is too long, and counts nowhere.
-use Rattle.std.specs.Prelude.{◌≡◌, ℕ, ◌==◌, Bool, ◌&&◌, not, nat_le, if◌then◌else◌, List, [], ◌∷◌, ◌++◌, length, filter}
+use Rattle.std.specs.Prelude.{◌≡◌, ◌≢◌, ℕ, ◌<◌, ◌==◌, Bool, ◌&&◌, not, nat_le, if◌then◌else◌, List, [], ◌∷◌, ◌++◌, length, slice_index, filter}
+use Rattle.order_grammar.specs.Limits.{line_most}
 use Rattle.order_grammar.specs.Words.{words_of, has_words}
 
 -- a line that ended in LF, without a CR at its end
@@ -26,7 +27,7 @@ lines_of text = lines_from [] text
 
 -- a line that counts nowhere
 unfoldable pub is_blank : List ℕ → Bool
-is_blank line = nat_le (length line) 1024 && not (has_words (words_of line))
+is_blank line = nat_le (length line) line_most && not (has_words (words_of line))
 
 -- those of some lines that count
 abbrev pub written : List (List ℕ) → List (List ℕ)
@@ -45,3 +46,13 @@ pub record BeginsWith (front : List ℕ) (lines : List (List ℕ)) (rest text : 
   pub whole : text ≡ front ++ rest
   pub first : written_lines front ≡ lines
   pub cut : IsCut front rest
+
+-- a text begins with this written line, and this is left after it
+abbrev pub IsFirstLine : List ℕ → List ℕ → List ℕ → Type 0
+IsFirstLine line rest text = (front : List ℕ) × BeginsWith front (line ∷ []) rest text
+
+-- the first LF of a text stands here
+pub record IsNewline (text : List ℕ) (place : ℕ) : Type 0 where
+  pub within : place < length text
+  pub is : slice_index text place ≡ 10
+  pub none_before : (k : ℕ) → k < place → slice_index text k ≢ 10

@@ -1,9 +1,10 @@
 ghost use Rattle.std.specs.Prelude.{◌≡◌, false, ℕ, ◌+◌, ◌<◌, ◌≤◌, List, [], ◌∷◌, ◌++◌, length, IfOk, OnOk, IfErr, MatchOption, MatchResult};
 ghost use Rattle.std.specs.HashMap.{get};
 ghost use Rattle.order_grammar.specs.Line.{order_of, reading_of};
-ghost use Rattle.sheets.specs.Collecting.{Reaches, StopsBy, closed, IsBegun};
+ghost use Rattle.sheets.specs.Collecting.{HasBegun, Reaches, StopsAt, StopsBy, closed};
 ghost use Rattle.sheets.specs.File.{is_sheet_line, post_begun, fault_of_reading, same_post, sheet_in, unread_in, good_lines};
-ghost use Rattle.sheets.specs.Text.{BeginsWith, written_lines};
+ghost use Rattle.sheets.specs.Limits.{file_most, sheets_most};
+ghost use Rattle.sheets.specs.Text.{IsFirstLine, written_lines};
 ghost use Rattle.sheets.specs.declared.post.Post.{Post};
 
 use crate::fault::FileFault;
@@ -35,10 +36,12 @@ pub(crate) fn collect_body<'a>(
     body: &'a [u8],
 ) -> Result<Collection<'a>, FileFault>
     requires few { length players.now ≤ 6 }
-    requires short { length body.now ≤ 4194304 }
-    ensures sheets { IfOk result (λ c. (post : Post) → get same_post c.sheets post ≡ sheet_in players.now (written_lines body.now) post) }
-    ensures unread { IfOk result (λ c. c.unread.items ≡ unread_in players.now false (written_lines body.now)) }
-    ensures good { OnOk result (good_lines players.now (written_lines body.now) ≤ 4096) }
+    requires short { length body.now ≤ file_most }
+    ensures sheets { IfOk result (λ c. (post : Post) →
+        get same_post c.sheets post ≡ sheet_in players.now (written_lines body.now) post) }
+    ensures unread { IfOk result (λ c.
+        c.unread.items ≡ unread_in players.now false (written_lines body.now)) }
+    ensures good { OnOk result (good_lines players.now (written_lines body.now) ≤ sheets_most) }
     ensures err { IfErr result (StopsBy (good_lines players.now (written_lines body.now))) }
 {
     let mut collection = Collection {
@@ -65,14 +68,17 @@ impl<'a> Collection<'a> {
         piece: Piece<'a>,
     ) -> Result<(), FileFault>
         requires few { length players.now ≤ 6 }
-        requires short { length piece.rest.now ≤ 4194304 }
+        requires short { length piece.rest.now ≤ file_most }
         requires lines { written_lines text.now ≡ piece.line.now ∷ written_lines piece.rest.now }
-        requires first { (front : List ℕ) × BeginsWith front (piece.line.now ∷ []) piece.rest.now text.now }
+        requires first { IsFirstLine piece.line.now piece.rest.now text.now }
         ensures ok { OnOk result ((body : List (List ℕ)) →
-            Reaches players.now body text.now self.old.current (get same_post self.old.sheets) self.old.unread.items self.old.good →
-            Reaches players.now body piece.entry.rest.now self.new.current (get same_post self.new.sheets) self.new.unread.items self.new.good) }
+            Reaches players.now body text.now self.old.current
+            (get same_post self.old.sheets) self.old.unread.items self.old.good →
+            Reaches players.now body piece.entry.rest.now self.new.current
+            (get same_post self.new.sheets) self.new.unread.items self.new.good) }
         ensures err { IfErr result (λ fault. (body : List (List ℕ)) →
-            Reaches players.now body text.now self.old.current (get same_post self.old.sheets) self.old.unread.items self.old.good →
+            Reaches players.now body text.now self.old.current
+            (get same_post self.old.sheets) self.old.unread.items self.old.good →
             StopsBy (good_lines players.now body) fault) }
     {
         if is_sheet_line(piece.line) {
@@ -89,7 +95,9 @@ impl<'a> Collection<'a> {
     /// Keeps the sheet that is open, which ends where `rest` begins.
     fn close(&mut self, rest: &[u8]) -> Result<(), AllocError>
         ensures current { self.new.current ≡ None }
-        ensures sheets { OnOk result ((post : Post) → get same_post self.new.sheets post ≡ closed self.old.current rest.now (get same_post self.old.sheets) post) }
+        ensures sheets { OnOk result ((post : Post) →
+            get same_post self.new.sheets post
+            ≡ closed self.old.current rest.now (get same_post self.old.sheets) post) }
         ensures unread { self.new.unread.items ≡ self.old.unread.items }
         ensures good { self.new.good ≡ self.old.good }
     {
@@ -104,13 +112,15 @@ impl<'a> Collection<'a> {
     /// Takes a SHEET line where no sheet is open.
     fn begin(&mut self, players: &Players, piece: Piece<'a>) -> Result<(), FileFault>
         requires few { length players.now ≤ 6 }
-        requires short { length piece.rest.now ≤ 4194304 }
+        requires short { length piece.rest.now ≤ file_most }
         requires none { self.old.current ≡ None }
         ensures sheets { self.new.sheets ≡ self.old.sheets }
-        ensures ok { OnOk result (MatchOption (post_begun players.now (reading_of piece.entry.line.now))
-            ((self.new.current ≡ None) × (self.new.good ≡ self.old.good) × (self.new.unread.items ≡ self.old.unread.items ++ fault_of_reading (reading_of piece.entry.line.now) ∷ []))
-            (λ post. IsBegun post piece.entry.rest.now self.new.current × (self.old.good < 4096) × (self.new.good ≡ self.old.good + 1) × (self.new.unread.items ≡ self.old.unread.items))) }
-        ensures err { IfErr result (λ fault. MatchOption (post_begun players.now (reading_of piece.entry.line.now)) (fault ≡ FileFault.Memory) (λ _. (fault ≡ FileFault.TooManySheets) × (4096 ≤ self.old.good))) }
+        ensures ok { OnOk result (let reading = reading_of piece.entry.line.now in
+            HasBegun piece.entry.rest.now (fault_of_reading reading)
+            self.old.good self.old.unread.items (post_begun players.now reading)
+            self.new.current self.new.good self.new.unread.items) }
+        ensures err { IfErr result
+            (StopsAt self.old.good (post_begun players.now (reading_of piece.entry.line.now))) }
     {
         let reading = read_line(piece.line);
         match post_begun(players, &reading) {

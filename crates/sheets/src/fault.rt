@@ -10,19 +10,19 @@ use thiserror::Error;
 #[derive(Clone, Copy, Debug, PartialEq, Eq, Drop, Error)]
 pub enum FileFault {
     /// F1: the first line that is not blank is not `GAME 1830 1`.
-    #[error("F1")]
+    #[error("the first line that is not blank is not GAME 1830 1")]
     Header,
     /// F2: the next line that is not blank does not name 3 to 6 different players.
-    #[error("F2")]
+    #[error("no line after the header names 3 to 6 different players")]
     Players,
-    /// F3: the file has over 4,194,304 bytes.
-    #[error("F3")]
+    /// F3: the file has over `FILE_MOST` bytes.
+    #[error("the file has over 4,194,304 bytes")]
     TooLong,
-    /// F4: the file has over 4,096 good SHEET lines.
-    #[error("F4")]
+    /// F4: the file has over `SHEETS_MOST` good SHEET lines.
+    #[error("the file has over 4,096 good SHEET lines")]
     TooManySheets,
     /// F5: memory was refused. No report prints this code, since the file itself is not refused.
-    #[error("F5")]
+    #[error("memory was refused")]
     Memory,
 }
 

@@ -1,14 +1,15 @@
 ghost use Rattle.std.specs.Prelude.{◌≡◌, ℕ, ◌≤◌, List, length, MatchResult, IfOk, OnOk, option_copied, option_map, slice_get, Err};
 ghost use Rattle.order_grammar.specs.Line.{reading_of};
-ghost use Rattle.sheets.specs.Collecting.{Fails};
-ghost use Rattle.sheets.specs.File.{IsAccepted, body_content, content_of, is_header, lines_content, players_content, players_of, sheet_of, unread_of};
+ghost use Rattle.sheets.specs.File.{Fails, IsAccepted, body_content, content_of, is_header, lines_content, players_content, players_of, sheet_of, unread_of};
+ghost use Rattle.sheets.specs.Part.{parts_for};
 ghost use Rattle.sheets.specs.Text.{written_lines};
 
 use crate::collecting::collect_body;
 use crate::fault::FileFault;
+use crate::parts::PartsLeft;
 use crate::players::{Players, players_named};
 use crate::post::Post;
-use crate::sheet::Sheet;
+use crate::sheet::{Lines, Sheet};
 use crate::text::first_written;
 use order_grammar::{Fault, Order, read_line};
 use std::alloc::Global;
@@ -45,12 +46,14 @@ impl<'a> Model for Sheets<'a> {
 
     ghost view = { λ sheets. sheets.file.now };
 
-    ghost invariant = { λ sheets. IsCollected sheets.file.now sheets.players (get same_post sheets.sheets) sheets.unread.items };
+    ghost invariant = { λ sheets.
+        IsCollected sheets.file.now sheets.players
+        (get same_post sheets.sheets) sheets.unread.items };
 }
 
 impl<'a> Sheets<'a> {
-    /// What the player of this seat last sent for this round; `None` where the player sent no sheet for
-    /// it, or nobody has the seat.
+    /// What the player of this seat last sent for this round; `None` where the player sent no sheet
+    /// for it, or nobody has the seat.
     pub fn sheet(&self, seat: Seat, round: &Round) -> Option<&Sheet<'a>>
         ensures { option_copied result ≡ sheet_of self.now seat.0 round.now }
     {
@@ -59,6 +62,17 @@ impl<'a> Sheets<'a> {
             round: *round,
         };
         self.sheets.get(&post)
+    }
+
+    /// The parts of the sheet of this seat for this round; without a sheet there are none.
+    pub fn parts(&self, seat: Seat, round: Round) -> PartsLeft<'a>
+        ensures { result ≡ parts_for self.now round seat.0 }
+    {
+        let lines = match self.sheet(seat, &round) {
+            Some(sheet) => sheet.lines(),
+            None => Lines::none(),
+        };
+        PartsLeft::of(lines, round)
     }
 
     /// The codes of the unread lines, in order.
@@ -91,7 +105,9 @@ impl<'a> Sheets<'a> {
 ///
 /// Refused in this order: `TooLong`, `Header`, `Players`, `TooManySheets`; `Memory` at any point.
 pub fn collect(alloc: Global, file: &[u8]) -> Result<Sheets<'_>, FileFault>
-    ensures file { MatchResult result (λ sheets. sheets ≡ file.now) (λ fault. Fails fault (content_of file.now)) }
+    ensures file { MatchResult result
+        (λ sheets. sheets ≡ file.now)
+        (λ fault. Fails fault (content_of file.now)) }
     ensures accepted { OnOk result (IsAccepted file.now) }
 {
     if file.len() > FILE_MOST {
@@ -146,7 +162,8 @@ fn read_players(alloc: Global, text: &[u8]) -> Result<(Players, &[u8]), FileFaul
     ensures least { IfOk result (λ read. 3 ≤ length read.0) }
     ensures most { IfOk result (λ read. length read.0 ≤ 6) }
     ensures content { MatchResult result
-        (λ read. players_content (written_lines text.now) ≡ body_content (written_lines read.1.now) (Some read.0))
+        (λ read. players_content (written_lines text.now)
+        ≡ body_content (written_lines read.1.now) (Some read.0))
         (λ fault. Fails fault (players_content (written_lines text.now))) }
 {
     let Some(piece) = first_written(text) else {

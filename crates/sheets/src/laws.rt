@@ -1,15 +1,39 @@
 //! Laws of order files: each function does nothing, and its contract is the law.
 
-ghost use Rattle.sheets.specs.Laws.{LastSheetCounts, ArrivalChangesNothing};
+ghost use Rattle.sheets.specs.Laws.{ArrivalChangesNothing, LastSheetCounts, LongFileIsRefused, SheetsAreNumbered, SheetsHaveFewGroups, ThreeToSixPlay};
+
+use order_grammar::read_where_spelt;
 
 /// The sheet of a player for a round is the last that the player sent for it.
 pub fn last_sheet_counts()
     ensures { LastSheetCounts }
 {}
 
-/// The order in which the sheets of different players arrive changes no player's sheet: two files in
-/// which each player sent the same sheets in the same order have the same sheet for each player and
-/// round. Of the unread lines it says nothing: their codes stand in the order of the file.
+/// The order in which the sheets of different players arrive changes no player's sheet: two files
+/// in which each player sent the same sheets in the same order have the same sheet for each player
+/// and round. Of the unread lines it says nothing: their codes stand in the order of the file.
 pub fn arrival_changes_nothing()
     ensures { ArrivalChangesNothing }
+{}
+
+/// A file of over `FILE_MOST` bytes is refused as too long, whatever it says.
+pub fn long_file_is_refused()
+    ensures { LongFileIsRefused }
+{}
+
+/// A file that is not refused has 3 to 6 players.
+pub fn three_to_six_play()
+    ensures { ThreeToSixPlay }
+{}
+
+/// No sheet is for a round numbered past 99,999, since no line names one.
+pub fn sheets_are_numbered()
+    ensures { SheetsAreNumbered }
+{
+    read_where_spelt()
+}
+
+/// A sheet has at most 512 groups or blocks, since each begins with a line that may be an order.
+pub fn sheets_have_few_groups()
+    ensures { SheetsHaveFewGroups }
 {}

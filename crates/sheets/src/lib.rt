@@ -1,12 +1,16 @@
 //! From the bytes of an order file to sheets: what each player last sent for each round.
 //!
 //! `collect` goes once over the file and keeps for each sheet only where its text lies; a sheet's
-//! lines are read when they are asked for. To a contract `Sheets` is the file that it was collected
-//! from, and a `Sheet` the list of its lines.
+//! lines are read when they are asked for, and taking them up takes no memory. To a contract
+//! `Sheets` is the file that it was collected from, a `Sheet` the list of its lines, and
+//! `PartsLeft` what is still to come of a sheet: the lines before its next head, and the groups or
+//! blocks that heads open.
 //!
-//! Reading order: `fault`, `text` (the lines of a text), `sheet`, `players`, `post` and
-//! `open_sheet` (whose sheet it is, and where it began), `collecting` (line after line), `file`
-//! (`collect`), `laws`. In `specs/`, `File` says what a file says, and `Collecting` how far it was
+//! Reading order: `fault`, `text` (the lines of a text), `sheet`, `parts` (a sheet as the rounds take
+//! it up), `place` (orders that have none), `players`, `post` and `open_sheet` (whose sheet it is,
+//! and where it began), `collecting` (line after line), `file` (`collect`), `laws`. In `specs/`,
+//! `File` says what a file says, `Part` what the parts of a sheet are, `Place` what becomes of an
+//! order without a place, `Limits` the limits of a file, and `Collecting` how far a file was
 //! collected.
 #![tactic(auto)]
 
@@ -15,6 +19,8 @@ mod fault;
 mod file;
 mod laws;
 mod open_sheet;
+mod parts;
+mod place;
 mod players;
 mod post;
 mod sheet;
@@ -23,8 +29,10 @@ mod text;
 pub use collecting::SHEETS_MOST;
 pub use fault::FileFault;
 pub use file::{FILE_MOST, Sheets, collect};
-pub use laws::{arrival_changes_nothing, last_sheet_counts};
-pub use sheet::{Lines, NumberedLine, Sheet};
-
-#[cfg(test)]
-mod tests;
+pub use laws::{
+    arrival_changes_nothing, last_sheet_counts, long_file_is_refused, sheets_are_numbered,
+    sheets_have_few_groups, three_to_six_play,
+};
+pub use parts::PartsLeft;
+pub use place::{fault_out_of_place, is_of_file};
+pub use sheet::{LINES_MOST, Lines, NumberedLine, Sheet};

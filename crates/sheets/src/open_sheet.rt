@@ -1,4 +1,5 @@
 ghost use Rattle.std.specs.Prelude.{◌≤◌, length};
+ghost use Rattle.sheets.specs.Limits.{file_most};
 
 use crate::post::Post;
 
@@ -9,5 +10,5 @@ pub(crate) struct OpenSheet<'a> {
     pub(crate) post: Post,
     /// The text from its first line on.
     pub(crate) text: &'a [u8],
-    ghost short: { length text.now ≤ 4194304 },
+    ghost short: { length text.now ≤ file_most },
 }

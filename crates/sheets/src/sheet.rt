@@ -1,11 +1,16 @@
-ghost use Rattle.std.specs.Prelude.{◌≡◌, ◌≤◌, [], length};
+ghost use Rattle.std.specs.Prelude.{◌≡◌, ◌≤◌, [], length, MatchResult, Ok, Err};
 ghost use Rattle.std.specs.Iterator.{at_most};
+ghost use Rattle.sheets.specs.Limits.{file_most};
+ghost use Rattle.sheets.specs.Part.{line_read};
 ghost use Rattle.sheets.specs.Sheet.{Unruled, TakesLine};
 ghost use Rattle.sheets.specs.Text.{written_lines};
 
 use crate::text::first_written;
-use order_grammar::{Fault, Line, read_line};
+use order_grammar::{Fault, Line, Order, read_line};
 use std::marker::Model;
+
+/// The last line of a sheet that may be an order.
+pub const LINES_MOST: u32 = 512;
 
 /// A player's sheet for a round: its lines, blank ones left out.
 #[derive(Debug, Drop)]
@@ -16,19 +21,20 @@ pub struct Sheet<'a> {
 /// To a contract a sheet is the list of its lines.
 impl<'a> Model for Sheet<'a> {
     ghost use Rattle.std.specs.Prelude.{ℕ, ◌≤◌, List, length};
+    ghost use Rattle.sheets.specs.Limits.{file_most};
     ghost use Rattle.sheets.specs.Text.{written_lines};
 
     ghost Value = { List (List ℕ) };
 
     ghost view = { λ sheet. written_lines sheet.text.now };
 
-    ghost invariant = { λ sheet. length sheet.text.now ≤ 4194304 };
+    ghost invariant = { λ sheet. length sheet.text.now ≤ file_most };
 }
 
 impl<'a> Sheet<'a> {
     /// The sheet with this text.
     pub(crate) fn of(text: &'a [u8]) -> Sheet<'a>
-        requires { length text.now ≤ 4194304 }
+        requires { length text.now ≤ file_most }
         ensures { result ≡ written_lines text.now }
     {
         Sheet { text }
@@ -54,6 +60,26 @@ pub struct NumberedLine<'a> {
     pub reading: Result<Line<'a>, Fault>,
 }
 
+impl<'a> NumberedLine<'a> {
+    /// The order of the line where it stands in its sheet.
+    ///
+    /// `PastLastLine`: its number is over `LINES_MOST`, whatever it says; else the first fault that it has by
+    /// itself.
+    pub fn order(&self) -> Result<&Order, Fault>
+        ensures { MatchResult result
+            (λ order. (line_read self.now).reading ≡ Ok order.now)
+            (λ fault. (line_read self.now).reading ≡ Err fault) }
+    {
+        if self.number > LINES_MOST {
+            return Err(Fault::PastLastLine);
+        }
+        match &self.reading {
+            Ok(line) => Ok(&line.order),
+            Err(fault) => Err(*fault),
+        }
+    }
+}
+
 /// The lines of a sheet that are still to come.
 #[derive(Debug, Drop)]
 pub struct Lines<'a> {
@@ -64,14 +90,16 @@ pub struct Lines<'a> {
 /// To a contract they are the lines, with the number of those that came before.
 impl<'a> Model for Lines<'a> {
     ghost use Rattle.std.specs.Prelude.{◌+◌, ◌≤◌, length};
+    ghost use Rattle.sheets.specs.Limits.{file_most};
     ghost use Rattle.sheets.specs.Sheet.{Unruled};
     ghost use Rattle.sheets.specs.Text.{written_lines};
 
     ghost Value = { Unruled };
 
-    ghost view = { λ lines. record { number = lines.number; lines = written_lines lines.rest.now } };
+    ghost view = { λ lines.
+        record { number = lines.number; lines = written_lines lines.rest.now } };
 
-    ghost invariant = { λ lines. lines.number + length lines.rest.now ≤ 4194304 };
+    ghost invariant = { λ lines. lines.number + length lines.rest.now ≤ file_most };
 }
 
 impl<'a> Lines<'a> {

@@ -1,5 +1,5 @@
 ghost use Rattle.std.specs.Prelude.{◌≡◌, ◌<◌, ℕ, List, [], ◌∷◌, ◌≢◌, EachIndex, IfSome, MatchOption, length, slice_index};
-ghost use Rattle.sheets.specs.Text.{BeginsWith, is_blank, lines_from, without_return, written, written_lines};
+ghost use Rattle.sheets.specs.Text.{BeginsWith, IsFirstLine, IsNewline, is_blank, lines_from, without_return, written, written_lines};
 
 use order_grammar::{LINE_MOST, has_word};
 
@@ -17,7 +17,8 @@ pub(crate) struct Piece<'a> {
 pub(crate) fn first_line(text: &[u8]) -> Option<Piece<'_>>
     ensures shorter { IfSome result (λ piece. length piece.rest.now < length text.now) }
     ensures first { MatchOption result (text.now ≡ [])
-        (λ piece. (front : List ℕ) × BeginsWith front (written (piece.line.now ∷ [])) piece.rest.now text.now) }
+        (λ piece. (front : List ℕ) ×
+        BeginsWith front (written (piece.line.now ∷ [])) piece.rest.now text.now) }
 {
     if text.is_empty() {
         return None;
@@ -36,7 +37,9 @@ pub(crate) fn first_line(text: &[u8]) -> Option<Piece<'_>>
 
 /// Where the first LF of a text stands.
 fn newline(text: &[u8]) -> Option<usize>
-    ensures { MatchOption result (EachIndex text.now (λ k. slice_index text.now k ≢ 10)) (λ end. (end < length text.now) × (slice_index text.now end ≡ 10) × ((k : ℕ) → k < end → slice_index text.now k ≢ 10)) }
+    ensures { MatchOption result
+        (EachIndex text.now (λ k. slice_index text.now k ≢ 10))
+        (IsNewline text.now) }
 {
     text.iter().position(|byte| *byte == b'\n')
 }
@@ -62,8 +65,10 @@ fn is_blank(line: &[u8]) -> bool
 /// The first line of a text that is not blank, and what follows it.
 pub(crate) fn first_written(text: &[u8]) -> Option<Piece<'_>>
     ensures shorter { IfSome result (λ piece. length piece.rest.now < length text.now) }
-    ensures lines { MatchOption result (written_lines text.now ≡ []) (λ piece. written_lines text.now ≡ piece.line.now ∷ written_lines piece.rest.now) }
-    ensures first { IfSome result (λ piece. (front : List ℕ) × BeginsWith front (piece.line.now ∷ []) piece.rest.now text.now) }
+    ensures lines { MatchOption result
+        (written_lines text.now ≡ [])
+        (λ piece. written_lines text.now ≡ piece.line.now ∷ written_lines piece.rest.now) }
+    ensures first { IfSome result (λ piece. IsFirstLine piece.line.now piece.rest.now text.now) }
 {
     let mut rest = text;
     while let Some(piece) = first_line(rest) {

@@ -10,7 +10,7 @@ pub type Money = i128;
 pub type Amount = u32;
 
 /// A seat at the table, numbered from 0 in the order of the players line.
-#[derive(Clone, Copy, Debug, PartialEq, Eq, Hash)]
+#[derive(Clone, Copy, Debug, PartialEq, Eq, Hash, Default)]
 pub struct Seat(pub u8);
 
 impl Seat {

@@ -1,8 +1,7 @@
 use Rattle.std.proofs.Common.{◌≡◌, ◌+◌, Result, Ok, Err, sym, ap, ◌∙◌, drop, map, fold}
 use Rattle.order_grammar.specs.Form.{nearer}
 use Rattle.order_grammar.specs.Row.{row_of}
-use Rattle.order_grammar.specs.Token.{texts_of}
-use Rattle.order_grammar.specs.Words.{raised}
+use Rattle.order_grammar.specs.Words.{raised, texts_of}
 use Rattle.order_grammar.specs.declared.fault.Fault.{Fault}
 use Rattle.order_grammar.specs.declared.order.Order.{Order}
 use Rattle.order_grammar.proofs.FormLemmas.{with_row, found_stays, nearer-found, rows-next, short_form}

@@ -1,8 +1,7 @@
 use Rattle.std.proofs.Common.{◌≡◌, drop, fold, map, Err}
 use Rattle.order_grammar.specs.Form.{rows_reading}
 use Rattle.order_grammar.specs.Row.{row_of}
-use Rattle.order_grammar.specs.Token.{texts_of}
-use Rattle.order_grammar.specs.Words.{raised}
+use Rattle.order_grammar.specs.Words.{raised, texts_of}
 use Rattle.order_grammar.proofs.FormLemmas.{with_row}
 use Rattle.order_grammar.proofs.form.nearest_reading.Given as goal
 

@@ -1,4 +1,4 @@
-use Rattle.order_grammar.proofs.ReadLemmas.{read_spells, spells_read}
+use Rattle.order_grammar.proofs.SpellsLemmas.{read_spells, spells_read}
 use Rattle.order_grammar.proofs.laws.read_where_spelt.Goals as goal
 
 pub returns : goal.returns

@@ -1,37 +1,41 @@
-use Rattle.std.proofs.Common.{◌≡◌, suc, true, false, is_none, is_some, length, arith, rules, ap, ◌∙◌}
+use Rattle.std.proofs.Common.{◌≡◌, ◌<◌, Bool, suc, true, is_none, length, subst, sym, arith, ap, ◌∙◌}
+use Rattle.std.proofs.lemmas.Bool.{and_parts}
 use Rattle.history.specs.LookBack.{cheapest_of}
-use Rattle.rounds.proofs.Numbers.{fewer_to_come}
-use Rattle.rounds.proofs.Posted.{missing_from, posted_each}
-use Rattle.rounds.specs.Sequence.{following}
-use Rattle.sheets.specs.File.{sheet_of, players_of}
+use Rattle.privates.specs.Turn.{all_sold}
+use Rattle.rounds.proofs.Forward.{fewer_places, places_left}
+use Rattle.rounds.proofs.Posted.{missing_from}
+use Rattle.rounds.specs.Play.{all_posted, can_play, is_playable}
+use Rattle.rounds.specs.Sequence.{round_after}
+use Rattle.sheets.specs.File.{players_of}
+use Rattle.tables.specs.declared.round.Round.{Round}
 use Rattle.rounds.proofs.game.play.Goals as goal
 
-pub next-upcoming-requires-clause-number : goal.next-upcoming-requires-clause-number
-next-upcoming-requires-clause-number c =
-    let posted : is_some (sheet_of c.args.sheets.now 0 c.in-Some.round) ≡ true = posted_each (λ seat. is_some (sheet_of c.args.sheets.now seat c.in-Some.round)) 0 (length (players_of c.args.sheets.now)) 0 c.in-Some.ensures.posted (omega arith) (omega arith) in
-    c.sheets_are_numbered_to_99999.ensures c.args.sheets.now 0 c.in-Some.round (search rules)
+pub loop-history-smaller : goal.loop-history-smaller
+loop-history-smaller c =
+    let can : can_play c.args.sheets.now c.loop-history.upcoming ≡ true = sym c.can_play.ensures ∙ c.loop-history-test.true in
+    let parts = and_parts (is_playable c.loop-history.upcoming) (all_posted c.args.sheets.now c.loop-history.upcoming) can in
+    let some : 0 < length (players_of c.args.sheets.now) = omega (arith, c.seats.ensures.value, c.seats.ensures.least) in
+    subst (λ (next : Round). places_left next < places_left c.loop-history.upcoming) (sym c.round_after-upcoming.ensures)
+    (fewer_places c.sheets_are_numbered.ensures c.args.sheets.now c.loop-history.upcoming c.loop-history.in_set c.is_none-all_sold.result some parts.0 parts.1)
 
-pub loop-round-smaller : goal.loop-round-smaller
-loop-round-smaller c =
-    let posted : is_some (sheet_of c.args.sheets.now 0 c.in-Some.round) ≡ true = posted_each (λ seat. is_some (sheet_of c.args.sheets.now seat c.in-Some.round)) 0 (length (players_of c.args.sheets.now)) 0 c.in-Some.ensures.posted (omega arith) (omega arith) in
-    let fewer = fewer_to_come c.in-Some.round c.is_none-all_sold.result c.in-Some.ensures.opening (c.sheets_are_numbered_to_99999.ensures c.args.sheets.now 0 c.in-Some.round (search rules)) in
-    rw (c.next-upcoming.ensures, c.in-Some.ensures.is_next) fewer
-
-pub loop-round-preserved : goal.loop-round-preserved
-loop-round-preserved c =
+pub loop-history-preserved : goal.loop-history-preserved
+loop-history-preserved c =
+    let sold : c.is_none-all_sold.result ≡ all_sold c.in_ok-history.history.events =
+    missing_from _ _ c.is_none-all_sold.ensures ∙ ap is_none (c.cheapest_unsold.ensures ∙ ap cheapest_of c.now.ensures.events) in
     record {
-      rounds = suc c.loop-round.invariant.rounds;
+      rounds = suc c.loop-history.invariant.rounds;
       reached = (
         _,
-        c.loop-round.invariant.reached,
+        c.loop-history.invariant.reached,
         record {
-          round = c.in-Some.round;
-          was_next = c.in-Some.ensures.is_next;
-          posted = c.in-Some.ensures.can.0 (search rules);
+          can = sym c.can_play.ensures ∙ c.loop-history-test.true;
           played = c.in_ok-history.ensures.round;
-          then_next = c.next-upcoming.ensures ∙ ap (λ sold. following c.in-Some.round 1 sold false) (missing_from _ _ c.is_none-all_sold.ensures ∙ ap is_none (c.cheapest_unsold.ensures ∙ ap cheapest_of c.now.ensures.events));
+          next_then = c.round_after-upcoming.ensures ∙ ap (λ (b : Bool). round_after c.loop-history.upcoming c.loop-history.in_set b) sold;
+          in_set_then = c.in_set_before-in_set.ensures;
         },
       );
       sound = c.in_ok-history.ensures.sound;
-      seats = ap (λ game. game.seats) c.in_ok-history.ensures.round.after ∙ c.loop-round.invariant.seats;
+      pennsylvania = c.in_ok-history.ensures.pennsylvania;
+      baltimore = c.in_ok-history.ensures.baltimore;
+      seats = c.in_ok-history.ensures.seats ∙ c.loop-history.invariant.seats;
     }

@@ -1,19 +1,23 @@
 use Rattle.std.proofs.Common.{◌≡◌, ℕ, length}
 use Rattle.history.specs.Sound.{IsSound}
+use Rattle.privates.specs.Underway.{BaltimoreWaits, PennsylvaniaWaits}
 use Rattle.rounds.specs.Play.{AreRounds, before_play}
-use Rattle.rounds.proofs.Numbers.{rounds_to_come}
+use Rattle.rounds.proofs.Forward.{places_left}
 use Rattle.sheets.specs.File.{players_of}
 use Rattle.rounds.proofs.game.play.Given as goal
 
--- some rounds have led here, and the list is a sound one of the file's players
-abbrev pub invariant-loop-round : goal.invariant-loop-round
-invariant-loop-round l = record {
+-- some rounds have led here, and the list is a sound one of the file's players, where PRR and BO wait for
+-- their privates
+abbrev pub invariant-loop-history : goal.invariant-loop-history
+invariant-loop-history l = record {
   rounds : ℕ;
-  reached : AreRounds l.sheets rounds (before_play l.sheets) (record { game = l.history; next = l.upcoming });
+  reached : AreRounds l.sheets rounds (before_play l.sheets) (record { game = l.history; in_set = l.in_set; next = l.upcoming });
   sound : IsSound l.history;
+  pennsylvania : PennsylvaniaWaits l.history.events;
+  baltimore : BaltimoreWaits l.history.events;
   seats : l.history.seats ≡ length (players_of l.sheets);
 }
 
--- each round is numbered higher than the one before
-abbrev pub decreases-loop-round : goal.decreases-loop-round
-decreases-loop-round l = rounds_to_come l.upcoming
+-- each round has a later place than the one before
+abbrev pub decreases-loop-history : goal.decreases-loop-history
+decreases-loop-history l = places_left l.upcoming

@@ -1,8 +1,8 @@
 use Rattle.std.proofs.Common.{◌≡◌, ◌≤◌, ◌∙◌, Some, refl, sym, subst}
 use Rattle.std.specs.HashMap.{get}
 use Rattle.std.proofs.lemmas.Result.{err_from_is_err_and}
-use Rattle.sheets.specs.File.{content_of, body_content, same_post, good_lines}
-use Rattle.sheets.specs.Collecting.{Fails}
+use Rattle.sheets.specs.File.{content_of, body_content, Fails, same_post, good_lines}
+use Rattle.sheets.specs.Limits.{sheets_most}
 use Rattle.sheets.specs.Text.{written_lines}
 use Rattle.sheets.proofs.ContentLemmas.{too_long, short_enough, few_enough, fails, fails_by, collected}
 use Rattle.sheets.proofs.file.collect.Goals as goal
@@ -37,7 +37,7 @@ invariant_of-result c =
     let names = c.in_ok-players.players in
     let body = written_lines c.in_ok-players.body.now in
     let kept = c.in_ok-collection.collection in
-    let few : good_lines names body ≤ 4096 = c.in_ok-collection.ensures.good in
+    let few : good_lines names body ≤ sheets_most = c.in_ok-collection.ensures.good in
     let content : content_of c.args.file.now ≡ body_content body (Some names) =
     short_enough c.args.file.now c.if-file-gt-FILE_MOST.false ∙ c.in_ok-after_header.ensures.content ∙ c.in_ok-players.ensures.content in
     collected c.args.file.now names body (get same_post kept.sheets) kept.unread.items (content ∙ few_enough names body few) c.in_ok-players.ensures.least c.in_ok-players.ensures.most
@@ -47,7 +47,7 @@ pub returns-clause-accepted : goal.returns-clause-accepted
 returns-clause-accepted c =
     let names = c.in_ok-players.players in
     let body = written_lines c.in_ok-players.body.now in
-    let few : good_lines names body ≤ 4096 = c.in_ok-collection.ensures.good in
+    let few : good_lines names body ≤ sheets_most = c.in_ok-collection.ensures.good in
     let content : content_of c.args.file.now ≡ body_content body (Some names) =
     short_enough c.args.file.now c.if-file-gt-FILE_MOST.false ∙ c.in_ok-after_header.ensures.content ∙ c.in_ok-players.ensures.content in
     rw (content ∙ few_enough names body few) refl

@@ -8,7 +8,7 @@ returns-in-Some-clause-first c =
     let text : List ℕ = c.args.text.now in
     let end : ℕ = c.in-Some.end in
     let h = c.in-Some.ensures in
-    rw (c.without_return.ensures, behind c.args.text.now (c.in-Some.end + 1)) (take (end + 1) text, begins_with_line text end h.0 h.1 h.2)
+    rw (c.without_return.ensures, behind c.args.text.now (c.in-Some.end + 1)) (take (end + 1) text, begins_with_line text end h.within h.is h.none_before)
 
 pub returns-in-None-clause-first : goal.returns-in-None-clause-first
 returns-in-None-clause-first c = let some : length c.args.text.now ≡ 0 → ⊥ = eqb-false (length c.args.text.now) 0 (sym c.if-is_empty.ensures) in (c.args.text.now, begins_with_last c.args.text.now (omega arith) c.in-None.ensures)

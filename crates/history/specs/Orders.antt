@@ -1,0 +1,37 @@
+-- What the obeyed standing orders of a seat say: how far it goes in an auction of a private, which holds for
+-- the round; and the par value that it sets for BO, in this round or an earlier one.
+use Rattle.std.specs.Prelude.{ℕ, ◌==◌, ◌&&◌, if◌then◌else◌, List, Option, Some, None}
+use Rattle.order_grammar.specs.declared.order.Order.{Order}
+use Rattle.order_grammar.specs.declared.order.Order.TheVariants as order
+use Rattle.history.specs.Event.{Obeyance, obeyed_of}
+use Rattle.history.specs.LookBack.{in_round, last_said, now_said}
+use Rattle.history.specs.Shares.{is_par_value}
+use Rattle.history.specs.declared.event.Event.{Event}
+use Rattle.tables.specs.Roster.{same_company, same_private}
+use Rattle.tables.specs.declared.roster.Company.TheVariants.{BaltimoreOhio}
+use Rattle.tables.specs.declared.roster.Private.{Private}
+use Rattle.tables.specs.declared.seat.Seat.{Seat}
+
+-- how far an order says to go in an auction of a private
+abbrev pub limit_in : Private → Order → Option ℕ
+limit_in private (order.Limit other amount) = if same_private other private then Some amount else None
+limit_in private other = None
+
+-- the par value that an order says BO is to have
+abbrev pub par_of_baltimore_in : Order → Option ℕ
+par_of_baltimore_in (order.Par company price) =
+    if same_company company BaltimoreOhio && is_par_value price then Some price else None
+par_of_baltimore_in other = None
+
+-- what an obeyed order says, if it is of this seat
+abbrev pub said_by : {A : Type 0} → Seat → (Order → Option A) → Option Obeyance → Option A
+said_by seat says None = None
+said_by seat says (Some obeyed) = if obeyed.seat.0 == seat.0 then says obeyed.order else None
+
+-- how far a seat goes in an auction of a private, by its last obeyed order of this round
+abbrev pub limit_of : List Event → Private → Seat → Option ℕ
+limit_of events private seat = now_said (in_round (λ event. said_by seat (limit_in private) (obeyed_of event))) events
+
+-- the par value that a seat sets for BO, by its last obeyed order of this round or an earlier one
+abbrev pub par_ordered_of : List Event → Seat → Option ℕ
+par_ordered_of events seat = last_said (λ event. said_by seat par_of_baltimore_in (obeyed_of event)) events

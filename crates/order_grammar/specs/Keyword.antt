@@ -1,0 +1,15 @@
+-- The literal words of forms.
+use Rattle.std.specs.Prelude.{ℕ, List, codes}
+use Rattle.order_grammar.specs.declared.keyword.Keyword.{Keyword}
+use Rattle.order_grammar.specs.declared.keyword.Keyword.TheVariants as keyword
+
+-- the word in upper case
+abbrev pub text_of_keyword : Keyword → List ℕ
+text_of_keyword keyword.Game = codes "GAME"
+text_of_keyword keyword.Players = codes "PLAYERS"
+text_of_keyword keyword.Sheet = codes "SHEET"
+text_of_keyword keyword.Turn = codes "TURN"
+text_of_keyword keyword.Buy = codes "BUY"
+text_of_keyword keyword.Bid = codes "BID"
+text_of_keyword keyword.Limit = codes "LIMIT"
+text_of_keyword keyword.Par = codes "PAR"

@@ -1,0 +1,33 @@
+ghost use Rattle.std.specs.Prelude.{◌≡◌};
+ghost use Rattle.order_grammar.specs.Keyword.{text_of_keyword};
+
+/// A literal word of a form: the first word of a line, or one after it that stands for itself.
+#[derive(Clone, Copy, Debug, PartialEq, Eq)]
+pub(crate) enum Keyword {
+    Game,
+    Players,
+    Sheet,
+    Turn,
+    Buy,
+    Bid,
+    Limit,
+    Par,
+}
+
+impl Keyword {
+    /// The word in upper case.
+    pub(crate) fn text(self) -> &'static [u8]
+        ensures { result.now ≡ text_of_keyword self }
+    {
+        match self {
+            Keyword::Game => b"GAME",
+            Keyword::Players => b"PLAYERS",
+            Keyword::Sheet => b"SHEET",
+            Keyword::Turn => b"TURN",
+            Keyword::Buy => b"BUY",
+            Keyword::Bid => b"BID",
+            Keyword::Limit => b"LIMIT",
+            Keyword::Par => b"PAR",
+        }
+    }
+}

@@ -1,0 +1,10 @@
+use Rattle.std.proofs.Common.{sym, ap, ◌∙◌}
+use Rattle.history.specs.LookBack.{Game, with_event}
+use Rattle.history.specs.declared.event.Event.TheVariants.{Sold}
+use Rattle.privates.proofs.Sales.{gift_underway}
+use Rattle.tables.specs.declared.roster.Private.TheVariants.{SchuylkillValley}
+use Rattle.privates.proofs.closing.give_away.Goals as goal
+
+pub returns-clause-underway : goal.returns-clause-underway
+returns-clause-underway c =
+    gift_underway c.args.history.now c.append-2.new.self c.args.seat c.requires.unsold (c.in_ok-append-2.ensures.ok ∙ ap (λ (game : Game). with_event game (Sold SchuylkillValley c.args.seat 0)) c.in_ok-append.ensures.ok) c.requires.underway

@@ -1,0 +1,75 @@
+-- A sale of a private, what it brings, and the sales that follow from it. With CA goes a tenth of PRR. With
+-- BOP goes the president's certificate of BO, two tenths, and its buyer sets BO's par. When the cheapest
+-- private is sold, the next is sold at once if there are bids on it: one bidder has it at his bid, and of
+-- more the one who wins the auction; and so on, until there are no bids on the cheapest.
+use Rattle.std.specs.Prelude.{ℕ, ℤ, pos, List, [], ◌∷◌, ◌++◌, map, Option, Some, None, unwrap_or}
+use Rattle.std.specs.Int.{int_max, int_min}
+use Rattle.std.specs.Int.RustNames.{unsigned_abs}
+use Rattle.history.specs.Bids.{bids_on, free_for}
+use Rattle.history.specs.LookBack.{cheapest_of}
+use Rattle.history.specs.Orders.{limit_of, par_ordered_of}
+use Rattle.history.specs.declared.event.Bid.{Bid}
+use Rattle.history.specs.declared.event.Event.{Event}
+use Rattle.history.specs.declared.event.Event.TheVariants.{Given, Par, President, Sold}
+use Rattle.privates.specs.Auction.{Bidder, auction_of}
+use Rattle.tables.specs.Steps.{iterate}
+use Rattle.tables.specs.declared.roster.Company.TheVariants as company
+use Rattle.tables.specs.declared.roster.Private.{Private}
+use Rattle.tables.specs.declared.roster.Private.TheVariants.{CamdenAmboy, BaltimoreOhio}
+use Rattle.tables.specs.declared.seat.Seat.{Seat}
+
+-- the par value that a buyer of BOP sets for BO: that of his last obeyed order to set it, else 67
+abbrev pub par_set_by : List Event → Seat → ℕ
+par_set_by events buyer = unwrap_or (par_ordered_of events buyer) 67
+
+-- BO starts at this par value, and a seat has its president's certificate
+abbrev pub started_at : Seat → ℕ → List Event
+started_at president par =
+    Par company.BaltimoreOhio par ∷ Given company.BaltimoreOhio president 2 ∷ President company.BaltimoreOhio president ∷ []
+
+-- what a sale brings beside the private
+abbrev pub gifts : List Event → Private → Seat → List Event
+gifts events CamdenAmboy buyer = Given company.Pennsylvania buyer 1 ∷ []
+gifts events BaltimoreOhio buyer = started_at buyer (par_set_by events buyer)
+gifts events other buyer = []
+
+-- after the sale of a private to a buyer at this price
+abbrev pub after_sale : List Event → Private → Seat → ℕ → List Event
+after_sale events private buyer price = events ++ Sold private buyer price ∷ gifts events private buyer
+
+-- how far a bidder goes who bid this much, by the limit that he ordered, if he did, and by what he can
+-- spend: at least to his bid, and without an order no further
+abbrev pub limit_from : ℤ → Option ℕ → ℤ → ℤ
+limit_from bid None free = bid
+limit_from bid (Some ordered) free = int_max bid (int_min (pos ordered) free)
+
+-- a bidder in the auction of a private, with his bid and his limit
+abbrev pub bidder_of : ℕ → List Event → Private → Bid → Bidder
+bidder_of seats events private bid =
+    ( bid.seat
+    , pos bid.amount
+    , limit_from (pos bid.amount) (limit_of events private bid.seat) (free_for seats events bid.seat private)
+    )
+
+-- after a sale to the winner of an auction, who pays this; no price is under 0
+abbrev pub after_auction : List Event → Private → Seat × ℤ → List Event
+after_auction events private won = after_sale events private won.0 (unsigned_abs won.1)
+
+-- after the bids on the cheapest private are settled, which are these
+abbrev pub settled_by : ℕ → List Event → Private → List Bid → List Event
+settled_by seats events private [] = events
+settled_by seats events private (bid ∷ []) = after_sale events private bid.seat bid.amount
+settled_by seats events private bids = after_auction events private (auction_of (map (bidder_of seats events private) bids))
+
+-- after the bids on the cheapest private, if there is one, are settled
+abbrev pub settled_of : ℕ → List Event → Option Private → List Event
+settled_of seats events None = events
+settled_of seats events (Some private) = settled_by seats events private (bids_on seats events private)
+
+-- one step of the sales that follow from a sale: the cheapest private is sold if there are bids on it
+abbrev pub settle : ℕ → List Event → List Event
+settle seats events = settled_of seats events (cheapest_of events)
+
+-- after the sales that follow from a sale: as there are six privates, nothing is left to settle then
+unfoldable pub settled : ℕ → List Event → List Event
+settled seats events = iterate (settle seats) 6 events

@@ -1,0 +1,43 @@
+-- The sums that the lines of a sheet name are at most 99,999, as those of each order that was read.
+use Rattle.std.specs.Prelude.{ℕ, ◌≤◌, List, [], ◌∷◌, Result, Ok, Err}
+use Rattle.history.specs.declared.ruling.Ruling.{Ruling}
+use Rattle.history.specs.declared.ruling.Ruling.TheVariants.{Obeyed}
+use Rattle.order_grammar.specs.declared.fault.Fault.{Fault}
+use Rattle.order_grammar.specs.declared.order.Order.{Order}
+use Rattle.order_grammar.specs.declared.order.Order.TheVariants.{Bid, Limit}
+use Rattle.sheets.specs.Part.{Numbered, Parts, StandsAtHead, groups_of}
+
+-- the sum of a bid or a limit is at most 99,999
+abbrev pub IsSmallOrder : Order → Type 0
+IsSmallOrder (Bid private amount) = amount ≤ 99999
+IsSmallOrder (Limit private amount) = amount ≤ 99999
+IsSmallOrder other = Unit {0}
+
+-- so is that of an order that is obeyed
+abbrev pub IsSmallRuling : Ruling → Type 0
+IsSmallRuling (Obeyed order) = IsSmallOrder order
+IsSmallRuling other = Unit {0}
+
+-- and that of an order that a line is read as
+abbrev pub IsSmallReading : Result Order Fault → Type 0
+IsSmallReading (Ok order) = IsSmallOrder order
+IsSmallReading (Err fault) = Unit {0}
+
+-- and those of some lines
+abbrev pub AreSmall : List Numbered → Type 0
+AreSmall [] = Unit {0}
+AreSmall (line ∷ lines) = IsSmallReading line.reading × AreSmall lines
+
+-- and those of the lines of some groups
+abbrev pub GroupsAreSmall : List (List Numbered) → Type 0
+GroupsAreSmall [] = Unit {0}
+GroupsAreSmall (group ∷ groups) = AreSmall group × GroupsAreSmall groups
+
+-- and those of a sheet
+abbrev pub PartsAreSmall : Parts → Type 0
+PartsAreSmall parts = AreSmall parts.before × GroupsAreSmall (groups_of parts)
+
+-- a sheet whose standing lines are ruled
+pub record IsReady (parts : Parts) : Type 0 where
+  pub stands : StandsAtHead parts
+  pub small : PartsAreSmall parts

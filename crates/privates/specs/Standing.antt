@@ -1,0 +1,67 @@
+-- The standing lines of an opening sheet, those before its first group, are ruled at the round's start,
+-- seat by seat. A LIMIT says how far the seat goes in an auction of a private, which must be unsold. A PAR
+-- says the par value that the seat sets for BO if it buys BOP: it must name BO and a par value.
+use Rattle.std.specs.Prelude.{ℕ, Bool, true, false, not, ◌&&◌, if◌then◌else◌, List, [], ◌∷◌, ◌++◌, Option, Some, None, Result, Ok, Err}
+use Rattle.history.specs.LookBack.{is_sold}
+use Rattle.history.specs.declared.event.Event.{Event}
+use Rattle.history.specs.declared.event.Event.TheVariants.{Ruled}
+use Rattle.history.specs.declared.ruling.OpeningRule.{OpeningRule}
+use Rattle.history.specs.declared.ruling.OpeningRule.TheVariants.{NotOfOpening, Sold}
+use Rattle.history.specs.declared.ruling.Ruling.{Ruling}
+use Rattle.history.specs.declared.ruling.Ruling.TheVariants.{Faulty}
+use Rattle.order_grammar.specs.declared.fault.Fault.{Fault}
+use Rattle.order_grammar.specs.declared.order.Order.{Order}
+use Rattle.order_grammar.specs.declared.order.Order.TheVariants.{Limit, Par}
+use Rattle.privates.specs.Judgement.{judged}
+use Rattle.sheets.specs.Part.{Numbered, parts_for}
+use Rattle.sheets.specs.Place.{placed}
+use Rattle.tables.specs.Roster.{same_company}
+use Rattle.history.specs.Shares.{is_par_value}
+use Rattle.tables.specs.Seat.{seat_at}
+use Rattle.tables.specs.declared.roster.Company.{Company}
+use Rattle.tables.specs.declared.roster.Company.TheVariants.{BaltimoreOhio}
+use Rattle.tables.specs.declared.round.Round.{Round}
+use Rattle.tables.specs.declared.seat.Seat.{Seat}
+
+-- the orders that may stand before the first group
+abbrev pub has_place_before : Order → Bool
+has_place_before (Limit private amount) = true
+has_place_before (Par company price) = true
+has_place_before other = false
+
+-- a par value that BOP's buyer may set
+abbrev pub is_par_of_baltimore : Company → ℕ → Bool
+is_par_of_baltimore company price = same_company company BaltimoreOhio && is_par_value price
+
+-- the rule that a standing order breaks
+abbrev pub standing_judgement : List Event → Order → Option OpeningRule
+standing_judgement events (Limit private amount) = if is_sold events private then Some Sold else None
+standing_judgement events (Par company price) = if is_par_of_baltimore company price then None else Some NotOfOpening
+standing_judgement events other = Some NotOfOpening
+
+-- what becomes of a standing order that has a place, or of a fault
+abbrev pub placed_standing : List Event → Result Order Fault → Ruling
+placed_standing events (Err fault) = Faulty fault
+placed_standing events (Ok order) = judged order (standing_judgement events order)
+
+-- what becomes of a standing line with this reading
+abbrev pub standing_ruling : List Event → Result Order Fault → Ruling
+standing_ruling events reading = placed_standing events (placed has_place_before reading)
+
+-- after a standing line of a seat
+abbrev pub after_standing_line : Seat → List Event → Numbered → List Event
+after_standing_line seat events line = events ++ Ruled seat line.number (standing_ruling events line.reading) ∷ []
+
+-- after standing lines of a seat, in order
+abbrev pub after_standing_lines : Seat → List Event → List Numbered → List Event
+after_standing_lines seat events [] = events
+after_standing_lines seat events (line ∷ lines) = after_standing_lines seat (after_standing_line seat events line) lines
+
+-- after the standing lines of a seat's sheet for a round
+abbrev pub after_standing_of : List ℕ → Round → List Event → ℕ → List Event
+after_standing_of file round events seat = after_standing_lines (seat_at seat) events (parts_for file round seat).before
+
+-- after the standing lines of seats, in order
+abbrev pub after_standing : List ℕ → Round → List Event → List ℕ → List Event
+after_standing file round events [] = events
+after_standing file round events (seat ∷ seats) = after_standing file round (after_standing_of file round events seat) seats

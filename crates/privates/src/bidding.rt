@@ -1,0 +1,100 @@
+ghost use Rattle.std.specs.Prelude.{◌≡◌, ◌≤◌, ◌+ℤ◌, length, pos};
+ghost use Rattle.std.specs.Int.{int_max, int_min};
+ghost use Rattle.privates.specs.Auction.{BidsDiffer, LimitsHold, ahead as the_one_ahead, auction_of, greater_of, highest_bid as highest_bid_of, limit_by, second_limit as the_second_limit, winner_among, with_limit as second_with_limit};
+
+use tables::{Money, Seat};
+
+/// A bidder: his seat, his bid and his limit, in dollars.
+type Bidder = (Seat, Money, Money);
+
+/// What the winner pays above the second limit.
+const STEP: Money = 5;
+
+/// The winner of an auction among some bidders, each with his bid and his limit, and what he pays.
+/// The greatest limit wins, and among equal limits the higher bid; the price is the larger of the
+/// highest bid and of the lesser of the winner's limit and the second limit plus 5.
+///
+/// There are two bidders or more, their bids differ, and no limit is under its bid.
+pub fn auction(bidders: &[(Seat, Money, Money)]) -> (Seat, Money)
+    requires two { 2 ≤ length bidders.now }
+    requires differ { BidsDiffer bidders.now }
+    requires limits { LimitsHold bidders.now }
+    ensures { result ≡ auction_of bidders.now }
+{
+    let Some((first, others)) = bidders.split_first() else {
+        return (Seat(0), 0);
+    };
+    let winner = winner(*first, others);
+    let highest = highest_bid(*first, others);
+    let second = second_limit(bidders, winner);
+    (winner.0, price(winner, highest, second))
+}
+
+/// What the winner pays, by the highest bid and the second limit.
+fn price(winner: Bidder, highest: Money, second: Money) -> Money
+    ensures { result ≡ int_max highest (int_min (limit_by winner) (second +ℤ pos 5)) }
+{
+    highest.max(winner.2.min(second.saturating_add(STEP)))
+}
+
+/// The winner among a bidder and others.
+fn winner(first: Bidder, others: &[Bidder]) -> Bidder
+    ensures { result ≡ winner_among first others.now }
+{
+    let mut winner = first;
+    for other in others {
+        winner = ahead(winner, *other);
+    }
+    winner
+}
+
+/// Who of two is ahead.
+fn ahead(one: Bidder, other: Bidder) -> Bidder
+    ensures { result ≡ the_one_ahead one other }
+{
+    let greater = one.2 < other.2;
+    let higher = one.2 == other.2 && one.1 < other.1;
+    if greater || higher { other } else { one }
+}
+
+/// The highest bid of a bidder and others.
+fn highest_bid(first: Bidder, others: &[Bidder]) -> Money
+    ensures { result ≡ highest_bid_of first others.now }
+{
+    let mut highest = first.1;
+    for other in others {
+        highest = highest.max(other.1);
+    }
+    highest
+}
+
+/// The greatest limit of the others than the winner, or 0 where there is no other.
+fn second_limit(bidders: &[Bidder], winner: Bidder) -> Money
+    ensures { result ≡ the_second_limit winner bidders.now }
+{
+    let mut second = None;
+    for bidder in bidders {
+        second = with_limit(second, *bidder, winner);
+    }
+    second.unwrap_or(0)
+}
+
+/// The greatest limit so far of the others than the winner, with one more bidder.
+fn with_limit(second: Option<Money>, bidder: Bidder, winner: Bidder) -> Option<Money>
+    ensures { result ≡ second_with_limit winner second bidder }
+{
+    if bidder.1 == winner.1 {
+        return second;
+    }
+    Some(greater(second, bidder.2))
+}
+
+/// The greater of two sums, if there are two.
+fn greater(one: Option<Money>, other: Money) -> Money
+    ensures { result ≡ greater_of one other }
+{
+    match one {
+        Some(one) => one.max(other),
+        None => other,
+    }
+}

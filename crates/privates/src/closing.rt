@@ -1,0 +1,148 @@
+ghost use Rattle.std.specs.Prelude.{◌≡◌, ◌≢◌, ◌≤◌, ◌-◌, OnOk, false};
+ghost use Rattle.history.specs.LookBack.{is_sold, owner_of, priority_of, sv_price_of, with_event};
+ghost use Rattle.history.specs.Tell.{with_broken};
+ghost use Rattle.history.specs.declared.event.Event.TheVariants as event;
+ghost use Rattle.privates.specs.Opening.{after_fall, after_revenues, closed, given_away, paid_to_owner};
+ghost use Rattle.privates.specs.Underway.{IsUnderway};
+ghost use Rattle.tables.specs.Roster.{privates};
+ghost use Rattle.tables.specs.declared.roster.Private.TheVariants.{SchuylkillValley};
+
+use crate::sale::settle_all;
+use history::{Event, Holder, History};
+use std::alloc::AllocError;
+use tables::{Amount, Private, Seat, revenue};
+
+/// What SV's price falls by in a round in which all pass before it is sold.
+const FALL: u32 = 5;
+
+/// The end of the turns: unless all privates are sold SV falls, or each sold private pays.
+pub(crate) fn close(history: &mut History) -> Result<(), AllocError>
+    requires few { history.old.seats ≤ 6 }
+    requires underway { IsUnderway history.old }
+    ensures seats { OnOk result (history.new.seats ≡ history.old.seats) }
+    ensures events { OnOk result (history.new.events
+        ≡ closed history.old.seats history.old.events) }
+    ensures underway { OnOk result (IsUnderway history.new) }
+{
+    let owners = history.now().owners();
+    if owners.cheapest_unsold().is_none() {
+        return Ok(());
+    }
+    if owners.is_sold(Private::SchuylkillValley) {
+        pay_revenues(history)
+    } else {
+        lower_price(history)
+    }
+}
+
+/// SV falls, which is unsold; at 0 it goes to the holder of priority for nothing.
+fn lower_price(history: &mut History) -> Result<(), AllocError>
+    requires few { history.old.seats ≤ 6 }
+    requires unsold { is_sold history.old.events SchuylkillValley ≡ false }
+    requires underway { IsUnderway history.old }
+    ensures seats { OnOk result (history.new.seats ≡ history.old.seats) }
+    ensures events { OnOk result (history.new.events
+        ≡ after_fall history.old.seats history.old.events (sv_price_of history.old.events - 5)
+        (priority_of history.old.seats history.old.events)) }
+    ensures underway { OnOk result (IsUnderway history.new) }
+{
+    let price = history.now().sv_price().saturating_sub(FALL);
+    if price == 0 {
+        let holder = history.priority();
+        give_away(history, holder)?;
+        return settle_all(history);
+    }
+    set_price(history, price)
+}
+
+/// SV's price comes to a sum over 0.
+fn set_price(history: &mut History, price: Amount) -> Result<(), AllocError>
+    requires fallen { price ≡ sv_price_of history.old.events - 5 }
+    requires some { price ≢ 0 }
+    requires underway { IsUnderway history.old }
+    ensures event { OnOk result (history.new ≡ with_event history.old (event.Price price)) }
+    ensures underway { OnOk result (IsUnderway history.new) }
+{
+    history.append(Event::Price { price })?;
+    Ok(())
+}
+
+/// SV's price comes to 0, and SV goes to a seat for nothing.
+fn give_away(history: &mut History, seat: Seat) -> Result<(), AllocError>
+    requires unsold { is_sold history.old.events SchuylkillValley ≡ false }
+    requires underway { IsUnderway history.old }
+    ensures seats { OnOk result (history.new.seats ≡ history.old.seats) }
+    ensures events { OnOk result (history.new.events ≡ given_away history.old.events seat) }
+    ensures underway { OnOk result (IsUnderway history.new) }
+{
+    history.append(Event::Price { price: 0 })?;
+    history.append(Event::Sold {
+        private: Private::SchuylkillValley,
+        seat,
+        price: 0,
+    })?;
+    Ok(())
+}
+
+/// Each sold private pays its owner, in roster order.
+fn pay_revenues(history: &mut History) -> Result<(), AllocError>
+    requires { IsUnderway history.old }
+    ensures seats { OnOk result (history.new.seats ≡ history.old.seats) }
+    ensures events { OnOk result (history.new.events
+        ≡ after_revenues history.old.seats history.old.events privates) }
+    ensures underway { OnOk result (IsUnderway history.new) }
+{
+    for private in Private::ALL {
+        pay_revenue(history, private)?;
+    }
+    Ok(())
+}
+
+/// A private pays its owner, if it has one.
+fn pay_revenue(history: &mut History, private: Private) -> Result<(), AllocError>
+    requires { IsUnderway history.old }
+    ensures seats { OnOk result (history.new.seats ≡ history.old.seats) }
+    ensures events { OnOk result (history.new.events
+        ≡ paid_to_owner history.old.seats history.old.events private
+        (owner_of history.old.events private)) }
+    ensures underway { OnOk result (IsUnderway history.new) }
+{
+    let Some(owner) = history.owner(private) else {
+        return Ok(());
+    };
+    pay(history, private, owner, revenue(private))?;
+    tell_broken(history)
+}
+
+/// The bank pays a revenue.
+fn pay(
+    history: &mut History,
+    private: Private,
+    owner: Holder,
+    amount: Amount,
+) -> Result<(), AllocError>
+    requires small { amount ≤ 1000000 }
+    requires underway { IsUnderway history.old }
+    ensures event { OnOk result (history.new
+        ≡ with_event history.old (event.Revenue private owner amount)) }
+    ensures underway { OnOk result (IsUnderway history.new) }
+{
+    history.append(Event::Revenue {
+        private,
+        owner,
+        amount,
+    })?;
+    Ok(())
+}
+
+/// Tells that the bank is broken, where it has just come to that.
+fn tell_broken(history: &mut History) -> Result<(), AllocError>
+    requires { IsUnderway history.old }
+    ensures seats { OnOk result (history.new.seats ≡ history.old.seats) }
+    ensures events { OnOk result (history.new.events
+        ≡ with_broken history.old.seats history.old.events) }
+    ensures underway { OnOk result (IsUnderway history.new) }
+{
+    history.tell_broken()?;
+    Ok(())
+}

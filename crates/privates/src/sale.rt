@@ -1,0 +1,241 @@
+ghost use Rattle.std.specs.Prelude.{◌≡◌, ◌≤◌, ◌<◌, OnOk, Some, length, map, pos};
+ghost use Rattle.std.specs.Int.RustNames.{unsigned_abs};
+ghost use Rattle.history.specs.Bids.{bids_on};
+ghost use Rattle.history.specs.LookBack.{cheapest_of, with_event};
+ghost use Rattle.history.specs.declared.event.Event.TheVariants as event;
+ghost use Rattle.privates.specs.Act.{MayPay};
+ghost use Rattle.privates.specs.Sale.{after_sale, bidder_of as the_bidder_of, par_set_by as par_that_sets, settle as settle_of, settled, settled_by};
+ghost use Rattle.tables.specs.declared.roster.Private.TheVariants.{BaltimoreOhio, CamdenAmboy};
+ghost use Rattle.privates.specs.Underway.{IsUnderway};
+
+use crate::bidding::auction;
+use arrayvec::ArrayVec;
+use history::{Bid, Event, History, Past};
+use std::alloc::AllocError;
+use tables::{Amount, Company, Money, PLAYERS_MOST, Private, Seat};
+
+/// The par value of BO where the buyer of BOP ordered none.
+const PAR_UNLESS_ORDERED: Amount = 67;
+
+/// Sells a private that is unsold to a seat that has its price, with what the sale brings.
+pub(crate) fn sell(
+    history: &mut History,
+    private: Private,
+    buyer: Seat,
+    price: Amount,
+) -> Result<(), AllocError>
+    requires small { price ≤ 1000000 }
+    requires at_table { buyer.0 < history.old.seats }
+    requires may { MayPay history.old.seats history.old.events buyer private price }
+    requires underway { IsUnderway history.old }
+    ensures seats { OnOk result (history.new.seats ≡ history.old.seats) }
+    ensures events { OnOk result (history.new.events
+        ≡ after_sale history.old.events private buyer price) }
+    ensures underway { OnOk result (IsUnderway history.new) }
+{
+    match private {
+        Private::CamdenAmboy => sell_camden(history, buyer, price),
+        Private::BaltimoreOhio => sell_baltimore(history, buyer, price),
+        Private::SchuylkillValley
+        | Private::ChamplainStLawrence
+        | Private::DelawareHudson
+        | Private::MohawkHudson => sell_alone(history, private, buyer, price),
+    }
+}
+
+/// Sells a private that brings nothing else.
+fn sell_alone(
+    history: &mut History,
+    private: Private,
+    buyer: Seat,
+    price: Amount,
+) -> Result<(), AllocError>
+    requires small { price ≤ 1000000 }
+    requires may { MayPay history.old.seats history.old.events buyer private price }
+    requires underway { IsUnderway history.old }
+    ensures event { OnOk result (history.new
+        ≡ with_event history.old (event.Sold private buyer price)) }
+    ensures underway { OnOk result (IsUnderway history.new) }
+{
+    history.append(Event::Sold {
+        private,
+        seat: buyer,
+        price,
+    })?;
+    Ok(())
+}
+
+/// Sells CA, with a tenth of PRR.
+fn sell_camden(history: &mut History, buyer: Seat, price: Amount) -> Result<(), AllocError>
+    requires small { price ≤ 1000000 }
+    requires at_table { buyer.0 < history.old.seats }
+    requires may { MayPay history.old.seats history.old.events buyer CamdenAmboy price }
+    requires underway { IsUnderway history.old }
+    ensures seats { OnOk result (history.new.seats ≡ history.old.seats) }
+    ensures events { OnOk result (history.new.events
+        ≡ after_sale history.old.events CamdenAmboy buyer price) }
+    ensures underway { OnOk result (IsUnderway history.new) }
+{
+    history.append(Event::Sold {
+        private: Private::CamdenAmboy,
+        seat: buyer,
+        price,
+    })?;
+    history.append(Event::Given {
+        company: Company::Pennsylvania,
+        seat: buyer,
+        tenths: 1,
+    })?;
+    Ok(())
+}
+
+/// Sells BOP; its buyer sets the par value of BO, and becomes its president.
+fn sell_baltimore(history: &mut History, buyer: Seat, price: Amount) -> Result<(), AllocError>
+    requires small { price ≤ 1000000 }
+    requires at_table { buyer.0 < history.old.seats }
+    requires may { MayPay history.old.seats history.old.events buyer BaltimoreOhio price }
+    requires underway { IsUnderway history.old }
+    ensures seats { OnOk result (history.new.seats ≡ history.old.seats) }
+    ensures events { OnOk result (history.new.events
+        ≡ after_sale history.old.events BaltimoreOhio buyer price) }
+    ensures underway { OnOk result (IsUnderway history.new) }
+{
+    let company = Company::BaltimoreOhio;
+    let par = par_set_by(&history.now(), buyer);
+    history.append(Event::Sold {
+        private: Private::BaltimoreOhio,
+        seat: buyer,
+        price,
+    })?;
+    history.append(Event::Par {
+        company,
+        price: par,
+    })?;
+    history.append(Event::Given {
+        company,
+        seat: buyer,
+        tenths: 2,
+    })?;
+    history.append(Event::President {
+        company,
+        seat: buyer,
+    })?;
+    Ok(())
+}
+
+/// The par value that a buyer of BOP sets for BO: that of his last obeyed PAR line, else 67.
+fn par_set_by(past: &Past, buyer: Seat) -> Amount
+    ensures par { result ≡ par_that_sets past.now.events.now buyer }
+    ensures small { result ≤ 1000000 }
+{
+    past.par_ordered(buyer).unwrap_or(PAR_UNLESS_ORDERED)
+}
+
+/// The sales that follow from a sale: as long as there are bids on the cheapest private, it is
+/// sold.
+pub(crate) fn settle_all(history: &mut History) -> Result<(), AllocError>
+    requires few { history.old.seats ≤ 6 }
+    requires underway { IsUnderway history.old }
+    ensures seats { OnOk result (history.new.seats ≡ history.old.seats) }
+    ensures events { OnOk result (history.new.events
+        ≡ settled history.old.seats history.old.events) }
+    ensures underway { OnOk result (IsUnderway history.new) }
+{
+    for _private in Private::ALL {
+        settle(history)?;
+    }
+    Ok(())
+}
+
+/// Sells the cheapest private, if there are bids on it.
+fn settle(history: &mut History) -> Result<(), AllocError>
+    requires few { history.old.seats ≤ 6 }
+    requires underway { IsUnderway history.old }
+    ensures seats { OnOk result (history.new.seats ≡ history.old.seats) }
+    ensures events { OnOk result (history.new.events
+        ≡ settle_of history.old.seats history.old.events) }
+    ensures underway { OnOk result (IsUnderway history.new) }
+{
+    match history.cheapest_unsold() {
+        Some(private) => settle_bids(history, private),
+        None => Ok(()),
+    }
+}
+
+/// Sells the cheapest private, which is this, if there are bids on it.
+fn settle_bids(history: &mut History, private: Private) -> Result<(), AllocError>
+    requires few { history.old.seats ≤ 6 }
+    requires cheapest { cheapest_of history.old.events ≡ Some private }
+    requires underway { IsUnderway history.old }
+    ensures seats { OnOk result (history.new.seats ≡ history.old.seats) }
+    ensures events { OnOk result (history.new.events
+        ≡ settled_by history.old.seats history.old.events private
+        (bids_on history.old.seats history.old.events private)) }
+    ensures underway { OnOk result (IsUnderway history.new) }
+{
+    let bids = history.now().bids_on(private);
+    match bids.as_slice() {
+        [] => Ok(()),
+        [bid] => sell(history, private, bid.seat, bid.amount),
+        bids => sell_by_auction(history, private, bids),
+    }
+}
+
+/// Sells the cheapest private to the winner of an auction among those who bid on it.
+fn sell_by_auction(
+    history: &mut History,
+    private: Private,
+    bids: &[Bid],
+) -> Result<(), AllocError>
+    requires few { length bids.now ≤ 6 }
+    requires two { 2 ≤ length bids.now }
+    requires cheapest { cheapest_of history.old.events ≡ Some private }
+    requires bids { bids.now ≡ bids_on history.old.seats history.old.events private }
+    requires underway { IsUnderway history.old }
+    ensures seats { OnOk result (history.new.seats ≡ history.old.seats) }
+    ensures events { OnOk result (history.new.events
+        ≡ settled_by history.old.seats history.old.events private bids.now) }
+    ensures underway { OnOk result (IsUnderway history.new) }
+{
+    let bidders = bidders_of(&history.now(), private, bids);
+    let won = auction(bidders.as_slice());
+    sell(history, private, won.0, price_paid(won))
+}
+
+/// What the winner of an auction pays, which is at most 99,999.
+fn price_paid(won: (Seat, Money)) -> Amount
+    requires sum { pos (unsigned_abs won.1) ≡ won.1 }
+    requires small { unsigned_abs won.1 ≤ 99999 }
+    ensures { result ≡ unsigned_abs won.1 }
+{
+    won.1 as Amount
+}
+
+/// Those who bid on a private, each with his bid and his limit.
+fn bidders_of(
+    past: &Past,
+    private: Private,
+    bids: &[Bid],
+) -> ArrayVec<(Seat, Money, Money), PLAYERS_MOST>
+    requires { length bids.now ≤ 6 }
+    ensures { result.items ≡ map (the_bidder_of past.now.seats past.now.events.now private)
+        bids.now }
+{
+    let mut bidders = ArrayVec::new();
+    for bid in bids {
+        bidders.push(bidder_of(past, private, *bid));
+    }
+    bidders
+}
+
+/// A bidder with his bid and his limit.
+fn bidder_of(past: &Past, private: Private, bid: Bid) -> (Seat, Money, Money)
+    ensures { result ≡ the_bidder_of past.now.seats past.now.events.now private bid }
+{
+    let amount = Money::from(bid.amount);
+    let limit = match past.limit(private, bid.seat) {
+        Some(ordered) => amount.max(Money::from(ordered).min(past.free_for(bid.seat, private))),
+        None => amount,
+    };
+    (bid.seat, amount, limit)
+}

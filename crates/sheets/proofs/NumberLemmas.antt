@@ -1,0 +1,91 @@
+-- The round of a sheet is one that its SHEET line names, so its number is small.
+use Rattle.std.proofs.Common.{◌≡◌, ℕ, ◌≤◌, ◌==◌, ◌↔◌, Bool, true, false, ◌&&◌, cond, List, [], ◌∷◌, Option, Some, None, Result, Ok, Err, IsSome, refl, ap, subst, arith, rules}
+use Rattle.std.specs.Option.{option_or}
+use Rattle.std.proofs.lemmas.Bool.{and_parts}
+use Rattle.std.proofs.lemmas.Bool.Decides.{nat_tests}
+use Rattle.order_grammar.specs.Line.{reading_of}
+use Rattle.order_grammar.specs.Spells.{Spells, is_small_round}
+use Rattle.order_grammar.specs.declared.fault.Fault.{Fault}
+use Rattle.order_grammar.specs.declared.order.Order.{Order}
+use Rattle.order_grammar.specs.declared.order.Order.TheVariants as order
+use Rattle.sheets.specs.File.{begins, block, body_of, is_sheet_line, lines_begun, players_of, post_at, post_begun, post_for, same_post, seat_from, sheet_in, sheet_of}
+use Rattle.sheets.specs.Laws.{SheetsAreNumbered, number_of}
+use Rattle.sheets.specs.declared.post.Post.{Post}
+use Rattle.tables.specs.Round.{number_most, same_round}
+use Rattle.tables.specs.declared.round.Round.{Round}
+use Rattle.tables.specs.declared.round.Round.TheVariants.{Opening, Stock, Operating}
+use Rattle.tables.specs.declared.seat.Seat.{Seat}
+
+-- a line is read as an order exactly where it spells that order
+abbrev pub ReadWhereSpelt : Type 0
+ReadWhereSpelt = (line : List ℕ) (order : Order) → (reading_of line ≡ Ok order) ↔ Spells line order
+
+-- the same round has the same number
+same_number : (a b : Round) → same_round a b ≡ true → number_of a ≡ number_of b
+same_number (Opening a) (Opening b) same = grind (arith, nat_tests)
+same_number (Stock a) (Stock b) same = grind (arith, nat_tests)
+same_number (Operating a m) (Operating b n) same =
+    let sets : (a == b) ≡ true = (and_parts (a == b) (m == n) same).0 in grind (arith, nat_tests)
+same_number (Opening a) (Stock b) same = cc
+same_number (Opening a) (Operating b n) same = cc
+same_number (Stock a) (Opening b) same = cc
+same_number (Stock a) (Operating b n) same = cc
+same_number (Operating a m) (Opening b) same = cc
+same_number (Operating a m) (Stock b) same = cc
+
+-- a round that a line names has a small number
+small_round : (round : Round) → is_small_round round ≡ true → number_of round ≤ number_most
+small_round (Opening number) small = grind (arith, nat_tests)
+small_round (Stock set) small = grind (arith, nat_tests)
+small_round (Operating set number) small = grind (arith, nat_tests)
+
+module _ (spelt : ReadWhereSpelt) (players : List (List ℕ)) where
+  -- a sheet is for the round that its line names
+  named_small : (line : List ℕ) (name : List ℕ) (round : Round) (seat : Option Seat) (post : Post) → reading_of line ≡ Ok (order.Sheet name round) → post_for round seat ≡ Some post → number_of post.round ≤ number_most
+  named_small line name round None post read begun = cc
+  named_small line name round (Some seat) post read begun =
+      let same : record { seat = seat; round = round } ≡ post = cc in
+      let small : (is_small_round round && true) ≡ true = ((spelt line (order.Sheet name round)).0 read).small in
+      subst (λ (r : Round). number_of r ≤ number_most) (ap (λ (one : Post). one.round) same) (small_round round (and_parts (is_small_round round) true small).0)
+
+  -- so is that of each sheet that a line with this reading begins
+  begun_small : (line : List ℕ) (reading : Result Order Fault) (post : Post) → reading_of line ≡ reading → post_begun players reading ≡ Some post → number_of post.round ≤ number_most
+  begun_small line (Ok (order.Sheet name round)) post read begun =
+      named_small line name round (seat_from 0 players name) post read begun
+  begun_small line (Ok other) post read begun = cc
+  begun_small line (Err fault) post read begun = cc
+
+  -- what is chosen is there
+  chosen : {X : Type 0} (b : Bool) (found : Option X) (x : X) → cond b found None ≡ Some x → found ≡ Some x
+  chosen true found x same = same
+  chosen false found x same = cc
+
+  -- and that of each sheet that a line begins
+  begins_small : (line : List ℕ) (post : Post) → begins players line ≡ Some post → number_of post.round ≤ number_most
+  unfolding begins
+  begins_small line post begun = begun_small line (reading_of line) post refl (chosen (is_sheet_line line) _ post begun)
+
+  -- the same post has a round as small
+  found_small : (one post : Post) (lines : List (List ℕ)) (same : Bool) → same_post one post ≡ same → number_of one.round ≤ number_most → IsSome (cond same (Some lines) None) → number_of post.round ≤ number_most
+  found_small one post lines true same small there =
+      subst (λ (n : ℕ). n ≤ number_most) (same_number one.round post.round (and_parts (one.seat.0 == post.seat.0) (same_round one.round post.round) same).1) small
+  found_small one post lines false same small there = absurd (search rules)
+
+  -- a sheet that is there was begun later, or by this line
+  there_small : (later : Option (List (List ℕ))) (begun : Option Post) (lines : List (List ℕ)) (post : Post) → (IsSome later → number_of post.round ≤ number_most) → ((one : Post) → begun ≡ Some one → number_of one.round ≤ number_most) → IsSome (option_or later (lines_begun post lines begun)) → number_of post.round ≤ number_most
+  there_small (Some more) begun lines post from_later from_begun there = from_later there
+  there_small None None lines post from_later from_begun there = from_later there
+  there_small None (Some one) lines post from_later from_begun there =
+      found_small one post lines (same_post one post) refl (from_begun one refl) there
+
+  -- and that of each sheet of these lines
+  pub sheet_small : (lines : List (List ℕ)) (post : Post) → IsSome (sheet_in players lines post) → number_of post.round ≤ number_most
+  sheet_small [] post there = absurd (search rules)
+  sheet_small (line ∷ lines) post there =
+      there_small (sheet_in players lines post) (begins players line) (block lines) post (sheet_small lines post) (begins_small line) there
+
+-- no sheet is for a round past 99,999
+pub sheets_are_numbered_law : ReadWhereSpelt → SheetsAreNumbered
+unfolding sheet_of
+sheets_are_numbered_law spelt file seat round there =
+    sheet_small spelt (players_of file) (body_of file) (post_at seat round) there

@@ -1,0 +1,111 @@
+-- A sheet is taken apart at its heads. In an opening or stock round's sheet each TURN line up to line
+-- 512 is a head, and opens a group; in an operating round's sheet the lines that name a company will
+-- be heads, and open blocks: no line spells such an order yet. The lines before the first head stand
+-- alone. A line past 512 has that fault before any other, so it is no head.
+use Rattle.std.specs.Prelude.{◌≡◌, ℕ, ◌+◌, Bool, true, false, nat_lt, if◌then◌else◌, List, [], ◌∷◌, length, map, Option, Some, None, Result, Ok, Err, unwrap_or}
+use Rattle.order_grammar.specs.Line.{order_of, reading_of}
+use Rattle.order_grammar.specs.declared.fault.Fault.{Fault}
+use Rattle.order_grammar.specs.declared.fault.Fault.TheVariants.{PastLastLine}
+use Rattle.order_grammar.specs.declared.order.Order.{Order}
+use Rattle.order_grammar.specs.declared.order.Order.TheVariants.{Turn}
+use Rattle.sheets.specs.File.{sheet_of}
+use Rattle.sheets.specs.Limits.{lines_most}
+use Rattle.sheets.specs.Sheet.{Unruled}
+use Rattle.sheets.specs.declared.sheet.NumberedLine.{NumberedLine}
+use Rattle.tables.specs.declared.round.Round.{Round}
+use Rattle.tables.specs.declared.round.Round.TheVariants.{Operating}
+
+-- a line where it stands in its sheet: its number, and its order or the first fault that it has there
+pub record Numbered : Type 0 where
+  pub number : ℕ
+  pub reading : Result Order Fault
+
+-- what a line with this number is where it stands, if by itself it is this
+abbrev pub reading_at : ℕ → Result Order Fault → Result Order Fault
+reading_at number reading = if nat_lt lines_most number then Err PastLastLine else reading
+
+-- the line with this number that by itself is this
+abbrev pub numbered : ℕ → Result Order Fault → Numbered
+numbered number reading = record { number = number; reading = reading_at number reading }
+
+-- a line that was read, where it stands
+abbrev pub line_read : NumberedLine → Numbered
+line_read line = numbered line.number (order_of line.reading)
+
+-- the order that opens a group
+abbrev pub is_turn : Result Order Fault → Bool
+is_turn (Ok Turn) = true
+is_turn other = false
+
+-- a line with this reading opens a part of a sheet for this round
+abbrev pub opens_part : Round → Result Order Fault → Bool
+opens_part (Operating set number) reading = false
+opens_part round reading = is_turn reading
+
+-- a group or block: its head, and the lines after that up to the next head
+pub record Part : Type 0 where
+  pub head : Numbered
+  pub lines : List Numbered
+
+-- lines in their parts: those before the first head, and what the heads open
+pub record Parts : Type 0 where
+  pub before : List Numbered
+  pub opened : List Part
+
+-- a head in front of these parts: it opens the lines that came first
+abbrev pub after_head : Numbered → Parts → Parts
+after_head head parts =
+    record { before = []; opened = record { head = head; lines = parts.before } ∷ parts.opened }
+
+-- a line that is no head in front of these parts
+abbrev pub after_line : Numbered → Parts → Parts
+after_line line parts = record { before = line ∷ parts.before; opened = parts.opened }
+
+-- a line in front of these parts, where readings that pass this test open a part
+abbrev pub with_line : (Result Order Fault → Bool) → Numbered → Parts → Parts
+with_line opens line parts = if opens line.reading then after_head line parts else after_line line parts
+
+-- the parts of lines of which so many came before
+abbrev pub parts_after : (Result Order Fault → Bool) → ℕ → List (List ℕ) → Parts
+parts_after opens count [] = record { before = []; opened = [] }
+parts_after opens count (line ∷ lines) =
+    with_line opens (numbered (count + 1) (reading_of line)) (parts_after opens (count + 1) lines)
+
+-- the parts of the lines of a sheet for a round that are still to come
+abbrev pub parts_left : Round → Unruled → Parts
+parts_left round unruled = parts_after (opens_part round) unruled.number unruled.lines
+
+-- the parts of the lines of a sheet for a round
+abbrev pub parts_of : Round → List (List ℕ) → Parts
+parts_of round lines = parts_after (opens_part round) 0 lines
+
+-- the parts of the sheet of a seat for a round; without a sheet there are none
+abbrev pub parts_for : List ℕ → Round → ℕ → Parts
+parts_for file round seat = parts_of round (unwrap_or (sheet_of file seat round) [])
+
+-- the lines of each group or block
+abbrev pub groups_of : Parts → List (List Numbered)
+groups_of parts = map (λ part. part.lines) parts.opened
+
+-- no line is left before the next head
+abbrev pub StandsAtHead : Parts → Type 0
+StandsAtHead parts = parts.before ≡ []
+
+-- how many lines some groups have
+abbrev pub lines_in_groups : List (List Numbered) → ℕ
+lines_in_groups [] = 0
+lines_in_groups (group ∷ groups) = length group + lines_in_groups groups
+
+-- how many lines there are, heads not counted
+abbrev pub lines_in : Parts → ℕ
+lines_in parts = length parts.before + lines_in_groups (groups_of parts)
+
+-- the next line before the next head is taken, if there is one
+abbrev pub TakesOrdinary : Parts → Option NumberedLine → Parts → Type 0
+TakesOrdinary old None new = StandsAtHead old × (new ≡ old)
+TakesOrdinary old (Some line) new = old ≡ after_line (line_read line) new
+
+-- the next head is taken, if there is one
+abbrev pub TakesHead : Parts → Option NumberedLine → Parts → Type 0
+TakesHead old None new = (old.opened ≡ []) × (new ≡ old)
+TakesHead old (Some head) new = old ≡ after_head (line_read head) new

@@ -1,0 +1,25 @@
+-- Which orders have a place where a line stands is said by the kind of the round, and by whether the
+-- line stands before the first head or in a part. An order without a place is a fault of its line,
+-- after those that the line has by itself.
+use Rattle.std.specs.Prelude.{Bool, true, false, if◌then◌else◌, Result, Ok, Err}
+use Rattle.order_grammar.specs.declared.fault.Fault.{Fault}
+use Rattle.order_grammar.specs.declared.fault.Fault.TheVariants.{OutOfPlace}
+use Rattle.order_grammar.specs.declared.order.Order.{Order}
+use Rattle.order_grammar.specs.declared.order.Order.TheVariants as order
+
+-- the order belongs to the file and its sheets, and is none of play: in no part has it a place
+abbrev pub is_of_file : Order → Bool
+is_of_file (order.Game game version) = true
+is_of_file (order.Players names) = true
+is_of_file (order.Sheet name round) = true
+is_of_file order.Turn = true
+is_of_file other = false
+
+-- what a line with this reading is, where the orders that pass this test have a place
+abbrev pub placed : (Order → Bool) → Result Order Fault → Result Order Fault
+placed has_place (Err fault) = Err fault
+placed has_place (Ok order) = if has_place order then Ok order else Err OutOfPlace
+
+-- no order has a place here
+abbrev pub has_no_place : Order → Bool
+has_no_place order = false

@@ -1,0 +1,101 @@
+ghost use Rattle.std.specs.Prelude.{◌≡◌, []};
+ghost use Rattle.sheets.specs.Part.{StandsAtHead, TakesHead, TakesOrdinary, line_read, lines_in, opens_part as opens_a_part, parts_left};
+
+use crate::sheet::{Lines, NumberedLine};
+use order_grammar::Order;
+use std::marker::Model;
+use tables::Round;
+
+/// What is still to be taken up of a sheet: the lines before the next head, and then group after
+/// group, or block after block, each with its head.
+///
+/// In the sheet of an opening or a stock round a TURN line up to line `LINES_MOST` is a head. In
+/// that of an operating round no line is one yet.
+#[derive(Debug, Drop)]
+pub struct PartsLeft<'a> {
+    lines: Lines<'a>,
+    round: Round,
+}
+
+/// To a contract it is those lines in their parts.
+impl<'a> Model for PartsLeft<'a> {
+    ghost use Rattle.sheets.specs.Part.{Parts, parts_left};
+
+    ghost Value = { Parts };
+
+    ghost view = { λ left. parts_left left.round left.lines };
+}
+
+impl<'a> PartsLeft<'a> {
+    /// The parts of these lines of a sheet for this round.
+    pub(crate) fn of(lines: Lines<'a>, round: Round) -> PartsLeft<'a>
+        ensures { result ≡ parts_left round lines.entry }
+    {
+        PartsLeft { lines, round }
+    }
+
+    /// The same once more.
+    pub fn duplicate(&self) -> PartsLeft<'a>
+        ensures { result ≡ self.now }
+    {
+        PartsLeft {
+            lines: self.lines.duplicate(),
+            round: self.round,
+        }
+    }
+
+    /// Takes the next line before the next head; `None` where there is none, and then nothing is
+    /// taken.
+    pub fn take_line(&mut self) -> Option<NumberedLine<'a>>
+        ensures { TakesOrdinary self.old result self.new }
+    {
+        let mut ahead = self.lines.duplicate();
+        let line = ahead.take_line()?;
+        if opens_part(self.round, &line) {
+            return None;
+        }
+        self.lines = ahead;
+        Some(line)
+    }
+
+    /// Takes the next head, which opens the lines after it; `None` where there is no head left.
+    pub fn take_head(&mut self) -> Option<NumberedLine<'a>>
+        requires { StandsAtHead self.old }
+        ensures { TakesHead self.old result self.new }
+    {
+        self.lines.take_line()
+    }
+
+    /// How many lines are left, heads not counted.
+    pub fn count(&self) -> u32
+        ensures { result ≡ lines_in self.now }
+    {
+        let mut rest = self.lines.duplicate();
+        let mut count: u32 = 0;
+        while let Some(line) = rest.take_line() {
+            if !opens_part(self.round, &line) {
+                count += 1;
+            }
+        }
+        count
+    }
+}
+
+/// Nothing left.
+impl<'a> Default for PartsLeft<'a> {
+    ghost is_default = { λ left. left ≡ record { before = []; opened = [] } };
+
+    fn default() -> PartsLeft<'a> {
+        PartsLeft::of(Lines::none(), Round::Opening(1))
+    }
+}
+
+/// Whether a line opens a part of a sheet for a round.
+fn opens_part(round: Round, line: &NumberedLine) -> bool
+    ensures { result ≡ opens_a_part round (line_read line.now).reading }
+{
+    match round {
+        Round::Opening(_) | Round::Stock(_) => matches!(line.order(), Ok(Order::Turn)),
+        Round::Operating { .. } => false,
+    }
+}

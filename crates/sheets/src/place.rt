@@ -1,0 +1,28 @@
+ghost use Rattle.std.specs.Prelude.{◌≡◌, Err};
+ghost use Rattle.sheets.specs.Part.{line_read};
+ghost use Rattle.sheets.specs.Place.{has_no_place, is_of_file as belongs_to_file, placed};
+
+use crate::sheet::NumberedLine;
+use order_grammar::{Fault, Order};
+
+/// Whether an order belongs to the file and its sheets and is none of play, so that no part of a
+/// sheet has a place for it: GAME, PLAYERS, SHEET, and TURN where it is no head.
+pub fn is_of_file(order: &Order) -> bool
+    ensures { result ≡ belongs_to_file order.now }
+{
+    matches!(
+        order,
+        Order::Game { .. } | Order::Players(_) | Order::Sheet { .. } | Order::Turn
+    )
+}
+
+/// The fault of a line where no order has a place: its first fault where it stands, else
+/// `OutOfPlace`.
+pub fn fault_out_of_place(line: &NumberedLine) -> Fault
+    ensures { placed has_no_place (line_read line.now).reading ≡ Err result }
+{
+    match line.order() {
+        Ok(_) => Fault::OutOfPlace,
+        Err(fault) => fault,
+    }
+}
