@@ -1,5 +1,6 @@
 //! Shares of the companies, their par values, squares and presidents.
 ghost use Rattle.std.specs.Prelude.{◌≡◌, option_map, pos};
+ghost use Rattle.history.specs.LookBack.{IsModerate};
 ghost use Rattle.history.specs.Shares.{is_started, par_of, president_of, shares_of, square_of, start_tenths};
 
 use crate::aspect::{balance, last_said};
@@ -14,7 +15,8 @@ pub type Tenths = i128;
 impl Past<'_> {
     /// The tenths of a company at a place.
     pub fn shares(&self, company: Company, place: Shareholder) -> Tenths
-        ensures { result ≡ shares_of self.now.events.now company place }
+        ensures sum { result ≡ shares_of self.now.events.now company place }
+        ensures within { IsModerate result }
     {
         balance(&Shares(company, place), start_tenths(place), self.events)
     }
