@@ -10,7 +10,7 @@ use Rattle.history.specs.declared.event.Party.TheVariants as party
 use Rattle.tables.specs.Roster.{place_of_company}
 use Rattle.tables.specs.Seat.{seat_at}
 use Rattle.tables.specs.declared.roster.Company.{Company}
-use Rattle.treasury.proofs.Tables.{entry_changed}
+use Rattle.tables.proofs.Filled.{entry_changed}
 use Rattle.treasury.specs.Accounts.{AreAccountsOf, AreModerate, HasAccount, cash_in, part_of}
 use Rattle.treasury.specs.declared.accounts.Accounts.{Accounts}
 

@@ -1,13 +1,14 @@
-use Rattle.std.proofs.Common.{◌≡◌, ℕ, ℤ, get_or, ap, ◌∙◌, arith, rules}
+use Rattle.std.proofs.Common.{◌≡◌, ℕ, ℤ, get_or, pos, ap, ◌∙◌, arith, rules}
 use Rattle.std.proofs.lemmas.List.{length-set}
 use Rattle.history.specs.LookBack.{IsModerate, cash_of}
 use Rattle.history.specs.declared.event.Holder.TheVariants as holder
 use Rattle.history.specs.declared.event.Party.{Party}
 use Rattle.history.specs.declared.event.Party.TheVariants as party
+use Rattle.tables.proofs.Filled.{at_places}
 use Rattle.tables.specs.Roster.{companies}
 use Rattle.tables.specs.declared.roster.Company.{Company}
 use Rattle.tables.specs.declared.roster.Company.TheVariants as company
-use Rattle.treasury.proofs.Tables.{at_places, filled_more}
+use Rattle.treasury.proofs.Tables.{filled_more}
 use Rattle.treasury.proofs.accounts.cash_of_companies.Goals as goal
 use mir.Syntax.{w128}
 use mir.Val.{SFits}
@@ -24,7 +25,7 @@ loop-place-preserved c =
     }
 
 pub returns-clause-cash : goal.returns-clause-cash
-returns-clause-cash c = at_places (λ (its : Company) (z : ℤ). z ≡ cash_of c.args.now.now.seats c.args.now.now.events.now (party.Holder (holder.Company its))) _ (λ k less. c.loop-place.invariant.cash k (omega (arith, less, c.loop-place-test.false)))
+returns-clause-cash c = at_places (λ (its : Company) (z : ℤ). z ≡ cash_of c.args.now.now.seats c.args.now.now.events.now (party.Holder (holder.Company its))) (pos 0) _ (λ k less. c.loop-place.invariant.cash k (omega (arith, less, c.loop-place-test.false)))
 
 pub returns-clause-moderate : goal.returns-clause-moderate
-returns-clause-moderate c = at_places (λ (its : Company) (z : ℤ). IsModerate z) _ (λ k less. c.loop-place.invariant.moderate k (omega (arith, less, c.loop-place-test.false)))
+returns-clause-moderate c = at_places (λ (its : Company) (z : ℤ). IsModerate z) (pos 0) _ (λ k less. c.loop-place.invariant.moderate k (omega (arith, less, c.loop-place-test.false)))

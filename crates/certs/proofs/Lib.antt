@@ -1,0 +1,5 @@
+mod RowLemmas
+mod Moves
+mod Transfers
+mod Presidents
+mod Counts

@@ -1,0 +1,168 @@
+-- Rows of tenths.
+use Rattle.std.proofs.Common.{◌≡◌, ℕ, zero, suc, ◌*◌, ◌^◌, ◌<◌, List, [], ◌∷◌, ℤ, pos, ◌+ℤ◌, ◌≤ℤ◌, ◌-ℤ◌, ◌==◌, if◌then◌else◌, Bool, true, false, length, get_or, set, refl, sym, subst, ap, inl, inr, arith}
+use lib.IntN.{neg_ℤ}
+use Rattle.std.proofs.lemmas.Bool.{cases_eq, cases_lt}
+use Rattle.std.proofs.lemmas.Bool.Decides.{nat_tests}
+use Rattle.std.proofs.lemmas.Int.{ints}
+use Rattle.std.proofs.lemmas.List.{get_or_past, get_or-set_other, get_or-set_same, length-set}
+use Rattle.tables.proofs.Filled.{entry_changed}
+use Rattle.certs.specs.Rows.{IsBounded, IsSmall, index_of, total}
+use Rattle.history.specs.LookBack.{IsModerate}
+use Rattle.history.specs.declared.event.Shareholder.{Shareholder}
+use Rattle.history.specs.declared.event.Shareholder.TheVariants.{InitialOffering, BankPool, Seat as OfSeat}
+use Rattle.tables.specs.Seat.{seat_at}
+
+-- two places with one index are the same
+pub one_index : (a b : Shareholder) → index_of a ≡ index_of b → a ≡ b
+one_index InitialOffering InitialOffering same = refl
+one_index BankPool BankPool same = refl
+one_index (OfSeat a) (OfSeat b) same = let number : a.0 ≡ b.0 = omega arith in ap (λ (n : ℕ). OfSeat (seat_at n)) number
+one_index InitialOffering BankPool same = absurd (omega arith)
+one_index InitialOffering (OfSeat b) same = absurd (omega arith)
+one_index BankPool InitialOffering same = absurd (omega arith)
+one_index BankPool (OfSeat b) same = absurd (omega arith)
+one_index (OfSeat a) InitialOffering same = absurd (omega arith)
+one_index (OfSeat a) BankPool same = absurd (omega arith)
+
+-- the sum of moderate entries
+total_le : (row : List ℤ) → ((i : ℕ) → get_or row i (pos 0) ≤ℤ pos (2 ^ 100)) → total row ≤ℤ pos (length row * 2 ^ 100)
+total_le [] each = omega (arith, ints)
+total_le (tenths ∷ others) each =
+    let first = each 0 in
+    let rest = total_le others (λ i. each (suc i)) in
+    omega (arith, ints, first, rest)
+
+-- eight moderate entries are bounded
+pub bounded_of : (row : List ℤ) → length row ≡ 8 → ((i : ℕ) → IsModerate (get_or row i (pos 0))) → IsBounded row
+bounded_of row eight each =
+    let all = total_le row (λ i. (each i).not_over) in
+    record {
+      not_under = λ i. (each i).not_under;
+      not_over = omega (arith, ints, all, eight);
+      short = omega (arith, eight);
+    }
+
+-- past the end of a row lies nothing
+pub moderate_all : (row : List ℤ) → length row ≡ 8 → ((i : ℕ) → i < 8 → IsModerate (get_or row i (pos 0))) → (i : ℕ) → IsModerate (get_or row i (pos 0))
+moderate_all row eight each i =
+    elim (cases_lt i 8) [
+      | inl within ↦ each i within
+      | inr past ↦ subst (λ (z : ℤ). IsModerate z) (sym (get_or_past row i (pos 0) (omega (arith, eight)))) (record { not_under = omega (arith, ints); not_over = omega (arith, ints) })
+    ]
+
+-- the sum of entries that are not under a bound
+total_ge : (row : List ℤ) → ((i : ℕ) → neg_ℤ (pos (2 ^ 100)) ≤ℤ get_or row i (pos 0)) → neg_ℤ (pos (length row * 2 ^ 100)) ≤ℤ total row
+total_ge [] each = omega (arith, ints)
+total_ge (tenths ∷ others) each =
+    let first = each 0 in
+    let rest = total_ge others (λ i. each (suc i)) in
+    omega (arith, ints, first, rest)
+
+-- an entry beside the sum
+entry_le : (row : List ℤ) (i : ℕ) → ((i : ℕ) → neg_ℤ (pos (2 ^ 100)) ≤ℤ get_or row i (pos 0)) → get_or row i (pos 0) ≤ℤ (total row +ℤ pos (length row * 2 ^ 100))
+entry_le [] i each = omega (arith, ints)
+entry_le (tenths ∷ others) zero each =
+    let first = each 0 in
+    let rest = total_ge others (λ i. each (suc i)) in
+    omega (arith, ints, first, rest)
+entry_le (tenths ∷ others) (suc i) each =
+    let first = each 0 in
+    let rest = entry_le others i (λ i. each (suc i)) in
+    omega (arith, ints, first, rest)
+
+-- an entry of a bounded row is not large
+pub entry_small : (row : List ℤ) (i : ℕ) → IsBounded row → get_or row i (pos 0) ≤ℤ pos (2 ^ 104)
+entry_small row i bounded =
+    let small = entry_le row i bounded.not_under in
+    let sum = bounded.not_over in
+    let short = bounded.short in
+    omega (arith, ints, small, sum, short)
+
+-- the sum with one entry changed
+total_set : (row : List ℤ) (i : ℕ) (entry : ℤ) → i < length row → total (set row i entry) ≡ (total row +ℤ entry) -ℤ get_or row i (pos 0)
+total_set [] i entry within = absurd (omega arith)
+total_set (tenths ∷ others) zero entry within = omega (arith, ints)
+total_set (tenths ∷ others) (suc i) entry within =
+    let rest = total_set others i entry (omega arith) in
+    omega (arith, ints, rest)
+
+-- a part of a sum at a place
+abbrev part : ℕ → ℕ → ℤ → ℤ
+part i k sum = if i == k then sum else pos 0
+
+-- two changes of an entry
+parts : (from to : Bool) (before between after tenths : ℤ) → between ≡ before +ℤ (if from then pos 0 -ℤ tenths else pos 0) → after ≡ between +ℤ (if to then tenths else pos 0) → after ≡ (before +ℤ (if to then tenths else pos 0)) -ℤ (if from then tenths else pos 0)
+parts true true before between after tenths first second = omega (arith, ints)
+parts true false before between after tenths first second = omega (arith, ints)
+parts false true before between after tenths first second = omega (arith, ints)
+parts false false before between after tenths first second = omega (arith, ints)
+
+-- where the giver has the tenths, no entry falls under the bound
+not_under_moved : (row : List ℤ) (from k : ℕ) (to : Bool) (tenths after : ℤ) → pos 0 ≤ℤ tenths → tenths ≤ℤ get_or row from (pos 0) → neg_ℤ (pos (2 ^ 100)) ≤ℤ get_or row k (pos 0) → after ≡ (get_or row k (pos 0) +ℤ (if to then tenths else pos 0)) -ℤ part from k tenths → neg_ℤ (pos (2 ^ 100)) ≤ℤ after
+not_under_moved row from k to tenths after some held under is =
+    elim (cases_eq from k) [
+      | inl same ↦ let here : tenths ≤ℤ get_or row k (pos 0) = subst (λ (i : ℕ). tenths ≤ℤ get_or row i (pos 0)) same held in grind (arith, ints, nat_tests)
+      | inr apart ↦ grind (arith, ints, nat_tests)
+    ]
+
+-- an entry after tenths have gone from one place to another
+pub entry_moved : (row : List ℤ) (from to k : ℕ) (tenths less more : ℤ) → from < length row → to < length row → less ≡ get_or row from (pos 0) -ℤ tenths → more ≡ get_or (set row from less) to (pos 0) +ℤ tenths → get_or (set (set row from less) to more) k (pos 0) ≡ (get_or row k (pos 0) +ℤ part to k tenths) -ℤ part from k tenths
+entry_moved row from to k tenths less more from_in to_in is_less is_more =
+    let first = entry_changed row from k (pos 0 -ℤ tenths) less from_in (omega (arith, ints, is_less)) in
+    let length_same = length-set row from less in
+    let second = entry_changed (set row from less) to k tenths more (omega (arith, to_in, length_same)) is_more in
+    parts (from == k) (to == k) _ _ _ tenths first second
+
+-- tenths that go from a bounded row's place to another leave it bounded
+pub bounded_moved : (row : List ℤ) (from to : ℕ) (tenths less more : ℤ) → from < length row → to < length row → pos 0 ≤ℤ tenths → tenths ≤ℤ get_or row from (pos 0) → less ≡ get_or row from (pos 0) -ℤ tenths → more ≡ get_or (set row from less) to (pos 0) +ℤ tenths → IsBounded row → IsBounded (set (set row from less) to more)
+bounded_moved row from to tenths less more from_in to_in some held is_less is_more bounded =
+    let length_same = length-set row from less in
+    let first = total_set row from less from_in in
+    let second = total_set (set row from less) to more (omega (arith, to_in, length_same)) in
+    let sum = bounded.not_over in
+    record {
+      not_under = λ k. not_under_moved row from k (to == k) tenths _ some held (bounded.not_under k) (entry_moved row from to k tenths less more from_in to_in is_less is_more);
+      not_over = omega (arith, ints, first, second, is_less, is_more, sum);
+      short = omega (arith, length_same, length-set (set row from less) to more, bounded.short);
+    }
+
+-- less a part of a sum
+less_part : (part_there : Bool) (before after tenths : ℤ) → pos 0 ≤ℤ tenths → after ≡ (before +ℤ pos 0) -ℤ (if part_there then tenths else pos 0) → after ≤ℤ before
+less_part true before after tenths some is = omega (arith, ints)
+less_part false before after tenths some is = omega (arith, ints)
+
+-- an entry between the two steps of a move
+pub small_between : (row : List ℤ) (from k : ℕ) (tenths less : ℤ) → from < length row → pos 0 ≤ℤ tenths → tenths ≤ℤ get_or row from (pos 0) → less ≡ get_or row from (pos 0) -ℤ tenths → IsBounded row → IsSmall (get_or (set row from less) k (pos 0))
+small_between row from k tenths less from_in some held is_less bounded =
+    let first = entry_changed row from k (pos 0 -ℤ tenths) less from_in (omega (arith, ints, is_less)) in
+    let there = parts (from == k) false _ _ (get_or (set row from less) k (pos 0)) tenths first (omega (arith, ints)) in
+    let small = entry_small row k bounded in
+    let fewer = less_part (from == k) (get_or row k (pos 0)) (get_or (set row from less) k (pos 0)) tenths some there in
+    record {
+      not_under = not_under_moved row from k false tenths _ some held (bounded.not_under k) there;
+      not_over = omega (arith, ints, small, fewer);
+    }
+
+-- a row without entries is bounded
+none_bounded : IsBounded []
+none_bounded = record { not_under = λ i. omega (arith, ints); not_over = omega (arith, ints); short = omega arith }
+
+-- where each of eight rows is bounded, all are
+pub bounded_all : (rows : List (List ℤ)) → length rows ≡ 8 → ((k : ℕ) → k < 8 → IsBounded (get_or rows k [])) → (k : ℕ) → IsBounded (get_or rows k [])
+bounded_all rows eight each k =
+    elim (cases_lt k 8) [
+      | inl within ↦ each k within
+      | inr past ↦ subst (λ (row : List ℤ). IsBounded row) (sym (get_or_past rows k [] (omega (arith, eight)))) none_bounded
+    ]
+
+-- with one row changed all are bounded
+pub bounded_set : (rows : List (List ℤ)) (at : ℕ) (row : List ℤ) → at < length rows → IsBounded row → ((k : ℕ) → IsBounded (get_or rows k [])) → (k : ℕ) → IsBounded (get_or (set rows at row) k [])
+bounded_set rows at row within bounded each k =
+    elim (cases_eq k at) [
+      | inl same ↦ subst (λ (i : ℕ). IsBounded (get_or (set rows at row) i [])) (sym same) (subst (λ (r : List ℤ). IsBounded r) (sym (get_or-set_same rows at row [] within)) bounded)
+      | inr apart ↦ subst (λ (r : List ℤ). IsBounded r) (sym (get_or-set_other rows at k row [] apart)) (each k)
+    ]
+
+-- an entry of a bounded row is small
+pub small_in : (row : List ℤ) (i : ℕ) → IsBounded row → IsSmall (get_or row i (pos 0))
+small_in row i bounded = record { not_under = bounded.not_under i; not_over = entry_small row i bounded }

@@ -1,0 +1,74 @@
+-- How many certificates of a seat count against the limit: its open privates, and of each company whose
+-- square lies in no zone, or that has no square, its tenths, less one if the seat presides, since the
+-- president's certificate is two tenths.
+use Rattle.std.specs.Prelude.{◌≡◌, ℕ, ◌<◌, ◌==◌, Bool, true, false, if◌then◌else◌, List, [], ◌∷◌, Option, Some, None, sum_by, ℤ, pos, ◌+ℤ◌, ◌-ℤ◌}
+use Rattle.certs.specs.Holdings.{AreHoldingsOf, president_in, square_in, tenths_in}
+use Rattle.certs.specs.declared.holdings.Holdings.{Holdings}
+use Rattle.history.specs.LookBack.{Game, owner_in, owner_of}
+use Rattle.history.specs.Shares.{president_of, shares_of, square_of}
+use Rattle.history.specs.declared.event.Event.{Event}
+use Rattle.history.specs.declared.event.Holder.{Holder}
+use Rattle.history.specs.declared.event.Holder.TheVariants as holder
+use Rattle.history.specs.declared.event.Shareholder.TheVariants.{Seat as OfSeat}
+use Rattle.tables.specs.Chart.{zone_of}
+use Rattle.tables.specs.Roster.{companies, privates}
+use Rattle.tables.specs.declared.roster.Company.{Company}
+use Rattle.tables.specs.declared.roster.Private.{Private}
+use Rattle.tables.specs.declared.seat.Seat.{Seat}
+use Rattle.tables.specs.declared.squares.Square.{Square}
+use Rattle.tables.specs.declared.squares.Zone.{Zone}
+use Rattle.tables.specs.declared.squares.Zone.TheVariants.{White, Yellow, Orange, Brown}
+
+-- 1 for a private that the seat owns
+abbrev pub one_owned : Seat → Option Holder → ℕ
+one_owned seat None = 0
+one_owned seat (Some (holder.Seat owner)) = if owner.0 == seat.0 then 1 else 0
+one_owned seat (Some (holder.Company company)) = 0
+
+-- how many privates the seat owns
+abbrev pub privates_owned : (Private → Option Holder) → Seat → ℕ
+privates_owned owner seat = sum_by (λ private. one_owned seat (owner private)) privates
+
+-- the zone is none
+abbrev is_white : Zone → Bool
+is_white White = true
+is_white Yellow = false
+is_white Orange = false
+is_white Brown = false
+
+-- the certificates of a company on this square count
+abbrev pub counts_on : Option Square → Bool
+counts_on None = true
+counts_on (Some square) = is_white (zone_of square)
+
+-- the seat presides
+abbrev pub presides : Seat → Option Seat → Bool
+presides seat None = false
+presides seat (Some president) = president.0 == seat.0
+
+-- the certificates of so many tenths of a company
+abbrev pub certificates_of : Seat → Option Square → Option Seat → ℤ → ℤ
+certificates_of seat square president tenths =
+    if counts_on square then (if presides seat president then tenths -ℤ pos 1 else tenths) else pos 0
+
+-- the certificates of these companies
+abbrev pub certificates_in : (Company → ℤ) → List Company → ℤ
+certificates_in certificates [] = pos 0
+certificates_in certificates (company ∷ others) = certificates company +ℤ certificates_in certificates others
+
+-- how many of a seat's certificates count, by the holdings
+abbrev pub counted_in : Holdings → Seat → ℤ
+counted_in holdings seat =
+    pos (privates_owned (owner_in holdings.owners) seat)
+    +ℤ certificates_in (λ company. certificates_of seat (square_in holdings company) (president_in holdings company) (tenths_in holdings company (OfSeat seat))) companies
+
+-- how many count, by the events of a game
+abbrev pub counted_of : List Event → Seat → ℤ
+counted_of events seat =
+    pos (privates_owned (owner_of events) seat)
+    +ℤ certificates_in (λ company. certificates_of seat (square_of events company) (president_of events company) (shares_of events company (OfSeat seat))) companies
+
+-- as many count by the holdings of a game as by its events
+abbrev pub CountsByGame : Type 0
+CountsByGame =
+    (game : Game) (holdings : Holdings) (seat : Seat) → AreHoldingsOf game holdings → seat.0 < 6 → counted_in holdings seat ≡ counted_of game.events seat

@@ -1,0 +1,43 @@
+-- The holdings of a game: the tenths of each company at each place, who its president was said to be last,
+-- its square, and the owners of the privates. A transfer moves tenths and nothing else.
+use Rattle.std.specs.Prelude.{◌≡◌, [], Option, Some, None, ℤ, pos, ◌+ℤ◌, ◌-ℤ◌, slice_index_or}
+use Rattle.certs.specs.Rows.{HasPlace, index_of}
+use Rattle.certs.specs.declared.holdings.Holdings.{Holdings}
+use Rattle.history.specs.LookBack.{Game, owner_in, owner_of}
+use Rattle.history.specs.Shares.{brought_to, president_of, shares_of, square_of, taken_from}
+use Rattle.history.specs.declared.event.Shareholder.{Shareholder}
+use Rattle.history.specs.declared.event.Transfer.{Transfer}
+use Rattle.tables.specs.Roster.{place_of_company}
+use Rattle.tables.specs.declared.roster.Company.{Company}
+use Rattle.tables.specs.declared.roster.Private.{Private}
+use Rattle.tables.specs.declared.seat.Seat.{Seat}
+use Rattle.tables.specs.declared.squares.Square.{Square}
+
+-- the tenths of a company at a place
+abbrev pub tenths_in : Holdings → Company → Shareholder → ℤ
+tenths_in holdings company place =
+    slice_index_or (slice_index_or holdings.tenths (place_of_company company) []) (index_of place) (pos 0)
+
+-- the president of a company, as it was said last
+abbrev pub president_in : Holdings → Company → Option Seat
+president_in holdings company = slice_index_or holdings.presidents (place_of_company company) None
+
+-- the square of a company
+abbrev pub square_in : Holdings → Company → Option Square
+square_in holdings company = slice_index_or holdings.squares (place_of_company company) None
+
+-- the holdings are those of a game
+pub record AreHoldingsOf (game : Game) (holdings : Holdings) : Type 0 where
+  pub seats : holdings.seats ≡ game.seats
+  pub tenths : (company : Company) (place : Shareholder) → HasPlace place → tenths_in holdings company place ≡ shares_of game.events company place
+  pub presidents : (company : Company) → president_in holdings company ≡ president_of game.events company
+  pub squares : (company : Company) → square_in holdings company ≡ square_of game.events company
+  pub owners : (private : Private) → owner_in holdings.owners private ≡ owner_of game.events private
+
+-- a transfer moves its tenths, and nothing else
+pub record MovesTenths (old new : Holdings) (transfer : Transfer) : Type 0 where
+  pub tenths : (company : Company) (place : Shareholder) → tenths_in new company place ≡ (tenths_in old company place +ℤ pos (brought_to company place (Some transfer))) -ℤ pos (taken_from company place (Some transfer))
+  pub seats : new.seats ≡ old.seats
+  pub presidents : new.presidents ≡ old.presidents
+  pub squares : new.squares ≡ old.squares
+  pub owners : new.owners ≡ old.owners

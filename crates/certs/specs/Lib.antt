@@ -1,0 +1,4 @@
+pub mod Rows
+pub mod Holdings
+pub mod President
+pub mod Counted

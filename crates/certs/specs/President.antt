@@ -1,0 +1,43 @@
+-- Who presides over a company. The president stays unless some seat has strictly more tenths; then it is
+-- the seat with most, among equals the first to the president's left.
+use Rattle.std.specs.Prelude.{◌≡◌, ◌⊎◌, ℕ, ◌-◌, if◌then◌else◌, List, [], ◌∷◌, Option, ℤ, ◌≤ℤ◌, ◌<ℤ◌, option_map}
+use lib.Signed.{lt_z}
+use Rattle.certs.specs.Holdings.{president_in, tenths_in}
+use Rattle.certs.specs.declared.holdings.Holdings.{Holdings}
+use Rattle.history.specs.declared.event.Shareholder.TheVariants.{Seat as OfSeat}
+use Rattle.tables.specs.Seat.{left_of, seats_from}
+use Rattle.tables.specs.declared.roster.Company.{Company}
+use Rattle.tables.specs.declared.seat.Seat.{Seat}
+
+-- the better of two seats: the second where it has strictly more tenths
+abbrev pub better_of : (Seat → ℤ) → Seat → Seat → Seat
+better_of tenths best seat = if lt_z (tenths best) (tenths seat) then seat else best
+
+-- the seat with most tenths among a seat and others in order, the first of those that have as many
+abbrev pub with_most : (Seat → ℤ) → Seat → List Seat → Seat
+with_most tenths best [] = best
+with_most tenths best (seat ∷ others) = with_most tenths (better_of tenths best seat) others
+
+-- the other seats of a table, to the left
+abbrev pub others_from : ℕ → Seat → List Seat
+others_from seats seat = seats_from seats (seats - 1) (left_of seats seat)
+
+-- the tenths of a company that a seat has
+abbrev pub seat_tenths : Holdings → Company → Seat → ℤ
+seat_tenths holdings company seat = tenths_in holdings company (OfSeat seat)
+
+-- who presides over a company now, if somebody did: by the tenths that the seats have
+abbrev pub presiding_in : Holdings → Company → Option Seat
+presiding_in holdings company =
+    option_map (λ old. with_most (seat_tenths holdings company) old (others_from holdings.seats old)) (president_in holdings company)
+
+-- each of these seats has at most so many tenths
+abbrev pub HaveAtMost : (Seat → ℤ) → ℤ → List Seat → Type 0
+HaveAtMost tenths most [] = Unit {0}
+HaveAtMost tenths most (seat ∷ others) = (tenths seat ≤ℤ most) × HaveAtMost tenths most others
+
+-- a seat is the first with most among these in order: each before it has fewer, and none after it more
+abbrev pub IsFirstWithMost : (Seat → ℤ) → Seat → List Seat → Type 0
+IsFirstWithMost tenths first [] = ⊥
+IsFirstWithMost tenths first (seat ∷ others) =
+    ((seat ≡ first) × HaveAtMost tenths (tenths first) others) ⊎ ((tenths seat <ℤ tenths first) × IsFirstWithMost tenths first others)

@@ -1,0 +1,42 @@
+-- A row of tenths of one company: first the initial offering's, then the bank pool's, then those of each of
+-- six seats.
+use Rattle.std.specs.Prelude.{ℕ, ◌+◌, ◌^◌, ◌<◌, ◌≤◌, List, [], ◌∷◌, ℤ, pos, ◌+ℤ◌, ◌≤ℤ◌, length, slice_index_or}
+use lib.IntN.{neg_ℤ}
+use Rattle.history.specs.declared.event.Shareholder.{Shareholder}
+use Rattle.history.specs.declared.event.Shareholder.TheVariants.{InitialOffering, BankPool, Seat as OfSeat}
+
+-- the index of a place in a row
+abbrev pub index_of : Shareholder → ℕ
+index_of InitialOffering = 0
+index_of BankPool = 1
+index_of (OfSeat seat) = 2 + seat.0
+
+-- the place is in a row: a seat is one of six
+abbrev pub HasPlace : Shareholder → Type 0
+HasPlace place = index_of place < 8
+
+-- the sum of a row
+abbrev pub total : List ℤ → ℤ
+total [] = pos 0
+total (tenths ∷ others) = tenths +ℤ total others
+
+-- a row of eight whose sum, and what is owed in it, are no more than a list in memory can bring; a transfer
+-- keeps it so
+pub record IsBounded (row : List ℤ) : Type 0 where
+  pub not_under : (i : ℕ) → neg_ℤ (pos (2 ^ 100)) ≤ℤ slice_index_or row i (pos 0)
+  pub not_over : total row ≤ℤ pos (2 ^ 103)
+  pub short : length row ≤ 8
+
+-- each row is bounded
+abbrev pub AreBounded : List (List ℤ) → Type 0
+AreBounded rows = (k : ℕ) → IsBounded (slice_index_or rows k [])
+
+-- tenths that are neither many nor far under 0
+pub record IsSmall (tenths : ℤ) : Type 0 where
+  pub not_under : neg_ℤ (pos (2 ^ 100)) ≤ℤ tenths
+  pub not_over : tenths ≤ℤ pos (2 ^ 104)
+
+-- certificates that are neither many nor far under 0
+pub record IsFew (certificates : ℤ) : Type 0 where
+  pub not_under : neg_ℤ (pos (2 ^ 105)) ≤ℤ certificates
+  pub not_over : certificates ≤ℤ pos (2 ^ 105)
