@@ -2,4 +2,3 @@ pub mod Judgement
 pub mod Act
 pub mod Turn
 pub mod StockRound
-pub mod Underway

@@ -11,14 +11,10 @@ use Rattle.order_grammar.specs.declared.order.Order.TheVariants.{Par, BuyShare, 
 use Rattle.sheets.specs.Part.{Numbered}
 use Rattle.stock_round.specs.Act.{after_act}
 use Rattle.stock_round.specs.Judgement.{ruling_of}
+use Rattle.stock_round.specs.declared.deals.Deals.{Deals}
 use Rattle.tables.specs.Turns.{Play, Turned}
 use Rattle.tables.specs.declared.roster.Company.{Company}
 use Rattle.tables.specs.declared.seat.Seat.{Seat}
-
--- what a seat has done in a turn: of which company it has bought, if of any, and whether it has sold
-pub record Deals : Type 0 where
-  pub bought : Option Company
-  pub sold : Bool
 
 -- nothing yet
 abbrev pub no_deals : Deals

@@ -1,0 +1,4 @@
+pub mod RoundEnds
+pub mod Seats
+pub mod Turns
+pub mod WholeRound
