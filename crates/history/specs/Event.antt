@@ -151,11 +151,12 @@ abbrev pub obeyed_of : Event → Option Obeyance
 obeyed_of (Ruled seat line ruling) = obeyed_by seat line ruling
 obeyed_of other = None
 
--- the order is by itself an act of a turn: it buys a private or bids on one. The purchase of tenths shows
--- by its event, since a par value is also set by a standing order
+-- the order is by itself an act of a turn: it buys a private or bids on one, or sells tenths. A purchase of
+-- tenths shows by its event, since a standing order can set a par value too
 abbrev pub is_act : Order → Bool
 is_act (order.BuyPrivate private) = true
 is_act (order.Bid private amount) = true
+is_act (order.Sell company tenths) = true
 is_act other = false
 
 -- an event says nothing of what parties have and own, or of SV's price

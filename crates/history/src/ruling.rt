@@ -3,7 +3,7 @@ ghost use Rattle.history.specs.Orders.{limit_in, par_of_baltimore_in};
 ghost use Rattle.order_grammar.specs.declared.order.Order.TheVariants as order;
 ghost use Rattle.history.specs.Event.{code_of_opening_rule, code_of_refusal, code_of_stock_rule, is_act};
 
-use order_grammar::{Fault, Order};
+use order_grammar::{Fault, Order, ShareSource};
 use std::alloc::{AllocError, Global};
 use std::marker::Model;
 use tables::{Amount, Company, Private, par_square};
@@ -136,6 +136,9 @@ enum Kept {
     Bid { private: Private, amount: Amount },
     Limit { private: Private, amount: Amount },
     Par { company: Company, price: Amount },
+    BuyShare { company: Company, from: ShareSource },
+    Sell { company: Company, tenths: Amount },
+    ExchangeMohawk,
     Boxed(Box<Order>),
 }
 
@@ -150,8 +153,8 @@ impl Model for KeptOrder {
 }
 
 impl KeptOrder {
-    /// Keeps a copy of an order. An `Err` comes only where a box gets no memory; the forms of an
-    /// opening need none.
+    /// Keeps a copy of an order. An `Err` comes only where a box gets no memory; the forms of an opening
+    /// and of a stock round need none.
     pub fn keep(alloc: Global, order: &Order) -> Result<KeptOrder, AllocError>
         ensures { IfOk result (λ kept. kept ≡ order.now) }
     {
@@ -169,6 +172,15 @@ impl KeptOrder {
                 company: *company,
                 price: *price,
             },
+            Order::BuyShare { company, from } => Kept::BuyShare {
+                company: *company,
+                from: *from,
+            },
+            Order::Sell { company, tenths } => Kept::Sell {
+                company: *company,
+                tenths: *tenths,
+            },
+            Order::ExchangeMohawk => Kept::ExchangeMohawk,
             other => Kept::Boxed(Box::new(alloc, other.duplicate())?),
         };
         Ok(KeptOrder { kept })
@@ -192,6 +204,15 @@ impl KeptOrder {
                 company: *company,
                 price: *price,
             },
+            Kept::BuyShare { company, from } => Order::BuyShare {
+                company: *company,
+                from: *from,
+            },
+            Kept::Sell { company, tenths } => Order::Sell {
+                company: *company,
+                tenths: *tenths,
+            },
+            Kept::ExchangeMohawk => Order::ExchangeMohawk,
             Kept::Boxed(order) => order.duplicate(),
         }
     }
@@ -202,9 +223,15 @@ impl KeptOrder {
         ensures { result ≡ is_act self.now }
     {
         match &self.kept {
-            Kept::BuyPrivate(_) | Kept::Bid { .. } => true,
+            Kept::BuyPrivate(_) | Kept::Bid { .. } | Kept::Sell { .. } => true,
             Kept::Limit { .. } | Kept::Par { .. } => false,
-            Kept::Boxed(order) => matches!(**order, Order::BuyPrivate(_) | Order::Bid { .. }),
+            Kept::BuyShare { .. } | Kept::ExchangeMohawk => false,
+            Kept::Boxed(order) => {
+                matches!(
+                    **order,
+                    Order::BuyPrivate(_) | Order::Bid { .. } | Order::Sell { .. }
+                )
+            }
         }
     }
 

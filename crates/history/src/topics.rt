@@ -251,10 +251,7 @@ impl Topic for SaleBy {
             Some(transfer)
                 if transfer.company == self.0
                     && transfer.from == Shareholder::Seat(self.1)
-                    && transfer.to == Shareholder::BankPool =>
-            {
-                Some(transfer.tenths)
-            }
+                    && transfer.to == Shareholder::BankPool => { Some(transfer.tenths) }
             _ => None,
         }
     }
