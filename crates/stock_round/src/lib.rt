@@ -8,18 +8,24 @@
 //! in players' hands move up.
 //!
 //! Reading order: `judgement` (the rules that an order may break), `ruling`, `act` (what an obeyed order
-//! brings), `deals` (what a seat has done in a turn), `turn`, `standing` (the lines before the first
-//! group), `closing`, `playing`, `laws` (what holds of every stock round).
+//! brings) with `payments`, `prices`, `president`, `float` and `token`, `deals` (what a seat has done in a
+//! turn), `turn`, `standing` (the lines before the first group), `closing`, `playing`, `laws` (what holds
+//! of every stock round).
 #![tactic(auto)]
 
 mod act;
 mod closing;
 mod deals;
+mod float;
 mod judgement;
 mod laws;
+mod payments;
 mod playing;
+mod president;
+mod prices;
 mod ruling;
 mod standing;
+mod token;
 mod turn;
 
 pub use laws::{one_stock_round, stock_round_ends};
