@@ -4,10 +4,10 @@
 -- market price, and the token then moves down as many squares. The presidency passes to a seat that has
 -- strictly more tenths than the president. A company floats once at most four tenths are left in its initial
 -- offering, and has ten times its par value then.
-use Rattle.std.specs.Prelude.{ℕ, ◌*◌, ◌==◌, Bool, true, false, not, ◌&&◌, if◌then◌else◌, List, [], ◌∷◌, ◌++◌, Option, Some, None, pos}
+use Rattle.std.specs.Prelude.{ℕ, ◌*◌, ◌==◌, Bool, true, false, not, ◌&&◌, if◌then◌else◌, List, [], ◌∷◌, ◌++◌, Option, Some, None, unwrap_or, ℤ, pos}
 use Rattle.std.specs.Int.Signed.{lt_z}
 use Rattle.certs.specs.President.{others_from, with_most}
-use Rattle.history.specs.Event.{place_of_source}
+use Rattle.certs.specs.Purchase.{market_price_of, tenth_price_of}
 use Rattle.history.specs.Shares.{is_floated, par_of, president_of, shares_of, square_of}
 use Rattle.history.specs.Tell.{with_broken}
 use Rattle.history.specs.declared.event.Event.{Event}
@@ -17,9 +17,8 @@ use Rattle.market.specs.Moves.{fallen}
 use Rattle.order_grammar.specs.declared.order.Order.{Order}
 use Rattle.order_grammar.specs.declared.order.Order.TheVariants.{Par, BuyShare, Sell, ExchangeMohawk}
 use Rattle.order_grammar.specs.declared.order.ShareSource.{ShareSource}
-use Rattle.order_grammar.specs.declared.order.ShareSource.TheVariants.{InitialOffering, BankPool}
+use Rattle.order_grammar.specs.declared.order.ShareSource.TheVariants.{InitialOffering}
 use Rattle.stock_round.specs.Judgement.{exchange_source}
-use Rattle.tables.specs.Chart.{price_of}
 use Rattle.tables.specs.declared.roster.Company.{Company}
 use Rattle.tables.specs.declared.roster.Company.TheVariants.{NewYorkCentral}
 use Rattle.tables.specs.declared.seat.Seat.{Seat}
@@ -28,25 +27,6 @@ use Rattle.tables.specs.declared.squares.Square.{Square}
 -- the tenths of a president's certificate
 abbrev pub president_tenths : ℕ
 president_tenths = 2
-
--- the price of a square; without one there is none
-abbrev pub price_on : Option Square → ℕ
-price_on None = 0
-price_on (Some square) = price_of square
-
--- the market price of a company
-abbrev pub market_price_of : List Event → Company → ℕ
-market_price_of events company = price_on (square_of events company)
-
--- a par value; 0 where none is set
-abbrev pub par_or_none : Option ℕ → ℕ
-par_or_none None = 0
-par_or_none (Some par) = par
-
--- what a tenth costs: the par value in the initial offering, the market price in the pool
-abbrev pub tenth_price_of : List Event → Company → ShareSource → ℕ
-tenth_price_of events company InitialOffering = par_or_none (par_of events company)
-tenth_price_of events company BankPool = market_price_of events company
 
 -- the tenths of a company that a seat has
 abbrev pub seat_tenths_of : List Event → Company → Seat → ℤ
@@ -84,7 +64,7 @@ floated_at seats events company par = with_broken seats (events ++ event.Floats 
 -- with FLOATS where a company floats
 abbrev pub with_float : ℕ → List Event → Company → List Event
 with_float seats events company =
-    if is_to_float events company then floated_at seats events company (par_or_none (par_of events company)) else events
+    if is_to_float events company then floated_at seats events company (unwrap_or (par_of events company) 0) else events
 
 -- two squares are the same
 abbrev pub same_square : Square → Square → Bool

@@ -3,7 +3,8 @@
 -- if it owns MH, the initial offering or the pool has such a tenth, and it would not come to hold over six,
 -- where the zone of NYC's square limits that. There is one purchase a turn, but of a company whose square is
 -- brown there may be several.
-use Rattle.std.specs.Prelude.{ℕ, Bool, false, not, ◌&&◌, ◌||◌, List, [], ◌∷◌, Option, Some, None, Result, Ok, Err, is_none, pos}
+use Rattle.std.specs.Prelude.{ℕ, ◌==◌, Bool, true, false, not, ◌&&◌, ◌||◌, if◌then◌else◌, List, [], ◌∷◌, Option, Some, None, Result, Ok, Err, pos}
+use Rattle.std.specs.Int.Signed.{lt_z}
 use Rattle.certs.specs.Purchase.{is_over_six, purchase_judgement}
 use Rattle.certs.specs.Sale.{sale_judgement}
 use Rattle.certs.specs.declared.deal.Purchase.TheVariants as purchase
@@ -29,7 +30,6 @@ use Rattle.tables.specs.declared.roster.Company.{Company}
 use Rattle.tables.specs.declared.roster.Company.TheVariants.{NewYorkCentral}
 use Rattle.tables.specs.declared.roster.Private.TheVariants.{MohawkHudson}
 use Rattle.tables.specs.declared.seat.Seat.{Seat}
-use lib.Signed.{le_z}
 
 -- the seat is this owner
 abbrev pub is_owner : Seat → Option Holder → Bool
@@ -38,22 +38,26 @@ is_owner seat (Some (holder.Seat owner)) = owner.0 == seat.0
 is_owner seat (Some (holder.Company company)) = false
 
 -- there is a tenth of NYC in the initial offering
-abbrev pub has_offered : List Event → Bool
-has_offered events = le_z (pos 1) (shares_of events NewYorkCentral InitialOffering)
+abbrev pub is_offered : List Event → Bool
+is_offered events = lt_z (pos 0) (shares_of events NewYorkCentral InitialOffering)
 
 -- there is one in the bank pool
-abbrev pub has_pooled : List Event → Bool
-has_pooled events = le_z (pos 1) (shares_of events NewYorkCentral BankPool)
+abbrev pub is_pooled : List Event → Bool
+is_pooled events = lt_z (pos 0) (shares_of events NewYorkCentral BankPool)
 
 -- where the tenth of NYC for MH comes from: the initial offering first, else the bank pool
 abbrev pub exchange_source : List Event → ShareSource
-exchange_source events = if has_offered events then source.InitialOffering else source.BankPool
+exchange_source events = if is_offered events then source.InitialOffering else source.BankPool
+
+-- how many tenths MH brings
+abbrev pub exchange_tenths : ℕ
+exchange_tenths = 1
 
 -- the seat may not give up MH for a tenth of NYC: it does not own MH; neither the initial offering nor the
--- pool has one; the seat would hold over six tenths where the zone limits that
+-- pool has one; the seat would hold over six tenths
 abbrev pub is_no_exchange : List Event → Seat → Bool
 is_no_exchange events seat =
-    not (is_owner seat (owner_of events MohawkHudson)) || not (has_offered events || has_pooled events) || is_over_six events seat NewYorkCentral 1
+    not (is_owner seat (owner_of events MohawkHudson)) || (not (is_offered events || is_pooled events) || is_over_six events seat NewYorkCentral exchange_tenths)
 
 -- the rule that an exchange may break
 abbrev pub exchange_rules : List Event → Seat → List (Rule StockRule)

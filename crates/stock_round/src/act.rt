@@ -94,7 +94,8 @@ fn sell(
 ) -> Result<(), AllocError>
     requires few { history.old.seats ≤ 6 }
     requires at_table { seat.0 < history.old.seats }
-    requires may { MaySell history.old.seats history.old.events seat company tenths }
+    requires may { MaySell history.old.seats history.old.events seat
+        (record { company = company; tenths = tenths }) }
     requires sound { IsSound history.old }
     ensures seats { OnOk result (history.new.seats ≡ history.old.seats) }
     ensures events { OnOk result (history.new.events

@@ -1,7 +1,7 @@
-ghost use Rattle.std.specs.Prelude.{◌≡◌, OnOk, true};
+ghost use Rattle.std.specs.Prelude.{◌≡◌, OnOk, true, unwrap_or};
 ghost use Rattle.history.specs.Shares.{par_of};
 ghost use Rattle.history.specs.Sound.{IsSound};
-ghost use Rattle.stock_round.specs.Act.{floated_at, is_to_float as is_ready_to_float, par_or_none, with_float};
+ghost use Rattle.stock_round.specs.Act.{floated_at, is_to_float as is_ready_to_float, with_float};
 
 use crate::prices::par_value;
 use history::{Event, History, Shareholder, Tenths};
@@ -45,7 +45,7 @@ fn float(history: &mut History, company: Company) -> Result<(), AllocError>
     ensures seats { OnOk result (history.new.seats ≡ history.old.seats) }
     ensures events { OnOk result (history.new.events
         ≡ floated_at history.old.seats history.old.events company
-        (par_or_none (par_of history.old.events company))) }
+        (unwrap_or (par_of history.old.events company) 0)) }
     ensures sound { OnOk result (IsSound history.new) }
 {
     let amount = TENTHS_OF_COMPANY * par_value(history, company);

@@ -82,7 +82,7 @@ pub(crate) fn give_up_mohawk(history: &mut History, seat: Seat) -> Result<(), Al
     ensures events { OnOk result (history.new.events ≡ exchanged history.old.events seat) }
     ensures sound { OnOk result (IsSound history.new) }
 {
-    let from = exchange_source(&history.now());
+    let from = exchange_source(history);
     history.append(Event::Exchanged { seat, from })?;
     Ok(())
 }

@@ -1,8 +1,8 @@
-ghost use Rattle.std.specs.Prelude.{◌≡◌, ◌≤◌, pos};
+ghost use Rattle.std.specs.Prelude.{◌≡◌, ◌≤◌, pos, unwrap_or};
 ghost use Rattle.std.specs.Int.RustNames.{unsigned_abs};
 ghost use Rattle.history.specs.Shares.{par_of};
 ghost use Rattle.history.specs.Sound.{IsLed};
-ghost use Rattle.stock_round.specs.Act.{market_price_of, par_or_none, tenth_price_of};
+ghost use Rattle.certs.specs.Purchase.{market_price_of, tenth_price_of};
 
 use history::History;
 use order_grammar::ShareSource;
@@ -35,7 +35,7 @@ pub(crate) fn market_price(history: &History, company: Company) -> Amount
 /// The par value of a company that is started, in dollars.
 pub(crate) fn par_value(history: &History, company: Company) -> Amount
     requires { IsLed history.now.events company }
-    ensures par { result ≡ par_or_none (par_of history.now.events company) }
+    ensures par { result ≡ unwrap_or (par_of history.now.events company) 0 }
     ensures small { result ≤ 350 }
 {
     match history.par(company) {
