@@ -1,5 +1,5 @@
 -- An event as a line of the report: its words, parted by single spaces, and its LF.
-use Rattle.std.specs.Prelude.{ℕ, List, [], ◌∷◌, ◌++◌, map, codes, decimal, unwrap_or, slice_get}
+use Rattle.std.specs.Prelude.{ℕ, List, [], ◌∷◌, ◌++◌, map, codes, decimal, unwrap_or, slice_get, ⊤}
 use Rattle.history.specs.Event.{code_of_refusal}
 use Rattle.history.specs.declared.event.Event.{Event}
 use Rattle.history.specs.declared.event.Event.TheVariants.{Round, Ruled, Passes, Left, Sold, Bids, Price, Revenue, Given, Par, President, Broken}
@@ -13,6 +13,7 @@ use Rattle.report.specs.declared.line.Field.{Field}
 use Rattle.report.specs.declared.line.Field.TheVariants.{Word, Name, Holds, Number, OfRound, Spelt}
 use Rattle.sheets.specs.File.{players_of}
 use Rattle.tables.specs.Roster.{code_of_company, code_of_private}
+use Rattle.tables.specs.declared.roster.Company.{Company}
 use Rattle.tables.specs.declared.roster.Private.{Private}
 use Rattle.tables.specs.declared.seat.Seat.{Seat}
 
@@ -58,6 +59,21 @@ event_line file (Par company price) = line_of (codes "PAR") (code_of_company com
 event_line file (President company seat) = line_of (codes "PRESIDENT") (code_of_company company ∷ name_of file seat ∷ [])
 event_line file Broken = line_of (codes "BROKEN") []
 
+-- the event tells of a private: of its sale, of a bid on it, of its revenue, or of the price of SV
+abbrev pub IsOfPrivate : Event → Type 0
+IsOfPrivate (Sold private seat price) = ⊤
+IsOfPrivate (Bids private seat amount) = ⊤
+IsOfPrivate (Price price) = ⊤
+IsOfPrivate (Revenue private owner amount) = ⊤
+IsOfPrivate other = ⊥
+
+-- the event tells of a company: of its tenths, of its par value, or of its president
+abbrev pub IsOfCompany : Event → Type 0
+IsOfCompany (Given company seat tenths) = ⊤
+IsOfCompany (Par company price) = ⊤
+IsOfCompany (President company seat) = ⊤
+IsOfCompany other = ⊥
+
 -- a field of a line as its text
 abbrev pub field_text : List ℕ → Field → List ℕ
 field_text file (Word word) = word.now
@@ -74,6 +90,14 @@ field_texts file fields = map (field_text file) fields
 -- a line of these fields, with its LF
 abbrev pub line_of_fields : List ℕ → Field → List Field → List ℕ
 line_of_fields file first fields = line_of (field_text file first) (field_texts file fields)
+
+-- a line that begins with a word
+abbrev pub line_of_word : List ℕ → List ℕ → List Field → List ℕ
+line_of_word file word fields = line_of word (field_texts file fields)
+
+-- a line that begins with a word and a company's code
+abbrev pub line_of_company : List ℕ → List ℕ → Company → List Field → List ℕ
+line_of_company file word company fields = line_of word (code_of_company company ∷ field_texts file fields)
 
 -- a line that begins with a player's name
 abbrev pub line_of_seat : List ℕ → Seat → List Field → List ℕ
