@@ -1,13 +1,13 @@
 ghost use Rattle.std.specs.Prelude.{◌≡◌, OnOk};
 ghost use Rattle.report.specs.Column.{Adds};
-ghost use Rattle.report.specs.Line.{IsOfCompany, IsOfPrivate, event_line, field_text, line_of_company, line_of_fields, line_of_seat, line_of_word, name_of, private_line, ruled_line};
+ghost use Rattle.report.specs.Line.{IsOfCompany, IsOfPrivate, IsOfTenths, event_line, exchange_line, field_text, line_of_company, line_of_fields, line_of_seat, line_of_word, name_of, private_line, ruled_line, text_of_square};
 
-use Field::{Holds, Name, Number, OfRound, Spelt, Word};
+use Field::{Holds, Name, Number, OfRound, On, Source, Spelt, Tenths, Word};
 use history::{Event, Holder, KeptOrder, Ruling};
-use order_grammar::{print_number, print_order, print_round};
+use order_grammar::{ShareSource, print_number, print_order, print_round};
 use sheets::Sheets;
 use std::alloc::AllocError;
-use tables::{Amount, Company, Private, Round, Seat};
+use tables::{Amount, Company, Private, Round, Seat, Square, price};
 
 /// A field of a line of the report.
 #[derive(Clone, Copy)]
@@ -20,11 +20,20 @@ pub(crate) enum Field<'a> {
     Holds(Holder),
     /// A number.
     Number(u32),
+    /// A number of tenths.
+    Tenths(u8),
+    /// Where tenths are bought that are no seat's.
+    Source(ShareSource),
+    /// A square of the stock market.
+    On(Square),
     /// A round.
     OfRound(Round),
     /// The spelling of an order.
     Spelt(&'a KeptOrder),
 }
+
+/// The letters of the rows of the stock market.
+const ROWS: &[u8] = b"ABCDEFGHIJK";
 
 /// Adds an event as its line.
 pub(crate) fn push_event(
@@ -42,9 +51,12 @@ pub(crate) fn push_event(
         Event::Sold { .. } | Event::Bids { .. } | Event::Price { .. } | Event::Revenue { .. } => {
             push_of_private(out, sheets, event)
         }
-        Event::Given { .. } | Event::Par { .. } | Event::President { .. } => {
-            push_of_company(out, sheets, event)
-        }
+        Event::Given { .. }
+        | Event::Bought { .. }
+        | Event::Sells { .. }
+        | Event::Exchanged { .. } => { push_of_tenths(out, sheets, event) }
+        Event::Par { .. } | Event::President { .. } | Event::Floats { .. } | Event::Moves { .. } =>
+            { push_of_company(out, sheets, event) }
         Event::Broken => tell(out, sheets, "BROKEN", &[]),
     }
 }
@@ -75,9 +87,10 @@ fn push_of_private(out: &mut Vec<u8>, sheets: &Sheets, event: &Event) -> Result<
     }
 }
 
-/// Adds an event of a company as its line: its tenths, its par value, its president.
-fn push_of_company(out: &mut Vec<u8>, sheets: &Sheets, event: &Event) -> Result<(), AllocError>
-    requires { IsOfCompany event.now }
+/// Adds an event of a company's tenths as its line: a gift of them, a purchase, a sale, or that one of
+/// NYC is had for MH.
+fn push_of_tenths(out: &mut Vec<u8>, sheets: &Sheets, event: &Event) -> Result<(), AllocError>
+    requires { IsOfTenths event.now }
     ensures { OnOk result (Adds out.old out.new (event_line sheets.now event.now)) }
 {
     match event {
@@ -86,14 +99,69 @@ fn push_of_company(out: &mut Vec<u8>, sheets: &Sheets, event: &Event) -> Result<
             seat,
             tenths,
         } => {
-            let fields = [Name(*seat), Number(u32::from(*tenths))];
+            let fields = [Name(*seat), Tenths(*tenths)];
             tell_company(out, sheets, "GIVEN", *company, &fields)
         }
+        Event::Bought {
+            company,
+            seat,
+            tenths,
+            from,
+            price,
+        } => {
+            let fields = [Name(*seat), Tenths(*tenths), Source(*from), Number(*price)];
+            tell_company(out, sheets, "BOUGHT", *company, &fields)
+        }
+        Event::Sells {
+            company,
+            seat,
+            tenths,
+            price,
+        } => {
+            let fields = [Name(*seat), Tenths(*tenths), Number(*price)];
+            tell_company(out, sheets, "SELLS", *company, &fields)
+        }
+        Event::Exchanged { seat, from } => push_exchanged(out, sheets, *seat, *from),
+        _ => unreachable!(),
+    }
+}
+
+/// Adds the line of a tenth of NYC that a seat has for MH.
+fn push_exchanged(
+    out: &mut Vec<u8>,
+    sheets: &Sheets,
+    seat: Seat,
+    from: ShareSource,
+) -> Result<(), AllocError>
+    ensures { OnOk result (Adds out.old out.new (exchange_line sheets.now seat from)) }
+{
+    tell(
+        out,
+        sheets,
+        "EXCHANGED",
+        &[Word("MH"), Name(seat), Source(from)],
+    )
+}
+
+/// Adds an event of a company as its line: its par value, its president, its float, or where its token
+/// moves.
+fn push_of_company(out: &mut Vec<u8>, sheets: &Sheets, event: &Event) -> Result<(), AllocError>
+    requires { IsOfCompany event.now }
+    ensures { OnOk result (Adds out.old out.new (event_line sheets.now event.now)) }
+{
+    match event {
         Event::Par { company, price } => {
             tell_company(out, sheets, "PAR", *company, &[Number(*price)])
         }
         Event::President { company, seat } => {
             tell_company(out, sheets, "PRESIDENT", *company, &[Name(*seat)])
+        }
+        Event::Floats { company, amount } => {
+            tell_company(out, sheets, "FLOATS", *company, &[Number(*amount)])
+        }
+        Event::Moves { company, square } => {
+            let fields = [Number(price(*square)), On(*square)];
+            tell_company(out, sheets, "MOVES", *company, &fields)
         }
         _ => unreachable!(),
     }
@@ -182,9 +250,23 @@ fn push_field(out: &mut Vec<u8>, sheets: &Sheets, field: &Field) -> Result<(), A
         Holds(Holder::Seat(seat)) => push_name(out, sheets, *seat),
         Holds(Holder::Company(company)) => out.extend_from_slice(company.code().as_bytes()),
         Number(number) => print_number(out, *number),
+        Tenths(tenths) => print_number(out, *tenths),
+        Source(source) => out.extend_from_slice(source.text()),
+        On(square) => push_square(out, *square),
         OfRound(round) => print_round(out, round),
         Spelt(order) => print_order(out, &order.order()),
     }
+}
+
+/// Adds a square of the stock market: the letter of its row, and its column. A row that is none of the
+/// chart's has no letter.
+fn push_square(out: &mut Vec<u8>, square: Square) -> Result<(), AllocError>
+    ensures { OnOk result (Adds out.old out.new (text_of_square square)) }
+{
+    if let Some(letter) = ROWS.get(usize::from(square.row)) {
+        out.push(*letter)?;
+    }
+    print_number(out, square.column)
 }
 
 /// Adds what became of a line of a seat's sheet.
