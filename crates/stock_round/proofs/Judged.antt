@@ -5,7 +5,7 @@ use Rattle.std.specs.Int.Signed.{le_z, lt_z}
 use Rattle.certs.specs.Counted.{presides}
 use Rattle.certs.specs.President.{others_from}
 use Rattle.certs.specs.Purchase.{in_zone, is_none_there, is_over_six, is_short, lifts_six, price_on, purchase_judgement, purchase_rules, tenth_price_of}
-use Rattle.certs.specs.Sale.{is_not_held, kept_after, leaves_none, must_stay, one_has, sale_judgement, sale_rules}
+use Rattle.certs.specs.Sale.{is_not_held, is_over_five, kept_after, leaves_none, must_stay, one_has, sale_judgement, sale_rules}
 use Rattle.certs.specs.declared.deal.Purchase.TheVariants as purchase
 use Rattle.certs.specs.declared.deal.Sale.{Sale}
 use Rattle.history.proofs.EventAtEnd.{quiet_same}
@@ -32,27 +32,30 @@ use Rattle.tables.specs.declared.seat.Seat.{Seat}
 use Rattle.tables.specs.declared.squares.Square.{Square}
 
 -- what is not so is false
-holds : (b : Bool) → not b ≡ false → b ≡ true
+pub holds : (b : Bool) → not b ≡ false → b ≡ true
 holds true kept = refl
 holds false kept = cc
 
 -- a company can be started where no rule is broken
 start_allowed : (seats : ℕ) (events : List Event) (seat : Seat) (company : Company) (price : ℕ) (bought : Option Company) → purchase_judgement seats events seat (purchase.Par company price) bought ≡ None → MayStart seats events seat company price
+unfolding purchase_judgement
 start_allowed seats events seat company price bought none =
     let kept = none_broken (purchase_rules seats events seat (purchase.Par company price) bought) none in
     record { par = kept.1.1.0; fresh = kept.1.1.1.0; pays = kept.1.1.1.1.0 }
 
 -- a tenth can be bought
 purchase_allowed : (seats : ℕ) (events : List Event) (seat : Seat) (company : Company) (from : ShareSource) (bought : Option Company) → purchase_judgement seats events seat (purchase.Share company from) bought ≡ None → MayBuy seats events seat company from
+unfolding purchase_judgement
 purchase_allowed seats events seat company from bought none =
     let kept = none_broken (purchase_rules seats events seat (purchase.Share company from) bought) none in
     record { there = kept.1.0; started = holds (is_started events company) kept.1.1.1.0; pays = kept.1.1.1.1.0 }
 
 -- tenths can be sold
 sale_allowed : (seats : ℕ) (events : List Event) (seat : Seat) (sale : Sale) → sale_judgement seats events seat sale None ≡ None → MaySell seats events seat sale
+unfolding sale_judgement
 sale_allowed seats events seat sale none =
     let kept = none_broken (sale_rules seats events seat sale None) none in
-    record { held = kept.1.0; leaves = kept.1.1.1.0; started = holds (is_started events sale.company) kept.1.1.1.1.0 }
+    record { held = kept.1.0; pool = kept.1.1.0; leaves = kept.1.1.1.0; started = holds (is_started events sale.company) kept.1.1.1.1.0 }
 
 -- an order that breaks no rule can be done
 pub may_act : (seats : ℕ) (events : List Event) (seat : Seat) (bought : Option Company) (order : Order) → judgement_of seats events seat bought order ≡ None → MayAct seats events seat order
@@ -79,6 +82,7 @@ same_price before after company source.BankPool same = ap price_on (same.square 
 
 -- a seat can pay as much
 same_purse : (seats : ℕ) (before after : List Event) (seat : Seat) (cost same_cost : ℕ) → SaysTheSame before after → same_cost ≡ cost → is_short seats after seat same_cost ≡ is_short seats before seat cost
+unfolding is_short
 same_purse seats before after seat cost same_cost same is_same =
     ap (λ (n : ℕ). lt_z (free_cash_of seats after seat) (pos n)) is_same
     ∙ ap (λ (free : ℤ). lt_z free (pos cost)) (same_free seats before after seat same)
@@ -98,12 +102,14 @@ same_leave seats before after seat sale same =
 
 -- a president must stay as before
 same_stay : (seats : ℕ) (before after : List Event) (seat : Seat) (sale : Sale) → SaysTheSame before after → must_stay seats after seat sale None ≡ must_stay seats before seat sale None
+unfolding must_stay
 same_stay seats before after seat sale same =
     ap (λ (president : Option Seat). presides seat president && (leaves_none seats after seat sale || false)) (same.president sale.company)
     ∙ ap (λ (leaves : Bool). presides seat (president_of before sale.company) && (leaves || false)) (same_leave seats before after seat sale same)
 
 -- an exchange is allowed as before
 same_exchange : (before after : List Event) (seat : Seat) → SaysTheSame before after → is_no_exchange after seat ≡ is_no_exchange before seat
+unfolding is_over_six
 same_exchange before after seat same =
     let all : Option Holder → ℤ → ℤ → Option Square → ℤ → Bool = λ owner offered pooled square held.
     not (is_owner seat owner) || (not (lt_z (pos 0) offered || lt_z (pos 0) pooled) || (not (in_zone lifts_six square) && lt_z (pos 6) (held +ℤ pos 1)))
@@ -117,6 +123,7 @@ same_exchange before after seat same =
 
 -- an order can still be done where a list says the same
 still_may : (seats : ℕ) (before after : List Event) (seat : Seat) (order : Order) → SaysTheSame before after → MayAct seats before seat order → MayAct seats after seat order
+unfolding is_none_there is_not_held is_over_five
 still_may seats before after seat (Par company price) same may =
     record {
       par = may.par;
@@ -132,6 +139,7 @@ still_may seats before after seat (BuyShare company from) same may =
 still_may seats before after seat (Sell company tenths) same may =
     record {
       held = ap (λ (held : ℤ). tenths == 0 || lt_z held (pos tenths)) (same.shares company (OfSeat seat)) ∙ may.held;
+      pool = ap (λ (pooled : ℤ). lt_z (pos 5) (pooled +ℤ pos tenths)) (same.shares company BankPool) ∙ may.pool;
       leaves = same_stay seats before after seat (record { company = company; tenths = tenths }) same ∙ may.leaves;
       started = same_start before after company same ∙ may.started;
     }

@@ -1,3 +1,4 @@
+pub mod Acts
 pub mod Judged
 pub mod Others
 pub mod RoundEnds

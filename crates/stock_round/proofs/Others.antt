@@ -29,12 +29,12 @@ next_clear seats seat count first few within clear =
     elim (nat_lt (first + 1) (min seats 256)) as (λ (b : Bool). nat_lt (first + 1) (min seats 256) ≡ b → StayClear seats seat count (if b then seat_at (first + 1) else seat_at 0).0) [
       | true ↦ λ is.
           elim clear [
-            | inl after ↦ let a = after.0 in let b = after.1.0 in let c = after.1.1 in inl (grind (arith, nat_tests, a, b, c, is), grind (arith, nat_tests, a, b, c, is), grind (arith, nat_tests, a, b, c, is))
+            | inl after ↦ let a = after.0 in let b = after.1 in let c = after.2 in inl (grind (arith, nat_tests, a, b, c, is), grind (arith, nat_tests, a, b, c, is), grind (arith, nat_tests, a, b, c, is))
             | inr before ↦ inr (grind (arith, nat_tests, before))
           ]
       | false ↦ λ is.
           elim clear [
-            | inl after ↦ let a = after.0 in let b = after.1.0 in let c = after.1.1 in inr (grind (arith, nat_tests, a, b, c, is))
+            | inl after ↦ let a = after.0 in let b = after.1 in let c = after.2 in inr (grind (arith, nat_tests, a, b, c, is))
             | inr before ↦ absurd (grind (arith, nat_tests, before, is))
           ]
     ]

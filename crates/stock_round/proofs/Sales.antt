@@ -97,8 +97,8 @@ keeps_or_another false another kept = inl refl
 
 -- the test of one who presides
 presiding : (is : Bool) (rest : Bool) → is ≡ true → (is && rest) ≡ false → rest ≡ false
-presiding true rest yes kept = kept
-presiding false rest yes kept = absurd (cc)
+presiding true rest so kept = kept
+presiding false rest so kept = absurd (cc)
 
 -- who presides after a sale of another seat has two tenths
 led_by_other : (game : Game) (company : Company) (seat : Seat) (tenths price : ℕ) (old : Seat) → (seat.0 == old.0) ≡ false → president_of game.events company ≡ Some old → IsLed game.events company → pos 2 ≤ℤ seat_tenths_of (block_sold game company seat tenths price).events company old
@@ -110,6 +110,7 @@ led_by_other game company seat tenths price old apart is led =
 
 -- who presides after a sale has two tenths
 pub successor_has_two : (game : Game) (seat : Seat) (sale : Sale) (price : ℕ) (old : Seat) → game.seats ≤ 6 → seat.0 < game.seats → MaySell game.seats game.events seat sale → IsSound game → president_of game.events sale.company ≡ Some old → pos 2 ≤ℤ seat_tenths_of (block_sold game sale.company seat sale.tenths price).events sale.company (successor_of game.seats (block_sold game sale.company seat sale.tenths price).events sale.company old)
+unfolding must_stay
 successor_has_two game seat sale price old few within may sound is =
     let company = sale.company in
     let after : List Event = (block_sold game company seat sale.tenths price).events in
@@ -138,6 +139,7 @@ successor_has_two game seat sale price old few within may sound is =
 
 -- the list after a sale and the presidency that follows from it
 succeeded_sound : BlockKeepsSound → BlockWithSuccessionKeepsSound → (game : Game) (seat : Seat) (sale : Sale) (price : ℕ) (old : Seat) → game.seats ≤ 6 → seat.0 < game.seats → MaySell game.seats game.events seat sale → IsSound game → president_of game.events sale.company ≡ Some old → IsSound (record { seats = game.seats; events = succeeded (block_sold game sale.company seat sale.tenths price).events sale.company old (successor_of game.seats (block_sold game sale.company seat sale.tenths price).events sale.company old) })
+unfolding is_not_held
 succeeded_sound keeps passes game seat sale price old few within may sound is =
     let company = sale.company in
     let after : List Event = (block_sold game company seat sale.tenths price).events in
@@ -162,6 +164,7 @@ succeeded_sound keeps passes game seat sale price old few within may sound is =
 
 -- a sale without a president
 unled_sound : BlockKeepsSound → (game : Game) (seat : Seat) (sale : Sale) (price : ℕ) → seat.0 < game.seats → MaySell game.seats game.events seat sale → IsSound game → president_of game.events sale.company ≡ None → IsSound (block_sold game sale.company seat sale.tenths price)
+unfolding is_not_held
 unled_sound keeps game seat sale price within may sound none =
     let company = sale.company in
     let short : lt_z (seat_tenths_of game.events company seat) (pos sale.tenths) ≡ false = sale_held (sale.tenths == 0) (lt_z (seat_tenths_of game.events company seat) (pos sale.tenths)) may.held in

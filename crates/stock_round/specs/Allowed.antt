@@ -2,7 +2,7 @@
 -- done before in the turn or the round. They are kept after the ruling as they were before it.
 use Rattle.std.specs.Prelude.{◌≡◌, ℕ, ◌*◌, List, true, false, None}
 use Rattle.certs.specs.Purchase.{is_no_par, is_none_there, is_short, tenth_price_of}
-use Rattle.certs.specs.Sale.{is_not_held, must_stay}
+use Rattle.certs.specs.Sale.{is_not_held, is_over_five, must_stay}
 use Rattle.certs.specs.declared.deal.Purchase.TheVariants as purchase
 use Rattle.certs.specs.declared.deal.Sale.{Sale}
 use Rattle.history.specs.Shares.{is_started}
@@ -30,6 +30,7 @@ pub record MayBuy (seats : ℕ) (events : List Event) (seat : Seat) (company : C
 -- the seat can make a sale
 pub record MaySell (seats : ℕ) (events : List Event) (seat : Seat) (sale : Sale) : Type 0 where
   pub held : is_not_held events seat sale ≡ false
+  pub pool : is_over_five events sale ≡ false
   pub leaves : must_stay seats events seat sale None ≡ false
   pub started : is_started events sale.company ≡ true
 

@@ -21,7 +21,7 @@ pub(crate) fn tenth_price(history: &History, company: Company, from: ShareSource
     }
 }
 
-/// The price of a company's square, in dollars; 0 where its token has none.
+/// The market price of a company, in dollars; 0 where its token has no square.
 pub(crate) fn market_price(history: &History, company: Company) -> Amount
     ensures price { result ≡ market_price_of history.now.events company }
     ensures small { result ≤ 350 }

@@ -8,4 +8,4 @@ use Rattle.stock_round.proofs.president.successor.Given as goal
 abbrev pub invariant-loop : goal.invariant-loop
 invariant-loop l =
     with_most (seat_tenths_of l.past.events.now l.company) l.best (seats_from l.end (l.end - l.counter) (left_of l.end l.seat))
-    ≡ successor_of l.end l.past.events.now l.company l.old
+    ≡ successor_of l.end l.past.events.now l.company l.initial.best
