@@ -1,0 +1,36 @@
+ghost use Rattle.board.specs.Ground.{position_of};
+
+use crate::board::Board;
+use crate::shown::is_stop;
+use map_tables::{Hex, HexKind, Links, Stop, hex_kind, joined_stop};
+use reach::Network;
+use tables::{Amount, Company};
+
+impl Network for Board {
+    ghost position = { position_of };
+
+    fn links(&self, hex: Hex) -> Links {
+        self.links_on(hex)
+    }
+
+    fn value(&self, stop: Stop) -> Amount {
+        self.value_at(stop)
+    }
+
+    fn red(&self, stop: Stop) -> bool {
+        let stop = joined_stop(stop);
+        is_stop(stop) && hex_kind(stop.hex) == HexKind::Red
+    }
+
+    fn full(&self, stop: Stop, company: Company) -> bool {
+        let slots = self.slots(stop);
+        0 < slots && slots <= self.taken(stop) && !self.token(stop, company)
+    }
+
+    fn token(&self, stop: Stop, company: Company) -> bool {
+        let stop = joined_stop(stop);
+        is_stop(stop) && self.has_token(stop, company)
+    }
+
+    fn keeps_laws(&self) {}
+}
