@@ -1,5 +1,6 @@
 ghost use Rattle.std.specs.Prelude.{◌≡◌};
-ghost use Rattle.board.specs.Fit.{board_fault_of, has_bad_side, has_print_at, is_bad_end, is_open, is_over_full, is_shut, is_side, is_wrong_kind, place_of_tile_kind, takes};
+ghost use Rattle.std.specs.List.{list_any};
+ghost use Rattle.board.specs.Fit.{board_fault_of, has_bad_side, has_no_slot, has_print_at, is_bad_end, is_open, is_over_full, is_shut, is_side, is_wrong_kind, place_of_tile_kind, takes};
 ghost use Rattle.board.specs.Ground.{position_of};
 ghost use Rattle.map_tables.specs.Place.{stop_of};
 
@@ -9,6 +10,7 @@ use map_tables::{
     End, Hex, HexKind, Lay, Place, Side, TileKind, hex_kind, laid_links, neighbour, printed_links,
     printed_stops, tile,
 };
+use tables::Company;
 
 impl Board {
     /// The first of the rules on what may lie that is broken; `None` where none is.
@@ -16,16 +18,23 @@ impl Board {
     pub(crate) fn fault(&self) -> Option<BoardFault>
         ensures { result ≡ board_fault_of self.now }
     {
-        if self.lays.iter().any(|lay| is_wrong_kind(*lay)) {
+        if has_wrong_kind(&self.lays) {
             return Some(BoardFault::Kind);
         }
-        if self.lays.iter().any(|lay| has_bad_side(*lay)) {
+        if have_bad_side(&self.lays) {
             return Some(BoardFault::BadSide);
         }
-        if self.tokens.iter().any(|token| self.is_over_full(token.0)) {
+        if self.lacks_slot(&self.tokens) {
             return Some(BoardFault::NoSlot);
         }
         None
+    }
+
+    /// Whether one of some tokens has no slot.
+    fn lacks_slot(&self, tokens: &[(Place, Company)]) -> bool
+        ensures { result ≡ list_any (has_no_slot (position_of self.now)) tokens.now }
+    {
+        tokens.iter().any(|token| self.is_over_full(token.0))
     }
 
     /// Whether more tokens lie at a place than it takes.
@@ -37,6 +46,20 @@ impl Board {
             None => true,
         }
     }
+}
+
+/// Whether one of some tiles is of a wrong kind.
+fn has_wrong_kind(lays: &[Lay]) -> bool
+    ensures { result ≡ list_any is_wrong_kind lays.now }
+{
+    lays.iter().any(|lay| is_wrong_kind(*lay))
+}
+
+/// Whether one of some tiles has a bad side.
+fn have_bad_side(lays: &[Lay]) -> bool
+    ensures { result ≡ list_any has_bad_side lays.now }
+{
+    lays.iter().any(|lay| has_bad_side(*lay))
 }
 
 /// The place of a kind of tile among the kinds.

@@ -1,8 +1,11 @@
 ghost use Rattle.board.specs.Ground.{position_of};
 
 use crate::board::Board;
-use crate::shown::is_stop;
-use map_tables::{Hex, HexKind, Links, Stop, hex_kind, joined_stop};
+use crate::shown::{is_red, is_stop};
+use map_tables::{
+    Hex, Links, Stop, hex_kind, hexes_are_told_apart, joined_stop, laid_links_are_in_order,
+    neighbours_pair, printed_links_are_in_order, values_are_at_most_80,
+};
 use reach::Network;
 use tables::{Amount, Company};
 
@@ -19,7 +22,7 @@ impl Network for Board {
 
     fn red(&self, stop: Stop) -> bool {
         let stop = joined_stop(stop);
-        is_stop(stop) && hex_kind(stop.hex) == HexKind::Red
+        is_stop(stop) && is_red(hex_kind(stop.hex))
     }
 
     fn full(&self, stop: Stop, company: Company) -> bool {
@@ -32,5 +35,11 @@ impl Network for Board {
         is_stop(stop) && self.has_token(stop, company)
     }
 
-    fn keeps_laws(&self) {}
+    fn keeps_laws(&self) {
+        hexes_are_told_apart();
+        neighbours_pair();
+        printed_links_are_in_order();
+        laid_links_are_in_order();
+        values_are_at_most_80();
+    }
 }

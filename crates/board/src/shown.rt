@@ -1,13 +1,16 @@
-ghost use Rattle.std.specs.Prelude.{◌≡◌, ◌==◌, ◌↔◌, IsTrue, length};
-ghost use Rattle.board.specs.Ground.{colour_on, links_on, has_token, is_stop, names, position_of, same_stop, slots_on, tile_on, value_in, value_on};
+ghost use Rattle.std.specs.Prelude.{◌≡◌, length};
+ghost use Rattle.std.specs.List.{count_by};
+ghost use Rattle.map_tables.specs.declared.place.Place.{Place};
+ghost use Rattle.tables.specs.declared.roster.Company.{Company};
+ghost use Rattle.board.specs.Ground.{colour_on, links_on, has_token, is_red_kind, is_stop, names, position_of, same_stop, slots_on, tile_on, value_in, value_on};
 ghost use Rattle.map_tables.specs.Hex.{same_hex};
-ghost use Rattle.reach.specs.Position.{HasToken, at_stop};
+ghost use Rattle.reach.specs.Position.{at_stop};
 ghost use Rattle.tables.specs.Roster.{same_company};
 
 use crate::board::Board;
 use map_tables::{
-    Colour, Hex, Lay, Links, Place, PrintedValue, Stop, joined_stop, laid_links, printed_colour,
-    printed_links, printed_slots, printed_stops, printed_value, tile,
+    Colour, Hex, HexKind, Lay, Links, Place, PrintedValue, Stop, joined_stop, laid_links,
+    printed_colour, printed_links, printed_slots, printed_stops, printed_value, tile,
 };
 use tables::{Amount, Company, Kind};
 
@@ -53,6 +56,16 @@ fn value_in(phase: Kind, value: PrintedValue) -> Amount
     }
 }
 
+/// Whether a hex is red.
+pub(crate) fn is_red(kind: HexKind) -> bool
+    ensures { result ≡ is_red_kind kind }
+{
+    match kind {
+        HexKind::Red => true,
+        HexKind::Open(_) | HexKind::Grey => false,
+    }
+}
+
 /// Whether a hex has a stop of this number.
 pub(crate) fn is_stop(stop: Stop) -> bool
     ensures { result ≡ is_stop stop }
@@ -60,16 +73,32 @@ pub(crate) fn is_stop(stop: Stop) -> bool
     stop.number.index() < printed_stops(stop.hex)
 }
 
+/// The last of some lays on a hex.
+#[tactic(auto, unfolding(crate::specs::Ground::tile_on))]
+fn last_on(lays: &[Lay], hex: Hex) -> Option<Lay>
+    ensures { result ≡ tile_on lays.now hex }
+{
+    for lay in lays.iter().rev() {
+        if same_hex(lay.hex, hex) {
+            return Some(*lay);
+        }
+    }
+    None
+}
+
+/// How many of some tokens name a stop.
+fn count_naming(tokens: &[(Place, Company)], stop: Stop) -> usize
+    ensures { result ≡ count_by (λ (token : Place × Company). names stop token.0) tokens.now }
+{
+    tokens.iter().filter(|token| names(stop, token.0)).count()
+}
+
 impl Board {
     /// The tile that lies on a hex: the last that was laid there.
     pub(crate) fn tile_on(&self, hex: Hex) -> Option<Lay>
         ensures { result ≡ tile_on self.now.lays hex }
     {
-        self.lays
-            .iter()
-            .rev()
-            .find(|lay| same_hex(lay.hex, hex))
-            .copied()
+        last_on(&self.lays, hex)
     }
 
     /// The links of a hex.
@@ -144,10 +173,7 @@ impl Board {
         if !is_stop(stop) {
             return 0;
         }
-        self.tokens
-            .iter()
-            .filter(|token| names(stop, token.0))
-            .count()
+        count_naming(&self.tokens, stop)
     }
 
     /// Whether a token of a company names a stop.

@@ -1,0 +1,4 @@
+pub mod Positions
+pub mod Tokens
+pub mod Tiles
+pub mod Laws
