@@ -18,10 +18,11 @@ use Rattle.map_tables.specs.Home.{hexes_of_private}
 use Rattle.map_tables.specs.Laws.{link_order}
 use Rattle.map_tables.specs.Lay.{laid_links_of}
 use Rattle.map_tables.specs.Place.{stop_at}
-use Rattle.map_tables.specs.Print.{is_one_of, print_of}
+use Rattle.map_tables.specs.Print.{print_of}
 use Rattle.map_tables.specs.Tile.{entry_of, tile_index_of}
 use Rattle.map_tables.specs.declared.hex.Hex.{Hex}
 use Rattle.map_tables.specs.declared.lay.Lay.{Lay}
+use Rattle.map_tables.specs.declared.place.Stop.{Stop}
 use Rattle.map_tables.specs.declared.place.StopNumber.{StopNumber}
 use Rattle.map_tables.specs.declared.tiles.Colour.{Colour}
 use Rattle.map_tables.specs.declared.tiles.Colour.TheVariants.{White, Yellow, Green, Brown}
@@ -82,7 +83,7 @@ loses_track lays lay = list_any (λ old. not (is_kept (laid_links_of lay) old)) 
 -- whether a hex is one of a private that a player owns
 unfoldable pub is_blocked : Asker → Hex → Bool
 is_blocked asker hex =
-    list_any (λ private. slice_index_or asker.player_privates (place_of_private private) false && is_one_of hex (hexes_of_private private)) privates
+    list_any (λ private. slice_index_or asker.player_privates (place_of_private private) false && list_any (λ one. same_hex one hex) (hexes_of_private private)) privates
 
 -- what a lay on a hex costs: its terrain, with the first tile
 unfoldable pub lay_cost_of : List Lay → Hex → ℕ
@@ -91,6 +92,14 @@ lay_cost_of lays hex = by_tile (print_of hex).cost (λ lay. 0) (tile_on lays hex
 -- a company reaches some piece of the tile: a link of it, or a stop of its hex
 pub record IsConnected (position : Position) (company : Company) (lay : Lay) : Type 0 where
   pub piece : ((link : Link) × IsAmong link (laid_links_of lay) × ReachesLink position company link) ⊎ ((number : StopNumber) × ReachesStop position company (stop_at lay.hex number))
+
+-- some of these links is one of those
+abbrev pub ShareLink : List Link → List Link → Type 0
+ShareLink links others = (link : Link) × IsAmong link links × IsAmong link others
+
+-- some of these stops is one of a hex
+abbrev pub HaveStopIn : Hex → List Stop → Type 0
+HaveStopIn hex stops = (number : StopNumber) × IsAmong (stop_at hex number) stops
 
 -- the rules that ask nothing of what is reached
 abbrev pub ground_rules : Ground → Asker → Lay → List (Rule LayFault)

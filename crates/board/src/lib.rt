@@ -18,8 +18,10 @@ mod asker;
 mod board;
 mod fault;
 mod fit;
+mod lay;
 mod network;
 mod shown;
+mod token;
 
 pub use asker::{Asker, TurnStep};
 pub use board::Board;
