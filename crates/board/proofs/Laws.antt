@@ -1,6 +1,6 @@
 -- The position keeps the laws of positions, whatever was laid.
-use Rattle.std.proofs.Common.{◌≡◌, ◌∙◌, ap, sym, subst, refl, ◌≤◌, lit≤, Bool, true, false, cond, Option, Some, None}
-use Rattle.board.specs.Ground.{Ground, by_tile, is_red_kind, is_stop, lying_at, position_of, tile_on, value_in}
+use Rattle.std.proofs.Common.{◌≡◌, ◌∙◌, ap, sym, subst, refl, ◌≤◌, lit≤, true, false, cond, Option, Some, None}
+use Rattle.board.specs.Ground.{Ground, by_tile, is_red_kind, is_stop, position_of, tile_on, value_in}
 use Rattle.board.proofs.Positions.{in_hex_is, not_shown, shown}
 use Rattle.board.proofs.Tiles.{lies_there}
 use Rattle.map_tables.specs.Hex.{index_of, same_hex}
@@ -15,7 +15,7 @@ use Rattle.map_tables.specs.declared.lay.Lay.{Lay}
 use Rattle.map_tables.specs.declared.place.Stop.{Stop}
 use Rattle.map_tables.specs.declared.place.StopNumber.TheVariants.{First}
 use Rattle.reach.specs.Lawful.{IsLawful}
-use Rattle.reach.specs.Position.{AtStop, InHex, is_red, value_of}
+use Rattle.reach.specs.Position.{AtStop, InHex, value_of}
 use Rattle.std.specs.Prelude.{nat_lt}
 use Rattle.tables.specs.Train.{place_of_kind}
 use Rattle.tables.specs.declared.rolling_stock.Kind.{Kind}

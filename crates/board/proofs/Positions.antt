@@ -1,5 +1,5 @@
 -- What the position shows in a hex and at a stop.
-use Rattle.std.proofs.Common.{◌≡◌, ◌∙◌, ap, sym, refl, ℕ, zero, suc, ◌<◌, Bool, true, false, cond, List, [], ◌∷◌, length, map, get_or, lit<, arith}
+use Rattle.std.proofs.Common.{◌≡◌, ◌∙◌, ap, refl, ℕ, zero, suc, ◌<◌, true, false, cond, length, map, get_or, lit<, arith}
 use Rattle.std.proofs.lemmas.Bool.{lt-ltb}
 use Rattle.std.proofs.lemmas.List.{get_or-map}
 use Rattle.std.specs.Prelude.{nat_lt}
@@ -12,7 +12,7 @@ use Rattle.map_tables.specs.declared.hex.Hex.TheVariants.{A9}
 use Rattle.map_tables.specs.declared.place.Stop.{Stop}
 use Rattle.map_tables.specs.declared.place.StopNumber.{StopNumber}
 use Rattle.map_tables.specs.declared.place.StopNumber.TheVariants.{First, Second}
-use Rattle.reach.specs.Position.{AtStop, InHex, Position, at_stop, empty_hex, in_hex, no_stop}
+use Rattle.reach.specs.Position.{AtStop, InHex, at_stop, empty_hex, in_hex, no_stop}
 
 -- a hex stands at its number
 at_index : (hex : Hex) → get_or hexes (index_of hex) A9 ≡ hex

@@ -24,7 +24,6 @@ use Rattle.map_tables.specs.declared.tiles.TileKind.{TileKind}
 use Rattle.map_tables.specs.declared.tiles.TileKind.TheVariants.{Plain, Town, TwoTowns, City, CityB, CitiesNY, CitiesOO}
 use Rattle.map_tables.specs.declared.track.End.{End}
 use Rattle.map_tables.specs.declared.track.End.TheVariants.{Side as AtSide, Stop as AtNumber}
-use Rattle.map_tables.specs.declared.track.Link.{Link}
 use Rattle.reach.specs.Position.{Position, at_stop}
 use Rattle.tables.specs.Rules.{Rule, first_broken}
 use Rattle.tables.specs.declared.roster.Company.{Company}

@@ -3,7 +3,7 @@
 -- and its next colour, the stops swapped only where there are two; all old track of the hex; no bad side; a
 -- hex of no private that a player owns; some piece of the tile reached in the position after the lay; and the
 -- cash for the terrain, which is paid with the first tile of a hex.
-use Rattle.std.specs.Prelude.{◌≡◌, ℕ, ◌+◌, ◌==◌, ◌&&◌, ◌||◌, ◌⊎◌, ◌↔◌, Bool, true, false, not, nat_lt, nat_le, IsTrue, List, [], ◌∷◌, ◌++◌, Option, Some, None, Result, Ok, Err, ℤ, pos, slice_index_or, count_by}
+use Rattle.std.specs.Prelude.{◌≡◌, ℕ, ◌+◌, ◌==◌, ◌&&◌, ◌||◌, ◌⊎◌, ◌↔◌, Bool, false, not, nat_lt, nat_le, IsTrue, List, [], ◌∷◌, ◌++◌, Option, Some, None, Result, Ok, Err, ℤ, pos, slice_index_or, count_by}
 use Rattle.std.specs.Int.Signed.{lt_z}
 use Rattle.std.specs.List.{list_any}
 use Rattle.board.specs.Fit.{has_bad_side, is_open, is_wrong_kind}
@@ -114,22 +114,25 @@ ground_rules laid asker lay =
     ∷ record { code = fault.Blocked; broken = is_blocked asker lay.hex }
     ∷ []
 
--- all rules of a lay, of which some piece is reached or none
-abbrev pub lay_rules : Ground → Asker → Lay → Bool → List (Rule LayFault)
-lay_rules laid asker lay reached =
-    ground_rules laid asker lay
-    ++ (record { code = fault.NotReached; broken = not reached }
+-- the rules that are looked at once it is known whether some piece of the tile is reached
+abbrev pub reach_rules : Ground → Asker → Lay → Bool → List (Rule LayFault)
+reach_rules laid asker lay reached =
+    record { code = fault.NotReached; broken = not reached }
     ∷ record { code = fault.CashTooSmall; broken = lt_z asker.cash (pos (lay_cost_of laid.lays lay.hex)) }
-    ∷ [])
+    ∷ []
+
+-- all rules of a lay
+abbrev pub lay_rules : Ground → Asker → Lay → Bool → List (Rule LayFault)
+lay_rules laid asker lay reached = ground_rules laid asker lay ++ reach_rules laid asker lay reached
 
 -- the cost, or the rule that is broken first
 abbrev pub cost_or : {Fault : Type 0} → ℕ → Option Fault → Result ℤ Fault
 cost_or cost None = Ok (pos cost)
 cost_or cost (Some fault) = Err fault
 
--- the answer to a lay: its cost, or the first rule that it breaks. What is reached is looked at in the
--- position after the lay.
+-- the answer to a lay: its cost, or the first rule that it breaks. Where the rules before it are kept, what
+-- is reached is looked at, in the position after the lay.
 pub record IsLayAnswer (laid : Ground) (asker : Asker) (lay : Lay) (answer : Result ℤ LayFault) : Type 0 where
   pub reached : Bool
-  pub exact : IsTrue reached ↔ IsConnected (position_of (with_lay laid lay)) asker.company lay
+  pub exact : first_broken (ground_rules laid asker lay) ≡ None → IsTrue reached ↔ IsConnected (position_of (with_lay laid lay)) asker.company lay
   pub given : answer ≡ cost_or (lay_cost_of laid.lays lay.hex) (first_broken (lay_rules laid asker lay reached))

@@ -2,7 +2,7 @@
 -- placed; a free slot of a city, where a slot that is kept for a company counts as taken; a hex without a
 -- token of the company; a stop that is reached; and its price, which goes by how many tokens of the company
 -- lie. One slot of each company's home is kept for it until its token lies there.
-use Rattle.std.specs.Prelude.{◌≡◌, ℕ, ◌+◌, ◌==◌, ◌&&◌, ◌↔◌, Bool, true, false, not, nat_lt, nat_le, IsTrue, List, [], ◌∷◌, ◌++◌, length, Option, Some, None, Result, ℤ, pos, count_by}
+use Rattle.std.specs.Prelude.{◌≡◌, ℕ, ◌+◌, ◌&&◌, ◌↔◌, Bool, true, not, nat_lt, nat_le, IsTrue, List, [], ◌∷◌, ◌++◌, length, Option, Some, None, Result, ℤ, pos, count_by}
 use Rattle.std.specs.Int.Signed.{lt_z}
 use Rattle.std.specs.List.{list_any}
 use Rattle.board.specs.Ground.{Ground, has_token, position_of, same_stop}
@@ -76,16 +76,20 @@ slot_rules laid asker place =
     ∷ record { code = fault.InHexAlready; broken = has_token_in laid.tokens place.hex asker.company }
     ∷ []
 
--- all rules of a token, whose stop is reached or not
-abbrev pub token_rules : Ground → Asker → Place → Bool → List (Rule TokenFault)
-token_rules laid asker place reached =
-    slot_rules laid asker place
-    ++ (record { code = fault.NotReached; broken = not reached }
+-- the rules that are looked at once it is known whether the stop is reached
+abbrev pub reach_rules : Ground → Asker → Bool → List (Rule TokenFault)
+reach_rules laid asker reached =
+    record { code = fault.NotReached; broken = not reached }
     ∷ record { code = fault.CashTooSmall; broken = lt_z asker.cash (pos (token_cost_of laid.tokens asker.company)) }
-    ∷ [])
+    ∷ []
 
--- the answer to a token: its cost, or the first rule that it breaks
+-- all rules of a token
+abbrev pub token_rules : Ground → Asker → Place → Bool → List (Rule TokenFault)
+token_rules laid asker place reached = slot_rules laid asker place ++ reach_rules laid asker reached
+
+-- the answer to a token: its cost, or the first rule that it breaks. Where the rules before it are kept, what
+-- is reached is looked at.
 pub record IsTokenAnswer (laid : Ground) (asker : Asker) (place : Place) (answer : Result ℤ TokenFault) : Type 0 where
   pub reached : Bool
-  pub exact : IsTrue reached ↔ IsReachedPlace (position_of laid) asker.company place
+  pub exact : first_broken (slot_rules laid asker place) ≡ None → IsTrue reached ↔ IsReachedPlace (position_of laid) asker.company place
   pub given : answer ≡ cost_or (token_cost_of laid.tokens asker.company) (first_broken (token_rules laid asker place reached))

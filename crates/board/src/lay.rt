@@ -6,6 +6,7 @@ ghost use Rattle.map_tables.specs.Hex.{same_hex};
 ghost use Rattle.map_tables.specs.Laws.{link_order};
 ghost use Rattle.map_tables.specs.Track.{end_order};
 ghost use Rattle.map_tables.specs.declared.hex.Hex.{Hex};
+ghost use Rattle.reach.specs.Reached.{IsReach};
 ghost use Rattle.tables.specs.Rules.{first_broken};
 
 use crate::asker::{Asker, TurnStep};
@@ -81,11 +82,29 @@ impl Board {
         ensures { let after = position_of (with_lay self.now lay) in
             IfOk result (λ reached. IsTrue reached ↔ IsConnected after company lay) }
     {
+        let after = self.after(lay)?;
+        let reach = after.reach(company)?;
+        let links = laid_links(lay);
+        if share_link(links.as_slice(), &reach) {
+            return Ok(true);
+        }
+        Ok(have_stop_in(reach.stops(), lay.hex))
+    }
+
+    /// The board after a lay.
+    fn after(&self, lay: Lay) -> Result<Board, AllocError>
+        ensures { IfOk result (λ board. board ≡ with_lay self.now lay) }
+    {
         let mut after = self.duplicate()?;
         after.put_lay(lay)?;
-        let reach = reached(*after.lays.allocator(), &after, company)?;
-        let links = laid_links(lay);
-        Ok(share_link(links.as_slice(), &reach) || have_stop_in(reach.stops(), lay.hex))
+        Ok(after)
+    }
+
+    /// What a company reaches.
+    pub(crate) fn reach(&self, company: Company) -> Result<Reach, AllocError>
+        ensures { IfOk result (IsReach (position_of self.now) company) }
+    {
+        reached(*self.lays.allocator(), self, company)
     }
 
     /// What a lay on a hex costs: its terrain, with the first tile.
@@ -193,7 +212,9 @@ fn place_of_colour(colour: Colour) -> u8
 fn is_kept(links: &[Link], old: Link) -> bool
     ensures { result ≡ is_kept links.now old }
 {
-    links.iter().any(|link| link_order(*link) == link_order(old))
+    links
+        .iter()
+        .any(|link| link_order(*link) == link_order(old))
 }
 
 /// The place of a link in the order of a hex's links.
@@ -219,9 +240,8 @@ fn end_order(end: End) -> usize
 fn is_blocked(asker: &Asker, hex: Hex) -> bool
     ensures { result ≡ is_blocked asker.now hex }
 {
-    Private::ALL
-        .iter()
-        .any(|private| asker.player_privates[private.place()] && is_one_of(hex, private_hexes(*private)))
+    Private::ALL.iter().any(|private| asker.player_privates[private.place()]
+        && is_one_of(hex, private_hexes(*private)))
 }
 
 /// Whether a hex is one of some.

@@ -11,7 +11,6 @@ use crate::board::Board;
 use crate::fault::TokenFault;
 use crate::shown::{same_company, same_hex, same_stop};
 use map_tables::{Hex, Place, Stop, hexes_are_told_apart, home, joined_stop};
-use reach::reached;
 use std::alloc::AllocError;
 use tables::{Amount, Company, Money, token_price, tokens};
 
@@ -64,7 +63,7 @@ impl Board {
         let Some(stop) = place.stop() else {
             return Ok(false);
         };
-        let reach = reached(*self.lays.allocator(), self, company)?;
+        let reach = self.reach(company)?;
         Ok(is_among(joined_stop(stop), reach.stops()))
     }
 
@@ -138,9 +137,7 @@ impl Board {
     fn has_token_in(&self, hex: Hex, company: Company) -> bool
         ensures { result ≡ has_token_in self.now.tokens hex company }
     {
-        self.tokens
-            .iter()
-            .any(|token| same_hex(token.0.hex, hex) && same_company(token.1, company))
+        self.tokens.iter().any(|token| same_hex(token.0.hex, hex) && same_company(token.1, company))
     }
 }
 

@@ -1,5 +1,5 @@
 -- The slots of a stop are those that the position has there.
-use Rattle.std.proofs.Common.{◌≡◌, ◌∙◌, ap, sym, true, false}
+use Rattle.std.proofs.Common.{◌≡◌, ap, sym, true, false}
 use Rattle.board.specs.Ground.{is_stop}
 use Rattle.board.proofs.Positions.{shown, not_shown}
 use Rattle.map_tables.specs.Place.{joined_stop_of}

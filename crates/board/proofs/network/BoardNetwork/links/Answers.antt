@@ -1,5 +1,5 @@
 -- The links of a hex are those that the position has there.
-use Rattle.std.proofs.Common.{◌≡◌, ◌∙◌, ap, sym}
+use Rattle.std.proofs.Common.{◌∙◌, ap, sym}
 use Rattle.board.proofs.Positions.{in_hex_is}
 use Rattle.reach.specs.Position.{InHex}
 use Rattle.board.proofs.network.BoardNetwork.links.Goals as goal
