@@ -8,8 +8,8 @@ use std::alloc::{AllocError, Global};
 use std::marker::Model;
 use tables::{Company, Kind};
 
-/// The tiles and tokens that lie on the map, in a phase. To a contract it is those that were laid, oldest
-/// first: what is replaced is remembered.
+/// The tiles and tokens that lie on the map, in a phase. To a contract it is those that were laid,
+/// oldest first: what is replaced is remembered.
 #[derive(Drop)]
 pub struct Board {
     pub(crate) lays: Vec<Lay>,
@@ -26,8 +26,8 @@ impl Model for Board {
 }
 
 impl Board {
-    /// The board after these lays and tokens, oldest first, in a phase. It is refused by the first of
-    /// `Kind`, `BadSide` and `NoSlot` that holds of the two lists, or by `Memory`.
+    /// The board after these lays and tokens, oldest first, in a phase. It is refused by the first
+    /// of `Kind`, `BadSide` and `NoSlot` that holds of the two lists, or by `Memory`.
     pub fn of(
         alloc: Global,
         lays: &[Lay],

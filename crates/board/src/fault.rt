@@ -6,15 +6,16 @@ ghost use Rattle.board.specs.declared.fault.TokenFault.TheVariants.{Memory as to
 use std::alloc::AllocError;
 use thiserror::Error;
 
-/// Why tiles and tokens are no board: the first of these that applies, or memory was refused, which says
-/// nothing of them.
+/// Why tiles and tokens are no board: the first of these that applies, or memory was refused, which
+/// says nothing of them.
 #[derive(Clone, Copy, Debug, PartialEq, Eq, Drop, Error)]
 pub enum BoardFault {
-    /// B1: a tile is of another kind than its hex, or has its stops swapped where there are not two.
+    /// B1: a tile is of another kind than its hex, or has its stops swapped where there are not
+    /// two.
     #[error("a tile is of another kind than its hex")]
     Kind,
-    /// B2: the track of a tile leads to a bad side: off the map, to a closed border, or to a grey or red
-    /// hex without track there.
+    /// B2: the track of a tile leads to a bad side: off the map, to a closed border, or to a grey
+    /// or red hex without track there.
     #[error("the track of a tile leads to a bad side")]
     BadSide,
     /// B3: a token has no slot of its own in a city.
@@ -40,8 +41,8 @@ pub enum LayFault {
     /// L4: the tile's colour has not come yet.
     #[error("the colour of the tile has not come yet")]
     ColourClosed,
-    /// L5: the tile is of another kind than the hex, or not of its next colour, or its stops are to be
-    /// swapped where there are not two.
+    /// L5: the tile is of another kind than the hex, or not of its next colour, or its stops are to
+    /// be swapped where there are not two.
     #[error("the tile is of another kind or colour than the hex takes")]
     WrongTile,
     /// L6: some track of the hex is not on the tile.

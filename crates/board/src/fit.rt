@@ -87,7 +87,8 @@ fn takes(hex: HexKind, tile: TileKind) -> bool
     }
 }
 
-/// Whether a tile is of another kind than its hex, or its stops are swapped where there are not two.
+/// Whether a tile is of another kind than its hex, or its stops are swapped where there are not
+/// two.
 #[tactic(auto, unfolding(crate::specs::Fit::is_wrong_kind))]
 pub(crate) fn is_wrong_kind(lay: Lay) -> bool
     ensures { result ≡ is_wrong_kind lay }

@@ -23,9 +23,9 @@ use std::alloc::AllocError;
 use tables::{Amount, Company, Kind, Money, Private};
 
 impl Board {
-    /// What a lay costs, in dollars, or the first rule that it breaks. `Memory`, for what is reached,
-    /// comes only where L1 to L8 are kept. The company has to reach some piece of the tile in the
-    /// position after the lay; the board stays as it is.
+    /// What a lay costs, in dollars, or the first rule that it breaks. `Memory`, for what is
+    /// reached, comes only where L1 to L8 are kept. The company has to reach some piece of the tile
+    /// in the position after the lay; the board stays as it is.
     pub fn try_lay(&self, asker: &Asker, lay: Lay) -> Result<Money, LayFault>
         ensures memory { result ≡ Err LayFault.Memory →
             first_broken (ground_rules self.now asker.now lay) ≡ None }

@@ -15,8 +15,8 @@ use std::alloc::AllocError;
 use tables::{Amount, Company, Money, token_price, tokens};
 
 impl Board {
-    /// What a token costs, in dollars, or the first rule that it breaks. `Memory`, for what is reached,
-    /// comes only where K1 to K4 are kept. The board stays as it is.
+    /// What a token costs, in dollars, or the first rule that it breaks. `Memory`, for what is
+    /// reached, comes only where K1 to K4 are kept. The board stays as it is.
     pub fn try_token(&self, asker: &Asker, place: Place) -> Result<Money, TokenFault>
         ensures memory { result ≡ Err TokenFault.Memory →
             first_broken (slot_rules self.now asker.now place) ≡ None }
