@@ -3,3 +3,6 @@ mod Moves
 mod Transfers
 mod Presidents
 mod Counts
+mod NoteLemmas
+pub mod ByGame
+mod Deals
