@@ -1,6 +1,7 @@
 pub mod Acts
 pub mod Judged
 pub mod Others
+pub mod Rises
 pub mod RoundEnds
 pub mod Sales
 pub mod Seats

@@ -1,5 +1,5 @@
 -- Sales of tenths, after which somebody presides who has two.
-use Rattle.std.proofs.Common.{◌≡◌, ◌≢◌, ℕ, ◌+◌, ◌≤◌, ◌<◌, ◌==◌, ◌⊎◌, inl, inr, Bool, true, false, not, ◌&&◌, ◌||◌, if◌then◌else◌, List, [], ◌∷◌, ◌++◌, Option, Some, None, is_some, ℤ, pos, ◌≤ℤ◌, ◌-ℤ◌, ◌+ℤ◌, refl, sym, subst, ap, ◌∙◌, arith}
+use Rattle.std.proofs.Common.{◌≡◌, ◌≢◌, ℕ, ◌+◌, ◌*◌, ◌≤◌, ◌<◌, ◌==◌, ◌⊎◌, inl, inr, Bool, true, false, not, ◌&&◌, ◌||◌, if◌then◌else◌, List, [], ◌∷◌, ◌++◌, Option, Some, None, is_some, ℤ, pos, ◌≤ℤ◌, ◌-ℤ◌, ◌+ℤ◌, refl, sym, subst, ap, ◌∙◌, arith}
 use Rattle.std.proofs.lemmas.Bool.{cases_eq}
 use Rattle.std.proofs.lemmas.Bool.Decides.{nat_tests}
 use Rattle.std.proofs.lemmas.Int.{ints}
@@ -11,7 +11,8 @@ use Rattle.certs.specs.Purchase.{market_price_of}
 use Rattle.certs.specs.Sale.{is_not_held, kept_after, leaves_none, must_stay, one_has}
 use Rattle.certs.specs.declared.deal.Sale.{Sale}
 use Rattle.history.proofs.EventAtEnd.{president_of_before, shares_of_at_end, shares_of_before}
-use Rattle.history.specs.Laws.{BlockKeepsSound, BlockWithSuccessionKeepsSound, SuccessionKeepsSound, block_sold}
+use Rattle.history.proofs.Blocks.{block_sound, block_with_succession_sound}
+use Rattle.history.specs.Laws.{block_sold}
 use Rattle.history.specs.LookBack.{Game, with_event}
 use Rattle.history.specs.Shares.{is_started, president_of, shares_of, square_of}
 use Rattle.history.specs.Sound.{IsLed, IsSound}
@@ -19,6 +20,7 @@ use Rattle.history.specs.Tell.{breaks, with_broken}
 use Rattle.history.specs.declared.event.Event.{Event}
 use Rattle.history.specs.declared.event.Event.TheVariants as event
 use Rattle.history.specs.declared.event.Shareholder.TheVariants.{Seat as OfSeat}
+use Rattle.stock_round.proofs.Acts.{same_game}
 use Rattle.stock_round.proofs.Others.{another_leads}
 use Rattle.stock_round.specs.Act.{seat_tenths_of, sold, succeeded, successor_of, with_president, with_successor}
 use Rattle.stock_round.specs.Allowed.{MaySell}
@@ -138,9 +140,9 @@ successor_has_two game seat sale price old few within may sound is =
     refl
 
 -- the list after a sale and the presidency that follows from it
-succeeded_sound : BlockKeepsSound → BlockWithSuccessionKeepsSound → (game : Game) (seat : Seat) (sale : Sale) (price : ℕ) (old : Seat) → game.seats ≤ 6 → seat.0 < game.seats → MaySell game.seats game.events seat sale → IsSound game → president_of game.events sale.company ≡ Some old → IsSound (record { seats = game.seats; events = succeeded (block_sold game sale.company seat sale.tenths price).events sale.company old (successor_of game.seats (block_sold game sale.company seat sale.tenths price).events sale.company old) })
+succeeded_sound : (game : Game) (seat : Seat) (sale : Sale) (price : ℕ) (old : Seat) → game.seats ≤ 6 → seat.0 < game.seats → MaySell game.seats game.events seat sale → IsSound game → president_of game.events sale.company ≡ Some old → IsSound (record { seats = game.seats; events = succeeded (block_sold game sale.company seat sale.tenths price).events sale.company old (successor_of game.seats (block_sold game sale.company seat sale.tenths price).events sale.company old) })
 unfolding is_not_held
-succeeded_sound keeps passes game seat sale price old few within may sound is =
+succeeded_sound game seat sale price old few within may sound is =
     let company = sale.company in
     let after : List Event = (block_sold game company seat sale.tenths price).events in
     let new = successor_of game.seats after company old in
@@ -157,29 +159,41 @@ succeeded_sound keeps passes game seat sale price old few within may sound is =
           let is_old : old ≡ president = cc in
           subst (λ (s : Seat). pos 2 ≤ℤ seat_tenths_of after company s) (one ∙ is_old) two
           in
-          keeps game company seat sale.tenths price within held stays sound
-      | false ↦ λ apart. passes game company seat sale.tenths price new within held two sound
+          block_sound game company seat sale.tenths price within held stays sound
+      | false ↦ λ apart. block_with_succession_sound game company seat sale.tenths price new within held two sound
     ]
     refl
 
 -- a sale without a president
-unled_sound : BlockKeepsSound → (game : Game) (seat : Seat) (sale : Sale) (price : ℕ) → seat.0 < game.seats → MaySell game.seats game.events seat sale → IsSound game → president_of game.events sale.company ≡ None → IsSound (block_sold game sale.company seat sale.tenths price)
+unled_sound : (game : Game) (seat : Seat) (sale : Sale) (price : ℕ) → seat.0 < game.seats → MaySell game.seats game.events seat sale → IsSound game → president_of game.events sale.company ≡ None → IsSound (block_sold game sale.company seat sale.tenths price)
 unfolding is_not_held
-unled_sound keeps game seat sale price within may sound none =
+unled_sound game seat sale price within may sound none =
     let company = sale.company in
     let short : lt_z (seat_tenths_of game.events company seat) (pos sale.tenths) ≡ false = sale_held (sale.tenths == 0) (lt_z (seat_tenths_of game.events company seat) (pos sale.tenths)) may.held in
     let held : pos sale.tenths ≤ℤ seat_tenths_of game.events company seat = grind (arith, ints, short) in
-    keeps game company seat sale.tenths price within held (λ president has. let no : None ≡ Some president = sym none ∙ has in absurd (cc)) sound
+    block_sound game company seat sale.tenths price within held (λ president has. let no : None ≡ Some president = sym none ∙ has in absurd (cc)) sound
 
 -- after a sale and the presidency that follows from it a list is sound
-pub sale_led : BlockKeepsSound → BlockWithSuccessionKeepsSound → (game : Game) (seat : Seat) (sale : Sale) (price : ℕ) → game.seats ≤ 6 → seat.0 < game.seats → MaySell game.seats game.events seat sale → IsSound game → IsSound (record { seats = game.seats; events = with_president game.seats (block_sold game sale.company seat sale.tenths price).events sale.company })
-sale_led keeps passes game seat sale price few within may sound =
+pub sale_led : (game : Game) (seat : Seat) (sale : Sale) (price : ℕ) → game.seats ≤ 6 → seat.0 < game.seats → MaySell game.seats game.events seat sale → IsSound game → IsSound (record { seats = game.seats; events = with_president game.seats (block_sold game sale.company seat sale.tenths price).events sale.company })
+sale_led game seat sale price few within may sound =
     let company = sale.company in
     let after : List Event = (block_sold game company seat sale.tenths price).events in
     let same = president_sold game company seat sale.tenths price in
     subst (λ (found : Option Seat). IsSound (record { seats = game.seats; events = with_successor game.seats after company found })) (sym same)
     (elim (president_of game.events company) as (λ (found : Option Seat). president_of game.events company ≡ found → IsSound (record { seats = game.seats; events = with_successor game.seats after company found })) [
-      | None ↦ λ is. unled_sound keeps game seat sale price within may sound is
-      | Some old ↦ λ is. succeeded_sound keeps passes game seat sale price old few within may sound is
+      | None ↦ λ is. unled_sound game seat sale price within may sound is
+      | Some old ↦ λ is. succeeded_sound game seat sale price old few within may sound is
     ]
     refl)
+
+-- so it is step by step
+pub sold_sound : (game paid led : Game) (seat : Seat) (sale : Sale) → game.seats ≤ 6 → seat.0 < game.seats → MaySell game.seats game.events seat sale → IsSound game → paid.seats ≡ game.seats → paid.events ≡ sold game.seats game.events seat sale.company sale.tenths → led.seats ≡ paid.seats → led.events ≡ with_president paid.seats paid.events sale.company → IsSound led
+sold_sound game paid led seat sale few within may sound paid_seats is_paid led_seats is_led =
+    let price = sale.tenths * market_price_of game.events sale.company in
+    let after : List Event = (block_sold game sale.company seat sale.tenths price).events in
+    let events : led.events ≡ with_president game.seats after sale.company =
+    is_led
+    ∙ ap (λ (n : ℕ). with_president n paid.events sale.company) paid_seats
+    ∙ ap (λ (events : List Event). with_president game.seats events sale.company) is_paid
+    in
+    same_game led game.seats (with_president game.seats after sale.company) (led_seats ∙ paid_seats) events (sale_led game seat sale price few within may sound)

@@ -105,7 +105,8 @@ fn sell(
     let tenths = tenths as u8;
     pay_for_block(history, seat, company, tenths)?;
     tell_president(history, company)?;
-    drop_token(history, company, tenths)
+    drop_token(history, company, tenths)?;
+    Ok(())
 }
 
 /// A seat gives up MH for a tenth of NYC.

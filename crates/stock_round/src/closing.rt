@@ -1,6 +1,6 @@
 ghost use Rattle.std.specs.Prelude.{◌≡◌, OnOk};
 ghost use Rattle.history.specs.Sound.{IsSound};
-ghost use Rattle.stock_round.specs.StockRound.{closed, is_sold_out as has_sold_out, risen};
+ghost use Rattle.stock_round.specs.StockRound.{all_risen, closed, is_sold_out as has_sold_out, risen};
 
 use crate::token::raise_token;
 use history::{History, Shareholder};
@@ -16,7 +16,18 @@ pub(crate) fn close(history: &mut History) -> Result<(), AllocError>
     ensures sound { OnOk result (IsSound history.new) }
 {
     let order = operating_order(history);
-    for company in order.as_slice() {
+    raise_all(history, order.as_slice())
+}
+
+/// Each of some companies that is sold out moves up, in order.
+fn raise_all(history: &mut History, companies: &[Company]) -> Result<(), AllocError>
+    requires { IsSound history.old }
+    ensures seats { OnOk result (history.new.seats ≡ history.old.seats) }
+    ensures events { OnOk result (history.new.events
+        ≡ all_risen history.old.events companies.now) }
+    ensures sound { OnOk result (IsSound history.new) }
+{
+    for company in companies {
         raise_if_sold_out(history, *company)?;
     }
     Ok(())
@@ -32,7 +43,8 @@ fn raise_if_sold_out(history: &mut History, company: Company) -> Result<(), Allo
     if !is_sold_out(history, company) {
         return Ok(());
     }
-    raise_token(history, company)
+    raise_token(history, company)?;
+    Ok(())
 }
 
 /// Whether all tenths of a company are with players.

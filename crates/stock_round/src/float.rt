@@ -34,8 +34,7 @@ pub(crate) fn tell_float(history: &mut History, company: Company) -> Result<(), 
 fn is_to_float(history: &History, company: Company) -> bool
     ensures { result ≡ is_ready_to_float history.now.events company }
 {
-    !history.floated(company)
-        && history.shares(company, Shareholder::InitialOffering) <= FLOAT_MOST
+    !history.floated(company) && history.shares(company, Shareholder::InitialOffering) <= FLOAT_MOST
 }
 
 /// A company floats.

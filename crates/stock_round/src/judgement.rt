@@ -68,7 +68,12 @@ fn is_no_exchange(history: &History, seat: Seat) -> bool
 {
     !owns_mohawk(history, seat)
         || !(is_offered(history) || is_pooled(history))
-        || is_over_six(&history.now(), seat, Company::NewYorkCentral, EXCHANGE_TENTHS)
+        || is_over_six(
+            &history.now(),
+            seat,
+            Company::NewYorkCentral,
+            EXCHANGE_TENTHS,
+        )
 }
 
 /// Whether a seat owns MH.

@@ -44,11 +44,7 @@ pub(crate) fn take_turn(
 }
 
 /// Rules the lines of a group. Answers what the seat has done by them.
-fn rule_lines(
-    history: &mut History,
-    seat: Seat,
-    sheet: &mut PartsLeft,
-) -> Result<Deals, AllocError>
+fn rule_lines(history: &mut History, seat: Seat, sheet: &mut PartsLeft) -> Result<Deals, AllocError>
     requires few { history.old.seats ≤ 6 }
     requires at_table { seat.0 < history.old.seats }
     requires sound { IsSound history.old }
