@@ -3,3 +3,5 @@ mod Moves
 mod Transfers
 mod Presidents
 mod Counts
+mod NoteLemmas
+pub mod ByGame

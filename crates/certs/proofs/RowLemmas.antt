@@ -1,28 +1,13 @@
 -- Rows of tenths.
-use Rattle.std.proofs.Common.{◌≡◌, ℕ, zero, suc, ◌*◌, ◌^◌, ◌<◌, List, [], ◌∷◌, ℤ, pos, ◌+ℤ◌, ◌≤ℤ◌, ◌-ℤ◌, ◌==◌, if◌then◌else◌, Bool, true, false, length, get_or, set, refl, sym, subst, ap, inl, inr, arith}
+use Rattle.std.proofs.Common.{◌≡◌, ℕ, zero, suc, ◌*◌, ◌^◌, ◌<◌, ◌≤◌, List, [], ◌∷◌, ℤ, pos, ◌+ℤ◌, ◌≤ℤ◌, ◌-ℤ◌, ◌==◌, if◌then◌else◌, Bool, true, false, length, get_or, set, sym, subst, inl, inr, arith}
 use lib.IntN.{neg_ℤ}
 use Rattle.std.proofs.lemmas.Bool.{cases_eq, cases_lt}
 use Rattle.std.proofs.lemmas.Bool.Decides.{nat_tests}
 use Rattle.std.proofs.lemmas.Int.{ints}
 use Rattle.std.proofs.lemmas.List.{get_or_past, get_or-set_other, get_or-set_same, length-set}
 use Rattle.tables.proofs.Filled.{entry_changed}
-use Rattle.certs.specs.Rows.{IsBounded, IsSmall, index_of, total}
+use Rattle.certs.specs.Rows.{IsBounded, IsSmall, total}
 use Rattle.history.specs.LookBack.{IsModerate}
-use Rattle.history.specs.declared.event.Shareholder.{Shareholder}
-use Rattle.history.specs.declared.event.Shareholder.TheVariants.{InitialOffering, BankPool, Seat as OfSeat}
-use Rattle.tables.specs.Seat.{seat_at}
-
--- two places with one index are the same
-pub one_index : (a b : Shareholder) → index_of a ≡ index_of b → a ≡ b
-one_index InitialOffering InitialOffering same = refl
-one_index BankPool BankPool same = refl
-one_index (OfSeat a) (OfSeat b) same = let number : a.0 ≡ b.0 = omega arith in ap (λ (n : ℕ). OfSeat (seat_at n)) number
-one_index InitialOffering BankPool same = absurd (omega arith)
-one_index InitialOffering (OfSeat b) same = absurd (omega arith)
-one_index BankPool InitialOffering same = absurd (omega arith)
-one_index BankPool (OfSeat b) same = absurd (omega arith)
-one_index (OfSeat a) InitialOffering same = absurd (omega arith)
-one_index (OfSeat a) BankPool same = absurd (omega arith)
 
 -- the sum of moderate entries
 total_le : (row : List ℤ) → ((i : ℕ) → get_or row i (pos 0) ≤ℤ pos (2 ^ 100)) → total row ≤ℤ pos (length row * 2 ^ 100)
@@ -32,23 +17,15 @@ total_le (tenths ∷ others) each =
     let rest = total_le others (λ i. each (suc i)) in
     omega (arith, ints, first, rest)
 
--- eight moderate entries are bounded
-pub bounded_of : (row : List ℤ) → length row ≡ 8 → ((i : ℕ) → IsModerate (get_or row i (pos 0))) → IsBounded row
-bounded_of row eight each =
+-- at most eight moderate entries are bounded
+pub bounded_of : (row : List ℤ) → length row ≤ 8 → ((i : ℕ) → IsModerate (get_or row i (pos 0))) → IsBounded row
+bounded_of row short each =
     let all = total_le row (λ i. (each i).not_over) in
     record {
       not_under = λ i. (each i).not_under;
-      not_over = omega (arith, ints, all, eight);
-      short = omega (arith, eight);
+      not_over = omega (arith, ints, all, short);
+      short = short;
     }
-
--- past the end of a row lies nothing
-pub moderate_all : (row : List ℤ) → length row ≡ 8 → ((i : ℕ) → i < 8 → IsModerate (get_or row i (pos 0))) → (i : ℕ) → IsModerate (get_or row i (pos 0))
-moderate_all row eight each i =
-    elim (cases_lt i 8) [
-      | inl within ↦ each i within
-      | inr past ↦ subst (λ (z : ℤ). IsModerate z) (sym (get_or_past row i (pos 0) (omega (arith, eight)))) (record { not_under = omega (arith, ints); not_over = omega (arith, ints) })
-    ]
 
 -- the sum of entries that are not under a bound
 total_ge : (row : List ℤ) → ((i : ℕ) → neg_ℤ (pos (2 ^ 100)) ≤ℤ get_or row i (pos 0)) → neg_ℤ (pos (length row * 2 ^ 100)) ≤ℤ total row
@@ -91,7 +68,7 @@ abbrev part : ℕ → ℕ → ℤ → ℤ
 part i k sum = if i == k then sum else pos 0
 
 -- two changes of an entry
-parts : (from to : Bool) (before between after tenths : ℤ) → between ≡ before +ℤ (if from then pos 0 -ℤ tenths else pos 0) → after ≡ between +ℤ (if to then tenths else pos 0) → after ≡ (before +ℤ (if to then tenths else pos 0)) -ℤ (if from then tenths else pos 0)
+pub parts : (from to : Bool) (before between after tenths : ℤ) → between ≡ before +ℤ (if from then pos 0 -ℤ tenths else pos 0) → after ≡ between +ℤ (if to then tenths else pos 0) → after ≡ (before +ℤ (if to then tenths else pos 0)) -ℤ (if from then tenths else pos 0)
 parts true true before between after tenths first second = omega (arith, ints)
 parts true false before between after tenths first second = omega (arith, ints)
 parts false true before between after tenths first second = omega (arith, ints)

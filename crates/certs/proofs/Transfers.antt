@@ -43,9 +43,9 @@ part_elsewhere of at place other tenths apart =
     let no : (place_of_company of == place_of_company at) ≡ false = grind (arith, nat_tests) in
     sym (ap (λ (b : Bool). pos (if b then (if same_shareholder place other then tenths else 0) else 0)) no)
 
--- the rows after a transfer
-pub rows_after : (rows : List (List ℤ)) (row : List ℤ) (transfer : Transfer) (at : ℕ) → at ≡ place_of_company transfer.company → at < length rows → ((k : ℕ) → get_or row k (pos 0) ≡ (get_or (get_or rows at []) k (pos 0) +ℤ (if index_of transfer.to == k then pos transfer.tenths else pos 0)) -ℤ (if index_of transfer.from == k then pos transfer.tenths else pos 0)) → (company : Company) (place : Shareholder) → get_or (get_or (set rows at row) (place_of_company company) []) (index_of place) (pos 0) ≡ (get_or (get_or rows (place_of_company company) []) (index_of place) (pos 0) +ℤ pos (brought_to company place (Some transfer))) -ℤ pos (taken_from company place (Some transfer))
-rows_after rows row transfer at at_is within moved company place =
+-- the tenths at a place after a transfer, where its company's row changed so there
+pub rows_after : (rows : List (List ℤ)) (row : List ℤ) (transfer : Transfer) (at : ℕ) → at ≡ place_of_company transfer.company → at < length rows → (company : Company) (place : Shareholder) → get_or row (index_of place) (pos 0) ≡ (get_or (get_or rows at []) (index_of place) (pos 0) +ℤ (if index_of transfer.to == index_of place then pos transfer.tenths else pos 0)) -ℤ (if index_of transfer.from == index_of place then pos transfer.tenths else pos 0) → get_or (get_or (set rows at row) (place_of_company company) []) (index_of place) (pos 0) ≡ (get_or (get_or rows (place_of_company company) []) (index_of place) (pos 0) +ℤ pos (brought_to company place (Some transfer))) -ℤ pos (taken_from company place (Some transfer))
+rows_after rows row transfer at at_is within company place moved =
     let i : ℕ = index_of place in
     let k : ℕ = place_of_company company in
     elim (cases_eq (place_of_company transfer.company) k) [
@@ -53,7 +53,7 @@ rows_after rows row transfer at at_is within moved company place =
           let at_k : at ≡ k = at_is ∙ same in
           ap (λ (n : ℕ). get_or (get_or (set rows at row) n []) i (pos 0)) (sym at_k)
           ∙ ap (λ (r : List ℤ). get_or r i (pos 0)) (get_or-set_same rows at row [] within)
-          ∙ moved i
+          ∙ moved
           ∙ ap (λ (n : ℕ). (get_or (get_or rows n []) i (pos 0) +ℤ (if index_of transfer.to == i then pos transfer.tenths else pos 0)) -ℤ (if index_of transfer.from == i then pos transfer.tenths else pos 0)) at_k
           ∙ ap (λ (z : ℤ). (get_or (get_or rows k []) i (pos 0) +ℤ z) -ℤ (if index_of transfer.from == i then pos transfer.tenths else pos 0)) (sym (part_here transfer.company company transfer.to place transfer.tenths same))
           ∙ ap (λ (z : ℤ). (get_or (get_or rows k []) i (pos 0) +ℤ pos (brought_to company place (Some transfer))) -ℤ z) (sym (part_here transfer.company company transfer.from place transfer.tenths same))

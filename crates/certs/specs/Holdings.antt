@@ -7,6 +7,7 @@ use Rattle.history.specs.LookBack.{Game, owner_in, owner_of}
 use Rattle.history.specs.Shares.{brought_to, president_of, shares_of, square_of, taken_from}
 use Rattle.history.specs.declared.event.Shareholder.{Shareholder}
 use Rattle.history.specs.declared.event.Transfer.{Transfer}
+use Rattle.history.specs.declared.look_back.Past.{Past}
 use Rattle.tables.specs.Roster.{place_of_company}
 use Rattle.tables.specs.declared.roster.Company.{Company}
 use Rattle.tables.specs.declared.roster.Private.{Private}
@@ -33,6 +34,10 @@ pub record AreHoldingsOf (game : Game) (holdings : Holdings) : Type 0 where
   pub presidents : (company : Company) → president_in holdings company ≡ president_of game.events company
   pub squares : (company : Company) → square_in holdings company ≡ square_of game.events company
   pub owners : (private : Private) → owner_in holdings.owners private ≡ owner_of game.events private
+
+-- the holdings are those of a game as it stood
+abbrev pub AreHoldingsAt : Past → Holdings → Type 0
+AreHoldingsAt past holdings = AreHoldingsOf (record { seats = past.seats; events = past.events.now }) holdings
 
 -- a transfer moves its tenths, and nothing else
 pub record MovesTenths (old new : Holdings) (transfer : Transfer) : Type 0 where

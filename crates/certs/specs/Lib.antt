@@ -1,4 +1,5 @@
 pub mod Rows
+pub mod Notes
 pub mod Holdings
 pub mod President
 pub mod Counted

@@ -1,6 +1,6 @@
 -- A row of tenths of one company: first the initial offering's, then the bank pool's, then those of each of
 -- six seats.
-use Rattle.std.specs.Prelude.{ℕ, ◌+◌, ◌^◌, ◌<◌, ◌≤◌, List, [], ◌∷◌, ℤ, pos, ◌+ℤ◌, ◌≤ℤ◌, length, slice_index_or}
+use Rattle.std.specs.Prelude.{ℕ, ◌+◌, ◌*◌, ◌^◌, ◌<◌, ◌≤◌, List, [], ◌∷◌, ℤ, pos, ◌+ℤ◌, ◌≤ℤ◌, length, slice_index_or}
 use lib.IntN.{neg_ℤ}
 use Rattle.history.specs.declared.event.Shareholder.{Shareholder}
 use Rattle.history.specs.declared.event.Shareholder.TheVariants.{InitialOffering, BankPool, Seat as OfSeat}
@@ -30,6 +30,13 @@ pub record IsBounded (row : List ℤ) : Type 0 where
 -- each row is bounded
 abbrev pub AreBounded : List (List ℤ) → Type 0
 AreBounded rows = (k : ℕ) → IsBounded (slice_index_or rows k [])
+
+-- a row of at most eight entries that is no further from 0 than so many moves can bring it, each of fewer
+-- than 256 tenths
+pub record IsNear (moves : ℕ) (row : List ℤ) : Type 0 where
+  pub not_under : (i : ℕ) → neg_ℤ (pos (256 * moves)) ≤ℤ slice_index_or row i (pos 0)
+  pub not_over : (i : ℕ) → slice_index_or row i (pos 0) ≤ℤ pos (256 * moves)
+  pub short : length row ≤ 8
 
 -- tenths that are neither many nor far under 0
 pub record IsSmall (tenths : ℤ) : Type 0 where

@@ -5,7 +5,8 @@ ghost use Rattle.history.specs.declared.event.Shareholder.{Shareholder};
 ghost use Rattle.tables.specs.Roster.{place_of_company};
 ghost use Rattle.tables.specs.declared.roster.Company.{Company};
 
-use crate::rows::{Row, index_of, moved, row_of};
+use crate::notes::{Notes, notes_of};
+use crate::rows::{Row, index_of, moved};
 use history::{History, Owners, Past, Shareholder, Tenths, Transfer};
 use tables::{Company, Seat, Square};
 
@@ -21,19 +22,30 @@ pub struct Holdings {
 }
 
 impl Holdings {
-    ghost use Rattle.certs.specs.Holdings.{AreHoldingsOf, MovesTenths, tenths_in};
+    ghost use Rattle.certs.specs.Holdings.{AreHoldingsAt, AreHoldingsOf, MovesTenths, tenths_in};
 
     /// The holdings of a game as it stands, by looking back over its events.
     pub fn of(history: &History) -> Holdings
         ensures { AreHoldingsOf history.now result }
     {
-        let now = history.now();
+        Holdings::at(&history.now())
+    }
+
+    /// The holdings of a game as it stood, by looking back over its events.
+    pub fn at(past: &Past) -> Holdings
+        ensures { AreHoldingsAt past.now result }
+    {
+        let Notes {
+            tenths,
+            presidents,
+            squares,
+        } = notes_of(past);
         Holdings {
-            seats: now.seats,
-            tenths: rows_of(&now),
-            presidents: presidents_of(&now),
-            squares: squares_of(&now),
-            owners: now.owners(),
+            seats: past.seats,
+            tenths,
+            presidents,
+            squares,
+            owners: past.owners(),
         }
     }
 
@@ -64,38 +76,4 @@ impl Holdings {
         );
         self.tenths = tenths;
     }
-}
-
-/// The tenths of each company at each place.
-fn rows_of(now: &Past) -> [Row; 8]
-    ensures tenths { (company : Company) (place : Shareholder) → HasPlace place → slice_index_or (slice_index_or result (place_of_company company) []) (the_index_of place) (pos 0) ≡ shares_of now.now.events.now company place }
-    ensures bounded { AreBounded result }
-{
-    let mut rows = [[0; 8]; 8];
-    for (place, company) in Company::ALL.iter().enumerate() {
-        rows[place] = row_of(now, *company);
-    }
-    rows
-}
-
-/// The president of each company, as it was said last.
-fn presidents_of(now: &Past) -> [Option<Seat>; 8]
-    ensures { (company : Company) → slice_index_or result (place_of_company company) None ≡ president_of now.now.events.now company }
-{
-    let mut presidents = [None; 8];
-    for (place, company) in Company::ALL.iter().enumerate() {
-        presidents[place] = now.president(*company);
-    }
-    presidents
-}
-
-/// The square of each company.
-fn squares_of(now: &Past) -> [Option<Square>; 8]
-    ensures { (company : Company) → slice_index_or result (place_of_company company) None ≡ square_of now.now.events.now company }
-{
-    let mut squares = [None; 8];
-    for (place, company) in Company::ALL.iter().enumerate() {
-        squares[place] = now.square(*company);
-    }
-    squares
 }

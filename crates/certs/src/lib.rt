@@ -4,13 +4,15 @@
 //! The holdings are a small table that is made by looking back over the events of a game. A transfer
 //! moves tenths and nothing else; then the table answers who presides.
 //!
-//! Reading order: `holdings`, `rows` (the tenths of one company), `president`, `counted` (the certificates
-//! that count), `laws` (what the presidency goes by, and what counts by the events of a game).
+//! Reading order: `holdings`, `notes` (the tables that they are made of), `rows` (the tenths of one company),
+//! `president`, `counted` (the certificates that count), `laws` (what the presidency goes by, and what counts
+//! by the events of a game).
 #![tactic(auto)]
 
 mod counted;
 mod holdings;
 mod laws;
+mod notes;
 mod president;
 mod rows;
 

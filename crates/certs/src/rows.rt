@@ -21,18 +21,6 @@ pub(crate) fn index_of(place: Shareholder) -> usize
     }
 }
 
-/// The tenths of a company in a game.
-pub(crate) fn row_of(now: &Past, company: Company) -> Row
-    ensures tenths { (place : Shareholder) → HasPlace place → slice_index_or result (index_of place) (pos 0) ≡ shares_of now.now.events.now company place }
-    ensures bounded { IsBounded result }
-{
-    let mut row = [0; 8];
-    for index in 0..8 {
-        row[index] = now.shares(company, place_at(index));
-    }
-    row
-}
-
 /// A row after so many tenths have gone from one place to another, of which the giver has them.
 pub(crate) fn moved(mut row: Row, from: usize, to: usize, tenths: u8) -> Row
     requires from { from < 8 }
@@ -46,16 +34,4 @@ pub(crate) fn moved(mut row: Row, from: usize, to: usize, tenths: u8) -> Row
     row[from] -= tenths;
     row[to] += tenths;
     row
-}
-
-/// The place with this index in a row.
-fn place_at(index: usize) -> Shareholder
-    requires { index < 8 }
-    ensures { index_of result ≡ index }
-{
-    match index {
-        0 => Shareholder::InitialOffering,
-        1 => Shareholder::BankPool,
-        _ => Shareholder::Seat(Seat::at(index - 2)),
-    }
 }

@@ -1,4 +1,5 @@
 pub mod EventAtEnd
+pub mod Places
 pub mod Words
 pub mod Standing
 pub mod BidWords

@@ -4,7 +4,7 @@ use Rattle.std.specs.Option.{option_or}
 use Rattle.history.specs.Event.{IsQuiet, party_at, payment_of}
 use Rattle.history.specs.LookBack.{Game, cash_of, cheapest_of, is_sold, last_said, owner_of, paid_by, paid_to, sv_price_of, with_event}
 use Rattle.history.specs.Bids.{bid_of, bids_elsewhere_of, bids_of, bids_on as the_bids_on}
-use Rattle.history.specs.Shares.{is_par_value, par_of, president_of, shares_of, square_of}
+use Rattle.history.specs.Shares.{is_floated, is_par_value, par_of, president_of, shares_of, square_of}
 use Rattle.history.specs.Sound.{IsSound, IsSvPrice, least_offered}
 use Rattle.history.specs.declared.event.Event.{Event}
 use Rattle.history.specs.declared.event.Event.TheVariants.{Bids, Sold, Price, Revenue, Given, Par, President}
@@ -44,6 +44,7 @@ pub record SaysTheSame (before after : List Event) : Type 0 where
   pub par : (company : Company) → par_of after company ≡ par_of before company
   pub square : (company : Company) → square_of after company ≡ square_of before company
   pub president : (company : Company) → president_of after company ≡ president_of before company
+  pub floated : (company : Company) → is_floated after company ≡ is_floated before company
   pub sv_price : sv_price_of after ≡ sv_price_of before
 
 -- a quiet event changes none of it

@@ -37,5 +37,5 @@ pub use laws::{
 pub use list::History;
 pub use look_back::Past;
 pub use owners::Owners;
-pub use ruling::{KeptOrder, OpeningRule, Refusal, Ruling};
+pub use ruling::{KeptOrder, OpeningRule, Refusal, Ruling, StockRule};
 pub use shares::Tenths;

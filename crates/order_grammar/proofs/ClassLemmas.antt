@@ -5,13 +5,13 @@ use Rattle.std.proofs.lemmas.Bool.{cases_Bool, le-leb, lt-leb, and_parts}
 use Rattle.std.proofs.lemmas.Bool.Decides.{nat_tests}
 use Rattle.std.proofs.lemmas.List.{drop_more}
 use Rattle.std.specs.Char.{to_ascii_uppercase}
-use Rattle.order_grammar.specs.Class.{are_digits, value_of_digits, capped_value, digits_reading, round_number_reading, code_reading}
+use Rattle.order_grammar.specs.Class.{are_digits, value_of_digits, capped_value, digits_reading, round_of_series, round_number_reading, code_reading}
 use Rattle.order_grammar.specs.Name.{is_digit}
 use Rattle.order_grammar.specs.Words.{raised, same_word}
 use Rattle.order_grammar.specs.declared.class.Reading.TheVariants.{Value, TooLarge, Wrong}
 use Rattle.order_grammar.specs.declared.order.Value as values
 use Rattle.order_grammar.specs.declared.order.Value.TheVariants.{Round as round_value}
-use Rattle.tables.specs.declared.round.Round.TheVariants.{Opening}
+use Rattle.order_grammar.specs.declared.class.Series.{Series}
 use Rattle.order_grammar.proofs.NameLemmas.{is_digit-raised}
 
 -- a digit raised
@@ -76,11 +76,11 @@ no_zero : (byte : ℕ) → (byte ≡ 48 → ⊥) → (to_ascii_uppercase byte ==
 no_zero byte h = grind (arith, nat_tests)
 
 -- digits that do not begin with 0 are the number of a round
-pub round_number-digits : (digits : List ℕ) → 0 < length digits → (get_or digits 0 0 ≡ 48 → ⊥) → round_number_reading (raised digits) ≡ digits_reading (λ number. round_value (Opening number)) digits
-round_number-digits [] some other = absurd (omega arith)
-round_number-digits (digit ∷ digits) some other =
+pub round_number-digits : (series : Series) (digits : List ℕ) → 0 < length digits → (get_or digits 0 0 ≡ 48 → ⊥) → round_number_reading series (raised digits) ≡ digits_reading (λ number. round_value (round_of_series series number)) digits
+round_number-digits series [] some other = absurd (omega arith)
+round_number-digits series (digit ∷ digits) some other =
     let test : (to_ascii_uppercase digit == 48) ≡ false = no_zero digit other in
-    rw test (digits_reading-raised (λ number. round_value (Opening number)) (digit ∷ digits))
+    rw test (digits_reading-raised (λ number. round_value (round_of_series series number)) (digit ∷ digits))
 
 -- one that is not the first
 pub code_reading-next : {X : Type 0} (code : X → List ℕ) (stands_for : X → values.Value) (all : List X) (i : ℕ) (d : X) (word : List ℕ) → i < length all → same_word word (code (get_or all i d)) ≡ false → code_reading code stands_for (drop i all) word ≡ code_reading code stands_for (drop (i + 1) all) word

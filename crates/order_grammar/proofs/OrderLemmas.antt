@@ -9,8 +9,9 @@ use Rattle.order_grammar.specs.Spells.{IsWord, IsNumber, IsName, IsRoundOfLine, 
 use Rattle.order_grammar.specs.declared.keyword.Keyword.{Keyword}
 use Rattle.order_grammar.specs.declared.keyword.Keyword.TheVariants as keyword
 use Rattle.order_grammar.specs.declared.order.Order.{Order}
-use Rattle.order_grammar.specs.declared.order.Order.TheVariants.{Blank, Game, Players, Sheet, Turn, BuyPrivate, Bid, Limit, Par}
+use Rattle.order_grammar.specs.declared.order.Order.TheVariants.{Blank, Game, Players, Sheet, Turn, BuyPrivate, Bid, Limit, Par, BuyShare, Sell, ExchangeMohawk}
 use Rattle.order_grammar.specs.declared.order.Parts.{Parts}
+use Rattle.order_grammar.specs.declared.order.ShareSource.TheVariants.{InitialOffering, BankPool}
 use Rattle.order_grammar.specs.declared.order.Tail.{Tail}
 use Rattle.order_grammar.specs.declared.order.Tail.TheVariants as tail
 use Rattle.order_grammar.specs.declared.order.Value.{Value}
@@ -32,6 +33,10 @@ formed keyword.Buy ((value.Private private) ∷ []) tail.Nothing h = record { or
 formed keyword.Bid ((value.Private private) ∷ (value.Number amount) ∷ []) tail.Nothing h = record { order = Bid private amount; made = refl; parts = refl }
 formed keyword.Limit ((value.Private private) ∷ (value.Number amount) ∷ []) tail.Nothing h = record { order = Limit private amount; made = refl; parts = refl }
 formed keyword.Par ((value.Company company) ∷ (value.Number price) ∷ []) tail.Nothing h = record { order = Par company price; made = refl; parts = refl }
+formed keyword.Buy ((value.Company company) ∷ (value.Word keyword.InitialOffering) ∷ []) tail.Nothing h = record { order = BuyShare company InitialOffering; made = refl; parts = refl }
+formed keyword.Buy ((value.Company company) ∷ (value.Word keyword.Pool) ∷ []) tail.Nothing h = record { order = BuyShare company BankPool; made = refl; parts = refl }
+formed keyword.Sell ((value.Company company) ∷ (value.Number tenths) ∷ []) tail.Nothing h = record { order = Sell company tenths; made = refl; parts = refl }
+formed keyword.Exchange ((value.Word keyword.Mohawk) ∷ []) tail.Nothing h = record { order = ExchangeMohawk; made = refl; parts = refl }
 formed k values t h = absurd (false≢true h)
 
 -- an order is made again of its parts
@@ -41,6 +46,8 @@ IsMadeAgain order (Some parts) = order_from parts.keyword parts.values.items par
 
 pub made_again : (order : Order) → IsMadeAgain order (parts_of order)
 made_again Blank = refl
+made_again (BuyShare company InitialOffering) = refl
+made_again (BuyShare company BankPool) = refl
 made_again other = refl
 
 -- the word of a value
@@ -81,6 +88,8 @@ players_by_parts (first ∷ words) names h =
 pub by_parts : (order : Order) (words : List (List ℕ)) → AreWordsFor order words → AreWordsByParts (parts_of order) words
 by_parts Blank words h = h
 by_parts (Players names) words h = players_by_parts words names.items h
+by_parts (BuyShare company InitialOffering) words h = (h, refl)
+by_parts (BuyShare company BankPool) words h = (h, refl)
 by_parts other words h = (h, refl)
 
 -- of the forms only that of a players line has names
@@ -102,6 +111,8 @@ players_of_parts (first ∷ words) names h =
 pub of_parts : (order : Order) (words : List (List ℕ)) → AreWordsByParts (parts_of order) words → AreWordsFor order words
 of_parts Blank words h = h
 of_parts (Players names) words h = players_of_parts words names.items h
+of_parts (BuyShare company InitialOffering) words h = h.0
+of_parts (BuyShare company BankPool) words h = h.0
 of_parts other words h = h.0
 
 -- the order that parts make is that of which they are

@@ -27,7 +27,7 @@ use Rattle.order_grammar.specs.Name.{is_name, is_capital, is_digit, is_letter_or
 use Rattle.order_grammar.specs.Order.{parts_of}
 use Rattle.order_grammar.specs.Print.{spaced, joined, text_of_value, words_of_tail, words_of_parts, spelling_of}
 use Rattle.order_grammar.specs.Row.{has_room, is_short}
-use Rattle.order_grammar.specs.Spells.{IsNumber, is_small, are_small, is_round_of_line, has_word, have_words, IsOrder}
+use Rattle.order_grammar.specs.Spells.{IsNumber, IsNumbered, is_small, are_small, is_round_of_line, has_word, have_words, IsOrder}
 use Rattle.order_grammar.specs.Words.{before, with_word, words_from, raised, words_of, is_printable, same_word}
 use Rattle.order_grammar.specs.declared.class.Class.{Class}
 use Rattle.order_grammar.specs.declared.form.Repeated.{Repeated}
@@ -271,9 +271,14 @@ record IsSpelt (v : Value) : Type 0 where
   small : is_small v ≡ true
   plain : IsPlain (text_of_value v)
 
--- a round
-round_spelt : (round : Round) → is_round_of_line round ≡ true → IsSpelt (value.Round round)
-round_spelt (Opening number) has =
+-- what is known of the spelling of a round whose letters are these
+record IsNumberedText (letters : List ℕ) (number : ℕ) : Type 0 where
+  text : IsNumbered letters number (letters ++ decimal number)
+  small : nat_le number number_most ≡ true
+  plain : IsPlain (letters ++ decimal number)
+
+numbered_text : (letters : List ℕ) (number : ℕ) → length letters ≤ 2 → list_all is_plain letters ≡ true → (nat_le 1 number && nat_le number number_most) ≡ true → IsNumberedText letters number
+numbered_text letters number two letters_plain has =
     let parts = and_parts (nat_le 1 number) (nat_le number number_most) has in
     let least = leb-true 1 number parts.0 in
     let most = leb-true number number_most parts.1 in
@@ -281,12 +286,25 @@ round_spelt (Opening number) has =
     let first = first_decimal number (omega (arith, least)) (omega (arith, most)) in
     let digits = decimal_plain number most in
     let few = length-decimal-le 5 number (omega arith) (omega (arith, most)) long in
+    let size = length-append letters (decimal number) in
     record {
       text = (decimal number, refl, (λ e. omega (arith, first, e)), decimal_number number most);
       small = parts.1;
-      plain = record { some = omega arith; few = omega (arith, few, length-append (codes "PR") (decimal number)); plain = digits.plain };
+      plain = record {
+        some = omega (arith, size, digits.some);
+        few = omega (arith, few, size, two);
+        plain = list_all-append is_plain letters (decimal number) ∙ and_from (list_all is_plain letters) (list_all is_plain (decimal number)) letters_plain digits.plain;
+      };
     }
-round_spelt (Stock number) has = absurd (false≢true has)
+
+-- a round
+round_spelt : (round : Round) → is_round_of_line round ≡ true → IsSpelt (value.Round round)
+round_spelt (Opening number) has =
+    let spelt = numbered_text (codes "PR") number (omega arith) refl has in
+    record { text = spelt.text; small = spelt.small; plain = spelt.plain }
+round_spelt (Stock number) has =
+    let spelt = numbered_text (codes "SR") number (omega arith) refl has in
+    record { text = spelt.text; small = spelt.small; plain = spelt.plain }
 round_spelt (Operating set number) has = absurd (false≢true has)
 
 -- the word of a value is its text

@@ -8,16 +8,18 @@ use Rattle.tables.specs.declared.roster.Company.TheVariants as company
 use Rattle.tables.specs.declared.roster.Private.{Private}
 use Rattle.tables.specs.declared.roster.Private.TheVariants as private
 use Rattle.tables.specs.declared.round.Round.TheVariants.{Opening, Stock, Operating}
-use Rattle.order_grammar.specs.Class.{are_digits, value_of_digits, digits_reading, round_number_reading, round_reading, class_reading, code_reading, private_reading, company_reading, is_of_class}
+use Rattle.order_grammar.specs.Class.{are_digits, value_of_digits, digits_reading, round_of_series, round_number_reading, round_reading, class_reading, code_reading, private_reading, company_reading, is_of_class}
 use Rattle.order_grammar.specs.Keyword.{text_of_keyword}
 use Rattle.tables.specs.Round.{number_most}
 use Rattle.order_grammar.specs.Name.{is_name}
-use Rattle.order_grammar.specs.Spells.{IsNumber, IsRoundOfLine, is_small}
+use Rattle.order_grammar.specs.Spells.{IsNumber, IsNumbered, is_small}
 use Rattle.order_grammar.specs.Words.{same_word}
 use Rattle.order_grammar.specs.declared.class.Class.{Class}
 use Rattle.order_grammar.specs.declared.class.Class.TheVariants as class
 use Rattle.order_grammar.specs.declared.class.Reading.{Reading}
 use Rattle.order_grammar.specs.declared.class.Reading.TheVariants.{Value, TooLarge, Wrong}
+use Rattle.order_grammar.specs.declared.class.Series.{Series}
+use Rattle.order_grammar.specs.declared.class.Series.TheVariants as numbered
 use Rattle.order_grammar.specs.declared.order.Value as values
 use Rattle.order_grammar.specs.declared.order.Value.TheVariants as value
 use Rattle.order_grammar.proofs.KeywordLemmas.{same_keyword, same_word-is, same_word-self}
@@ -36,16 +38,26 @@ number_too_large stands_for text number is large =
     rw (digits, is.value, large) refl
 
 -- digits that do not begin with 0 are the number of a round
-round_digits_read : (digits : List ℕ) (number : ℕ) → (get_or digits 0 0 ≡ 48 → ⊥) → IsNumber number digits → round_number_reading digits ≡ digits_reading (λ n. value.Round (Opening n)) digits
-round_digits_read [] number other is = absurd (false≢true is.digits)
-round_digits_read (digit ∷ digits) number other is =
+round_digits_read : (series : Series) (digits : List ℕ) (number : ℕ) → (get_or digits 0 0 ≡ 48 → ⊥) → IsNumber number digits → round_number_reading series digits ≡ digits_reading (λ n. value.Round (round_of_series series n)) digits
+round_digits_read series [] number other is = absurd (false≢true is.digits)
+round_digits_read series (digit ∷ digits) number other is =
     let test : (digit == 48) ≡ false = ne_eqb digit 48 other in
     rw test refl
 
+-- the letters before the number of a round
+abbrev letters_of : Series → List ℕ
+letters_of numbered.Opening = codes "PR"
+letters_of numbered.Stock = codes "SR"
+
+-- letters and a number are read as the number
+lettered_read : (series : Series) (digits : List ℕ) → round_reading (letters_of series ++ digits) ≡ round_number_reading series digits
+lettered_read numbered.Opening digits = refl
+lettered_read numbered.Stock digits = refl
+
 -- a round that is written is read as its digits are
-round_read : (text : List ℕ) (number : ℕ) → IsRoundOfLine (Opening number) text → (reading : Reading) → ((digits : List ℕ) → IsNumber number digits → digits_reading (λ n. value.Round (Opening n)) digits ≡ reading) → round_reading text ≡ reading
-round_read text number is reading read =
-    ap round_reading is.1 ∙ round_digits_read is.0 number is.2 is.3 ∙ read is.0 is.3
+round_read : (series : Series) (text : List ℕ) (number : ℕ) → IsNumbered (letters_of series) number text → (reading : Reading) → ((digits : List ℕ) → IsNumber number digits → digits_reading (λ n. value.Round (round_of_series series n)) digits ≡ reading) → round_reading text ≡ reading
+round_read series text number is reading read =
+    ap round_reading is.1 ∙ lettered_read series is.0 ∙ round_digits_read series is.0 number is.2 is.3 ∙ read is.0 is.3
 
 -- a private and a company are read by their codes
 private_read : (p : Private) → private_reading (code_of_private p) ≡ Value (value.Private p)
@@ -63,8 +75,9 @@ value_read class.Name (value.Name name) text of is small =
     let named : is_name text ≡ true = ap is_name is.0 ∙ is.1 in
     rw named (ap (λ (n : List ℕ). Value (value.Name n)) is.0)
 value_read class.Round (value.Round (Opening number)) text of is small =
-    round_read text number is (Value (value.Round (Opening number))) (λ digits one. number_read (λ n. value.Round (Opening n)) digits number one small)
-value_read class.Round (value.Round (Stock number)) text of is small = absurd is
+    round_read numbered.Opening text number is (Value (value.Round (Opening number))) (λ digits one. number_read (λ n. value.Round (Opening n)) digits number one small)
+value_read class.Round (value.Round (Stock number)) text of is small =
+    round_read numbered.Stock text number is (Value (value.Round (Stock number))) (λ digits one. number_read (λ n. value.Round (Stock n)) digits number one small)
 value_read class.Round (value.Round (Operating set number)) text of is small = absurd is
 value_read class.Private (value.Private p) text of is small = ap private_reading is ∙ private_read p
 value_read class.Company (value.Company co) text of is small = ap company_reading is ∙ company_read co
@@ -77,8 +90,9 @@ value_read c v text of is small = absurd (false≢true of)
 pub large_value_read : (c : Class) (v : values.Value) (text : List ℕ) → is_of_class c v ≡ true → IsTextOf v text → is_small v ≡ false → class_reading c text ≡ TooLarge
 large_value_read class.Number (value.Number number) text of is large = number_too_large value.Number text number is large
 large_value_read class.Round (value.Round (Opening number)) text of is large =
-    round_read text number is TooLarge (λ digits one. number_too_large (λ n. value.Round (Opening n)) digits number one large)
-large_value_read class.Round (value.Round (Stock number)) text of is large = absurd is
+    round_read numbered.Opening text number is TooLarge (λ digits one. number_too_large (λ n. value.Round (Opening n)) digits number one large)
+large_value_read class.Round (value.Round (Stock number)) text of is large =
+    round_read numbered.Stock text number is TooLarge (λ digits one. number_too_large (λ n. value.Round (Stock n)) digits number one large)
 large_value_read class.Round (value.Round (Operating set number)) text of is large = absurd is
 large_value_read c (value.Number number) text of is large = absurd (false≢true of)
 large_value_read c (value.Round round) text of is large = absurd (false≢true of)
@@ -108,23 +122,40 @@ digits_read c stands_for text whole small is =
       | inr other ↦ rw other tt
     ]
 
+-- a round is small as its number is
+small_round : (series : Series) (number : ℕ) → is_small (value.Round (round_of_series series number)) ≡ nat_le number number_most
+small_round numbered.Opening number = refl
+small_round numbered.Stock number = refl
+
+-- letters and a number are the text of their round
+round_of_letters : (series : Series) (text : List ℕ) (number : ℕ) → IsNumbered (letters_of series) number text → IsValueOf class.Round text (value.Round (round_of_series series number))
+round_of_letters numbered.Opening text number is = record { of_class = refl; text_of = is }
+round_of_letters numbered.Stock text number is = record { of_class = refl; text_of = is }
+
 -- a round
-round_number_read : (digits text : List ℕ) → text ≡ codes "PR" ++ digits → ReadAs class.Round text (round_number_reading digits)
-round_number_read [] text is = tt
-round_number_read (digit ∷ digits) text is =
+round_number_read : (series : Series) (digits text : List ℕ) → text ≡ letters_of series ++ digits → ReadAs class.Round text (round_number_reading series digits)
+round_number_read series [] text is = tt
+round_number_read series (digit ∷ digits) text is =
     elim (cases_Bool (digit == 48)) [
       | inl zero ↦ rw zero tt
       | inr other ↦
-          rw other (digits_read class.Round (λ n. value.Round (Opening n)) (digit ∷ digits) text (λ number. refl) (λ one. record { of_class = refl; text_of = (digit ∷ digits, is, eqb-false digit 48 other, one) }))
+          rw other (digits_read class.Round (λ n. value.Round (round_of_series series n)) (digit ∷ digits) text (small_round series) (λ one. round_of_letters series text _ (digit ∷ digits, is, eqb-false digit 48 other, one)))
     ]
+
+-- a text that begins with two letters
+lettered : (text letters : List ℕ) → same_word (take 2 text) letters ≡ true → text ≡ letters ++ drop 2 text
+lettered text letters same =
+    sym (take-append-drop 2 text) ∙ ap (λ (start : List ℕ). start ++ drop 2 text) (same_word-is (take 2 text) letters same)
 
 round_made : (text : List ℕ) → ReadAs class.Round text (round_reading text)
 round_made text =
     elim (cases_Bool (same_word (take 2 text) (codes "PR"))) [
-      | inl same ↦
-          let whole : text ≡ codes "PR" ++ drop 2 text = sym (take-append-drop 2 text) ∙ ap (λ (start : List ℕ). start ++ drop 2 text) (same_word-is (take 2 text) (codes "PR") same) in
-          rw same (round_number_read (drop 2 text) text whole)
-      | inr other ↦ rw other tt
+      | inl same ↦ rw same (round_number_read numbered.Opening (drop 2 text) text (lettered text (codes "PR") same))
+      | inr other ↦
+          elim (cases_Bool (same_word (take 2 text) (codes "SR"))) [
+            | inl same ↦ rw (other, same) (round_number_read numbered.Stock (drop 2 text) text (lettered text (codes "SR") same))
+            | inr neither ↦ rw (other, neither) tt
+          ]
     ]
 
 -- what a word says that is read as a code

@@ -2,7 +2,8 @@
 -- would be such a text if numbers had no greatest value is too large.
 use Rattle.std.specs.Prelude.{ℕ, ◌+◌, ◌*◌, ◌-◌, ◌==◌, Bool, true, false, nat_le, if◌then◌else◌, List, [], ◌∷◌, codes, take, drop, fold, min, Option, Some, None}
 use Rattle.std.specs.List.{list_all}
-use Rattle.tables.specs.declared.round.Round.TheVariants.{Opening}
+use Rattle.tables.specs.declared.round.Round.{Round}
+use Rattle.tables.specs.declared.round.Round.TheVariants.{Opening, Stock}
 use Rattle.tables.specs.Roster.{companies, code_of_company, privates, code_of_private}
 use Rattle.order_grammar.specs.Keyword.{text_of_keyword}
 use Rattle.tables.specs.Round.{number_most}
@@ -12,6 +13,8 @@ use Rattle.order_grammar.specs.declared.class.Class.{Class}
 use Rattle.order_grammar.specs.declared.class.Class.TheVariants as class
 use Rattle.order_grammar.specs.declared.class.Reading.{Reading}
 use Rattle.order_grammar.specs.declared.class.Reading.TheVariants.{Value, TooLarge, Wrong}
+use Rattle.order_grammar.specs.declared.class.Series.{Series}
+use Rattle.order_grammar.specs.declared.class.Series.TheVariants as numbered
 use Rattle.order_grammar.specs.declared.order.Value.TheVariants as value
 use Rattle.order_grammar.specs.declared.order.Value as values
 
@@ -39,15 +42,25 @@ digits_reading stands_for digits =
 abbrev pub number_reading : List ℕ → Reading
 number_reading word = digits_reading value.Number word
 
--- the number of an opening round: digits without leading zeros
-abbrev pub round_number_reading : List ℕ → Reading
-round_number_reading [] = Wrong
-round_number_reading (digit ∷ digits) =
-    if digit == 48 then Wrong else digits_reading (λ number. value.Round (Opening number)) (digit ∷ digits)
+-- the round of a number
+abbrev pub round_of_series : Series → ℕ → Round
+round_of_series numbered.Opening number = Opening number
+round_of_series numbered.Stock number = Stock number
 
--- PR and the number of an opening round
+-- the number of a round: digits without leading zeros
+abbrev pub round_number_reading : Series → List ℕ → Reading
+round_number_reading series [] = Wrong
+round_number_reading series (digit ∷ digits) =
+    if digit == 48
+    then Wrong
+    else digits_reading (λ number. value.Round (round_of_series series number)) (digit ∷ digits)
+
+-- PR and the number of an opening round, or SR and that of a stock round
 abbrev pub round_reading : List ℕ → Reading
-round_reading word = if same_word (take 2 word) (codes "PR") then round_number_reading (drop 2 word) else Wrong
+round_reading word =
+    if same_word (take 2 word) (codes "PR")
+    then round_number_reading numbered.Opening (drop 2 word)
+    else (if same_word (take 2 word) (codes "SR") then round_number_reading numbered.Stock (drop 2 word) else Wrong)
 
 -- what stands for the first of some things whose code it is
 abbrev pub code_reading : {X : Type 0} → (X → List ℕ) → (X → values.Value) → List X → List ℕ → Reading

@@ -42,9 +42,13 @@ forms =
     ∷ row keyword.Sheet (class.Name ∷ class.Round ∷ []) repeated.Nothing
     ∷ row keyword.Turn [] repeated.Nothing
     ∷ row keyword.Buy (class.Private ∷ []) repeated.Nothing
+    ∷ row keyword.Buy (class.Company ∷ class.Word keyword.InitialOffering ∷ []) repeated.Nothing
+    ∷ row keyword.Buy (class.Company ∷ class.Word keyword.Pool ∷ []) repeated.Nothing
     ∷ row keyword.Bid (class.Private ∷ class.Number ∷ []) repeated.Nothing
     ∷ row keyword.Limit (class.Private ∷ class.Number ∷ []) repeated.Nothing
     ∷ row keyword.Par (class.Company ∷ class.Number ∷ []) repeated.Nothing
+    ∷ row keyword.Sell (class.Company ∷ class.Number ∷ []) repeated.Nothing
+    ∷ row keyword.Exchange (class.Word keyword.Mohawk ∷ []) repeated.Nothing
     ∷ []
 
 -- names, at least and at most so many

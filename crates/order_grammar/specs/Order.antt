@@ -1,15 +1,27 @@
 -- What an order is made of, and which order that makes. A line has these parts in turn: a keyword,
 -- then words with a value each, then what a class that is repeated at the end has.
-use Rattle.std.specs.Prelude.{List, [], ◌∷◌, Option, Some, None}
+use Rattle.std.specs.Prelude.{ℕ, List, [], ◌∷◌, Option, Some, None}
+use Rattle.order_grammar.specs.Keyword.{text_of_keyword}
 use Rattle.order_grammar.specs.declared.keyword.Keyword.{Keyword}
 use Rattle.order_grammar.specs.declared.keyword.Keyword.TheVariants as keyword
 use Rattle.order_grammar.specs.declared.order.Order.{Order}
-use Rattle.order_grammar.specs.declared.order.Order.TheVariants.{Blank, Game, Players, Sheet, Turn, BuyPrivate, Bid, Limit, Par}
+use Rattle.order_grammar.specs.declared.order.Order.TheVariants.{Blank, Game, Players, Sheet, Turn, BuyPrivate, Bid, Limit, Par, BuyShare, Sell, ExchangeMohawk}
 use Rattle.order_grammar.specs.declared.order.Parts.{Parts}
+use Rattle.order_grammar.specs.declared.order.ShareSource.{ShareSource}
+use Rattle.order_grammar.specs.declared.order.ShareSource.TheVariants.{InitialOffering, BankPool}
 use Rattle.order_grammar.specs.declared.order.Tail.{Tail}
 use Rattle.order_grammar.specs.declared.order.Tail.TheVariants as tail
 use Rattle.order_grammar.specs.declared.order.Value.{Value}
 use Rattle.order_grammar.specs.declared.order.Value.TheVariants as value
+
+-- the literal word that names where a tenth is bought
+abbrev pub keyword_of_source : ShareSource → Keyword
+keyword_of_source InitialOffering = keyword.InitialOffering
+keyword_of_source BankPool = keyword.Pool
+
+-- its letters
+abbrev pub text_of_source : ShareSource → List ℕ
+text_of_source source = text_of_keyword (keyword_of_source source)
 
 -- an order that is made of these
 abbrev pub made_of : Keyword → List Value → Tail → Option Parts
@@ -26,6 +38,9 @@ parts_of (BuyPrivate private) = made_of keyword.Buy (value.Private private ∷ [
 parts_of (Bid private amount) = made_of keyword.Bid (value.Private private ∷ value.Number amount ∷ []) tail.Nothing
 parts_of (Limit private amount) = made_of keyword.Limit (value.Private private ∷ value.Number amount ∷ []) tail.Nothing
 parts_of (Par company price) = made_of keyword.Par (value.Company company ∷ value.Number price ∷ []) tail.Nothing
+parts_of (BuyShare company from) = made_of keyword.Buy (value.Company company ∷ value.Word (keyword_of_source from) ∷ []) tail.Nothing
+parts_of (Sell company tenths) = made_of keyword.Sell (value.Company company ∷ value.Number tenths ∷ []) tail.Nothing
+parts_of ExchangeMohawk = made_of keyword.Exchange (value.Word keyword.Mohawk ∷ []) tail.Nothing
 
 -- the order of these parts, where there is one
 abbrev pub order_from : Keyword → List Value → Tail → Option Order
@@ -34,7 +49,12 @@ order_from keyword.Players [] (tail.Names names) = Some (Players names)
 order_from keyword.Sheet ((value.Name name) ∷ (value.Round round) ∷ []) tail.Nothing = Some (Sheet name round)
 order_from keyword.Turn [] tail.Nothing = Some Turn
 order_from keyword.Buy ((value.Private private) ∷ []) tail.Nothing = Some (BuyPrivate private)
+order_from keyword.Buy ((value.Company company) ∷ (value.Word keyword.InitialOffering) ∷ []) tail.Nothing =
+    Some (BuyShare company InitialOffering)
+order_from keyword.Buy ((value.Company company) ∷ (value.Word keyword.Pool) ∷ []) tail.Nothing = Some (BuyShare company BankPool)
 order_from keyword.Bid ((value.Private private) ∷ (value.Number amount) ∷ []) tail.Nothing = Some (Bid private amount)
 order_from keyword.Limit ((value.Private private) ∷ (value.Number amount) ∷ []) tail.Nothing = Some (Limit private amount)
 order_from keyword.Par ((value.Company company) ∷ (value.Number price) ∷ []) tail.Nothing = Some (Par company price)
+order_from keyword.Sell ((value.Company company) ∷ (value.Number tenths) ∷ []) tail.Nothing = Some (Sell company tenths)
+order_from keyword.Exchange ((value.Word keyword.Mohawk) ∷ []) tail.Nothing = Some ExchangeMohawk
 order_from other values tail = None

@@ -15,8 +15,9 @@ use Rattle.order_grammar.specs.Name.{is_name}
 use Rattle.order_grammar.specs.Order.{parts_of}
 use Rattle.order_grammar.specs.Words.{words_of, before_comment, is_printable}
 use Rattle.order_grammar.specs.declared.order.Order.{Order}
-use Rattle.order_grammar.specs.declared.order.Order.TheVariants.{Blank, Game, Players, Sheet, Turn, BuyPrivate, Bid, Limit, Par}
+use Rattle.order_grammar.specs.declared.order.Order.TheVariants.{Blank, Game, Players, Sheet, Turn, BuyPrivate, Bid, Limit, Par, BuyShare, Sell, ExchangeMohawk}
 use Rattle.order_grammar.specs.declared.order.Parts.{Parts}
+use Rattle.order_grammar.specs.declared.order.ShareSource.TheVariants.{InitialOffering, BankPool}
 use Rattle.order_grammar.specs.declared.order.Value.{Value}
 use Rattle.order_grammar.specs.declared.order.Value.TheVariants as value
 
@@ -33,11 +34,15 @@ pub record IsNumber (number : ℕ) (text : List ℕ) : Type 0 where
 abbrev pub IsName : List ℕ → List ℕ → Type 0
 IsName name text = (text ≡ name) × IsTrue (is_name name)
 
--- PR and the number of an opening round, without leading zeros
+-- these letters, and then a number without leading zeros
+abbrev pub IsNumbered : List ℕ → ℕ → List ℕ → Type 0
+IsNumbered letters number text =
+    (digits : List ℕ) × (text ≡ letters ++ digits) × (slice_index digits 0 ≢ 48) × IsNumber number digits
+
+-- an opening or a stock round: PR or SR and its number
 abbrev pub IsRoundOfLine : Round → List ℕ → Type 0
-IsRoundOfLine (Opening number) text =
-    (digits : List ℕ) × (text ≡ codes "PR" ++ digits) × (slice_index digits 0 ≢ 48) × IsNumber number digits
-IsRoundOfLine (Stock number) text = ⊥
+IsRoundOfLine (Opening number) text = IsNumbered (codes "PR") number text
+IsRoundOfLine (Stock number) text = IsNumbered (codes "SR") number text
 IsRoundOfLine (Operating set number) text = ⊥
 
 -- the code of a private
@@ -81,6 +86,13 @@ AreWordsFor (Limit private amount) words =
     Then (IsWord (codes "LIMIT")) (Then (IsPrivate private) (Then (IsNumber amount) End)) words
 AreWordsFor (Par company price) words =
     Then (IsWord (codes "PAR")) (Then (IsCompany company) (Then (IsNumber price) End)) words
+AreWordsFor (BuyShare company InitialOffering) words =
+    Then (IsWord (codes "BUY")) (Then (IsCompany company) (Then (IsWord (codes "IPO")) End)) words
+AreWordsFor (BuyShare company BankPool) words =
+    Then (IsWord (codes "BUY")) (Then (IsCompany company) (Then (IsWord (codes "POOL")) End)) words
+AreWordsFor (Sell company tenths) words =
+    Then (IsWord (codes "SELL")) (Then (IsCompany company) (Then (IsNumber tenths) End)) words
+AreWordsFor ExchangeMohawk words = Then (IsWord (codes "EXCHANGE")) (Then (IsWord (codes "MH")) End) words
 
 -- the line would spell the order if numbers had no greatest value
 pub record LooselySpells (line : List ℕ) (order : Order) : Type 0 where
@@ -117,7 +129,7 @@ pub record Spells (line : List ℕ) (order : Order) : Type 0 where
 -- whether a line may name the round
 abbrev pub is_round_of_line : Round → Bool
 is_round_of_line (Opening number) = nat_le 1 number && nat_le number number_most
-is_round_of_line (Stock number) = false
+is_round_of_line (Stock number) = nat_le 1 number && nat_le number number_most
 is_round_of_line (Operating set number) = false
 
 -- whether a value has a word

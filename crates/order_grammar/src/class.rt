@@ -6,6 +6,7 @@ ghost use Rattle.order_grammar.specs.Class.{
   number_reading,
   private_reading,
   round_number_reading,
+  round_of_series,
   round_reading,
 };
 ghost use Rattle.order_grammar.specs.Words.{raised};
@@ -23,7 +24,7 @@ pub(crate) enum Class {
     Number,
     /// A letter, then up to seven letters or digits.
     Name,
-    /// `PR` and a number from 1 without leading zeros.
+    /// `PR` or `SR` and a number from 1 without leading zeros.
     Round,
     /// The code of a private: SV, CS, DH, MH, CA or BOP.
     Private,
@@ -31,6 +32,24 @@ pub(crate) enum Class {
     Company,
     /// This very word.
     Word(Keyword),
+}
+
+/// The rounds that are numbered one after another.
+#[derive(Clone, Copy, Debug, PartialEq, Eq)]
+pub(crate) enum Series {
+    Opening,
+    Stock,
+}
+
+impl Series {
+    fn round(self, number: u32) -> Round
+        ensures { result ≡ round_of_series self number }
+    {
+        match self {
+            Series::Opening => Round::Opening(number),
+            Series::Stock => Round::Stock(number),
+        }
+    }
 }
 
 /// What a word is as a text of a class.
@@ -97,14 +116,21 @@ fn read_number(word: &[u8]) -> Reading
 fn read_round(word: &[u8]) -> Reading
     ensures { result ≡ round_reading (raised word.now) }
 {
-    if word.len() < 2 || !is_word(&word[..2], b"PR") {
+    if word.len() < 2 {
         return Reading::Wrong;
     }
-    read_round_number(&word[2..])
+    let (letters, digits) = word.split_at(2);
+    if is_word(letters, b"PR") {
+        return read_round_number(Series::Opening, digits);
+    }
+    if is_word(letters, b"SR") {
+        return read_round_number(Series::Stock, digits);
+    }
+    Reading::Wrong
 }
 
-fn read_round_number(digits: &[u8]) -> Reading
-    ensures { result ≡ round_number_reading (raised digits.now) }
+fn read_round_number(series: Series, digits: &[u8]) -> Reading
+    ensures { result ≡ round_number_reading series (raised digits.now) }
 {
     let [first, ..] = digits else {
         return Reading::Wrong;
@@ -115,7 +141,7 @@ fn read_round_number(digits: &[u8]) -> Reading
     match digits_value(digits) {
         None => Reading::Wrong,
         Some(number) if number > NUMBER_MOST => Reading::TooLarge,
-        Some(number) => Reading::Value(Value::Round(Round::Opening(number))),
+        Some(number) => Reading::Value(Value::Round(series.round(number))),
     }
 }
 

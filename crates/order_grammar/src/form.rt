@@ -36,7 +36,7 @@ pub(crate) enum Repeated {
 }
 
 /// The forms of lines. A line spells an order where its words fit a row.
-pub(crate) const FORMS: [Form; 8] = [
+pub(crate) const FORMS: [Form; 12] = [
     Form {
         keyword: Keyword::Game,
         classes: &[Class::Number, Class::Number],
@@ -66,6 +66,16 @@ pub(crate) const FORMS: [Form; 8] = [
         repeated: Repeated::Nothing,
     },
     Form {
+        keyword: Keyword::Buy,
+        classes: &[Class::Company, Class::Word(Keyword::InitialOffering)],
+        repeated: Repeated::Nothing,
+    },
+    Form {
+        keyword: Keyword::Buy,
+        classes: &[Class::Company, Class::Word(Keyword::Pool)],
+        repeated: Repeated::Nothing,
+    },
+    Form {
         keyword: Keyword::Bid,
         classes: &[Class::Private, Class::Number],
         repeated: Repeated::Nothing,
@@ -78,6 +88,16 @@ pub(crate) const FORMS: [Form; 8] = [
     Form {
         keyword: Keyword::Par,
         classes: &[Class::Company, Class::Number],
+        repeated: Repeated::Nothing,
+    },
+    Form {
+        keyword: Keyword::Sell,
+        classes: &[Class::Company, Class::Number],
+        repeated: Repeated::Nothing,
+    },
+    Form {
+        keyword: Keyword::Exchange,
+        classes: &[Class::Word(Keyword::Mohawk)],
         repeated: Repeated::Nothing,
     },
 ];

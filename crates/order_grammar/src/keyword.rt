@@ -12,6 +12,11 @@ pub(crate) enum Keyword {
     Bid,
     Limit,
     Par,
+    Sell,
+    Exchange,
+    InitialOffering,
+    Pool,
+    Mohawk,
 }
 
 impl Keyword {
@@ -28,6 +33,11 @@ impl Keyword {
             Keyword::Bid => b"BID",
             Keyword::Limit => b"LIMIT",
             Keyword::Par => b"PAR",
+            Keyword::Sell => b"SELL",
+            Keyword::Exchange => b"EXCHANGE",
+            Keyword::InitialOffering => b"IPO",
+            Keyword::Pool => b"POOL",
+            Keyword::Mohawk => b"MH",
         }
     }
 }

@@ -1,7 +1,7 @@
 ghost use Rattle.std.specs.Prelude.{◌≡◌, ◌≤◌, length};
 ghost use Rattle.order_grammar.specs.declared.order.Tail.TheVariants.{Nothing};
 ghost use Rattle.order_grammar.specs.declared.order.Value.TheVariants.{Number};
-ghost use Rattle.order_grammar.specs.Order.{order_from, parts_of};
+ghost use Rattle.order_grammar.specs.Order.{keyword_of_source, order_from, parts_of, text_of_source};
 
 use crate::keyword::Keyword;
 use crate::name::Name;
@@ -29,6 +29,39 @@ pub enum Order {
     Limit { private: Private, amount: Amount },
     /// `PAR co n`: start a company at a par value in dollars.
     Par { company: Company, price: Amount },
+    /// `BUY co IPO` or `BUY co POOL`: buy one tenth of a company.
+    BuyShare { company: Company, from: ShareSource },
+    /// `SELL co n`: sell so many tenths of a company as one block.
+    Sell { company: Company, tenths: Amount },
+    /// `EXCHANGE MH`: give up the private MH for one tenth of NYC.
+    ExchangeMohawk,
+}
+
+/// Where a tenth is bought that is no seat's.
+#[derive(Clone, Copy, Debug, PartialEq, Eq)]
+pub enum ShareSource {
+    /// `IPO`: what the bank has not sold yet.
+    InitialOffering,
+    /// `POOL`: what seats have sold to the bank.
+    BankPool,
+}
+
+impl ShareSource {
+    /// The word that names it in a line: `IPO` or `POOL`.
+    pub fn text(self) -> &'static [u8]
+        ensures { result.now ≡ text_of_source self }
+    {
+        self.keyword().text()
+    }
+
+    fn keyword(self) -> Keyword
+        ensures { result ≡ keyword_of_source self }
+    {
+        match self {
+            ShareSource::InitialOffering => Keyword::InitialOffering,
+            ShareSource::BankPool => Keyword::Pool,
+        }
+    }
 }
 
 /// The value of a word of some class.
@@ -135,6 +168,21 @@ impl Order {
                 &[Value::Company(*company), Value::Number(*price)],
                 Tail::Nothing,
             )),
+            Order::BuyShare { company, from } => Some(Parts::of(
+                Keyword::Buy,
+                &[Value::Company(*company), Value::Word(from.keyword())],
+                Tail::Nothing,
+            )),
+            Order::Sell { company, tenths } => Some(Parts::of(
+                Keyword::Sell,
+                &[Value::Company(*company), Value::Number(*tenths)],
+                Tail::Nothing,
+            )),
+            Order::ExchangeMohawk => Some(Parts::of(
+                Keyword::Exchange,
+                &[Value::Word(Keyword::Mohawk)],
+                Tail::Nothing,
+            )),
         }
     }
 }
@@ -176,6 +224,19 @@ fn order_of_values(keyword: Keyword, values: &[Value]) -> Option<Order>
         Keyword::Turn => None,
         Keyword::Buy => match values {
             [Value::Private(private)] => Some(Order::BuyPrivate(*private)),
+            [
+                Value::Company(company),
+                Value::Word(Keyword::InitialOffering),
+            ] => {
+                Some(Order::BuyShare {
+                    company: *company,
+                    from: ShareSource::InitialOffering,
+                })
+            }
+            [Value::Company(company), Value::Word(Keyword::Pool)] => Some(Order::BuyShare {
+                company: *company,
+                from: ShareSource::BankPool,
+            }),
             _ => None,
         },
         Keyword::Bid => match values {
@@ -199,6 +260,18 @@ fn order_of_values(keyword: Keyword, values: &[Value]) -> Option<Order>
             }),
             _ => None,
         },
+        Keyword::Sell => match values {
+            [Value::Company(company), Value::Number(tenths)] => Some(Order::Sell {
+                company: *company,
+                tenths: *tenths,
+            }),
+            _ => None,
+        },
+        Keyword::Exchange => match values {
+            [Value::Word(Keyword::Mohawk)] => Some(Order::ExchangeMohawk),
+            _ => None,
+        },
+        Keyword::InitialOffering | Keyword::Pool | Keyword::Mohawk => None,
     }
 }
 

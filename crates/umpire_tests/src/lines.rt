@@ -50,7 +50,7 @@ const SHEET_LINES: [(&str, &str); 22] = [
     ("SHEET Ann PR0", "G4"),
     ("SHEET Ann PR01", "G4"),
     ("SHEET Ann PR", "G4"),
-    ("SHEET Ann SR1", "G4"),
+    ("SHEET Ann sr1", "SHEET ANN SR1"),
     ("SHEET Ann PR100000", "G5"),
     ("SHEET Ann", "G4"),
     ("TURN", "TURN"),
@@ -89,6 +89,38 @@ const PLAY_LINES: [(&str, &str); 20] = [
     ("LIMIT \u{7F}", "G2"),
 ];
 
+/// More of them.
+const STOCK_LINES: [(&str, &str); 28] = [
+    ("SHEET Ann SR99999", "SHEET ANN SR99999"),
+    ("SHEET Ann SR100000", "G5"),
+    ("SHEET Ann SR0", "G4"),
+    ("SHEET Ann SR01", "G4"),
+    ("SHEET Ann SR", "G4"),
+    ("SHEET Ann OR1.1", "G4"),
+    ("SHEET Ann XR1", "G4"),
+    ("buy prr ipo", "BUY PRR IPO"),
+    ("BUY BO POOL # BO, not BOP", "BUY BO POOL"),
+    ("BUY BOP IPO", "G4"),
+    ("BUY SV IPO", "G4"),
+    ("BUY PRR", "G4"),
+    ("BUY PRR BANK", "G4"),
+    ("BUY PRR IPO POOL", "G4"),
+    ("BUY IPO PRR", "G4"),
+    ("sell nyc 003", "SELL NYC 3"),
+    ("SELL NYC 0", "SELL NYC 0"),
+    ("SELL BM 99999", "SELL BM 99999"),
+    ("SELL BM 100000", "G5"),
+    ("SELL BM", "G4"),
+    ("SELL SV 1", "G4"),
+    ("SELL BM ONE", "G4"),
+    ("exchange mh", "EXCHANGE MH"),
+    ("EXCHANGE", "G4"),
+    ("EXCHANGE CA", "G4"),
+    ("EXCHANGE MH NYC", "G4"),
+    ("IPO PRR", "G3"),
+    ("MH", "G3"),
+];
+
 #[test]
 fn lines_of_files_are_read_and_printed(rt: HostRuntime) -> Result<(), Fail> {
     for (line, want) in FILE_LINES {
@@ -110,6 +142,15 @@ fn lines_of_sheets_are_read_and_printed(rt: HostRuntime) -> Result<(), Fail> {
 #[test]
 fn lines_of_play_are_read_and_printed(rt: HostRuntime) -> Result<(), Fail> {
     for (line, want) in PLAY_LINES {
+        let text = answer(rt.alloc(), line.as_bytes())?;
+        assert_eq!(rt; text.as_slice(), want.as_bytes(), "at {line}");
+    }
+    Ok(())
+}
+
+#[test]
+fn lines_of_stock_rounds_are_read_and_printed(rt: HostRuntime) -> Result<(), Fail> {
+    for (line, want) in STOCK_LINES {
         let text = answer(rt.alloc(), line.as_bytes())?;
         assert_eq!(rt; text.as_slice(), want.as_bytes(), "at {line}");
     }

@@ -20,7 +20,7 @@ returns c =
     ∙ ap (λ (n : ℕ). (get_or (get_or c.args.self.now.tenths c.place-place.result []) k (pos 0) +ℤ (if index_of transfer.to == k then pos transfer.tenths else pos 0)) -ℤ (if n == k then pos transfer.tenths else pos 0)) c.index_of.ensures
     in
     record {
-      tenths = rows_after c.args.self.now.tenths c.moved.result transfer c.place-place.result c.place-place.ensures.place within moved;
+      tenths = λ company place. rows_after c.args.self.now.tenths c.moved.result transfer c.place-place.result c.place-place.ensures.place within company place (moved (index_of place));
       seats = refl;
       presidents = refl;
       squares = refl;
