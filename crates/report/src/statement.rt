@@ -256,7 +256,8 @@ fn push_started(
     Ok(())
 }
 
-/// Adds a company's cash, market price, tenths in the initial offering and the bank pool, and tokens.
+/// Adds a company's cash, market price, tenths in the initial offering and the bank pool, and
+/// tokens.
 #[tactic(auto, unfolding(crate::specs::Statement::company_figures))]
 fn push_figures(out: &mut Vec<u8>, past: &Past, company: Company) -> Result<(), AllocError>
     ensures { OnOk result (Adds out.old out.new (company_figures_at past.now company)) }
@@ -271,7 +272,8 @@ fn push_figures(out: &mut Vec<u8>, past: &Past, company: Company) -> Result<(), 
 /// Adds the cash of a party in its column.
 #[tactic(auto, unfolding(crate::specs::Statement::cash_column))]
 fn push_cash(out: &mut Vec<u8>, past: &Past, party: Party) -> Result<(), AllocError>
-    ensures { OnOk result (Adds out.old out.new (cash_column past.now.seats past.now.events.now party)) }
+    ensures { OnOk result
+        (Adds out.old out.new (cash_column past.now.seats past.now.events.now party)) }
 {
     push_right(out, past.cash(party), CASH_WIDTH)
 }
