@@ -8,7 +8,7 @@ use sheets::{Sheets, collect};
 use std::alloc::{AllocError, Global};
 use std::process::Abort;
 use std::test::Fail;
-use tables::{Company, Seat};
+use tables::{Company, Seat, Square, square};
 
 const PRR: Company = Company::Pennsylvania;
 
@@ -179,5 +179,31 @@ fn transfers_tenths_and_nothing_else(rt: HostRuntime) -> Result<(), Fail> {
 fn counts_certificates_and_not_tenths(rt: HostRuntime) -> Result<(), Fail> {
     let history = given(&rt, rt.alloc(), [(ANN, 3), (BOB, 3), (CYD, 0)])?;
     assert_eq!(rt; counts(&Holdings::of(&history)), (2, 3, 0));
+    Ok(())
+}
+
+/// The square of the chart at a row's letter and a column.
+fn at(row: u8, column: u8) -> Result<Square, Fail> {
+    Ok(square(row.saturating_sub(b'A'), column).ok_or("no square")?)
+}
+
+#[test]
+fn counts_by_the_zone(rt: HostRuntime) -> Result<(), Fail> {
+    let mut history = given(&rt, rt.alloc(), [(ANN, 3), (BOB, 3), (CYD, 0)])?;
+    // BO begins at F7, where it counts, and so does it at F6; F5 is yellow, F3 orange, F1 brown.
+    for (column, counted) in [
+        (6, (2, 3, 0)),
+        (5, (0, 0, 0)),
+        (3, (0, 0, 0)),
+        (1, (0, 0, 0)),
+        (7, (2, 3, 0)),
+    ] {
+        let moves = Event::Moves {
+            company: BO,
+            square: at(b'F', column)?,
+        };
+        add(&rt, &mut history, moves)?;
+        assert_eq!(rt; counts(&Holdings::of(&history)), counted, "at F{column}");
+    }
     Ok(())
 }
