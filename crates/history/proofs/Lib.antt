@@ -12,4 +12,5 @@ pub mod Starts
 pub mod Purchases
 pub mod Settled
 pub mod Blocks
+pub mod Arrivals
 pub mod Cheapest

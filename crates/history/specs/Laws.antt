@@ -1,10 +1,10 @@
 -- Laws of games: what a list says once one more event stands at its end, and what keeps it sound.
-use Rattle.std.specs.Prelude.{◌≡◌, ◌≢◌, ◌≤◌, ◌<◌, ℕ, ◌+◌, List, [], ◌∷◌, ◌++◌, Option, Some, None, true, false, ◌≤ℤ◌, pos, ◌-ℤ◌, ◌+ℤ◌}
+use Rattle.std.specs.Prelude.{◌≡◌, ◌≢◌, ◌≤◌, ◌<◌, ℕ, ◌+◌, List, [], ◌∷◌, ◌++◌, Option, Some, None, true, false, if◌then◌else◌, is_some, length, ◌≤ℤ◌, pos, ◌-ℤ◌, ◌+ℤ◌}
 use Rattle.std.specs.Option.{option_or}
-use Rattle.history.specs.Event.{IsQuiet, party_at, payment_of, place_of_source}
+use Rattle.history.specs.Event.{IsQuiet, party_at, payment_of, place_of_source, square_set}
 use Rattle.history.specs.LookBack.{Game, cash_of, cheapest_of, is_sold, last_said, owner_of, paid_by, paid_to, sv_price_of, with_event}
 use Rattle.history.specs.Bids.{bid_of, bids_elsewhere_of, bids_of, bids_on as the_bids_on, free_cash_of}
-use Rattle.history.specs.Shares.{is_floated, is_par_value, par_of, president_of, shares_of, square_of}
+use Rattle.history.specs.Shares.{arrival_of, is_floated, is_par_value, par_of, president_of, shares_of, square_of, square_said}
 use Rattle.history.specs.Sound.{IsSound, IsSvPrice, least_offered}
 use Rattle.history.specs.Tell.{with_broken}
 use Rattle.history.specs.declared.event.Event.{Event}
@@ -166,6 +166,18 @@ abbrev pub MoveKeepsSound : Type 0
 MoveKeepsSound =
     (game : Game) (company : Company) (from to : Square) →
     square_of game.events company ≡ Some from → IsSound game → IsSound (with_event game (Moves company to))
+
+-- two companies with squares have not come there by the same event
+abbrev pub ArrivalsDiffer : Type 0
+ArrivalsDiffer =
+    (events : List Event) (a b : Company) (at there : Square) →
+    square_of events a ≡ Some at → square_of events b ≡ Some there → a ≢ b → arrival_of events a ≢ arrival_of events b
+
+-- a company has come to its square by the event at the end, if that sets it, or else when it did before
+abbrev pub ArrivalIsLast : Type 0
+ArrivalIsLast =
+    (events : List Event) (event : Event) (company : Company) →
+    arrival_of (events ++ event ∷ []) company ≡ (if is_some (square_said company (square_set event)) then length events else arrival_of events company)
 
 -- these prices are what the bank asks: SV goes at the price that was set last, another private at its
 -- face value

@@ -1,6 +1,6 @@
 //! Laws of games: each function does nothing, and its contract is the law.
 
-ghost use Rattle.history.specs.Laws.{BidKeepsSound, BlockKeepsSound, BlockWithSuccessionKeepsSound, CaIsSoldWithItsGift, CashMoves, ExchangeKeepsSound, FirstIsCheapest, FloatKeepsSound, GiftKeepsSound, LastWordIsLast, MoveKeepsSound, PriceKeepsSound, PurchaseKeepsSound, QuietKeepsSound, QuietSaysTheSame, RevenueKeepsSound, SaleKeepsSound, StartByPurchaseKeepsSound, StartKeepsSound, SuccessionKeepsSound, SvIsGivenAway};
+ghost use Rattle.history.specs.Laws.{ArrivalIsLast, ArrivalsDiffer, BidKeepsSound, BlockKeepsSound, BlockWithSuccessionKeepsSound, CaIsSoldWithItsGift, CashMoves, ExchangeKeepsSound, FirstIsCheapest, FloatKeepsSound, GiftKeepsSound, LastWordIsLast, MoveKeepsSound, PriceKeepsSound, PurchaseKeepsSound, QuietKeepsSound, QuietSaysTheSame, RevenueKeepsSound, SaleKeepsSound, StartByPurchaseKeepsSound, StartKeepsSound, SuccessionKeepsSound, SvIsGivenAway};
 
 /// What was said last of a thing is what the last event says, or else what was said before it.
 pub fn last_word_is_last<T>()
@@ -90,6 +90,13 @@ pub fn float_keeps_sound()
 /// A token that moves from square to square keeps a list sound.
 pub fn move_keeps_sound()
     ensures { MoveKeepsSound }
+{}
+
+/// Companies with squares have come there by different events, so that one came earlier; an event at the end
+/// by which a company comes to a square is later than all before.
+pub fn arrivals_differ()
+    ensures differ { ArrivalsDiffer }
+    ensures last { ArrivalIsLast }
 {}
 
 /// In a sound game the private that `Past::cheapest_unsold` gives is a cheapest of those that are
