@@ -4,7 +4,8 @@ ghost use Rattle.stock_round.specs.Turn.{has_acted as acted_by, with_deal};
 use order_grammar::Order;
 use tables::Company;
 
-/// What a seat has done in a turn: of which company it has bought, if of any, and whether it has sold.
+/// What a seat has done in a turn: of which company it has bought, if of any, and whether it has
+/// sold.
 #[derive(Clone, Copy, Debug, Default)]
 pub(crate) struct Deals {
     /// The company of which the seat has bought.
@@ -14,7 +15,8 @@ pub(crate) struct Deals {
 }
 
 impl Deals {
-    /// What has been done once an order is obeyed too. An exchange is neither a purchase nor a sale.
+    /// What has been done once an order is obeyed too. An exchange is neither a purchase nor a
+    /// sale.
     pub(crate) fn with(self, order: &Order) -> Deals
         ensures { result ≡ with_deal self order.now }
     {

@@ -12,8 +12,8 @@ use tables::{Company, Private, Seat};
 /// How many tenths MH brings.
 const EXCHANGE_TENTHS: u8 = 1;
 
-/// The first rule that an order of a seat breaks in its turn, in which it has bought of this company or of
-/// none; `None` if it breaks none. There are at most six seats.
+/// The first rule that an order of a seat breaks in its turn, in which it has bought of this
+/// company or of none; `None` if it breaks none. There are at most six seats.
 pub(crate) fn judge(
     history: &History,
     seat: Seat,
@@ -61,8 +61,8 @@ fn judge_exchange(history: &History, seat: Seat) -> Option<StockRule>
     None
 }
 
-/// Whether a seat may not exchange MH: it does not own it, no tenth of NYC is there, or the seat would come
-/// over six.
+/// Whether a seat may not exchange MH: it does not own it, no tenth of NYC is there, or the seat
+/// would come over six.
 fn is_no_exchange(history: &History, seat: Seat) -> bool
     ensures { result ≡ may_not_exchange history.now.events seat }
 {

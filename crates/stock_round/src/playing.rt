@@ -23,9 +23,9 @@ use tables::{PLAYERS_MOST, Round, Seat};
 /// What is still to come of each seat's sheet, by seat.
 type Unruled<'a> = ArrayVec<PartsLeft<'a>, PLAYERS_MOST>;
 
-/// Plays a stock round with the sheets for it. The list of events must be sound, and its seats those
-/// of the sheets' players; a seat without a sheet passes. An `Err` comes from want of memory alone,
-/// and the game is dropped.
+/// Plays a stock round with the sheets for it. The list of events must be sound, and its seats
+/// those of the sheets' players; a seat without a sheet passes. An `Err` comes from want of memory
+/// alone, and the game is dropped.
 pub fn play_stock(
     mut history: History,
     sheets: &Sheets,
@@ -112,8 +112,8 @@ fn take_turns(
     Ok(())
 }
 
-/// The turn of a seat, which passes where it neither buys nor sells. Answers how many have passed in
-/// succession.
+/// The turn of a seat, which passes where it neither buys nor sells. Answers how many have passed
+/// in succession.
 fn play_turn(
     history: &mut History,
     unruled: &mut [PartsLeft],

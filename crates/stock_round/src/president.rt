@@ -37,8 +37,8 @@ fn tell_successor(
     Ok(())
 }
 
-/// Who presides over a company now, where this seat presided: it stays unless some seat has strictly more
-/// tenths; then it is the seat with most, among equals the first to the left.
+/// Who presides over a company now, where this seat presided: it stays unless some seat has
+/// strictly more tenths; then it is the seat with most, among equals the first to the left.
 fn successor(past: &Past, company: Company, old: Seat) -> Seat
     ensures { result ≡ successor_of past.now.seats past.now.events.now company old }
 {

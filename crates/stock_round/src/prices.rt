@@ -8,8 +8,8 @@ use history::History;
 use order_grammar::ShareSource;
 use tables::{Amount, Company, Money, price};
 
-/// What a tenth of a company that is started costs, in dollars: its par value in the initial offering,
-/// the market price in the pool.
+/// What a tenth of a company that is started costs, in dollars: its par value in the initial
+/// offering, the market price in the pool.
 pub(crate) fn tenth_price(history: &History, company: Company, from: ShareSource) -> Amount
     requires { IsLed history.now.events company }
     ensures price { result ≡ tenth_price_of history.now.events company from }

@@ -8,7 +8,8 @@ use sheets::{PartsLeft, fault_out_of_place};
 use std::alloc::AllocError;
 use tables::Seat;
 
-/// Rules the standing lines of a seat's sheet, those before its first group. No order has a place there.
+/// Rules the standing lines of a seat's sheet, those before its first group. No order has a place
+/// there.
 pub(crate) fn rule_standing(
     history: &mut History,
     seat: Seat,

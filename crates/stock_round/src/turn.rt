@@ -16,8 +16,8 @@ use sheets::{NumberedLine, PartsLeft, is_of_file};
 use std::alloc::AllocError;
 use tables::Seat;
 
-/// A seat's turn: it takes up the next group of its sheet, if there is one. Answers whether the seat
-/// bought or sold.
+/// A seat's turn: it takes up the next group of its sheet, if there is one. Answers whether the
+/// seat bought or sold.
 pub(crate) fn take_turn(
     history: &mut History,
     seat: Seat,
@@ -66,8 +66,8 @@ fn rule_lines(history: &mut History, seat: Seat, sheet: &mut PartsLeft) -> Resul
     Ok(deals)
 }
 
-/// Rules a line of a group, and does what it orders if it is obeyed. Answers what the seat has done by
-/// then.
+/// Rules a line of a group, and does what it orders if it is obeyed. Answers what the seat has done
+/// by then.
 fn rule_line(
     history: &mut History,
     seat: Seat,
@@ -105,7 +105,8 @@ fn placed_order<'a>(line: &'a NumberedLine) -> Result<&'a Order, Fault>
     Ok(order)
 }
 
-/// Rules an order in a seat's turn, and does it if it is obeyed. Answers what the seat has done by then.
+/// Rules an order in a seat's turn, and does it if it is obeyed. Answers what the seat has done by
+/// then.
 fn rule_order(
     history: &mut History,
     seat: Seat,
