@@ -1,3 +1,5 @@
+ghost use Rattle.std.specs.Prelude.{◌≤◌};
+
 use crate::support::add;
 use certs::{Purchase, Sale, may_buy, may_sell};
 use history::{Event, History, StockRule};
@@ -21,12 +23,14 @@ const OFFERING: ShareSource = ShareSource::InitialOffering;
 
 const POOL: ShareSource = ShareSource::BankPool;
 
-/// Adds events, for which there is room.
+/// Adds a few events, for which there is room.
 fn add_all<const N: usize>(
     rt: &impl Abort,
     history: &mut History,
     events: [Event; N],
-) -> Result<(), AllocError> {
+) -> Result<(), AllocError>
+    requires { N ≤ 16 }
+{
     for event in events {
         add(rt, history, event)?;
     }
