@@ -1,5 +1,6 @@
 //! Laws of games: each function does nothing, and its contract is the law.
 
+ghost use Rattle.history.specs.Money.{AllMoneyStays};
 ghost use Rattle.history.specs.Laws.{ArrivalIsLast, ArrivalsDiffer, BidKeepsSound, BlockKeepsSound, BlockWithSuccessionKeepsSound, CaIsSoldWithItsGift, CashMoves, ExchangeKeepsSound, FirstIsCheapest, FloatKeepsSound, GiftKeepsSound, LastWordIsLast, MoveKeepsSound, PriceKeepsSound, PurchaseKeepsSound, QuietKeepsSound, QuietSaysTheSame, RevenueKeepsSound, SaleKeepsSound, StartByPurchaseKeepsSound, StartKeepsSound, SuccessionKeepsSound, SvIsGivenAway};
 
 /// What was said last of a thing is what the last event says, or else what was said before it.
@@ -10,6 +11,12 @@ pub fn last_word_is_last<T>()
 /// A payment moves cash from the party that pays to the party that is paid, and no other.
 pub fn cash_moves()
     ensures { CashMoves }
+{}
+
+/// What the bank, the seats at the table and the companies have together is 12,000, as long as money goes
+/// only between them.
+pub fn all_money_stays()
+    ensures { AllMoneyStays }
 {}
 
 /// An event that says nothing of what parties have and own, or of SV's price, changes none of it.
