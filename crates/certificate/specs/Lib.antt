@@ -1,0 +1,6 @@
+pub mod Legal
+pub mod Named
+pub mod Fault
+pub mod Code
+pub mod Tally
+pub mod Law
