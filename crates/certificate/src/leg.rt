@@ -1,5 +1,6 @@
 ghost use Rattle.std.specs.List.{list_any};
-ghost use Rattle.std.specs.Prelude.{◌≡◌, ◌<◌};
+ghost use Rattle.std.specs.Prelude.{◌≡◌, ◌<◌, find};
+ghost use Rattle.map_tables.specs.Border.{neighbour_of};
 ghost use Rattle.map_tables.specs.Track.{end_order};
 ghost use Rattle.certificate.specs.Named.{is_hex, leg_to, same_link, side_towards, step_between, step_over};
 
@@ -19,6 +20,7 @@ pub(crate) struct Leg {
 }
 
 /// The leg that leads a train to a place, if there is such track.
+#[tactic(auto, unfolding(crate::specs::Named::leg_to))]
 pub(crate) fn leg_to<N: Network>(network: &N, at: Spot, place: Place) -> Option<Leg>
     ensures { result ≡ leg_to (N.position network.now) at place }
 {
@@ -54,7 +56,14 @@ fn side_towards(hex: Hex, other: Hex) -> Option<Side>
     ensures { result ≡ side_towards hex other }
 {
     sides_and_rotations_are_all();
-    Side::ALL
+    first_towards(&Side::ALL, hex, other)
+}
+
+/// The first of some sides of a hex at which another lies.
+fn first_towards(sides: &[Side], hex: Hex, other: Hex) -> Option<Side>
+    ensures { result ≡ find (λ side. is_hex other (neighbour_of hex side)) sides.now }
+{
+    sides
         .iter()
         .copied()
         .find(|side| is_hex(other, neighbour(hex, *side)))
@@ -71,6 +80,7 @@ fn is_hex(hex: Hex, found: Option<Hex>) -> bool
 }
 
 /// The step from one end of a hex to another, if they are joined.
+#[tactic(auto, unfolding(crate::specs::Named::step_between))]
 fn step_between<N: Network>(network: &N, hex: Hex, from: End, to: End) -> Option<Step>
     ensures { result ≡ step_between (N.position network.now) hex from to }
 {
