@@ -3,7 +3,7 @@
 -- twice, and none that another train of the company has used in this turn. It passes no red stop and no
 -- city that is full for the company; it may begin and end at such. Nothing here knows of places, in
 -- whose words a run is ordered.
-use Rattle.std.specs.Prelude.{◌≡◌, ℕ, ◌+◌, ◌-◌, ◌*◌, ◌≤◌, Bool, true, false, nat_lt, if◌then◌else◌, Option, Some, None, IfSome, ◌⊎◌, List, [], ◌∷◌, ◌++◌, length, get_or, sum_by}
+use Rattle.std.specs.Prelude.{◌≡◌, ℕ, ◌+◌, ◌-◌, ◌*◌, ◌≤◌, Bool, true, false, nat_lt, if◌then◌else◌, Option, Some, None, IfSome, ◌⊎◌, List, [], ◌∷◌, ◌++◌, length, get_or}
 use Rattle.std.specs.List.{AllByRecursion}
 use Rattle.map_tables.specs.Border.{neighbour_of}
 use Rattle.map_tables.specs.Hex.{index_of}
@@ -94,6 +94,11 @@ pub record IsLegalRun (position : Position) (company : Company) (kind : Kind) (u
   pub no_red_inside : PassesOnly (λ stop. ¬ (is_red position stop ≡ true)) steps
   pub no_full_inside : PassesOnly (λ stop. ¬ IsFull position stop company) steps
 
+-- what some stops are worth, in dollars
+abbrev pub worth : Position → List Stop → ℕ
+worth position [] = 0
+worth position (stop ∷ stops) = worth position stops + value_of position stop
+
 -- what a run earns, in dollars: the values of its stops
 abbrev pub earned : Position → List Step → ℕ
-earned position steps = sum_by (λ stop. value_of position stop) (visited steps)
+earned position steps = worth position (visited steps)
