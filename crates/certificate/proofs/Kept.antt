@@ -89,7 +89,7 @@ marked_is used (other ∷ borders) border low =
     ∙ or_inside (eqb other border) (get_or used border false) (list_any (λ b. b == border) borders)
 
 -- whether a walk has a step
-abbrev has_begun : List Step → Bool
+abbrev pub has_begun : List Step → Bool
 has_begun [] = false
 has_begun (step ∷ before) = true
 
@@ -104,7 +104,7 @@ length_none = refl
 
 module _ (position : Position) (company : Company) (used : List Bool) where
   -- what a tally keeps: of stops visited and borders crossed, and what was passed
-  record Keeps (tally : Tally) (begun : Bool) (stops : List Stop) (borders : List ℕ) (full red : Bool) : Type 0 where
+  pub record Keeps (tally : Tally) (begun : Bool) (stops : List Stop) (borders : List ℕ) (full red : Bool) : Type 0 where
     pub begun_is : tally.begun ≡ begun
     pub stops_are : tally.stops ≡ length stops
     pub value_is : tally.value ≡ worth position stops

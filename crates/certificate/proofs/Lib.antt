@@ -1,3 +1,4 @@
 pub mod Tests
 pub mod Along
 pub mod Kept
+pub mod Ruled

@@ -10,7 +10,7 @@ use crate::tally::Tally;
 use crate::used::Used;
 use map_tables::{End, Run};
 use reach::{Network, Spot};
-use tables::{Company, Kind, Money};
+use tables::{Amount, Company, Kind, Money};
 
 /// Rules a run of a company's train of a kind, as it is written out place by place. Where it breaks no
 /// rule the answer is what it earns, in dollars, and the borders that it crosses are used from then
@@ -32,12 +32,21 @@ pub fn check_run<N: Network>(
     ensures crosses { let steps = named_steps (N.position network.now) run.now in
         IfOk result (λ earns. used.new ≡ marked used.old (crossed steps)) }
 {
-    let tally = tally_of(network, company, run, used).ok_or(RunFault::NoTrack)?;
+    let Some(tally) = tally_of(network, company, run, used) else {
+        return Err(RunFault::NoTrack);
+    };
     if let Some(fault) = tally.fault(kind) {
         return Err(fault);
     }
     used.crossed = tally.crossed;
-    Ok(tally.value as Money)
+    Ok(money(tally.value))
+}
+
+/// A sum of dollars.
+fn money(amount: Amount) -> Money
+    ensures { result ≡ pos amount }
+{
+    amount as Money
 }
 
 /// Goes over the walk that the places of a run name; `None` where there is none.
