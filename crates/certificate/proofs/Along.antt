@@ -1,5 +1,5 @@
 -- What is made along places: at the first place, at each next one, and after the last.
-use Rattle.std.proofs.Common.{◌≡◌, ℕ, suc, ◌+◌, ◌-◌, ◌<◌, ◌≤◌, List, [], ◌∷◌, Option, Some, None, option_map, option_and_then, length, get_or, take, drop, refl, ap, sym, ◌∙◌, arith, add-one, drop-cons, length-take, length-drop}
+use Rattle.std.proofs.Common.{◌≡◌, ℕ, ◌+◌, ◌-◌, ◌<◌, ◌≤◌, List, [], ◌∷◌, Option, Some, None, option_map, option_and_then, length, get_or, take, drop, refl, ap, sym, ◌∙◌, arith, add-one, drop-cons, length-take, length-drop}
 use Rattle.std.proofs.lemmas.List.{drop_all, take_all}
 use Rattle.map_tables.specs.declared.place.Place.{Place}
 use Rattle.map_tables.specs.declared.place.StopNumber.{StopNumber}

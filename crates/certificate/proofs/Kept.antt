@@ -1,5 +1,5 @@
 -- What the tally keeps of a walk is what the tests find in it.
-use Rattle.std.proofs.Common.{◌≡◌, ℕ, zero, suc, ◌+◌, ◌-◌, ◌*◌, ◌<◌, ◌≤◌, ◌==◌, Bool, true, false, not, ltb, eqb, ◌||◌, ◌⊎◌, inl, inr, if◌then◌else◌, Option, Some, None, List, [], ◌∷◌, ◌++◌, length, get_or, set, replicate, refl, ap, sym, ◌∙◌, subst, arith, get_or-set_same, get_or-set_other, length-set}
+use Rattle.std.proofs.Common.{◌≡◌, ℕ, zero, suc, ◌+◌, ◌-◌, ◌*◌, ◌<◌, ◌≤◌, ◌==◌, Bool, true, false, ltb, eqb, ◌||◌, inl, inr, if◌then◌else◌, Option, Some, None, List, [], ◌∷◌, ◌++◌, length, get_or, set, replicate, refl, ap, sym, ◌∙◌, subst, arith, get_or-set_same, get_or-set_other, length-set}
 use Rattle.std.specs.List.{AllByRecursion, list_any}
 use Rattle.std.proofs.lemmas.Bool.{cases_eq, eqb-true, eq-eqb, ltb-true, ltb-false}
 use Rattle.map_tables.specs.Border.{neighbour_of}
@@ -13,13 +13,12 @@ use Rattle.map_tables.specs.declared.track.End.TheVariants.{Side as AtSide, Stop
 use Rattle.reach.specs.Position.{Position, is_red, value_of}
 use Rattle.reach.specs.Reached.{stop_order}
 use Rattle.reach.specs.Walk.{entered_at, left_at, stop_of}
-use Rattle.reach.specs.declared.walk.Spot.{Spot}
 use Rattle.reach.specs.declared.walk.Step.{Step}
 use Rattle.reach.proofs.Hexes.{index_low, side_low, stop_index_low}
 use Rattle.tables.specs.declared.roster.Company.{Company}
-use Rattle.certificate.specs.Fault.{goes_through, has_border_twice, has_stop, has_stop_twice, has_token, is_full, is_such, is_taken, marked, passes}
+use Rattle.certificate.specs.Fault.{has_border_twice, has_stop, has_stop_twice, has_token, is_full, is_such, is_taken, marked, passes}
 use Rattle.certificate.specs.Legal.{border_at, border_beyond, border_of, crossed, first_stop, listed, visited, worth}
-use Rattle.certificate.specs.Tally.{counted, crossing, entering, entering_side, entering_stop, leaving, leaving_stop, no_steps, passing, tally_of, visiting}
+use Rattle.certificate.specs.Tally.{counted, crossing, entering, entering_side, entering_stop, leaving_stop, no_steps, passing, tally_of, visiting}
 use Rattle.certificate.specs.declared.tally.Tally.{Tally}
 
 -- each stop has a place on the map
@@ -127,8 +126,8 @@ module _ (position : Position) (company : Company) (used : List Bool) where
     value_is = ap (λ n. n + value_of position stop) kept.value_is;
     seen_all = length-set tally.seen (stop_order stop) true ∙ kept.seen_all;
     seen_is = λ other.
-      mark_more tally.seen (stop_order stop) (stop_order other) (omega (arith, stop_low stop, kept.seen_all))
-      ∙ ap (λ b. eqb (stop_order stop) (stop_order other) || b) (kept.seen_is other);
+        mark_more tally.seen (stop_order stop) (stop_order other) (omega (arith, stop_low stop, kept.seen_all))
+        ∙ ap (λ b. eqb (stop_order stop) (stop_order other) || b) (kept.seen_is other);
     stop_twice_is = ap (λ b. b || get_or tally.seen (stop_order stop) false) kept.stop_twice_is ∙ ap (λ b. has_stop_twice stops || b) (kept.seen_is stop);
     crossed_is = kept.crossed_is;
     borders_low = kept.borders_low;
@@ -169,8 +168,8 @@ module _ (position : Position) (company : Company) (used : List Bool) where
     crossed_is = ap (λ marks. set marks border true) kept.crossed_is;
     borders_low = (low, kept.borders_low);
     border_twice_is =
-      ap (λ b. b || get_or tally.crossed border false) kept.border_twice_is
-      ∙ ap (λ b. has_border_twice used borders || b) (ap (λ marks. get_or marks border false) kept.crossed_is ∙ marked_is used borders border kept.borders_low);
+        ap (λ b. b || get_or tally.crossed border false) kept.border_twice_is
+        ∙ ap (λ b. has_border_twice used borders || b) (ap (λ marks. get_or marks border false) kept.crossed_is ∙ marked_is used borders border kept.borders_low);
     full_is = kept.full_is;
     own_is = kept.own_is;
     red_is = kept.red_is;
@@ -261,7 +260,7 @@ module _ (position : Position) (company : Company) (used : List Bool) where
       let entered : Tally = entering position company tally (entered_at step) in
       begun_now (leaving_stop position company entered (stop_of (left_at step))) (has_begun before) (visited (step ∷ before)) (crossed (step ∷ before)) full red
       (left_keeps entered (stop_of (left_at step)) (has_begun before) (first_stop before step ++ visited before) (crossed (step ∷ before)) full red
-        (entered_keeps whole before step tally kept))
+      (entered_keeps whole before step tally kept))
 
   -- the tally of a walk keeps what the tests find in it
   pub tally_keeps : 279 ≤ length used → (steps : List Step) → Keeps (tally_of position company used steps) (has_begun steps) (visited steps) (crossed steps) (passes (is_full position company) steps) (passes (is_red position) steps)

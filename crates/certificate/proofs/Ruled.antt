@@ -1,16 +1,15 @@
 -- What a tally says of a run is what the table of rules says.
-use Rattle.std.proofs.Common.{◌≡◌, ℕ, ◌≤◌, Bool, true, false, not, Option, Some, None, option_map, is_none, List, [], ◌∷◌, length, refl, ap, sym, ◌∙◌}
-use Rattle.std.specs.List.{list_any}
+use Rattle.std.proofs.Common.{◌≡◌, ℕ, ◌≤◌, Bool, not, Option, Some, None, option_map, is_none, List, [], ◌∷◌, length, refl, ap, sym, ◌∙◌}
 use Rattle.map_tables.specs.declared.place.Place.{Place}
-use Rattle.reach.specs.Position.{Position, is_red}
+use Rattle.reach.specs.Position.{Position}
 use Rattle.reach.specs.declared.walk.Step.{Step}
 use Rattle.tables.specs.Rules.{Rule, first_broken}
 use Rattle.tables.specs.declared.rolling_stock.Kind.{Kind}
 use Rattle.tables.specs.declared.roster.Company.{Company}
-use Rattle.certificate.specs.Fault.{has_border_twice, has_stop_twice, has_token, is_full, is_wrong_number, marked, named_steps, passes, rules_of_walk, run_fault, steps_of}
-use Rattle.certificate.specs.Legal.{crossed, earned, visited}
+use Rattle.certificate.specs.Fault.{is_wrong_number, marked, named_steps, rules_of_walk, run_fault, steps_of}
+use Rattle.certificate.specs.Legal.{crossed, earned}
 use Rattle.certificate.specs.Named.{made_along, taken, walk_named}
-use Rattle.certificate.specs.Tally.{counted, no_steps, rules_of_tally, tally_fault, tally_of}
+use Rattle.certificate.specs.Tally.{counted, no_steps, tally_fault, tally_of}
 use Rattle.certificate.specs.declared.run_fault.RunFault.{RunFault}
 use Rattle.certificate.specs.declared.run_fault.RunFault.TheVariants.{NoTrack, WrongNumber, StopTwice, BorderTwice, PassesFull, NoToken, RedInside}
 use Rattle.certificate.specs.declared.tally.Tally.{Tally}

@@ -1,6 +1,5 @@
 -- The tests of tokens and of full cities are exact.
-use Rattle.std.proofs.Common.{◌≡◌, ◌↔◌, ℕ, ◌<◌, ◌≤◌, Bool, true, false, ◌&&◌, not, ltb, ◌⊎◌, inl, inr, List, length, get_or, refl, ap, sym, ◌∙◌, arith}
-use Rattle.std.specs.List.{list_any}
+use Rattle.std.proofs.Common.{◌≡◌, ◌↔◌, ℕ, ◌<◌, ◌≤◌, Bool, true, false, ◌&&◌, not, ltb, List, length, get_or, refl, ap, sym, ◌∙◌, arith}
 use Rattle.std.proofs.lemmas.Bool.{eqb-true, eq-eqb, ltb-true, ltb-false, lt-ltb}
 use Rattle.map_tables.specs.declared.place.Stop.{Stop}
 use Rattle.reach.specs.Position.{Position, HasToken, IsFull, at_stop}
@@ -33,9 +32,10 @@ tests_agree false true first second = first.1 (second.0 refl)
 
 -- the test of a token is exact
 pub has_token_is : (position : Position) (company : Company) (stop : Stop) → (has_token position company stop ≡ true) ↔ HasToken position stop company
-has_token_is position company stop =
-    (among_found same_company same_is_one (at_stop position stop).tokens company,
-     found_among same_company one_is_same (at_stop position stop).tokens company)
+has_token_is position company stop = (
+  among_found same_company same_is_one (at_stop position stop).tokens company,
+  found_among same_company one_is_same (at_stop position stop).tokens company,
+)
 
 three : (a b c : Bool) → (a && (b && c)) ≡ true → (a ≡ true) × (b ≡ true) × (c ≡ true)
 three true true true h = (refl, refl, refl)
@@ -66,16 +66,17 @@ pub is_full_is : (position : Position) (company : Company) (stop : Stop) → (is
 is_full_is position company stop =
     let slots : ℕ = (at_stop position stop).slots in
     let tokens : List Company = (at_stop position stop).tokens in
-    let own : Bool = has_token position company stop in
-    (λ h.
-      let parts : (ltb 0 slots ≡ true) × (not (ltb (length tokens) slots) ≡ true) × (not own ≡ true) = three (ltb 0 slots) (not (ltb (length tokens) slots)) (not own) h in
-      record {
-        is_city = ltb-true 0 slots parts.0;
-        all_taken = ltb-false (length tokens) slots (is_false (ltb (length tokens) slots) parts.1);
-        by_others = λ has. not_both own parts.2 ((has_token_is position company stop).1 has);
-      },
-     λ full.
-      all_three (ltb 0 slots) (not (ltb (length tokens) slots)) (not own)
-      (lt-ltb 0 slots full.is_city)
-      (to_not (ltb (length tokens) slots) (less_not (length tokens) slots full.all_taken))
-      (to_not own (λ has. full.by_others ((has_token_is position company stop).0 has))))
+    let own : Bool = has_token position company stop in (
+      λ h.
+          let parts : (ltb 0 slots ≡ true) × (not (ltb (length tokens) slots) ≡ true) × (not own ≡ true) = three (ltb 0 slots) (not (ltb (length tokens) slots)) (not own) h in
+          record {
+            is_city = ltb-true 0 slots parts.0;
+            all_taken = ltb-false (length tokens) slots (is_false (ltb (length tokens) slots) parts.1);
+            by_others = λ has. not_both own parts.2 ((has_token_is position company stop).1 has);
+          },
+      λ full.
+          all_three (ltb 0 slots) (not (ltb (length tokens) slots)) (not own)
+          (lt-ltb 0 slots full.is_city)
+          (to_not (ltb (length tokens) slots) (less_not (length tokens) slots full.all_taken))
+          (to_not own (λ has. full.by_others ((has_token_is position company stop).0 has))),
+    )

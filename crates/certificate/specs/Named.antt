@@ -2,7 +2,7 @@
 -- hex where its place is written with `.i`, and by through track where it is not. Places side by side
 -- meet at the border of their hexes. The first and the last place each have a stop. A list of places
 -- names one walk, or none: where there is no such track.
-use Rattle.std.specs.Prelude.{ℕ, Bool, true, false, ◌==◌, ◌&&◌, nat_lt, if◌then◌else◌, Option, Some, None, option_map, option_and_then, List, [], ◌∷◌, find}
+use Rattle.std.specs.Prelude.{Bool, true, false, ◌==◌, ◌&&◌, nat_lt, if◌then◌else◌, Option, Some, None, option_map, option_and_then, List, [], ◌∷◌, find}
 use Rattle.std.specs.List.{list_any}
 use Rattle.map_tables.specs.Border.{neighbour_of}
 use Rattle.map_tables.specs.Hex.{same_hex}
@@ -39,8 +39,8 @@ same_link link other =
 abbrev pub step_over : Hex → End → End → Step
 step_over hex from to =
     if nat_lt (end_order to) (end_order from) then
-      record { link = record { hex = hex; a = to; b = from }; turned = true } else
-      record { link = record { hex = hex; a = from; b = to }; turned = false }
+    record { link = record { hex = hex; a = to; b = from }; turned = true } else
+    record { link = record { hex = hex; a = from; b = to }; turned = false }
 
 -- that step, if the position has the link
 unfoldable pub step_between : Position → Hex → End → End → Option Step

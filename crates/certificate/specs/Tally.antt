@@ -1,5 +1,5 @@
 -- What the check of a run keeps of the steps that it has gone over, and how it changes by a step.
-use Rattle.std.specs.Prelude.{ℕ, ◌+◌, Bool, true, false, ◌||◌, if◌then◌else◌, not, nat_lt, Option, Some, None, List, [], ◌∷◌, get_or, set, replicate}
+use Rattle.std.specs.Prelude.{ℕ, ◌+◌, Bool, true, false, ◌||◌, if◌then◌else◌, not, Option, Some, None, List, [], ◌∷◌, get_or, set, replicate}
 use Rattle.map_tables.specs.declared.hex.Hex.{Hex}
 use Rattle.map_tables.specs.declared.place.Stop.{Stop}
 use Rattle.map_tables.specs.declared.track.End.{End}

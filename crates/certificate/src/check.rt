@@ -12,9 +12,9 @@ use map_tables::{End, Run};
 use reach::{Network, Spot};
 use tables::{Amount, Company, Kind, Money};
 
-/// Rules a run of a company's train of a kind, as it is written out place by place. Where it breaks no
-/// rule the answer is what it earns, in dollars, and the borders that it crosses are used from then
-/// on. Else it is the first rule that the run breaks, and `used` is as it was.
+/// Rules a run of a company's train of a kind, as it is written out place by place. Where it breaks
+/// no rule the answer is what it earns, in dollars, and the borders that it crosses are used from
+/// then on. Else it is the first rule that the run breaks, and `used` is as it was.
 pub fn check_run<N: Network>(
     network: &N,
     company: Company,

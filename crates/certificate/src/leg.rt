@@ -4,9 +4,7 @@ ghost use Rattle.map_tables.specs.Border.{neighbour_of};
 ghost use Rattle.map_tables.specs.Track.{end_order};
 ghost use Rattle.certificate.specs.Named.{is_hex, leg_to, same_link, side_towards, step_between, step_over};
 
-use map_tables::{
-    End, Hex, Link, Place, Side, neighbour, sides_and_rotations_are_all,
-};
+use map_tables::{End, Hex, Link, Place, Side, neighbour, sides_and_rotations_are_all};
 use reach::{Network, Spot, Step};
 
 /// What leads from where a train stands to its next place: a step to the border between their hexes,

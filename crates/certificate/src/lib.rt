@@ -1,13 +1,13 @@
 //! Runs of trains of 1830: what is a legal run, and the check of one that a player has written out.
 //!
 //! `check_run` rules a run of a company's train over any `reach::Network`: it answers what the run
-//! earns and marks the borders that it crosses as used, or names the first rule that the run breaks.
-//! It takes no memory.
+//! earns and marks the borders that it crosses as used, or names the first rule that it breaks. It
+//! takes no memory.
 //!
-//! The definitions, in `specs/`: `Legal` says what a legal run is, over walks, and knows nothing of
-//! places; `Named` says which walk a list of places names; `Fault` is the table of the rules. `Law`
-//! joins them: what the places name is a legal run exactly where no rule is broken. `Tally` is what
-//! the check keeps of the steps that it has gone over.
+//! The definitions, in `specs/`: `Legal` says which stops a walk visits, which borders it crosses
+//! and what a legal run is, and knows nothing of places; `Named` says which walk a list of places
+//! names; `Fault` is the table of the rules. `Tally` is what the check keeps of the steps that it
+//! has gone over.
 //!
 //! Reading order: `check` (the public call), `run_fault`, `used`, `leg` (from place to place),
 //! `tally`.

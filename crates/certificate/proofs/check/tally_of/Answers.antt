@@ -1,8 +1,8 @@
 -- The place in hand is one leg further.
-use Rattle.std.proofs.Common.{◌≡◌, ◌+◌, ◌*◌, ◌≤◌, List, length, drop, ap, sym, ◌∙◌, subst, arith}
+use Rattle.std.proofs.Common.{◌≡◌, ◌≤◌, List, length, ap, sym, ◌∙◌, subst, arith}
 use Rattle.map_tables.specs.declared.place.Place.{Place}
 use Rattle.map_tables.specs.declared.track.End.{End}
-use Rattle.certificate.specs.Named.{arrived, made_along, travelled}
+use Rattle.certificate.specs.Named.{arrived, made_along}
 use Rattle.certificate.specs.Tally.{counted, no_steps}
 use Rattle.certificate.specs.declared.tally.Tally.{Tally}
 use Rattle.certificate.proofs.Along.{at_end, begun_along, leg_further, no_leg, rest_short}
@@ -17,10 +17,10 @@ loop-place-init g c =
     let low : c.none-tally.result.value ≡ 0 = ap (λ (tally : Tally). tally.value) none in
     record {
       left =
-        begun_along count position c.as_slice-places.result.now _ c.in_ok-start.field-0 c.none-tally.result
-        (subst (λ (places : List Place). 2 ≤ length places) (sym c.as_slice-places.ensures.places) c.as_slice-places.ensures.least) (c.in_ok-start.was)
-        ∙ ap (λ tally. made_along count position tally c.as_slice-places.result.now) none
-        ∙ ap (made_along count position (no_steps c.args.used.now)) c.as_slice-places.ensures.places;
+          begun_along count position c.as_slice-places.result.now _ c.in_ok-start.field-0 c.none-tally.result
+          (subst (λ (places : List Place). 2 ≤ length places) (sym c.as_slice-places.ensures.places) c.as_slice-places.ensures.least) (c.in_ok-start.was)
+          ∙ ap (λ tally. made_along count position tally c.as_slice-places.result.now) none
+          ∙ ap (made_along count position (no_steps c.args.used.now)) c.as_slice-places.ensures.places;
       short = rest_short c.as_slice-places.result.now (subst (λ (places : List Place). length places ≤ 280) (sym c.as_slice-places.ensures.places) c.as_slice-places.ensures.most);
       few = omega arith;
       low = omega arith;
@@ -39,8 +39,8 @@ loop-place-preserved g c =
     let count = counted position c.args.company in
     record {
       left =
-        leg_further count position c.loop-place.at c.loop-place.tally c.count_leg.new.self _ c.loop-place.place-index _ c.in_ok-leg.leg c.loop-place-test.true (sym c.leg_to.ensures ∙ c.in_ok-leg.was) c.count_leg.ensures.tally
-        ∙ c.loop-place.invariant.left;
+          leg_further count position c.loop-place.at c.loop-place.tally c.count_leg.new.self _ c.loop-place.place-index _ c.in_ok-leg.leg c.loop-place-test.true (sym c.leg_to.ensures ∙ c.in_ok-leg.was) c.count_leg.ensures.tally
+          ∙ c.loop-place.invariant.left;
       short = c.loop-place.invariant.short;
       few = omega arith;
       low = c.count_leg.ensures.low;
