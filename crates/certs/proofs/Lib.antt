@@ -5,3 +5,4 @@ mod Presidents
 mod Counts
 mod NoteLemmas
 pub mod ByGame
+mod Deals

@@ -3,3 +3,5 @@ pub mod Notes
 pub mod Holdings
 pub mod President
 pub mod Counted
+pub mod Purchase
+pub mod Sale

@@ -1,20 +1,27 @@
-//! The certificates: who holds how many tenths of each company, who presides, and how many certificates
-//! of a player count against the limit.
+//! The certificates: who holds how many tenths of each company, who presides, how many certificates of a
+//! player count against the limit, and what a player may buy and sell.
 //!
 //! The holdings are a small table that is made by looking back over the events of a game. A transfer
-//! moves tenths and nothing else; then the table answers who presides.
+//! moves tenths and nothing else; then the table answers who presides. The rules of a purchase and of a sale
+//! are looked at in the order of their numbers, and the first that is broken is the answer.
 //!
 //! Reading order: `holdings`, `notes` (the tables that they are made of), `rows` (the tenths of one company),
-//! `president`, `counted` (the certificates that count), `laws` (what the presidency goes by, and what counts
-//! by the events of a game).
+//! `president`, `counted` (the certificates that count), `deal` (what is bought and sold), `purchase`, `sale`,
+//! `laws` (what the presidency goes by, and what counts by the events of a game).
 #![tactic(auto)]
 
 mod counted;
+mod deal;
 mod holdings;
 mod laws;
 mod notes;
 mod president;
+mod purchase;
 mod rows;
+mod sale;
 
+pub use deal::{Purchase, Sale};
 pub use holdings::Holdings;
 pub use laws::{counted_by_the_game, first_with_most_presides};
+pub use purchase::{is_over_six, market_price, may_buy, tenth_price};
+pub use sale::may_sell;

@@ -7,10 +7,10 @@ use Rattle.std.specs.Option.{option_or, option_flatten}
 use std.Path.{fun_ext}
 use Rattle.std.specs.List.{flat_map}
 use Rattle.history.specs.Bids.{as_bid, bid_of, bid_said, bids_of, bids_on}
-use Rattle.history.specs.Event.{bidding_of, office_of, ownership_of, par_set, payment_of, square_set, sv_price_set, transfer_of}
+use Rattle.history.specs.Event.{bidding_of, floated_by, office_of, ownership_of, par_set, payment_of, square_set, sv_price_set, transfer_of}
 use Rattle.history.specs.Laws.{CashMoves, LastWordIsLast, QuietSaysTheSame}
 use Rattle.history.specs.LookBack.{balance, cash_of, first_unsold, is_closed, is_sold, last_said, now_said, owner_of, owner_said, paid_by, paid_to, sv_price_of}
-use Rattle.history.specs.Shares.{brought_to, par_of, par_said, president_of, president_said, shares_of, square_of, square_said, taken_from}
+use Rattle.history.specs.Shares.{brought_to, float_said, is_floated, par_of, par_said, president_of, president_said, shares_of, square_of, square_said, taken_from}
 use Rattle.history.specs.declared.event.Event.{Event}
 use Rattle.history.specs.declared.event.Holder.{Holder}
 use Rattle.history.specs.declared.event.Party.{Party}
@@ -23,12 +23,12 @@ use Rattle.tables.specs.declared.roster.Private.TheVariants.{SchuylkillValley}
 use Rattle.tables.specs.declared.seat.Seat.{Seat}
 
 -- nothing stands before the first word
-option_or_none : {A : Type 0} (a : Option A) → option_or a None ≡ a
+pub option_or_none : {A : Type 0} (a : Option A) → option_or a None ≡ a
 option_or_none (Some a) = refl
 option_or_none None = refl
 
 -- the latest of three words
-option_or_assoc : {A : Type 0} (a b c : Option A) → option_or (option_or a b) c ≡ option_or a (option_or b c)
+pub option_or_assoc : {A : Type 0} (a b c : Option A) → option_or (option_or a b) c ≡ option_or a (option_or b c)
 option_or_assoc (Some a) b c = refl
 option_or_assoc None b c = refl
 
@@ -155,6 +155,11 @@ pub president_of_before : (events : List Event) (event : Event) (company : Compa
 president_of_before events event company none =
     last_said_before (λ e. president_said company (office_of e)) _ events event refl (ap (president_said company) none)
 
+-- where no company floats, each has floated as before
+pub is_floated_before : (events : List Event) (event : Event) (company : Company) → floated_by event ≡ None → is_floated (events ++ event ∷ []) company ≡ is_floated events company
+is_floated_before events event company none =
+    ap is_some (last_said_before (λ e. float_said company (floated_by e)) _ events event refl (ap (float_said company) none))
+
 -- a quiet event changes nothing of what parties have and own
 pub quiet_same : QuietSaysTheSame
 quiet_same events event quiet =
@@ -170,5 +175,6 @@ quiet_same events event quiet =
       par = λ company. par_of_before events event company quiet.par;
       square = λ company. square_of_before events event company quiet.square;
       president = λ company. president_of_before events event company quiet.office;
+      floated = λ company. is_floated_before events event company quiet.float;
       sv_price = sv_price_of_before events event quiet.sv_price;
     }

@@ -1,8 +1,16 @@
 pub mod EventAtEnd
+pub mod Places
 pub mod Words
 pub mod Standing
 pub mod BidWords
 pub mod Acts
 pub mod Soundness
-pub mod Cheapest
+pub mod Tenths
+pub mod Gains
 pub mod Gifts
+pub mod Starts
+pub mod Purchases
+pub mod Settled
+pub mod Blocks
+pub mod Arrivals
+pub mod Cheapest

@@ -1,14 +1,16 @@
 -- An event has a few aspects: the payment that it makes, the tenths that it moves, what it says of a
 -- private's owner and of the bids on it, the par value, square and president of a company that it sets,
--- the price of SV that it sets, the round that it begins, the order of a seat that was obeyed, and
--- whether it tells that the bank is broken. Every fact about a game looks back over one of them.
+-- the company that floats, the price of SV that it sets, the round that it begins, the order of a seat
+-- that was obeyed, and whether it tells that the bank is broken. Every fact about a game looks back over one of them.
 use Rattle.std.specs.Prelude.{◌≡◌, ℕ, Bool, true, false, List, codes, Option, Some, None}
 use Rattle.order_grammar.specs.declared.order.Order.{Order}
 use Rattle.order_grammar.specs.declared.order.Order.TheVariants as order
+use Rattle.order_grammar.specs.declared.order.ShareSource.{ShareSource}
+use Rattle.order_grammar.specs.declared.order.ShareSource.TheVariants as source
 use Rattle.history.specs.declared.event.Bidding.{Bidding}
 use Rattle.history.specs.declared.event.Bidding.TheVariants.{Made, Ended}
 use Rattle.history.specs.declared.event.Event.{Event}
-use Rattle.history.specs.declared.event.Event.TheVariants.{Round, Ruled, Bids, Sold, Price, Revenue, Given, Par, President, Broken}
+use Rattle.history.specs.declared.event.Event.TheVariants.{Round, Ruled, Bids, Sold, Price, Revenue, Given, Par, President, Bought, Sells, Exchanged, Floats, Moves, Broken}
 use Rattle.history.specs.declared.event.Holder.TheVariants as holder
 use Rattle.history.specs.declared.event.Office.{Office}
 use Rattle.history.specs.declared.event.Ownership.{Ownership}
@@ -17,6 +19,7 @@ use Rattle.history.specs.declared.event.Party.{Party}
 use Rattle.history.specs.declared.event.Party.TheVariants as party
 use Rattle.history.specs.declared.event.Payment.{Payment}
 use Rattle.history.specs.declared.event.Placement.{Placement}
+use Rattle.history.specs.declared.event.Shareholder.{Shareholder}
 use Rattle.history.specs.declared.event.Shareholder.TheVariants as place
 use Rattle.history.specs.declared.event.Transfer.{Transfer}
 use Rattle.history.specs.declared.ruling.OpeningRule.{OpeningRule}
@@ -25,8 +28,12 @@ use Rattle.history.specs.declared.ruling.Refusal.{Refusal}
 use Rattle.history.specs.declared.ruling.Refusal.TheVariants as refusal
 use Rattle.history.specs.declared.ruling.Ruling.{Ruling}
 use Rattle.history.specs.declared.ruling.Ruling.TheVariants.{Obeyed}
+use Rattle.history.specs.declared.ruling.StockRule.{StockRule}
+use Rattle.history.specs.declared.ruling.StockRule.TheVariants as stock
 use Rattle.tables.specs.Chart.{par_square_of}
 use Rattle.tables.specs.declared.roster.Company.{Company}
+use Rattle.tables.specs.declared.roster.Company.TheVariants.{NewYorkCentral}
+use Rattle.tables.specs.declared.roster.Private.TheVariants.{MohawkHudson}
 use Rattle.tables.specs.declared.round.Round.{Round as TheRound}
 use Rattle.tables.specs.declared.seat.Seat.{Seat}
 use Rattle.tables.specs.declared.squares.Square.{Square}
@@ -35,10 +42,19 @@ use Rattle.tables.specs.declared.squares.Square.{Square}
 abbrev pub party_at : Seat → Party
 party_at seat = party.Holder (holder.Seat seat)
 
--- the money that an event moves: a seat pays the bank for a private, the bank pays a revenue
+-- where a tenth lies that is bought from there
+abbrev pub place_of_source : ShareSource → Shareholder
+place_of_source source.InitialOffering = place.InitialOffering
+place_of_source source.BankPool = place.BankPool
+
+-- the money that an event moves: a seat pays the bank for a private or for tenths; the bank pays a revenue,
+-- a seat for tenths, and a company that floats
 abbrev pub payment_of : Event → Option Payment
 payment_of (Sold private seat price) = Some (record { from = party_at seat; to = party.Bank; amount = price })
 payment_of (Revenue private owner amount) = Some (record { from = party.Bank; to = party.Holder owner; amount = amount })
+payment_of (Bought company seat tenths from price) = Some (record { from = party_at seat; to = party.Bank; amount = price })
+payment_of (Sells company seat tenths price) = Some (record { from = party.Bank; to = party_at seat; amount = price })
+payment_of (Floats company amount) = Some (record { from = party.Bank; to = party.Holder (holder.Company company); amount = amount })
 payment_of other = None
 
 -- the sum of money that an event names, or 0
@@ -48,11 +64,15 @@ sum_of (Price price) = price
 sum_of (Revenue private owner amount) = amount
 sum_of (Bids private seat amount) = amount
 sum_of (Par company price) = price
+sum_of (Bought company seat tenths from price) = price
+sum_of (Sells company seat tenths price) = price
+sum_of (Floats company amount) = amount
 sum_of other = 0
 
 -- what an event says of a private: that this holder owns it from then on, or nobody
 abbrev pub ownership_of : Event → Option Ownership
 ownership_of (Sold private seat price) = Some (record { private = private; owner = Some (holder.Seat seat) })
+ownership_of (Exchanged seat from) = Some (record { private = MohawkHudson; owner = None })
 ownership_of other = None
 
 -- what an event says of the bids on a private: a seat bids on it, or its sale ends them
@@ -61,10 +81,17 @@ bidding_of (Bids private seat amount) = Some (Made private (record { seat = seat
 bidding_of (Sold private seat price) = Some (Ended private)
 bidding_of other = None
 
--- the tenths that an event moves: a gift is from the initial offering
+-- the tenths that an event moves: a gift is from the initial offering, a purchase from there or from the
+-- bank pool, and a sale goes to the pool; MH goes for a tenth of NYC
 abbrev pub transfer_of : Event → Option Transfer
 transfer_of (Given company seat tenths) =
     Some (record { company = company; from = place.InitialOffering; to = place.Seat seat; tenths = tenths })
+transfer_of (Bought company seat tenths from price) =
+    Some (record { company = company; from = place_of_source from; to = place.Seat seat; tenths = tenths })
+transfer_of (Sells company seat tenths price) =
+    Some (record { company = company; from = place.Seat seat; to = place.BankPool; tenths = tenths })
+transfer_of (Exchanged seat from) =
+    Some (record { company = NewYorkCentral; from = place_of_source from; to = place.Seat seat; tenths = 1 })
 transfer_of other = None
 
 -- the par value that an event sets
@@ -77,15 +104,21 @@ abbrev pub placed : Company → Option Square → Option Placement
 placed company None = None
 placed company (Some square) = Some (record { company = company; square = square })
 
--- the square that an event sets: that of a par value
+-- the square that an event sets: that of a par value, or the one to which a token moves
 abbrev pub square_set : Event → Option Placement
 square_set (Par company price) = placed company (par_square_of price)
+square_set (Moves company square) = Some (record { company = company; square = square })
 square_set other = None
 
 -- the presidency that an event sets
 abbrev pub office_of : Event → Option Office
 office_of (President company seat) = Some (record { company = company; president = seat })
 office_of other = None
+
+-- the company that floats by an event
+abbrev pub floated_by : Event → Option Company
+floated_by (Floats company amount) = Some company
+floated_by other = None
 
 -- the price of SV that an event sets
 abbrev pub sv_price_set : Event → Option ℕ
@@ -118,11 +151,13 @@ abbrev pub obeyed_of : Event → Option Obeyance
 obeyed_of (Ruled seat line ruling) = obeyed_by seat line ruling
 obeyed_of other = None
 
--- the order is an act of a turn of an opening round: it buys a private or bids on one
-abbrev pub is_opening_act : Order → Bool
-is_opening_act (order.BuyPrivate private) = true
-is_opening_act (order.Bid private amount) = true
-is_opening_act other = false
+-- the order is by itself an act of a turn: it buys a private or bids on one, or sells tenths. A purchase of
+-- tenths shows by its event, since a standing order can set a par value too
+abbrev pub is_act : Order → Bool
+is_act (order.BuyPrivate private) = true
+is_act (order.Bid private amount) = true
+is_act (order.Sell company tenths) = true
+is_act other = false
 
 -- an event says nothing of what parties have and own, or of SV's price
 pub record IsQuiet (event : Event) : Type 0 where
@@ -133,6 +168,7 @@ pub record IsQuiet (event : Event) : Type 0 where
   pub par : par_set event ≡ None
   pub square : square_set event ≡ None
   pub office : office_of event ≡ None
+  pub float : floated_by event ≡ None
   pub sv_price : sv_price_set event ≡ None
 
 -- the code of a rule of the opening
@@ -145,6 +181,24 @@ code_of_opening_rule opening.CashTooSmall = codes "A5"
 code_of_opening_rule opening.TurnUsed = codes "A6"
 code_of_opening_rule opening.BidForCheapest = codes "A7"
 
+-- the code of a rule of stock rounds
+abbrev pub code_of_stock_rule : StockRule → List ℕ
+code_of_stock_rule stock.NotOfStock = codes "S1"
+code_of_stock_rule stock.SaleInFirstRound = codes "S2"
+code_of_stock_rule stock.NotHeld = codes "S3"
+code_of_stock_rule stock.PoolFull = codes "S4"
+code_of_stock_rule stock.PresidentMustStay = codes "S5"
+code_of_stock_rule stock.SoldInRound = codes "S6"
+code_of_stock_rule stock.NoneThere = codes "S7"
+code_of_stock_rule stock.NoParValue = codes "S8"
+code_of_stock_rule stock.WrongStart = codes "S9"
+code_of_stock_rule stock.CashTooSmall = codes "S10"
+code_of_stock_rule stock.CertificateLimit = codes "S11"
+code_of_stock_rule stock.OverSixTenths = codes "S12"
+code_of_stock_rule stock.BoughtBefore = codes "S13"
+code_of_stock_rule stock.NoExchange = codes "S14"
+
 -- the code of a rule of play
 abbrev pub code_of_refusal : Refusal → List ℕ
 code_of_refusal (refusal.Opening rule) = code_of_opening_rule rule
+code_of_refusal (refusal.Stock rule) = code_of_stock_rule rule

@@ -10,4 +10,7 @@ order_in (kept.BuyPrivate private) = order.BuyPrivate private
 order_in (kept.Bid private amount) = order.Bid private amount
 order_in (kept.Limit private amount) = order.Limit private amount
 order_in (kept.Par company price) = order.Par company price
+order_in (kept.BuyShare company from) = order.BuyShare company from
+order_in (kept.Sell company tenths) = order.Sell company tenths
+order_in kept.ExchangeMohawk = order.ExchangeMohawk
 order_in (kept.Boxed order) = order.value

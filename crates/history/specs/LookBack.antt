@@ -1,10 +1,12 @@
 -- What a list of events, oldest first, says when it is looked back over. There are two ways: what the
--- last event about a thing says, and a start with all that came in less all that went out.
+-- last event about a thing says, and a start with all that came in less all that went out. Where it says so
+-- is a place in the list.
 use Rattle.std.specs.Prelude.{ℕ, ◌+◌, ◌==◌, Bool, true, false, if◌then◌else◌, List, [], ◌∷◌, ◌++◌, Option, Some, None, sum_by, pos, neg_ℤ, ◌-ℤ◌, ◌≤ℤ◌, ℤ, ◌^◌, is_none, is_some, ◌&&◌, unwrap_or, slice_index_or}
 use Rattle.std.specs.List.{list_any}
 use Rattle.std.specs.Option.{option_or, option_flatten, option_map}
-use Rattle.history.specs.Event.{Obeyance, obeyed_of, is_opening_act, ownership_of, payment_of, round_of, sv_price_set, tells_broken}
+use Rattle.history.specs.Event.{Obeyance, obeyed_of, is_act, ownership_of, payment_of, round_of as round_begun, sv_price_set, tells_broken}
 use Rattle.history.specs.declared.event.Event.{Event}
+use Rattle.history.specs.declared.event.Event.TheVariants.{Bought}
 use Rattle.history.specs.declared.event.Holder.{Holder}
 use Rattle.history.specs.declared.event.Holder.TheVariants as holder
 use Rattle.history.specs.declared.event.Ownership.{Ownership}
@@ -16,6 +18,7 @@ use Rattle.tables.specs.Roster.{start_money_of, bank_start_of, face_of, place_of
 use Rattle.tables.specs.Seat.{left_of, seat_at}
 use Rattle.tables.specs.declared.roster.Private.{Private}
 use Rattle.tables.specs.declared.roster.Private.TheVariants.{SchuylkillValley}
+use Rattle.tables.specs.declared.round.Round.{Round}
 use Rattle.tables.specs.declared.seat.Seat.{Seat}
 
 -- a game: the number of its seats, and its events
@@ -38,7 +41,13 @@ now_said says events = option_flatten (last_said says events)
 
 -- what is said holds within a round: the event that begins a round says that nothing does
 abbrev pub in_round : {A : Type 0} → (Event → Option A) → Event → Option (Option A)
-in_round says event = if is_some (round_of event) then Some None else option_map Some (says event)
+in_round says event = if is_some (round_begun event) then Some None else option_map Some (says event)
+
+-- the place in a list of the last event that says something of this kind, where the first has this place
+abbrev pub last_place_from : {A : Type 0} → (Event → Option A) → ℕ → List Event → Option ℕ
+last_place_from says place [] = None
+last_place_from says place (event ∷ events) =
+    option_or (last_place_from says (place + 1) events) (if is_some (says event) then Some place else None)
 
 -- a start, with all that came in, less all that went out
 abbrev pub balance : ℕ → (Event → ℕ) → (Event → ℕ) → List Event → ℤ
@@ -112,11 +121,13 @@ broken_in events = list_any tells_broken events
 -- the seat that acted in its own turn by an obeyed order
 abbrev pub actor_by : Option Obeyance → Option Seat
 actor_by None = None
-actor_by (Some obeyed) = if is_opening_act obeyed.order then Some obeyed.seat else None
+actor_by (Some obeyed) = if is_act obeyed.order then Some obeyed.seat else None
 
--- the seat that acted in its own turn by this event
+-- the seat that acted in its own turn by this event: it bought a private or bid on one, or bought or sold
+-- tenths of a company
 abbrev pub actor_of : Event → Option Seat
-actor_of event = actor_by (obeyed_of event)
+actor_of (Bought company seat tenths from price) = Some seat
+actor_of other = actor_by (obeyed_of other)
 
 -- the seat at the left of the last that acted; at first seat 0
 abbrev pub left_of_actor : ℕ → Option Seat → Seat
@@ -126,6 +137,10 @@ left_of_actor seats (Some actor) = left_of seats actor
 -- the holder of priority
 abbrev pub priority_of : ℕ → List Event → Seat
 priority_of seats events = left_of_actor seats (last_said actor_of events)
+
+-- the round that began last
+abbrev pub round_of : List Event → Option Round
+round_of events = last_said round_begun events
 
 -- the first of these privates that is unsold
 abbrev pub first_unsold : (Private → Bool) → List Private → Option Private

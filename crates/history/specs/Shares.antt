@@ -1,8 +1,9 @@
--- Shares of the companies, in tenths; their par values, squares and presidents. A company is started
--- once it has a par value; its token then stands on the square of that par.
-use Rattle.std.specs.Prelude.{ℕ, ◌==◌, Bool, true, false, if◌then◌else◌, List, [], ◌∷◌, Option, Some, None, ℤ, pos, ◌+ℤ◌, is_some}
-use Rattle.history.specs.Event.{office_of, par_set, square_set, transfer_of}
-use Rattle.history.specs.LookBack.{balance, last_said}
+-- Shares of the companies, in tenths; their par values, squares and presidents; which have floated, and
+-- what a seat has sold in a round. A company is started once its token has a square, at first that of its
+-- par value.
+use Rattle.std.specs.Prelude.{ℕ, ◌==◌, Bool, true, false, if◌then◌else◌, List, [], ◌∷◌, Option, Some, None, ℤ, pos, ◌+ℤ◌, is_some, unwrap_or, ◌&&◌}
+use Rattle.history.specs.Event.{floated_by, office_of, par_set, square_set, transfer_of}
+use Rattle.history.specs.LookBack.{balance, in_round, last_place_from, last_said, now_said}
 use Rattle.history.specs.declared.event.Event.{Event}
 use Rattle.history.specs.declared.event.Office.{Office}
 use Rattle.history.specs.declared.event.ParValue.{ParValue}
@@ -55,10 +56,6 @@ par_said company (Some par) = if same_company par.company company then Some par.
 abbrev pub par_of : List Event → Company → Option ℕ
 par_of events company = last_said (λ event. par_said company (par_set event)) events
 
--- a company is started
-abbrev pub is_started : List Event → Company → Bool
-is_started events company = is_some (par_of events company)
-
 -- what is said of a company's square
 abbrev pub square_said : Company → Option Placement → Option Square
 square_said company None = None
@@ -68,6 +65,15 @@ square_said company (Some placement) = if same_company placement.company company
 abbrev pub square_of : List Event → Company → Option Square
 square_of events company = last_said (λ event. square_said company (square_set event)) events
 
+-- a company is started
+abbrev pub is_started : List Event → Company → Bool
+is_started events company = is_some (square_of events company)
+
+-- the place in the list of the event that set the square of a company's token; 0 where none did
+abbrev pub arrival_of : List Event → Company → ℕ
+arrival_of events company =
+    unwrap_or (last_place_from (λ event. square_said company (square_set event)) 0 events) 0
+
 -- what is said of a company's president
 abbrev pub president_said : Company → Option Office → Option Seat
 president_said company None = None
@@ -76,6 +82,28 @@ president_said company (Some office) = if same_company office.company company th
 -- a company's president
 abbrev pub president_of : List Event → Company → Option Seat
 president_of events company = last_said (λ event. president_said company (office_of event)) events
+
+-- what is said of a company's float
+abbrev pub float_said : Company → Option Company → Option Company
+float_said company None = None
+float_said company (Some floated) = if same_company floated company then Some floated else None
+
+-- a company has floated
+abbrev pub is_floated : List Event → Company → Bool
+is_floated events company = is_some (last_said (λ event. float_said company (floated_by event)) events)
+
+-- what is said of a seat's sale of tenths of a company: how many go from the seat to the bank pool
+abbrev pub sale_said : Company → Seat → Option Transfer → Option ℕ
+sale_said company seat None = None
+sale_said company seat (Some transfer) =
+    if same_company transfer.company company && (same_shareholder transfer.from (OfSeat seat) && same_shareholder transfer.to BankPool)
+    then Some transfer.tenths
+    else None
+
+-- a seat has sold tenths of a company since the last round began
+abbrev pub has_sold_in_round : List Event → Company → Seat → Bool
+has_sold_in_round events company seat =
+    is_some (now_said (in_round (λ event. sale_said company seat (transfer_of event))) events)
 
 -- a sum of money is one of the six par values
 abbrev pub is_par_value : ℕ → Bool

@@ -1,7 +1,7 @@
 //! The ways of looking back over a list of events, each generic over the aspect of an event that it
 //! looks at.
 ghost use Rattle.std.specs.Prelude.{◌≡◌, ℕ, Option};
-ghost use Rattle.history.specs.LookBack.{IsModerate, balance, in_round, last_said};
+ghost use Rattle.history.specs.LookBack.{IsModerate, balance, in_round, last_place_from, last_said};
 ghost use Rattle.history.specs.declared.event.Event.{Event};
 
 use crate::event::Event;
@@ -49,6 +49,21 @@ pub(crate) fn last_said<T: Topic>(topic: &T, events: &[Event]) -> Option<T::Word
         }
     }
     None
+}
+
+/// The place of the last event that speaks of a thing.
+pub(crate) fn last_place<T: Topic>(topic: &T, events: &[Event]) -> Option<usize>
+where
+    T::Word: Drop,
+    ensures { result ≡ last_place_from (T.word topic.now) 0 events.now }
+{
+    let mut last = None;
+    for (place, event) in events.iter().enumerate() {
+        if topic.word(event).is_some() {
+            last = Some(place);
+        }
+    }
+    last
 }
 
 /// An account to which some events bring and from which some take.

@@ -1,11 +1,12 @@
 ghost use Rattle.std.specs.Prelude.{◌≡◌};
-ghost use Rattle.history.specs.Event.{bidding_of, office_of, ownership_of, par_set, party_at, payment_of, round_of, square_set, sum_of, sv_price_set, transfer_of};
+ghost use Rattle.history.specs.Event.{bidding_of, floated_by, office_of, ownership_of, par_set, party_at, payment_of, place_of_source, round_of, square_set, sum_of, sv_price_set, transfer_of};
 ghost use Rattle.history.specs.LookBack.{actor_of};
 ghost use Rattle.history.specs.declared.event.Holder.TheVariants as holder;
 ghost use Rattle.history.specs.declared.event.Party.TheVariants as party;
 ghost use Rattle.tables.specs.Seat.{seat_at};
 
 use crate::ruling::Ruling;
+use order_grammar::ShareSource;
 use tables::{Amount, Company, Private, Round, Seat, Square, par_square};
 
 /// The greatest sum of money of an event.
@@ -102,6 +103,38 @@ pub enum Event {
         company: Company,
         seat: Seat,
     },
+    /// A seat pays the bank for tenths of a company, which come from the initial offering or from the
+    /// bank pool. The price is that of them all.
+    Bought {
+        company: Company,
+        seat: Seat,
+        tenths: u8,
+        from: ShareSource,
+        price: Amount,
+    },
+    /// The bank pays a seat for tenths of a company, which go to the bank pool. The price is that of
+    /// them all.
+    Sells {
+        company: Company,
+        seat: Seat,
+        tenths: u8,
+        price: Amount,
+    },
+    /// MH goes for one tenth of NYC, which comes to its owner, and nobody owns it from then on.
+    Exchanged {
+        seat: Seat,
+        from: ShareSource,
+    },
+    /// A company floats: the bank pays it what its ten tenths cost at its par value.
+    Floats {
+        company: Company,
+        amount: Amount,
+    },
+    /// A company's token moves to a square.
+    Moves {
+        company: Company,
+        square: Square,
+    },
     /// The bank's cash came to 0 or less.
     Broken,
 }
@@ -169,6 +202,18 @@ pub enum Shareholder {
     Seat(Seat),
 }
 
+impl Shareholder {
+    /// Where a tenth lies that is bought from there.
+    pub fn of_source(source: ShareSource) -> Shareholder
+        ensures { result ≡ place_of_source source }
+    {
+        match source {
+            ShareSource::InitialOffering => Shareholder::InitialOffering,
+            ShareSource::BankPool => Shareholder::BankPool,
+        }
+    }
+}
+
 /// Tenths of a company that an event moves.
 #[derive(Clone, Copy, Debug, PartialEq, Eq)]
 pub struct Transfer {
@@ -225,6 +270,21 @@ impl Event {
                 to: Party::Holder(*owner),
                 amount: *amount,
             }),
+            Event::Bought { seat, price, .. } => Some(Payment {
+                from: Party::of_seat(*seat),
+                to: Party::Bank,
+                amount: *price,
+            }),
+            Event::Sells { seat, price, .. } => Some(Payment {
+                from: Party::Bank,
+                to: Party::of_seat(*seat),
+                amount: *price,
+            }),
+            Event::Floats { company, amount } => Some(Payment {
+                from: Party::Bank,
+                to: Party::of_company(*company),
+                amount: *amount,
+            }),
             _ => None,
         }
     }
@@ -236,6 +296,8 @@ impl Event {
         match self {
             Event::Sold { price, .. } | Event::Price { price } | Event::Par { price, .. } => *price,
             Event::Bids { amount, .. } | Event::Revenue { amount, .. } => *amount,
+            Event::Bought { price, .. } | Event::Sells { price, .. } => *price,
+            Event::Floats { amount, .. } => *amount,
             _ => 0,
         }
     }
@@ -248,6 +310,10 @@ impl Event {
             Event::Sold { private, seat, .. } => Some(Ownership {
                 private: *private,
                 owner: Some(Holder::Seat(*seat)),
+            }),
+            Event::Exchanged { .. } => Some(Ownership {
+                private: Private::MohawkHudson,
+                owner: None,
             }),
             _ => None,
         }
@@ -289,6 +355,35 @@ impl Event {
                 to: Shareholder::Seat(*seat),
                 tenths: *tenths,
             }),
+            Event::Bought {
+                company,
+                seat,
+                tenths,
+                from,
+                ..
+            } => Some(Transfer {
+                company: *company,
+                from: Shareholder::of_source(*from),
+                to: Shareholder::Seat(*seat),
+                tenths: *tenths,
+            }),
+            Event::Sells {
+                company,
+                seat,
+                tenths,
+                ..
+            } => Some(Transfer {
+                company: *company,
+                from: Shareholder::Seat(*seat),
+                to: Shareholder::BankPool,
+                tenths: *tenths,
+            }),
+            Event::Exchanged { seat, from } => Some(Transfer {
+                company: Company::NewYorkCentral,
+                from: Shareholder::of_source(*from),
+                to: Shareholder::Seat(*seat),
+                tenths: 1,
+            }),
             _ => None,
         }
     }
@@ -306,7 +401,7 @@ impl Event {
         }
     }
 
-    /// The square that it sets: that of a par value.
+    /// The square that it sets: that of a par value, or the one to which the token moves.
     pub fn square(&self) -> Option<Placement>
         ensures { result ≡ square_set self.now }
     {
@@ -318,6 +413,10 @@ impl Event {
                     square,
                 })
             }
+            Event::Moves { company, square } => Some(Placement {
+                company: *company,
+                square: *square,
+            }),
             _ => None,
         }
     }
@@ -331,6 +430,16 @@ impl Event {
                 company: *company,
                 president: *seat,
             }),
+            _ => None,
+        }
+    }
+
+    /// The company that floats by it.
+    pub fn floated(&self) -> Option<Company>
+        ensures { result ≡ floated_by self.now }
+    {
+        match self {
+            Event::Floats { company, .. } => Some(*company),
             _ => None,
         }
     }
@@ -355,16 +464,18 @@ impl Event {
         }
     }
 
-    /// The seat that acted in its own turn of an opening round by it.
+    /// The seat that acted in its own turn by it: that bought a private or bid on one, or bought or
+    /// sold tenths of a company.
     pub fn actor(&self) -> Option<Seat>
         ensures { result ≡ actor_of self.now }
     {
         match self {
+            Event::Bought { seat, .. } => Some(*seat),
             Event::Ruled {
                 seat,
                 ruling: Ruling::Obeyed(order),
                 ..
-            } if order.is_opening_act() => Some(*seat),
+            } if order.is_act() => Some(*seat),
             _ => None,
         }
     }

@@ -1,8 +1,8 @@
 ghost use Rattle.std.specs.Prelude.{◌≡◌, ◌↔◌, ◌≤◌, IfOk, IsTrue, OnOk, OnErr, option_map, pos, []};
 ghost use Rattle.history.specs.Bids.{bid_of, free_cash_of};
 ghost use Rattle.history.specs.Event.{sum_of};
-ghost use Rattle.history.specs.LookBack.{IsModerate, broken_in, cash_of, cheapest_in, cheapest_of, is_sold, is_sold_in, owner_in, owner_of, priority_of, sv_price_of, with_event};
-ghost use Rattle.history.specs.Shares.{par_of, president_of, shares_of, square_of};
+ghost use Rattle.history.specs.LookBack.{IsModerate, broken_in, cash_of, cheapest_in, cheapest_of, is_sold, is_sold_in, owner_in, owner_of, priority_of, round_of, sv_price_of, with_event};
+ghost use Rattle.history.specs.Shares.{arrival_of, has_sold_in_round, is_floated, is_started, par_of, president_of, shares_of, square_of};
 ghost use Rattle.history.specs.Sound.{IsSound};
 
 use crate::event::{Event, Holder, Party, SUM_MOST, Shareholder};
@@ -13,7 +13,7 @@ use crate::shares::Tenths;
 use order_grammar::Order;
 use std::alloc::{AllocError, Global};
 use std::marker::Model;
-use tables::{Company, Money, Private, Seat, Square};
+use tables::{Company, Money, Private, Round, Seat, Square};
 
 /// A game: the number of its seats and the list of its events, oldest first.
 #[derive(Debug, Drop)]
@@ -132,6 +132,13 @@ impl History {
         self.now().cheapest_unsold()
     }
 
+    /// The round that began last; `None` before the first.
+    pub fn round(&self) -> Option<Round>
+        ensures { result ≡ round_of self.now.events }
+    {
+        self.now().round()
+    }
+
     /// The holder of priority.
     pub fn priority(&self) -> Seat
         ensures { result ≡ priority_of self.now.seats self.now.events }
@@ -170,7 +177,36 @@ impl History {
         self.now().shares(company, place)
     }
 
-    /// A company's par value; `None` while it is not started.
+    /// Whether a company is started: its token has a square.
+    pub fn is_started(&self, company: Company) -> bool
+        ensures { result ≡ is_started self.now.events company }
+    {
+        self.now().is_started(company)
+    }
+
+    /// Whether a company has floated.
+    pub fn floated(&self, company: Company) -> bool
+        ensures { result ≡ is_floated self.now.events company }
+    {
+        self.now().floated(company)
+    }
+
+    /// Whether a seat has sold tenths of a company since the last round began.
+    pub fn has_sold_in_round(&self, company: Company, seat: Seat) -> bool
+        ensures { result ≡ has_sold_in_round self.now.events company seat }
+    {
+        self.now().has_sold_in_round(company, seat)
+    }
+
+    /// The place in the list, from 0, of the event that set the square of a company's token. It is 0 where
+    /// the token has no square.
+    pub fn arrival(&self, company: Company) -> usize
+        ensures { result ≡ arrival_of self.now.events company }
+    {
+        self.now().arrival(company)
+    }
+
+    /// A company's par value; `None` while it has none.
     pub fn par(&self, company: Company) -> Option<Money>
         ensures { result ≡ option_map pos (par_of self.now.events company) }
     {

@@ -1,11 +1,11 @@
 ghost use Rattle.std.specs.Prelude.{◌≡◌, length};
-ghost use Rattle.history.specs.LookBack.{IsModerate, broken_in, cash_of, cheapest_in, cheapest_of, is_sold, is_sold_in, owner_in, owner_of, priority_of, start_of, sv_price_of};
+ghost use Rattle.history.specs.LookBack.{IsModerate, broken_in, cash_of, cheapest_in, cheapest_of, is_sold, is_sold_in, owner_in, owner_of, priority_of, round_of, start_of, sv_price_of};
 
 use crate::aspect::{balance, last_said};
 use crate::event::{Event, Holder, Party};
 use crate::owners::Owners;
-use crate::topics::{Actor, Cash, Owner, SvPrice};
-use tables::{Amount, Money, Private, Seat, bank_start, face, start_money};
+use crate::topics::{Actor, Cash, Owner, RoundPlayed, SvPrice};
+use tables::{Amount, Money, Private, Round, Seat, bank_start, face, start_money};
 
 /// A list of events with the number of seats: a game as it stood after them.
 #[derive(Clone, Copy, Debug)]
@@ -77,8 +77,15 @@ impl Past<'_> {
             .any(|event| matches!(event, Event::Broken))
     }
 
-    /// The holder of priority: the seat at the left of the last seat whose own turn acted in an
-    /// opening round; at first seat 0.
+    /// The round that began last; `None` before the first.
+    pub fn round(&self) -> Option<Round>
+        ensures { result ≡ round_of self.now.events.now }
+    {
+        last_said(&RoundPlayed, self.events)
+    }
+
+    /// The holder of priority: the seat at the left of the last seat that bought a private, bid on one,
+    /// or bought or sold tenths in its own turn; at first seat 0.
     pub fn priority(&self) -> Seat
         ensures { result ≡ priority_of self.now.seats self.now.events.now }
     {

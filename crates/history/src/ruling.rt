@@ -1,9 +1,9 @@
 ghost use Rattle.std.specs.Prelude.{◌≡◌, IfOk};
 ghost use Rattle.history.specs.Orders.{limit_in, par_of_baltimore_in};
 ghost use Rattle.order_grammar.specs.declared.order.Order.TheVariants as order;
-ghost use Rattle.history.specs.Event.{code_of_opening_rule, code_of_refusal, is_opening_act};
+ghost use Rattle.history.specs.Event.{code_of_opening_rule, code_of_refusal, code_of_stock_rule, is_act};
 
-use order_grammar::{Fault, Order};
+use order_grammar::{Fault, Order, ShareSource};
 use std::alloc::{AllocError, Global};
 use std::marker::Model;
 use tables::{Amount, Company, Private, par_square};
@@ -13,6 +13,8 @@ use tables::{Amount, Company, Private, par_square};
 pub enum Refusal {
     /// A rule of an opening round.
     Opening(OpeningRule),
+    /// A rule of a stock round.
+    Stock(StockRule),
 }
 
 impl Refusal {
@@ -22,6 +24,7 @@ impl Refusal {
     {
         match self {
             Refusal::Opening(rule) => rule.code(),
+            Refusal::Stock(rule) => rule.code(),
         }
     }
 }
@@ -63,6 +66,63 @@ impl OpeningRule {
     }
 }
 
+/// A rule that an order in a stock round may break.
+#[derive(Clone, Copy, Debug, PartialEq, Eq)]
+pub enum StockRule {
+    /// S1: the order is none of a stock round.
+    NotOfStock,
+    /// S2: nothing is sold in the first stock round.
+    SaleInFirstRound,
+    /// S3: none are to be sold, or more than the seat has.
+    NotHeld,
+    /// S4: the bank pool would have over five tenths of the company.
+    PoolFull,
+    /// S5: the seat is president, would keep fewer than two tenths, and no other seat has two.
+    PresidentMustStay,
+    /// S6: the seat has sold tenths of the company in this round.
+    SoldInRound,
+    /// S7: none are where they are to be bought.
+    NoneThere,
+    /// S8: the sum is no par value, or the company has none.
+    NoParValue,
+    /// S9: a company that is started can't be started, and of one that is not nothing is bought or sold.
+    WrongStart,
+    /// S10: the sum is over the seat's cash that is free of its bids.
+    CashTooSmall,
+    /// S11: the certificate would count, and the seat has reached the limit.
+    CertificateLimit,
+    /// S12: the seat would have over six tenths of the company.
+    OverSixTenths,
+    /// S13: the seat has bought in this turn.
+    BoughtBefore,
+    /// S14: the seat doesn't own MH, no tenth of NYC is with the bank, or the seat would have over six.
+    NoExchange,
+}
+
+impl StockRule {
+    /// The code that a report prints.
+    pub fn code(self) -> &'static str
+        ensures { result.now ≡ code_of_stock_rule self }
+    {
+        match self {
+            StockRule::NotOfStock => "S1",
+            StockRule::SaleInFirstRound => "S2",
+            StockRule::NotHeld => "S3",
+            StockRule::PoolFull => "S4",
+            StockRule::PresidentMustStay => "S5",
+            StockRule::SoldInRound => "S6",
+            StockRule::NoneThere => "S7",
+            StockRule::NoParValue => "S8",
+            StockRule::WrongStart => "S9",
+            StockRule::CashTooSmall => "S10",
+            StockRule::CertificateLimit => "S11",
+            StockRule::OverSixTenths => "S12",
+            StockRule::BoughtBefore => "S13",
+            StockRule::NoExchange => "S14",
+        }
+    }
+}
+
 /// An order as a ruling keeps it, in few bytes; contracts see the order.
 #[derive(Debug, Drop)]
 pub struct KeptOrder {
@@ -76,6 +136,9 @@ enum Kept {
     Bid { private: Private, amount: Amount },
     Limit { private: Private, amount: Amount },
     Par { company: Company, price: Amount },
+    BuyShare { company: Company, from: ShareSource },
+    Sell { company: Company, tenths: Amount },
+    ExchangeMohawk,
     Boxed(Box<Order>),
 }
 
@@ -90,8 +153,8 @@ impl Model for KeptOrder {
 }
 
 impl KeptOrder {
-    /// Keeps a copy of an order. An `Err` comes only where a box gets no memory; the forms of an
-    /// opening need none.
+    /// Keeps a copy of an order. An `Err` comes only where a box gets no memory; the forms of an opening
+    /// and of a stock round need none.
     pub fn keep(alloc: Global, order: &Order) -> Result<KeptOrder, AllocError>
         ensures { IfOk result (λ kept. kept ≡ order.now) }
     {
@@ -109,6 +172,15 @@ impl KeptOrder {
                 company: *company,
                 price: *price,
             },
+            Order::BuyShare { company, from } => Kept::BuyShare {
+                company: *company,
+                from: *from,
+            },
+            Order::Sell { company, tenths } => Kept::Sell {
+                company: *company,
+                tenths: *tenths,
+            },
+            Order::ExchangeMohawk => Kept::ExchangeMohawk,
             other => Kept::Boxed(Box::new(alloc, other.duplicate())?),
         };
         Ok(KeptOrder { kept })
@@ -132,18 +204,34 @@ impl KeptOrder {
                 company: *company,
                 price: *price,
             },
+            Kept::BuyShare { company, from } => Order::BuyShare {
+                company: *company,
+                from: *from,
+            },
+            Kept::Sell { company, tenths } => Order::Sell {
+                company: *company,
+                tenths: *tenths,
+            },
+            Kept::ExchangeMohawk => Order::ExchangeMohawk,
             Kept::Boxed(order) => order.duplicate(),
         }
     }
 
-    /// Whether it is an act of a turn of an opening round: the purchase of a private, or a bid on one.
-    pub fn is_opening_act(&self) -> bool
-        ensures { result ≡ is_opening_act self.now }
+    /// Whether it is by itself an act of a turn: the purchase of a private, a bid on one, or a sale of
+    /// tenths. The purchase of tenths shows by its event.
+    pub fn is_act(&self) -> bool
+        ensures { result ≡ is_act self.now }
     {
         match &self.kept {
-            Kept::BuyPrivate(_) | Kept::Bid { .. } => true,
+            Kept::BuyPrivate(_) | Kept::Bid { .. } | Kept::Sell { .. } => true,
             Kept::Limit { .. } | Kept::Par { .. } => false,
-            Kept::Boxed(order) => matches!(**order, Order::BuyPrivate(_) | Order::Bid { .. }),
+            Kept::BuyShare { .. } | Kept::ExchangeMohawk => false,
+            Kept::Boxed(order) => {
+                matches!(
+                    **order,
+                    Order::BuyPrivate(_) | Order::Bid { .. } | Order::Sell { .. }
+                )
+            }
         }
     }
 

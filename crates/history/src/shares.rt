@@ -1,12 +1,12 @@
 //! Shares of the companies, their par values, squares and presidents.
 ghost use Rattle.std.specs.Prelude.{◌≡◌, option_map, pos};
 ghost use Rattle.history.specs.LookBack.{IsModerate};
-ghost use Rattle.history.specs.Shares.{is_started, par_of, president_of, shares_of, square_of, start_tenths};
+ghost use Rattle.history.specs.Shares.{arrival_of, has_sold_in_round, is_floated, is_started, par_of, president_of, shares_of, square_of, start_tenths};
 
-use crate::aspect::{balance, last_said};
+use crate::aspect::{InRound, balance, last_place, last_said};
 use crate::event::Shareholder;
 use crate::look_back::Past;
-use crate::topics::{Par, President, Shares, TokenSquare};
+use crate::topics::{Float, Par, President, SaleBy, Shares, TokenSquare};
 use tables::{Amount, Company, Money, Seat, Square};
 
 /// A number of tenths of a company: what came in less what went out, from 0 to 10 in a sound game.
@@ -21,18 +21,34 @@ impl Past<'_> {
         balance(&Shares(company, place), start_tenths(place), self.events)
     }
 
-    /// A company's par value; `None` while it is not started.
+    /// A company's par value; `None` while it has none.
     pub fn par(&self, company: Company) -> Option<Money>
         ensures { result ≡ option_map pos (par_of self.now.events.now company) }
     {
         last_said(&Par(company), self.events).map(Money::from)
     }
 
-    /// Whether a company is started.
+    /// Whether a company is started: its token has a square.
     pub fn is_started(&self, company: Company) -> bool
         ensures { result ≡ is_started self.now.events.now company }
     {
-        last_said(&Par(company), self.events).is_some()
+        self.square(company).is_some()
+    }
+
+    /// Whether a company has floated.
+    pub fn floated(&self, company: Company) -> bool
+        ensures { result ≡ is_floated self.now.events.now company }
+    {
+        last_said(&Float(company), self.events).is_some()
+    }
+
+    /// Whether a seat has sold tenths of a company since the last round began.
+    pub fn has_sold_in_round(&self, company: Company, seat: Seat) -> bool
+        ensures { result ≡ has_sold_in_round self.now.events.now company seat }
+    {
+        last_said(&InRound(SaleBy(company, seat)), self.events)
+            .flatten()
+            .is_some()
     }
 
     /// The square of a company's token.
@@ -40,6 +56,14 @@ impl Past<'_> {
         ensures { result ≡ square_of self.now.events.now company }
     {
         last_said(&TokenSquare(company), self.events)
+    }
+
+    /// The place in the list, from 0, of the event that set the square of a company's token: the lesser,
+    /// the earlier it came there. It is 0 where the token has no square.
+    pub fn arrival(&self, company: Company) -> usize
+        ensures { result ≡ arrival_of self.now.events.now company }
+    {
+        last_place(&TokenSquare(company), self.events).unwrap_or(0)
     }
 
     /// A company's president.

@@ -1,14 +1,14 @@
 //! The things of which events speak, and the accounts that they change.
 ghost use Rattle.history.specs.Bids.{bid_said};
-ghost use Rattle.history.specs.Event.{bidding_of, obeyed_of, office_of, ownership_of, par_set, payment_of, square_set, sv_price_set, transfer_of};
+ghost use Rattle.history.specs.Event.{bidding_of, floated_by, obeyed_of, office_of, ownership_of, par_set, payment_of, round_of as round_begun, square_set, sv_price_set, transfer_of};
 ghost use Rattle.history.specs.LookBack.{actor_of, owner_said, paid_by, paid_to};
 ghost use Rattle.history.specs.Orders.{limit_in, par_of_baltimore_in, said_by};
-ghost use Rattle.history.specs.Shares.{brought_to, par_said, president_said, square_said, taken_from};
+ghost use Rattle.history.specs.Shares.{brought_to, float_said, par_said, president_said, sale_said, square_said, taken_from};
 
 use crate::aspect::{Account, Topic};
 use crate::event::{Bidding, Event, Holder, Party, Shareholder};
 use crate::ruling::Ruling;
-use tables::{Amount, Company, Private, Seat, Square};
+use tables::{Amount, Company, Private, Round, Seat, Square};
 
 /// The cash of a party.
 #[derive(Clone, Copy)]
@@ -65,7 +65,7 @@ impl Topic for SvPrice {
     }
 }
 
-/// The seat that acted in its own turn of an opening round.
+/// The seat that acted in its own turn.
 #[derive(Clone, Copy)]
 pub(crate) struct Actor;
 
@@ -217,5 +217,56 @@ impl Topic for President {
             Some(office) if office.company == self.0 => Some(office.president),
             _ => None,
         }
+    }
+}
+
+/// The float of a company.
+#[derive(Clone, Copy)]
+pub(crate) struct Float(pub Company);
+
+impl Topic for Float {
+    type Word = Company;
+
+    ghost word = { λ a event. float_said a.0 (floated_by event) };
+
+    fn word(&self, event: &Event) -> Option<Company> {
+        match event.floated() {
+            Some(company) if company == self.0 => Some(company),
+            _ => None,
+        }
+    }
+}
+
+/// A seat's sale of tenths of a company.
+#[derive(Clone, Copy)]
+pub(crate) struct SaleBy(pub Company, pub Seat);
+
+impl Topic for SaleBy {
+    type Word = u8;
+
+    ghost word = { λ a event. sale_said a.0 a.1 (transfer_of event) };
+
+    fn word(&self, event: &Event) -> Option<u8> {
+        match event.transfer() {
+            Some(transfer)
+                if transfer.company == self.0
+                    && transfer.from == Shareholder::Seat(self.1)
+                    && transfer.to == Shareholder::BankPool => { Some(transfer.tenths) }
+            _ => None,
+        }
+    }
+}
+
+/// The round that is played.
+#[derive(Clone, Copy)]
+pub(crate) struct RoundPlayed;
+
+impl Topic for RoundPlayed {
+    type Word = Round;
+
+    ghost word = { λ a event. round_begun event };
+
+    fn word(&self, event: &Event) -> Option<Round> {
+        event.round()
     }
 }

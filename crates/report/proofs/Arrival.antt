@@ -3,17 +3,18 @@ use Rattle.std.proofs.Common.{◌≡◌, ℕ, List, [], ◌∷◌, ◌++◌, len
 use Rattle.std.specs.Prelude.{Option, Some, None, Result, Ok, Err, IsOk}
 use Rattle.std.specs.List.{flat_map, range_with_len}
 use Rattle.history.specs.declared.event.Event.{Event}
-use Rattle.history.specs.declared.event.Event.TheVariants.{Round, Ruled, Passes, Left, Sold, Bids, Price, Revenue, Given, Par, President, Broken}
+use Rattle.history.specs.declared.event.Event.TheVariants.{Round, Ruled, Passes, Left, Sold, Bids, Price, Revenue, Given, Par, President, Bought, Sells, Exchanged, Floats, Moves, Broken}
 use Rattle.history.specs.declared.event.Holder.{Holder}
 use Rattle.history.specs.declared.event.Holder.TheVariants as holder
-use Rattle.history.specs.Shares.{president_of}
+use Rattle.history.specs.Shares.{president_of, square_of}
 use Rattle.tables.specs.Roster.{companies}
 use Rattle.tables.specs.declared.roster.Company.{Company}
 use Rattle.tables.specs.declared.seat.Seat.{Seat}
+use Rattle.tables.specs.declared.squares.Square.{Square}
 use Rattle.report.specs.Laws.{ArrivalChangesNoReport}
 use Rattle.report.specs.Line.{event_line, holder_text}
 use Rattle.report.specs.Report.{IsReportOf, end_text, header, name_owing, owing, report_text, rounds_in, texts_of_rounds}
-use Rattle.report.specs.Statement.{company_line, company_lines, player_line, player_lines, president_name, started_line, statement}
+use Rattle.report.specs.Statement.{company_line, company_lines, line_on_square, player_line, player_lines, president_name, started_line, statement}
 use Rattle.rounds.specs.Arrival.{ArrivalChangesNoGame}
 use Rattle.rounds.specs.Play.{end_of}
 use Rattle.rounds.specs.declared.game.End.{End}
@@ -41,6 +42,11 @@ event_same f g (Revenue private owner amount) players = rw (holder_same f g owne
 event_same f g (Given company seat tenths) players = rw players refl
 event_same f g (Par company price) players = refl
 event_same f g (President company seat) players = rw players refl
+event_same f g (Bought company seat tenths from price) players = rw players refl
+event_same f g (Sells company seat tenths price) players = rw players refl
+event_same f g (Exchanged seat from) players = rw players refl
+event_same f g (Floats company amount) players = refl
+event_same f g (Moves company square) players = refl
 event_same f g Broken players = refl
 
 -- the same players have the same lines
@@ -54,15 +60,16 @@ president_same f g None players = refl
 president_same f g (Some seat) players = rw players refl
 
 -- the same company has the same line
-company_same : (f g : List ℕ) (seats : ℕ) (events : List Event) (company : Company) → players_of f ≡ players_of g → started_line f seats events company ≡ started_line g seats events company
+company_same : (f g : List ℕ) (seats : ℕ) (events : List Event) (company : Company) (square : Option Square) → players_of f ≡ players_of g → line_on_square f seats events company square ≡ line_on_square g seats events company square
 unfolding company_line
-company_same f g seats events company players = rw (president_same f g (president_of events company) players) refl
+company_same f g seats events company None players = refl
+company_same f g seats events company (Some square) players = rw (president_same f g (president_of events company) players) refl
 
 -- the same of these companies have the same lines
 companies_same : (f g : List ℕ) (seats : ℕ) (events : List Event) (list : List Company) → players_of f ≡ players_of g → flat_map (λ company. started_line f seats events company) list ≡ flat_map (λ company. started_line g seats events company) list
 companies_same f g seats events [] players = refl
 companies_same f g seats events (company ∷ others) players =
-    rw (company_same f g seats events company players, companies_same f g seats events others players) refl
+    rw (company_same f g seats events company (square_of events company) players, companies_same f g seats events others players) refl
 
 -- the same companies have the same lines
 company_lines_same : (f g : List ℕ) (seats : ℕ) (events : List Event) → players_of f ≡ players_of g → company_lines f seats events ≡ company_lines g seats events

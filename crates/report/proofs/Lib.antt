@@ -3,4 +3,3 @@ pub mod OneReport
 pub mod Seats
 pub mod Rounds
 pub mod Parts
-pub mod Counts

@@ -1,20 +1,25 @@
 -- An event as a line of the report: its words, parted by single spaces, and its LF.
-use Rattle.std.specs.Prelude.{ℕ, List, [], ◌∷◌, ◌++◌, map, codes, decimal, unwrap_or, slice_get}
+use Rattle.std.specs.Prelude.{ℕ, List, [], ◌∷◌, ◌++◌, Option, Some, None, map, codes, decimal, unwrap_or, slice_get, ⊤}
 use Rattle.history.specs.Event.{code_of_refusal}
 use Rattle.history.specs.declared.event.Event.{Event}
-use Rattle.history.specs.declared.event.Event.TheVariants.{Round, Ruled, Passes, Left, Sold, Bids, Price, Revenue, Given, Par, President, Broken}
+use Rattle.history.specs.declared.event.Event.TheVariants.{Round, Ruled, Passes, Left, Sold, Bids, Price, Revenue, Given, Par, President, Bought, Sells, Exchanged, Floats, Moves, Broken}
 use Rattle.history.specs.declared.event.Holder.{Holder}
 use Rattle.history.specs.declared.event.Holder.TheVariants as holder
 use Rattle.history.specs.declared.ruling.Ruling.{Ruling}
 use Rattle.history.specs.declared.ruling.Ruling.TheVariants.{Obeyed, Refused, Faulty}
 use Rattle.order_grammar.specs.Fault.{code_of as code_of_fault}
+use Rattle.order_grammar.specs.Order.{text_of_source}
+use Rattle.order_grammar.specs.declared.order.ShareSource.{ShareSource}
 use Rattle.order_grammar.specs.Print.{spaced, spelling_of, text_of_round}
 use Rattle.report.specs.declared.line.Field.{Field}
-use Rattle.report.specs.declared.line.Field.TheVariants.{Word, Name, Holds, Number, OfRound, Spelt}
+use Rattle.report.specs.declared.line.Field.TheVariants.{Word, Name, Holds, Number, Tenths, Source, On, OfRound, Spelt}
 use Rattle.sheets.specs.File.{players_of}
+use Rattle.tables.specs.Chart.{price_of}
 use Rattle.tables.specs.Roster.{code_of_company, code_of_private}
+use Rattle.tables.specs.declared.roster.Company.{Company}
 use Rattle.tables.specs.declared.roster.Private.{Private}
 use Rattle.tables.specs.declared.seat.Seat.{Seat}
+use Rattle.tables.specs.declared.squares.Square.{Square}
 
 -- the name of a seat's player
 abbrev pub name_of : List ℕ → Seat → List ℕ
@@ -43,6 +48,19 @@ ruled_line file seat line ruling = line_of (name_of file seat) (decimal line ∷
 abbrev pub private_line : List ℕ → List ℕ → Private → Holder → ℕ → List ℕ
 private_line file word private owner amount = line_of word (code_of_private private ∷ holder_text file owner ∷ decimal amount ∷ [])
 
+-- the letter of a row of the stock market, if it has one
+abbrev pub letter_text : Option ℕ → List ℕ
+letter_text None = []
+letter_text (Some letter) = letter ∷ []
+
+-- a square of the stock market: the letter of its row, A for the uppermost, and its column
+abbrev pub text_of_square : Square → List ℕ
+text_of_square square = letter_text (slice_get (codes "ABCDEFGHIJK") square.row) ++ decimal square.column
+
+-- the line of a tenth of NYC that a seat has for MH
+abbrev pub exchange_line : List ℕ → Seat → ShareSource → List ℕ
+exchange_line file seat from = line_of (codes "EXCHANGED") (codes "MH" ∷ name_of file seat ∷ text_of_source from ∷ [])
+
 -- an event as its line
 abbrev pub event_line : List ℕ → Event → List ℕ
 event_line file (Round round) = line_of (codes "ROUND") (text_of_round round ∷ [])
@@ -56,7 +74,39 @@ event_line file (Revenue private owner amount) = private_line file (codes "REVEN
 event_line file (Given company seat tenths) = line_of (codes "GIVEN") (code_of_company company ∷ name_of file seat ∷ decimal tenths ∷ [])
 event_line file (Par company price) = line_of (codes "PAR") (code_of_company company ∷ decimal price ∷ [])
 event_line file (President company seat) = line_of (codes "PRESIDENT") (code_of_company company ∷ name_of file seat ∷ [])
+event_line file (Bought company seat tenths from price) =
+    line_of (codes "BOUGHT") (code_of_company company ∷ name_of file seat ∷ decimal tenths ∷ text_of_source from ∷ decimal price ∷ [])
+event_line file (Sells company seat tenths price) =
+    line_of (codes "SELLS") (code_of_company company ∷ name_of file seat ∷ decimal tenths ∷ decimal price ∷ [])
+event_line file (Exchanged seat from) = exchange_line file seat from
+event_line file (Floats company amount) = line_of (codes "FLOATS") (code_of_company company ∷ decimal amount ∷ [])
+event_line file (Moves company square) =
+    line_of (codes "MOVES") (code_of_company company ∷ decimal (price_of square) ∷ text_of_square square ∷ [])
 event_line file Broken = line_of (codes "BROKEN") []
+
+-- the event tells of a private: of its sale, of a bid on it, of its revenue, or of the price of SV
+abbrev pub IsOfPrivate : Event → Type 0
+IsOfPrivate (Sold private seat price) = ⊤
+IsOfPrivate (Bids private seat amount) = ⊤
+IsOfPrivate (Price price) = ⊤
+IsOfPrivate (Revenue private owner amount) = ⊤
+IsOfPrivate other = ⊥
+
+-- the event tells of tenths: that they are given, bought or sold, or that one is had for MH
+abbrev pub IsOfTenths : Event → Type 0
+IsOfTenths (Given company seat tenths) = ⊤
+IsOfTenths (Bought company seat tenths from price) = ⊤
+IsOfTenths (Sells company seat tenths price) = ⊤
+IsOfTenths (Exchanged seat from) = ⊤
+IsOfTenths other = ⊥
+
+-- the event tells of a company: of its par value, of its president, of its float, or of where its token moves
+abbrev pub IsOfCompany : Event → Type 0
+IsOfCompany (Par company price) = ⊤
+IsOfCompany (President company seat) = ⊤
+IsOfCompany (Floats company amount) = ⊤
+IsOfCompany (Moves company square) = ⊤
+IsOfCompany other = ⊥
 
 -- a field of a line as its text
 abbrev pub field_text : List ℕ → Field → List ℕ
@@ -64,6 +114,9 @@ field_text file (Word word) = word.now
 field_text file (Name seat) = name_of file seat
 field_text file (Holds holder) = holder_text file holder
 field_text file (Number number) = decimal number
+field_text file (Tenths tenths) = decimal tenths
+field_text file (Source source) = text_of_source source
+field_text file (On square) = text_of_square square
 field_text file (OfRound round) = text_of_round round
 field_text file (Spelt order) = spelling_of order.now
 
@@ -74,6 +127,14 @@ field_texts file fields = map (field_text file) fields
 -- a line of these fields, with its LF
 abbrev pub line_of_fields : List ℕ → Field → List Field → List ℕ
 line_of_fields file first fields = line_of (field_text file first) (field_texts file fields)
+
+-- a line that begins with a word
+abbrev pub line_of_word : List ℕ → List ℕ → List Field → List ℕ
+line_of_word file word fields = line_of word (field_texts file fields)
+
+-- a line that begins with a word and a company's code
+abbrev pub line_of_company : List ℕ → List ℕ → Company → List Field → List ℕ
+line_of_company file word company fields = line_of word (code_of_company company ∷ field_texts file fields)
 
 -- a line that begins with a player's name
 abbrev pub line_of_seat : List ℕ → Seat → List Field → List ℕ

@@ -3,7 +3,7 @@ ghost use Rattle.report.specs.Laws.{ArrivalChangesNoReport, ReportIsItsParts};
 ghost use Rattle.report.specs.Report.{IsReport};
 ghost use Rattle.std.specs.Prelude.{◌≡◌, ℕ, List};
 
-use rounds::{arrival_changes_no_game, one_game, some_game};
+use rounds::{arrival_changes_no_game, one_game, rounds_follow_in_order, some_game};
 use sheets::arrival_changes_nothing;
 
 /// A file has at most one report.
@@ -28,8 +28,10 @@ pub fn arrival_changes_no_report()
     arrival_changes_nothing()
 }
 
-/// The report of a game, whose rounds differ, is its header, the text of each of its rounds, the unread
-/// lines and the end, one after the other.
+/// The report of the game of a file is its header, the text of each of its rounds, the unread lines
+/// and the end, one after the other.
 pub fn report_is_its_parts()
     ensures { ReportIsItsParts }
-{}
+{
+    rounds_follow_in_order()
+}

@@ -1,12 +1,13 @@
 ghost use Rattle.std.specs.Prelude.{◌≡◌, OnOk};
 ghost use Rattle.report.specs.Column.{Adds};
-ghost use Rattle.report.specs.Line.{event_line, field_text, field_texts, line_of, line_of_fields, line_of_seat, name_of, private_line, ruled_line};
+ghost use Rattle.report.specs.Line.{IsOfCompany, IsOfPrivate, IsOfTenths, event_line, exchange_line, field_text, line_of_company, line_of_fields, line_of_seat, line_of_word, name_of, private_line, ruled_line, text_of_square};
 
+use Field::{Holds, Name, Number, OfRound, On, Source, Spelt, Tenths, Word};
 use history::{Event, Holder, KeptOrder, Ruling};
-use order_grammar::{print_number, print_order, print_round};
+use order_grammar::{ShareSource, print_number, print_order, print_round};
 use sheets::Sheets;
 use std::alloc::AllocError;
-use tables::{Amount, Private, Round, Seat};
+use tables::{Amount, Company, Private, Round, Seat, Square, price};
 
 /// A field of a line of the report.
 #[derive(Clone, Copy)]
@@ -19,11 +20,20 @@ pub(crate) enum Field<'a> {
     Holds(Holder),
     /// A number.
     Number(u32),
+    /// A number of tenths.
+    Tenths(u8),
+    /// Where tenths are bought that are no seat's.
+    Source(ShareSource),
+    /// A square of the stock market.
+    On(Square),
     /// A round.
     OfRound(Round),
     /// The spelling of an order.
     Spelt(&'a KeptOrder),
 }
+
+/// The letters of the rows of the stock market.
+const ROWS: &[u8] = b"ABCDEFGHIJK";
 
 /// Adds an event as its line.
 pub(crate) fn push_event(
@@ -34,81 +44,134 @@ pub(crate) fn push_event(
     ensures { OnOk result (Adds out.old out.new (event_line sheets.now event.now)) }
 {
     match event {
-        Event::Round(round) => tell(out, sheets, "ROUND", &[Field::OfRound(*round)]),
+        Event::Round(round) => tell(out, sheets, "ROUND", &[OfRound(*round)]),
         Event::Ruled { seat, line, ruling } => push_ruled(out, sheets, *seat, *line, ruling),
-        Event::Passes(seat) => tell_of(out, sheets, *seat, &[Field::Word("PASSES")]),
-        Event::Left { seat, lines } => {
-            tell(
-                out,
-                sheets,
-                "LEFT",
-                &[Field::Name(*seat), Field::Number(*lines)],
-            )
+        Event::Passes(seat) => tell_of(out, sheets, *seat, &[Word("PASSES")]),
+        Event::Left { seat, lines } => tell(out, sheets, "LEFT", &[Name(*seat), Number(*lines)]),
+        Event::Sold { .. } | Event::Bids { .. } | Event::Price { .. } | Event::Revenue { .. } => {
+            push_of_private(out, sheets, event)
         }
+        Event::Given { .. }
+        | Event::Bought { .. }
+        | Event::Sells { .. }
+        | Event::Exchanged { .. } => { push_of_tenths(out, sheets, event) }
+        Event::Par { .. } | Event::President { .. } | Event::Floats { .. } | Event::Moves { .. } =>
+            { push_of_company(out, sheets, event) }
+        Event::Broken => tell(out, sheets, "BROKEN", &[]),
+    }
+}
+
+/// Adds an event of a private as its line: its sale, a bid on it, its revenue, or the price of SV.
+fn push_of_private(out: &mut Vec<u8>, sheets: &Sheets, event: &Event) -> Result<(), AllocError>
+    requires { IsOfPrivate event.now }
+    ensures { OnOk result (Adds out.old out.new (event_line sheets.now event.now)) }
+{
+    match event {
         Event::Sold {
             private,
             seat,
             price,
-        } => { tell_private(out, sheets, "SOLD", *private, Holder::Seat(*seat), *price) }
+        } => tell_private(out, sheets, "SOLD", *private, Holder::Seat(*seat), *price),
         Event::Bids {
             private,
             seat,
             amount,
-        } => { tell_private(out, sheets, "BIDS", *private, Holder::Seat(*seat), *amount) }
-        Event::Price { price } => {
-            tell(
-                out,
-                sheets,
-                "PRICE",
-                &[Field::Word("SV"), Field::Number(*price)],
-            )
-        }
+        } => tell_private(out, sheets, "BIDS", *private, Holder::Seat(*seat), *amount),
+        Event::Price { price } => tell(out, sheets, "PRICE", &[Word("SV"), Number(*price)]),
         Event::Revenue {
             private,
             owner,
             amount,
-        } => { tell_private(out, sheets, "REVENUE", *private, *owner, *amount) }
+        } => tell_private(out, sheets, "REVENUE", *private, *owner, *amount),
+        _ => unreachable!(),
+    }
+}
+
+/// Adds an event of a company's tenths as its line: a gift of them, a purchase, a sale, or that one of
+/// NYC is had for MH.
+fn push_of_tenths(out: &mut Vec<u8>, sheets: &Sheets, event: &Event) -> Result<(), AllocError>
+    requires { IsOfTenths event.now }
+    ensures { OnOk result (Adds out.old out.new (event_line sheets.now event.now)) }
+{
+    match event {
         Event::Given {
             company,
             seat,
             tenths,
         } => {
-            tell(
-                out,
-                sheets,
-                "GIVEN",
-                &[
-                    Field::Word(company.code()),
-                    Field::Name(*seat),
-                    Field::Number(u32::from(*tenths)),
-                ],
-            )
+            let fields = [Name(*seat), Tenths(*tenths)];
+            tell_company(out, sheets, "GIVEN", *company, &fields)
         }
+        Event::Bought {
+            company,
+            seat,
+            tenths,
+            from,
+            price,
+        } => {
+            let fields = [Name(*seat), Tenths(*tenths), Source(*from), Number(*price)];
+            tell_company(out, sheets, "BOUGHT", *company, &fields)
+        }
+        Event::Sells {
+            company,
+            seat,
+            tenths,
+            price,
+        } => {
+            let fields = [Name(*seat), Tenths(*tenths), Number(*price)];
+            tell_company(out, sheets, "SELLS", *company, &fields)
+        }
+        Event::Exchanged { seat, from } => push_exchanged(out, sheets, *seat, *from),
+        _ => unreachable!(),
+    }
+}
+
+/// Adds the line of a tenth of NYC that a seat has for MH.
+fn push_exchanged(
+    out: &mut Vec<u8>,
+    sheets: &Sheets,
+    seat: Seat,
+    from: ShareSource,
+) -> Result<(), AllocError>
+    ensures { OnOk result (Adds out.old out.new (exchange_line sheets.now seat from)) }
+{
+    tell(
+        out,
+        sheets,
+        "EXCHANGED",
+        &[Word("MH"), Name(seat), Source(from)],
+    )
+}
+
+/// Adds an event of a company as its line: its par value, its president, its float, or where its token
+/// moves.
+fn push_of_company(out: &mut Vec<u8>, sheets: &Sheets, event: &Event) -> Result<(), AllocError>
+    requires { IsOfCompany event.now }
+    ensures { OnOk result (Adds out.old out.new (event_line sheets.now event.now)) }
+{
+    match event {
         Event::Par { company, price } => {
-            tell(
-                out,
-                sheets,
-                "PAR",
-                &[Field::Word(company.code()), Field::Number(*price)],
-            )
+            tell_company(out, sheets, "PAR", *company, &[Number(*price)])
         }
         Event::President { company, seat } => {
-            tell(
-                out,
-                sheets,
-                "PRESIDENT",
-                &[Field::Word(company.code()), Field::Name(*seat)],
-            )
+            tell_company(out, sheets, "PRESIDENT", *company, &[Name(*seat)])
         }
-        Event::Broken => tell(out, sheets, "BROKEN", &[]),
+        Event::Floats { company, amount } => {
+            tell_company(out, sheets, "FLOATS", *company, &[Number(*amount)])
+        }
+        Event::Moves { company, square } => {
+            let fields = [Number(price(*square)), On(*square)];
+            tell_company(out, sheets, "MOVES", *company, &fields)
+        }
+        _ => unreachable!(),
     }
 }
 
 /// Adds a line that begins with a word.
 fn tell(out: &mut Vec<u8>, sheets: &Sheets, word: &str, fields: &[Field]) -> Result<(), AllocError>
-    ensures { OnOk result (Adds out.old out.new (line_of word.now (field_texts sheets.now fields.now))) }
+    ensures { OnOk result (Adds out.old out.new (line_of_word sheets.now word.now fields.now)) }
 {
-    push_line(out, sheets, &Field::Word(word), fields)
+    push_line(out, sheets, &Word(word), fields)
 }
 
 /// Adds a line that begins with the name of a seat's player.
@@ -120,7 +183,23 @@ fn tell_of(
 ) -> Result<(), AllocError>
     ensures { OnOk result (Adds out.old out.new (line_of_seat sheets.now seat fields.now)) }
 {
-    push_line(out, sheets, &Field::Name(seat), fields)
+    push_line(out, sheets, &Name(seat), fields)
+}
+
+/// Adds a line of a company: a word, its code, and further fields.
+fn tell_company(
+    out: &mut Vec<u8>,
+    sheets: &Sheets,
+    word: &str,
+    company: Company,
+    fields: &[Field],
+) -> Result<(), AllocError>
+    ensures { OnOk result
+        (Adds out.old out.new (line_of_company sheets.now word.now company fields.now)) }
+{
+    push_field(out, sheets, &Word(word))?;
+    out.push(b' ')?;
+    push_line(out, sheets, &Word(company.code()), fields)
 }
 
 /// Adds a line of a private, a holder and a sum of money.
@@ -132,17 +211,14 @@ fn tell_private(
     holder: Holder,
     amount: Amount,
 ) -> Result<(), AllocError>
-    ensures { OnOk result (Adds out.old out.new (private_line sheets.now word.now private holder amount)) }
+    ensures { OnOk result
+        (Adds out.old out.new (private_line sheets.now word.now private holder amount)) }
 {
     tell(
         out,
         sheets,
         word,
-        &[
-            Field::Word(private.code()),
-            Field::Holds(holder),
-            Field::Number(amount),
-        ],
+        &[Word(private.code()), Holds(holder), Number(amount)],
     )
 }
 
@@ -169,14 +245,28 @@ fn push_field(out: &mut Vec<u8>, sheets: &Sheets, field: &Field) -> Result<(), A
     ensures { OnOk result (Adds out.old out.new (field_text sheets.now field.now)) }
 {
     match field {
-        Field::Word(word) => out.extend_from_slice(word.as_bytes()),
-        Field::Name(seat) => push_name(out, sheets, *seat),
-        Field::Holds(Holder::Seat(seat)) => push_name(out, sheets, *seat),
-        Field::Holds(Holder::Company(company)) => out.extend_from_slice(company.code().as_bytes()),
-        Field::Number(number) => print_number(out, *number),
-        Field::OfRound(round) => print_round(out, round),
-        Field::Spelt(order) => print_order(out, &order.order()),
+        Word(word) => out.extend_from_slice(word.as_bytes()),
+        Name(seat) => push_name(out, sheets, *seat),
+        Holds(Holder::Seat(seat)) => push_name(out, sheets, *seat),
+        Holds(Holder::Company(company)) => out.extend_from_slice(company.code().as_bytes()),
+        Number(number) => print_number(out, *number),
+        Tenths(tenths) => print_number(out, *tenths),
+        Source(source) => out.extend_from_slice(source.text()),
+        On(square) => push_square(out, *square),
+        OfRound(round) => print_round(out, round),
+        Spelt(order) => print_order(out, &order.order()),
     }
+}
+
+/// Adds a square of the stock market: the letter of its row, and its column. A row that is none of the
+/// chart's has no letter.
+fn push_square(out: &mut Vec<u8>, square: Square) -> Result<(), AllocError>
+    ensures { OnOk result (Adds out.old out.new (text_of_square square)) }
+{
+    if let Some(letter) = ROWS.get(usize::from(square.row)) {
+        out.push(*letter)?;
+    }
+    print_number(out, square.column)
 }
 
 /// Adds what became of a line of a seat's sheet.
@@ -194,32 +284,24 @@ fn push_ruled(
             out,
             sheets,
             seat,
-            &[
-                Field::Number(line),
-                Field::Word("OBEYED"),
-                Field::Spelt(order),
-            ],
+            &[Number(line), Word("OBEYED"), Spelt(order)],
         ),
         Ruling::Refused(refusal, order) => tell_of(
             out,
             sheets,
             seat,
             &[
-                Field::Number(line),
-                Field::Word("REFUSED"),
-                Field::Word(refusal.code()),
-                Field::Spelt(order),
+                Number(line),
+                Word("REFUSED"),
+                Word(refusal.code()),
+                Spelt(order),
             ],
         ),
         Ruling::Faulty(fault) => tell_of(
             out,
             sheets,
             seat,
-            &[
-                Field::Number(line),
-                Field::Word("REFUSED"),
-                Field::Word(fault.code()),
-            ],
+            &[Number(line), Word("REFUSED"), Word(fault.code())],
         ),
     }
 }

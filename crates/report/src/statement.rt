@@ -1,17 +1,20 @@
-ghost use Rattle.std.specs.Prelude.{◌≡◌, ◌∷◌, OnOk, length};
+ghost use Rattle.std.specs.Prelude.{◌≡◌, ◌∷◌, ◌<◌, OnOk, length};
+ghost use Rattle.certs.specs.Counted.{counted_of};
+ghost use Rattle.certs.specs.Holdings.{AreHoldingsAt};
+ghost use Rattle.certs.specs.Rows.{HasPlace};
 ghost use Rattle.history.specs.LookBack.{owner_in};
-ghost use Rattle.tables.specs.Roster.{companies};
 ghost use Rattle.report.specs.Column.{Adds};
-ghost use Rattle.report.specs.Statement.{AreOwnersIn, IsCount, IsSumOfCounts, bank_line, cash_column, code_owned, codes_owned, company_figures_at, company_line_at, company_lines_at, counted, counted_among, counted_column, counted_of, counts_at as counts_on, holdings, is_seat, player_line_at, player_lines_at, presided as presides, president_name, price_at, privates_in, started_line_at, statement_at, tenths_column};
+ghost use Rattle.report.specs.Statement.{AreOwnersIn, bank_line_at, cash_column_at, code_owned, codes_owned, company_figures_at, company_line_at, company_lines_at, counted_column, holdings, is_seat, player_line_at, player_lines_at, president_name, started_line_at, statement_at, tenths_column};
 ghost use Rattle.sheets.specs.File.{players_of};
 
 use crate::column::{push_left, push_right};
 use crate::line::{name, push_name};
+use certs::{Holdings, counted_by_the_game};
 use history::{Holder, Owners, Party, Past, Shareholder, Tenths};
 use order_grammar::NAME_MOST;
 use sheets::Sheets;
 use std::alloc::AllocError;
-use tables::{Amount, Company, Private, Seat, Square, Zone, price, zone};
+use tables::{Company, Private, Seat, Square, price};
 
 /// The width of the column of names.
 const NAME_WIDTH: usize = NAME_MOST;
@@ -31,6 +34,16 @@ const COUNT_WIDTH: usize = 3;
 /// The width of the column of tokens.
 const TOKEN_WIDTH: usize = 2;
 
+/// A game as it stood, with who owns and holds what in it, looked up once.
+#[derive(Clone, Copy)]
+struct Standing<'a> {
+    past: Past<'a>,
+    owners: Owners,
+    holdings: Holdings,
+    ghost owned: { AreOwnersIn past.events.now owners },
+    ghost held: { AreHoldingsAt past holdings },
+}
+
 /// Adds the statement of what everybody holds.
 pub(crate) fn push_statement(
     out: &mut Vec<u8>,
@@ -40,92 +53,91 @@ pub(crate) fn push_statement(
     requires { past.now.seats ≡ length (players_of sheets.now) }
     ensures { OnOk result (Adds out.old out.new (statement_at sheets.now past.now)) }
 {
-    push_players(out, sheets, past)?;
-    push_companies(out, sheets, past)?;
-    push_bank(out, past)
+    let standing = Standing {
+        past: *past,
+        owners: past.owners(),
+        holdings: Holdings::at(past),
+    };
+    push_players(out, sheets, &standing)?;
+    push_companies(out, sheets, &standing)?;
+    push_bank(out, &standing)
 }
 
 /// Adds the players' lines.
 #[tactic(auto, unfolding(crate::specs::Statement::player_lines))]
-fn push_players(out: &mut Vec<u8>, sheets: &Sheets, past: &Past) -> Result<(), AllocError>
-    requires { past.now.seats ≡ length (players_of sheets.now) }
-    ensures { OnOk result (Adds out.old out.new (player_lines_at sheets.now past.now)) }
+fn push_players(out: &mut Vec<u8>, sheets: &Sheets, standing: &Standing) -> Result<(), AllocError>
+    requires { standing.now.past.seats ≡ length (players_of sheets.now) }
+    ensures { OnOk result (Adds out.old out.new (player_lines_at sheets.now standing.now.past)) }
 {
-    let owners = past.owners();
     for seat in 0..sheets.seats() {
-        push_player(out, sheets, past, &owners, Seat(seat as u8))?;
+        push_player(out, sheets, standing, Seat(seat as u8))?;
     }
     Ok(())
 }
 
 /// Adds the lines of the started companies.
 #[tactic(auto, unfolding(crate::specs::Statement::company_lines))]
-fn push_companies(out: &mut Vec<u8>, sheets: &Sheets, past: &Past) -> Result<(), AllocError>
-    ensures { OnOk result (Adds out.old out.new (company_lines_at sheets.now past.now)) }
+fn push_companies(out: &mut Vec<u8>, sheets: &Sheets, standing: &Standing) -> Result<(), AllocError>
+    ensures { OnOk result (Adds out.old out.new (company_lines_at sheets.now standing.now.past)) }
 {
     for company in &Company::ALL {
-        push_company(out, sheets, past, *company)?;
+        push_company(out, sheets, standing, *company)?;
     }
     Ok(())
 }
 
 /// Adds the bank's line.
 #[tactic(auto, unfolding(crate::specs::Statement::bank_line))]
-fn push_bank(out: &mut Vec<u8>, past: &Past) -> Result<(), AllocError>
-    ensures { OnOk result (Adds out.old out.new (bank_line past.now.seats past.now.events.now)) }
+fn push_bank(out: &mut Vec<u8>, standing: &Standing) -> Result<(), AllocError>
+    ensures { OnOk result (Adds out.old out.new (bank_line_at standing.now.past)) }
 {
     out.extend_from_slice(b"BANK ")?;
-    push_cash(out, past, Party::Bank)?;
+    push_cash(out, standing, Party::Bank)?;
     out.push(b'\n')?;
     Ok(())
 }
 
-/// Adds a player's line: name, cash, counted certificates, tenths by company, privates.
+/// Adds a player's line: name, cash, counted certificates, tenths by company, privates. The seat is
+/// one of six.
 #[tactic(auto, unfolding(crate::specs::Statement::player_line))]
 fn push_player(
     out: &mut Vec<u8>,
     sheets: &Sheets,
-    past: &Past,
-    owners: &Owners,
+    standing: &Standing,
     seat: Seat,
 ) -> Result<(), AllocError>
-    requires { AreOwnersIn past.now.events.now owners.now }
-    ensures { OnOk result (Adds out.old out.new (player_line_at sheets.now past.now seat)) }
+    requires { seat.0 < 6 }
+    ensures { OnOk result (Adds out.old out.new (player_line_at sheets.now standing.now.past seat)) }
 {
     out.extend_from_slice(b"PLAYER ")?;
     push_left(out, name(sheets, seat), NAME_WIDTH)?;
-    push_cash(out, past, Party::of_seat(seat))?;
-    push_counted(out, past, owners, seat)?;
-    push_holdings(out, past, seat)?;
-    push_privates(out, past, owners, seat)?;
+    push_cash(out, standing, Party::of_seat(seat))?;
+    push_counted(out, standing, seat)?;
+    push_holdings(out, standing, seat)?;
+    push_privates(out, standing, seat)?;
     out.push(b'\n')?;
     Ok(())
 }
 
-/// Adds the tenths of each company that a seat holds.
+/// Adds the tenths of each company that a seat holds, which is one of six.
 #[tactic(auto, unfolding(crate::specs::Statement::holdings))]
-fn push_holdings(out: &mut Vec<u8>, past: &Past, seat: Seat) -> Result<(), AllocError>
-    ensures { OnOk result (Adds out.old out.new (holdings past.now.events.now seat)) }
+fn push_holdings(out: &mut Vec<u8>, standing: &Standing, seat: Seat) -> Result<(), AllocError>
+    requires { seat.0 < 6 }
+    ensures { OnOk result (Adds out.old out.new (holdings standing.now.past.events.now seat)) }
 {
     for company in &Company::ALL {
-        push_tenths(out, past, *company, Shareholder::Seat(seat))?;
+        push_tenths(out, standing, *company, Shareholder::Seat(seat))?;
     }
     Ok(())
 }
 
 /// Adds the codes of a seat's privates, each after a space.
 #[tactic(auto, unfolding(crate::specs::Statement::codes_owned))]
-fn push_privates(
-    out: &mut Vec<u8>,
-    past: &Past,
-    owners: &Owners,
-    seat: Seat,
-) -> Result<(), AllocError>
-    requires { AreOwnersIn past.now.events.now owners.now }
-    ensures { OnOk result (Adds out.old out.new (codes_owned past.now.events.now seat)) }
+fn push_privates(out: &mut Vec<u8>, standing: &Standing, seat: Seat) -> Result<(), AllocError>
+    ensures { OnOk result (Adds out.old out.new (codes_owned standing.now.past.events.now seat)) }
 {
     for private in &Private::ALL {
-        push_private(out, past, owners, seat, *private)?;
+        push_private(out, standing, seat, *private)?;
     }
     Ok(())
 }
@@ -133,83 +145,18 @@ fn push_privates(
 /// Adds the code of a private after a space, if the seat owns it.
 fn push_private(
     out: &mut Vec<u8>,
-    past: &Past,
-    owners: &Owners,
+    standing: &Standing,
     seat: Seat,
     private: Private,
 ) -> Result<(), AllocError>
-    requires { AreOwnersIn past.now.events.now owners.now }
-    ensures { OnOk result (Adds out.old out.new (code_owned past.now.events.now seat private)) }
+    ensures { OnOk result
+        (Adds out.old out.new (code_owned standing.now.past.events.now seat private)) }
 {
-    if owns(owners, seat, private) {
+    if owns(&standing.owners, seat, private) {
         out.push(b' ')?;
         out.extend_from_slice(private.code().as_bytes())?;
     }
     Ok(())
-}
-
-/// How many of a seat's certificates count: its privates, and those of companies whose token stands
-/// in no zone.
-#[tactic(auto, using(crate::proofs::Counts::same_privates), unfolding(crate::specs::Statement::counted))]
-fn certificates(past: &Past, owners: &Owners, seat: Seat) -> Tenths
-    requires { AreOwnersIn past.now.events.now owners.now }
-    ensures { result ≡ counted past.now.events.now seat }
-{
-    privates_owned(owners, seat) as Tenths + shares_counted(past, seat)
-}
-
-/// How many privates a seat owns.
-fn privates_owned(owners: &Owners, seat: Seat) -> usize
-    ensures { result ≡ privates_in owners.now seat }
-{
-    Private::ALL
-        .iter()
-        .filter(|private| owns(owners, seat, **private))
-        .count()
-}
-
-/// How many certificates of companies count that a seat holds.
-fn shares_counted(past: &Past, seat: Seat) -> Tenths
-    ensures count { result ≡ counted_among past.now.events.now seat companies }
-    ensures within { IsSumOfCounts 8 result }
-{
-    let mut count = 0;
-    for company in &Company::ALL {
-        count += certificates_of(past, seat, *company);
-    }
-    count
-}
-
-/// How many of a company's certificates count that a seat holds.
-fn certificates_of(past: &Past, seat: Seat, company: Company) -> Tenths
-    ensures count { result ≡ counted_of past.now.events.now seat company }
-    ensures within { IsCount result }
-{
-    if counts_at(past.square(company)) {
-        past.shares(company, Shareholder::Seat(seat)) - presided(seat, past.president(company))
-    } else {
-        0
-    }
-}
-
-/// Whether a company's certificates count while its token stands on this square.
-fn counts_at(square: Option<Square>) -> bool
-    ensures { result ≡ counts_on square }
-{
-    match square {
-        None => true,
-        Some(square) => zone(square) == Zone::White,
-    }
-}
-
-/// The tenth by which the president's certificate is more than one certificate.
-fn presided(seat: Seat, president: Option<Seat>) -> Tenths
-    ensures { result ≡ presides seat president }
-{
-    match president {
-        Some(president) if president.0 == seat.0 => 1,
-        _ => 0,
-    }
 }
 
 /// Whether the seat owns the private.
@@ -227,80 +174,97 @@ fn owns(owners: &Owners, seat: Seat, private: Private) -> bool
 fn push_company(
     out: &mut Vec<u8>,
     sheets: &Sheets,
-    past: &Past,
+    standing: &Standing,
     company: Company,
 ) -> Result<(), AllocError>
-    ensures { OnOk result (Adds out.old out.new (started_line_at sheets.now past.now company)) }
+    ensures { OnOk result
+        (Adds out.old out.new (started_line_at sheets.now standing.now.past company)) }
 {
-    if past.is_started(company) {
-        push_started(out, sheets, past, company)?;
+    match standing.past.square(company) {
+        None => Ok(()),
+        Some(square) => push_started(out, sheets, standing, company, square),
     }
-    Ok(())
 }
 
-/// Adds the line of a started company.
+/// Adds the line of a started company, whose token is on this square.
 #[tactic(auto, unfolding(crate::specs::Statement::company_line))]
 fn push_started(
     out: &mut Vec<u8>,
     sheets: &Sheets,
-    past: &Past,
+    standing: &Standing,
     company: Company,
+    square: Square,
 ) -> Result<(), AllocError>
-    ensures { OnOk result (Adds out.old out.new (company_line_at sheets.now past.now company)) }
+    ensures { OnOk result
+        (Adds out.old out.new (company_line_at sheets.now standing.now.past company square)) }
 {
     out.extend_from_slice(b"COMPANY ")?;
     push_left(out, company.code().as_bytes(), CODE_WIDTH)?;
-    push_figures(out, past, company)?;
-    push_president(out, sheets, past.president(company))?;
+    push_figures(out, standing, company, square)?;
+    push_president(out, sheets, standing.past.president(company))?;
     out.push(b'\n')?;
     Ok(())
 }
 
-/// Adds a company's cash, market price, tenths in the initial offering and the bank pool, and tokens.
+/// Adds a company's cash, the price of its square, its tenths in the initial offering and the bank
+/// pool, and its tokens.
 #[tactic(auto, unfolding(crate::specs::Statement::company_figures))]
-fn push_figures(out: &mut Vec<u8>, past: &Past, company: Company) -> Result<(), AllocError>
-    ensures { OnOk result (Adds out.old out.new (company_figures_at past.now company)) }
+fn push_figures(
+    out: &mut Vec<u8>,
+    standing: &Standing,
+    company: Company,
+    square: Square,
+) -> Result<(), AllocError>
+    ensures { OnOk result
+        (Adds out.old out.new (company_figures_at standing.now.past company square)) }
 {
-    push_cash(out, past, Party::of_company(company))?;
-    push_right(out, market_price(past.square(company)), PRICE_WIDTH)?;
-    push_tenths(out, past, company, Shareholder::InitialOffering)?;
-    push_tenths(out, past, company, Shareholder::BankPool)?;
+    push_cash(out, standing, Party::of_company(company))?;
+    push_right(out, price(square), PRICE_WIDTH)?;
+    push_tenths(out, standing, company, Shareholder::InitialOffering)?;
+    push_tenths(out, standing, company, Shareholder::BankPool)?;
     push_right(out, 0u32, TOKEN_WIDTH)
 }
 
 /// Adds the cash of a party in its column.
 #[tactic(auto, unfolding(crate::specs::Statement::cash_column))]
-fn push_cash(out: &mut Vec<u8>, past: &Past, party: Party) -> Result<(), AllocError>
-    ensures { OnOk result (Adds out.old out.new (cash_column past.now.seats past.now.events.now party)) }
+fn push_cash(out: &mut Vec<u8>, standing: &Standing, party: Party) -> Result<(), AllocError>
+    ensures { OnOk result (Adds out.old out.new (cash_column_at standing.now.past party)) }
 {
-    push_right(out, past.cash(party), CASH_WIDTH)
+    push_right(out, standing.past.cash(party), CASH_WIDTH)
 }
 
-/// Adds the tenths of a company that lie at a place in their column.
+/// Adds the tenths of a company that lie at a place in their column. A seat is one of six.
 #[tactic(auto, unfolding(crate::specs::Statement::tenths_column))]
 fn push_tenths(
     out: &mut Vec<u8>,
-    past: &Past,
+    standing: &Standing,
     company: Company,
     place: Shareholder,
 ) -> Result<(), AllocError>
-    ensures { OnOk result (Adds out.old out.new (tenths_column past.now.events.now company place)) }
+    requires { HasPlace place }
+    ensures { OnOk result
+        (Adds out.old out.new (tenths_column standing.now.past.events.now company place)) }
 {
-    push_right(out, past.shares(company, place), COUNT_WIDTH)
+    push_right(out, standing.holdings.tenths(company, place), COUNT_WIDTH)
 }
 
-/// Adds how many certificates of a seat count in their column.
+/// Adds how many certificates of a seat count in their column. The seat is one of six.
 #[tactic(auto, unfolding(crate::specs::Statement::counted_column))]
-fn push_counted(
-    out: &mut Vec<u8>,
-    past: &Past,
-    owners: &Owners,
-    seat: Seat,
-) -> Result<(), AllocError>
-    requires { AreOwnersIn past.now.events.now owners.now }
-    ensures { OnOk result (Adds out.old out.new (counted_column past.now.events.now seat)) }
+fn push_counted(out: &mut Vec<u8>, standing: &Standing, seat: Seat) -> Result<(), AllocError>
+    requires { seat.0 < 6 }
+    ensures { OnOk result (Adds out.old out.new (counted_column standing.now.past.events.now seat)) }
 {
-    push_right(out, certificates(past, owners, seat), COUNT_WIDTH)
+    push_right(out, certificates(standing, seat), COUNT_WIDTH)
+}
+
+/// How many certificates of a seat count against the limit. The seat is one of six.
+fn certificates(standing: &Standing, seat: Seat) -> Tenths
+    requires { seat.0 < 6 }
+    ensures { result ≡ counted_of standing.now.past.events.now seat }
+{
+    // A law, which does nothing when it runs: the tables count what the events say.
+    counted_by_the_game();
+    standing.holdings.counted(seat)
 }
 
 /// Adds the name of a president after a space.
@@ -315,15 +279,5 @@ fn push_president(
     match president {
         None => Ok(()),
         Some(seat) => push_name(out, sheets, seat),
-    }
-}
-
-/// The market price on a square, in dollars; 0 on none.
-fn market_price(square: Option<Square>) -> Amount
-    ensures { result ≡ price_at square }
-{
-    match square {
-        None => 0,
-        Some(square) => price(square),
     }
 }

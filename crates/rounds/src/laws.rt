@@ -34,8 +34,8 @@ pub fn sequence_goes_forward()
     ensures { SequenceGoesForward }
 {}
 
-/// The events of a game begin with a round, and the rounds that they begin follow one another in the
-/// order of all rounds, so they all differ.
+/// The events of a game begin with a round, and the rounds that they begin follow one another in
+/// the order of all rounds, so they all differ.
 pub fn rounds_follow_in_order()
     ensures { RoundsFollowInOrder }
 {

@@ -31,8 +31,8 @@ impl From<AllocError> for Fault {
     }
 }
 
-/// The exit status of the program: 0 for a report, 2 for a refused file, 4 where reading, writing or
-/// memory failed.
+/// The exit status of the program: 0 for a report, 2 for a refused file, 4 where reading, writing
+/// or memory failed.
 pub fn status(outcome: &Result<(), Fault>) -> u8
     ensures { result ≡ status_of outcome.now }
 {

@@ -17,7 +17,8 @@ const PIECE: usize = 65_536;
 pub(crate) fn read_file<R: Read>(alloc: Global, reader: &mut Watched<R>) -> Result<Vec<u8>, Fault>
     requires { has_failed reader.old ≡ false }
     ensures file { IfOk result (λ file. IsAsRead (R.remaining (inside reader.old)) file.items) }
-    ensures limit { TakesWithin (R.remaining (inside reader.old)) (R.remaining (inside reader.new)) }
+    ensures limit { TakesWithin (R.remaining (inside reader.old))
+        (R.remaining (inside reader.new)) }
     ensures taken { IfOk result (λ file. Consumes (R.remaining (inside reader.old))
         (R.remaining (inside reader.new)) file.items) }
     ensures ok { OnOk result (has_failed reader.new ≡ false) }

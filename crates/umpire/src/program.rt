@@ -16,8 +16,8 @@ use sheets::{FileFault, Sheets, collect};
 use std::alloc::{AllocError, Global};
 use std::io::{Read, Write};
 
-/// Reads an order file to its end, or to the first byte past the greatest size of a file, and writes
-/// its report. What the writer then holds is what it held and, at
+/// Reads an order file to its end, or to the first byte past the greatest size of a file, and
+/// writes its report. What the writer then holds is what it held and, at
 ///
 /// - `Ok`: the report, whole;
 /// - `File`, where the file is refused: the one line that says so, whole;
@@ -33,8 +33,10 @@ pub fn run<R: Read, W: Write>(
     requires writer { has_failed writer.old ≡ false }
     ensures ok { OnOk result (IsReported (R.remaining (inside reader.old))
         (W.contents (inside writer.old)) (W.contents (inside writer.new))) }
-    ensures unfailed { OnOk result ((has_failed reader.new ≡ false) × (has_failed writer.new ≡ false)) }
-    ensures limit { TakesWithin (R.remaining (inside reader.old)) (R.remaining (inside reader.new)) }
+    ensures unfailed { OnOk result
+        ((has_failed reader.new ≡ false) × (has_failed writer.new ≡ false)) }
+    ensures limit { TakesWithin (R.remaining (inside reader.old))
+        (R.remaining (inside reader.new)) }
     ensures err { IfErr result (Stops (R.remaining (inside reader.old))
         (W.contents (inside writer.old)) (W.contents (inside writer.new))
         (has_failed reader.new) (has_failed writer.new)) }

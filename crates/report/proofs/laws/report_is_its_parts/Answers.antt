@@ -2,4 +2,4 @@ use Rattle.report.proofs.Parts.{parts_of_report}
 use Rattle.report.proofs.laws.report_is_its_parts.Goals as goal
 
 pub returns : goal.returns
-returns c = parts_of_report
+returns c = parts_of_report c.rounds_follow_in_order.ensures

@@ -1,0 +1,225 @@
+ghost use Rattle.std.specs.Prelude.{◌≡◌, ◌≤◌, ◌<◌, ◌+ℤ◌, pos};
+ghost use Rattle.std.specs.Int.Signed.{le_z, lt_z};
+ghost use Rattle.certs.specs.Counted.{counted_of, counts_on};
+ghost use Rattle.certs.specs.Purchase.{allowed, allows_several as several, cost_of, in_zone, is_at_limit as limit_reached, is_none_there as none_there, is_no_par as no_par, is_over_six as over_six, is_second as second_purchase, is_short as short_of_cash, is_wrong_start as wrong_start, lifts_six as lifts, market_price_of, purchase_judgement, tenth_price_of};
+ghost use Rattle.history.specs.Shares.{shares_of, square_of};
+ghost use Rattle.history.specs.declared.event.Shareholder.TheVariants.{Seat as OfSeat};
+ghost use Rattle.tables.specs.Roster.{certificate_limit_of};
+
+use crate::deal::Purchase;
+use crate::holdings::Holdings;
+use history::{History, Past, Shareholder, StockRule, Tenths};
+use order_grammar::ShareSource;
+use tables::{Amount, Company, Money, Seat, Zone, certificate_limit, par_square, price, zone};
+
+/// The most tenths of a company that a seat may hold where no zone lifts that.
+const TENTHS_MOST: Tenths = 6;
+
+/// Whether a seat at a table of at most six may buy, in a turn in which it has bought of a company, if it
+/// has bought. An `Err` is the first rule that the purchase breaks, of S6 to S13.
+pub fn may_buy(
+    history: &History,
+    seat: Seat,
+    purchase: Purchase,
+    bought: Option<Company>,
+) -> Result<(), StockRule>
+    requires few { history.now.seats ≤ 6 }
+    requires at_table { seat.0 < history.now.seats }
+    ensures { result ≡ allowed
+        (purchase_judgement history.now.seats history.now.events seat purchase bought) }
+{
+    match broken_by(&history.now(), seat, purchase, bought) {
+        Some(rule) => Err(rule),
+        None => Ok(()),
+    }
+}
+
+/// The first rule that a purchase breaks.
+#[tactic(auto, unfolding(crate::specs::Purchase::purchase_judgement))]
+fn broken_by(
+    now: &Past,
+    seat: Seat,
+    purchase: Purchase,
+    bought: Option<Company>,
+) -> Option<StockRule>
+    requires few { now.now.seats ≤ 6 }
+    requires at_table { seat.0 < now.now.seats }
+    ensures { result
+        ≡ purchase_judgement now.now.seats now.now.events.now seat purchase bought }
+{
+    let company = purchase.company();
+    if now.has_sold_in_round(company, seat) {
+        return Some(StockRule::SoldInRound);
+    }
+    if is_none_there(now, purchase) {
+        return Some(StockRule::NoneThere);
+    }
+    if is_no_par(purchase) {
+        return Some(StockRule::NoParValue);
+    }
+    if is_wrong_start(now, purchase) {
+        return Some(StockRule::WrongStart);
+    }
+    if is_short(now, seat, purchase) {
+        return Some(StockRule::CashTooSmall);
+    }
+    if is_at_limit(now, seat, company) {
+        return Some(StockRule::CertificateLimit);
+    }
+    if is_over_six(now, seat, company, purchase.tenths()) {
+        return Some(StockRule::OverSixTenths);
+    }
+    if is_second(now, company, bought) {
+        return Some(StockRule::BoughtBefore);
+    }
+    None
+}
+
+/// Whether none is where a tenth is to be bought.
+#[tactic(auto, unfolding(crate::specs::Purchase::is_none_there))]
+fn is_none_there(now: &Past, purchase: Purchase) -> bool
+    ensures { result ≡ none_there now.now.events.now purchase }
+{
+    match purchase {
+        Purchase::Par { .. } => false,
+        Purchase::Share { company, from } => {
+            now.shares(company, Shareholder::of_source(from)) < 1
+        }
+    }
+}
+
+/// Whether a sum that is to be the par value is none of the six.
+fn is_no_par(purchase: Purchase) -> bool
+    ensures { result ≡ no_par purchase }
+{
+    match purchase {
+        Purchase::Par { price, .. } => par_square(price).is_none(),
+        Purchase::Share { .. } => false,
+    }
+}
+
+/// Whether a par value is set for a company that is started, or a tenth bought of one that is not.
+fn is_wrong_start(now: &Past, purchase: Purchase) -> bool
+    ensures { result ≡ wrong_start now.now.events.now purchase }
+{
+    match purchase {
+        Purchase::Par { company, .. } => now.is_started(company),
+        Purchase::Share { company, .. } => !now.is_started(company),
+    }
+}
+
+/// What a purchase costs.
+fn cost(now: &Past, purchase: Purchase) -> Money
+    ensures { result ≡ pos (cost_of now.now.events.now purchase) }
+{
+    match purchase {
+        Purchase::Par { price, .. } => 2 * Money::from(price),
+        Purchase::Share { company, from } => tenth_price(now, company, from),
+    }
+}
+
+/// What a tenth of a company costs: the par value in the initial offering, the market price in the pool.
+pub fn tenth_price(now: &Past, company: Company, from: ShareSource) -> Money
+    ensures { result ≡ pos (tenth_price_of now.now.events.now company from) }
+{
+    match from {
+        ShareSource::InitialOffering => now.par(company).unwrap_or(0),
+        ShareSource::BankPool => Money::from(market_price(now, company)),
+    }
+}
+
+/// The market price of a company, which is that of its square; 0 where it has none.
+pub fn market_price(now: &Past, company: Company) -> Amount
+    ensures { result ≡ market_price_of now.now.events.now company }
+{
+    match now.square(company) {
+        Some(square) => price(square),
+        None => 0,
+    }
+}
+
+/// Whether what a purchase costs is over a seat's cash that is free of its bids.
+#[tactic(auto, unfolding(crate::specs::Purchase::is_short))]
+fn is_short(now: &Past, seat: Seat, purchase: Purchase) -> bool
+    ensures { result ≡ short_of_cash now.now.seats now.now.events.now seat
+        (cost_of now.now.events.now purchase) }
+{
+    now.free_cash(seat) < cost(now, purchase)
+}
+
+/// Whether a certificate of a company would count, and a seat has reached the limit.
+#[tactic(auto, unfolding(crate::specs::Purchase::is_at_limit))]
+fn is_at_limit(now: &Past, seat: Seat, company: Company) -> bool
+    requires few { now.now.seats ≤ 6 }
+    requires at_table { seat.0 < now.now.seats }
+    ensures { result ≡ limit_reached now.now.seats now.now.events.now seat company }
+{
+    counts(now, company) && has_full_hand(now, seat)
+}
+
+/// Whether the certificates of a company count.
+fn counts(now: &Past, company: Company) -> bool
+    ensures { result ≡ counts_on (square_of now.now.events.now company) }
+{
+    match now.square(company) {
+        Some(square) => zone(square) == Zone::White,
+        None => true,
+    }
+}
+
+/// Whether a seat has as many certificates that count as the limit.
+fn has_full_hand(now: &Past, seat: Seat) -> bool
+    requires few { now.now.seats ≤ 6 }
+    requires at_table { seat.0 < now.now.seats }
+    ensures { result ≡ le_z (pos (certificate_limit_of now.now.seats))
+        (counted_of now.now.events.now seat) }
+{
+    Holdings::at(now).counted(seat) >= certificate_limit(now.seats) as Tenths
+}
+
+/// Whether with so many tenths more a seat would have over six of a company, where the zone of the company's
+/// square does not lift that.
+#[tactic(auto, unfolding(crate::specs::Purchase::is_over_six))]
+pub fn is_over_six(now: &Past, seat: Seat, company: Company, tenths: u8) -> bool
+    ensures { result ≡ over_six now.now.events.now seat company tenths }
+{
+    !lifts_six(now, company) && would_have(now, seat, company, tenths) > TENTHS_MOST
+}
+
+/// Whether the zone of a company's square lifts the limit of six tenths.
+fn lifts_six(now: &Past, company: Company) -> bool
+    ensures { result ≡ in_zone lifts (square_of now.now.events.now company) }
+{
+    match now.square(company) {
+        Some(square) => matches!(zone(square), Zone::Orange | Zone::Brown),
+        None => false,
+    }
+}
+
+/// What a seat would have of a company with so many tenths more.
+fn would_have(now: &Past, seat: Seat, company: Company, tenths: u8) -> Tenths
+    ensures { result ≡ shares_of now.now.events.now company (OfSeat seat) +ℤ pos tenths }
+{
+    now.shares(company, Shareholder::Seat(seat)) + Tenths::from(tenths)
+}
+
+/// Whether a seat has bought already in its turn, and a purchase of a company is not one of several.
+#[tactic(auto, unfolding(crate::specs::Purchase::is_second))]
+fn is_second(now: &Past, company: Company, bought: Option<Company>) -> bool
+    ensures { result ≡ second_purchase now.now.events.now company bought }
+{
+    match bought {
+        Some(bought) => company != bought || !allows_several(now, company),
+        None => false,
+    }
+}
+
+/// Whether several certificates of a company may be bought in a turn.
+fn allows_several(now: &Past, company: Company) -> bool
+    ensures { result ≡ in_zone several (square_of now.now.events.now company) }
+{
+    match now.square(company) {
+        Some(square) => zone(square) == Zone::Brown,
+        None => false,
+    }
+}

@@ -1,0 +1,141 @@
+ghost use Rattle.std.specs.Prelude.{◌≡◌, ◌^◌, ◌≤ℤ◌, ◌+ℤ◌, pos};
+ghost use Rattle.certs.specs.Counted.{presides};
+ghost use Rattle.certs.specs.Purchase.{allowed};
+ghost use Rattle.certs.specs.Sale.{another_has as another_seat_has, is_first_stock as is_first_stock_round, is_not_held as not_held, is_over_five as over_five, kept_after, leaves_none as leaves_no_president, moves_operating as moves_presidency, must_stay as president_must_stay, sale_judgement};
+ghost use Rattle.history.specs.LookBack.{round_of};
+ghost use Rattle.history.specs.Shares.{shares_of};
+ghost use Rattle.history.specs.declared.event.Shareholder.TheVariants.{BankPool};
+
+use crate::deal::Sale;
+use history::{History, Past, Shareholder, StockRule, Tenths};
+use tables::{Company, Round, Seat};
+
+/// The most tenths of a company that the bank pool may hold.
+const POOL_MOST: Tenths = 5;
+
+/// The tenths of a president's certificate.
+const PRESIDENT_TENTHS: Tenths = 2;
+
+/// Whether a seat may sell. A sale to pay for a train of an operating company is
+/// told which that is. An `Err` is the first rule that the sale breaks, of S2 to S5 and S9.
+pub fn may_sell(
+    history: &History,
+    seat: Seat,
+    sale: Sale,
+    operating: Option<Company>,
+) -> Result<(), StockRule>
+    ensures { result ≡ allowed
+        (sale_judgement history.now.seats history.now.events seat sale operating) }
+{
+    match broken_by(&history.now(), seat, sale, operating) {
+        Some(rule) => Err(rule),
+        None => Ok(()),
+    }
+}
+
+/// The first rule that a sale breaks.
+#[tactic(auto, unfolding(crate::specs::Sale::sale_judgement))]
+fn broken_by(now: &Past, seat: Seat, sale: Sale, operating: Option<Company>) -> Option<StockRule>
+    ensures { result ≡ sale_judgement now.now.seats now.now.events.now seat sale operating }
+{
+    if is_first_stock(now) {
+        return Some(StockRule::SaleInFirstRound);
+    }
+    if is_not_held(now, seat, sale) {
+        return Some(StockRule::NotHeld);
+    }
+    if is_over_five(now, sale) {
+        return Some(StockRule::PoolFull);
+    }
+    if must_stay(now, seat, sale, operating) {
+        return Some(StockRule::PresidentMustStay);
+    }
+    if !now.is_started(sale.company) {
+        return Some(StockRule::WrongStart);
+    }
+    None
+}
+
+/// Whether the round is the first stock round.
+fn is_first_stock(now: &Past) -> bool
+    ensures { result ≡ is_first_stock_round (round_of now.now.events.now) }
+{
+    matches!(now.round(), Some(Round::Stock(1)))
+}
+
+/// Whether no tenths are to be sold, or more than the seat has.
+#[tactic(auto, unfolding(crate::specs::Sale::is_not_held))]
+fn is_not_held(now: &Past, seat: Seat, sale: Sale) -> bool
+    ensures { result ≡ not_held now.now.events.now seat sale }
+{
+    sale.tenths == 0
+        || now.shares(sale.company, Shareholder::Seat(seat)) < Tenths::from(sale.tenths)
+}
+
+/// Whether the bank pool would hold over five tenths of the company.
+#[tactic(auto, unfolding(crate::specs::Sale::is_over_five))]
+fn is_over_five(now: &Past, sale: Sale) -> bool
+    ensures { result ≡ over_five now.now.events.now sale }
+{
+    would_be_pooled(now, sale) > POOL_MOST
+}
+
+/// What the bank pool would hold of the company.
+fn would_be_pooled(now: &Past, sale: Sale) -> Tenths
+    ensures { result ≡ shares_of now.now.events.now sale.company BankPool +ℤ pos sale.tenths }
+{
+    now.shares(sale.company, Shareholder::BankPool) + Tenths::from(sale.tenths)
+}
+
+/// Whether the seat presides over the company, and may not sell so many of its tenths.
+#[tactic(auto, unfolding(crate::specs::Sale::must_stay))]
+fn must_stay(now: &Past, seat: Seat, sale: Sale, operating: Option<Company>) -> bool
+    ensures { result ≡ president_must_stay now.now.seats now.now.events.now seat sale operating }
+{
+    now.president(sale.company) == Some(seat)
+        && (leaves_none(now, seat, sale) || moves_operating(now, seat, sale, operating))
+}
+
+/// Whether the president would keep fewer than two tenths, and no other seat has two.
+fn leaves_none(now: &Past, seat: Seat, sale: Sale) -> bool
+    ensures { result ≡ leaves_no_president now.now.seats now.now.events.now seat sale }
+{
+    would_keep(now, seat, sale) < PRESIDENT_TENTHS
+        && !another_has(now, sale.company, seat, PRESIDENT_TENTHS)
+}
+
+/// Whether the sale is of the operating company, and another seat would have strictly more of it.
+fn moves_operating(now: &Past, seat: Seat, sale: Sale, operating: Option<Company>) -> bool
+    ensures { result ≡ moves_presidency now.now.seats now.now.events.now seat sale operating }
+{
+    match operating {
+        Some(company) => {
+            company == sale.company
+                && another_has(now, company, seat, would_keep(now, seat, sale) + 1)
+        }
+        None => false,
+    }
+}
+
+/// What the seat would keep of the company.
+fn would_keep(now: &Past, seat: Seat, sale: Sale) -> Tenths
+    ensures kept { result ≡ kept_after now.now.events.now seat sale }
+    ensures not_over { result ≤ℤ pos (2 ^ 100) }
+{
+    now.shares(sale.company, Shareholder::Seat(seat)) - Tenths::from(sale.tenths)
+}
+
+/// Whether another seat has at least so many tenths of a company.
+fn another_has(now: &Past, company: Company, seat: Seat, least: Tenths) -> bool
+    ensures { result
+        ≡ another_seat_has now.now.seats now.now.events.now company seat least }
+{
+    let mut other = seat;
+    for _ in 1..now.seats {
+        other = other.left(now.seats);
+        if now.shares(company, Shareholder::Seat(other)) >= least {
+            return true;
+        }
+    }
+    false
+}
