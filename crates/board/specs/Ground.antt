@@ -5,7 +5,7 @@ use Rattle.std.specs.Prelude.{ℕ, zero, suc, ◌==◌, ◌&&◌, Bool, true, fa
 use Rattle.std.specs.List.{filter, find, list_any}
 use Rattle.map_tables.specs.Hex.{hexes, same_hex}
 use Rattle.map_tables.specs.Lay.{laid_links_of}
-use Rattle.map_tables.specs.Place.{joined_stop_of, stop_at, stop_index_of, stop_of}
+use Rattle.map_tables.specs.Place.{joined_hex, joined_stop_of, stop_at, stop_index_of, stop_of}
 use Rattle.map_tables.specs.Print.{print_of, printed_links_of}
 use Rattle.map_tables.specs.Tile.{entry_of}
 use Rattle.map_tables.specs.declared.hex.Hex.{Hex}
@@ -121,13 +121,14 @@ stop_numbers (suc (suc more)) = First ∷ Second ∷ []
 abbrev pub is_stop : Stop → Bool
 is_stop stop = nat_lt (stop_index_of stop.number) (print_of stop.hex).stops
 
+-- what lies at the stops of a hex; a stop that lies in two hexes is kept in the one that names it
+abbrev pub stops_in : Ground → Hex → List AtStop
+stops_in laid hex =
+    if same_hex (joined_hex hex) hex then map (λ number. lying_at laid (stop_at hex number)) (stop_numbers (print_of hex).stops) else []
+
 -- what lies in a hex
 abbrev pub lying_in : Ground → Hex → InHex
-lying_in laid hex =
-    record {
-      links = links_on laid.lays hex;
-      stops = map (λ number. lying_at laid (stop_at hex number)) (stop_numbers (print_of hex).stops);
-    }
+lying_in laid hex = record { links = links_on laid.lays hex; stops = stops_in laid hex }
 
 -- the position
 unfoldable pub position_of : Ground → Position
