@@ -5,5 +5,13 @@ pub mod Standing
 pub mod BidWords
 pub mod Acts
 pub mod Soundness
-pub mod Cheapest
+pub mod Tenths
+pub mod Gains
 pub mod Gifts
+pub mod Starts
+pub mod Purchases
+pub mod Settled
+pub mod Blocks
+pub mod Arrivals
+pub mod Money
+pub mod Cheapest
