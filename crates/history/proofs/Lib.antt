@@ -13,4 +13,5 @@ pub mod Purchases
 pub mod Settled
 pub mod Blocks
 pub mod Arrivals
+pub mod Money
 pub mod Cheapest

@@ -123,11 +123,11 @@ IsAtTable seats BankPool = Unit {0}
 IsAtTable seats (OfSeat seat) = seat.0 < seats
 
 -- a choice by two numbers that are the same
-chosen : (i k a : ℕ) → i ≡ k → (if i == k then a else 0) ≡ a
+pub chosen : (i k a : ℕ) → i ≡ k → (if i == k then a else 0) ≡ a
 chosen i k a same = grind (arith, nat_tests)
 
 -- a choice by two numbers that are not
-passed_over : (i k a : ℕ) → i ≢ k → (if i == k then a else 0) ≡ 0
+pub passed_over : (i k a : ℕ) → i ≢ k → (if i == k then a else 0) ≡ 0
 passed_over i k a apart = grind (arith, nat_tests)
 
 -- what the initial offering has is with no seat
