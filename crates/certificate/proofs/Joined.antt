@@ -1,7 +1,7 @@
 -- Each rule of a walk is kept exactly where the fact of a legal run holds that it stands for.
-use Rattle.std.proofs.Common.{◌≡◌, ◌↔◌, ℕ, ◌+◌, ◌*◌, ◌<◌, ◌≤◌, ◌==◌, Bool, true, false, not, ◌||◌, ltb, eqb, ◌⊎◌, inl, inr, if◌then◌else◌, Option, Some, None, IfSome, List, [], ◌∷◌, length, get_or, refl, ap, sym, ◌∙◌, subst, arith}
+use Rattle.std.proofs.Common.{◌≡◌, ◌↔◌, ℕ, ◌+◌, ◌*◌, ◌<◌, ◌≤◌, ◌==◌, Bool, true, false, ◌||◌, ltb, ◌⊎◌, inl, inr, Option, Some, None, IfSome, List, [], ◌∷◌, get_or, refl, ap, ◌∙◌, arith}
 use Rattle.std.specs.List.{AllByRecursion, list_any}
-use Rattle.std.proofs.lemmas.Bool.{eqb-true, eq-eqb, ltb-true, ltb-false, lt-ltb}
+use Rattle.std.proofs.lemmas.Bool.{eqb-true, eq-eqb, ltb-true, ltb-false}
 use Rattle.map_tables.specs.Hex.{index_of}
 use Rattle.map_tables.specs.Place.{stop_index_of}
 use Rattle.map_tables.specs.declared.hex.Hex.{Hex}
@@ -86,7 +86,7 @@ distinct_borders used [] once free = refl
 distinct_borders used (border ∷ borders) once free =
     both_fail (has_border_twice used borders) (is_taken used borders border) (distinct_borders used borders once.1 free.1)
     (both_fail (get_or used border false) (list_any (λ other. other == border) borders) ((used_is used border).1 free.0)
-      ((fails (list_any (λ other. other == border) borders) (among_is border borders)).1 once.0))
+    ((fails (list_any (λ other. other == border) borders) (among_is border borders)).1 once.0))
 
 module _ (P : Stop → Type 0) (test : Stop → Bool) (exact : (stop : Stop) → (test stop ≡ true) ↔ P stop) where
   such_none : (stop : Option Stop) → (is_such test stop ≡ false) ↔ IfSome stop (λ s. ¬ P s)

@@ -1,5 +1,5 @@
 -- What places name is a legal run exactly where they break no rule.
-use Rattle.std.proofs.Common.{◌≡◌, ◌↔◌, ℕ, ◌≤◌, Bool, true, false, not, if◌then◌else◌, Option, Some, None, is_none, List, [], ◌∷◌, length, refl, ap, sym, ◌∙◌, arith}
+use Rattle.std.proofs.Common.{◌≡◌, ◌↔◌, Bool, true, false, not, Option, Some, None, is_none, List, [], ◌∷◌, length, refl, ap, ◌∙◌}
 use Rattle.std.specs.List.{list_any}
 use Rattle.map_tables.specs.declared.place.Place.{Place}
 use Rattle.map_tables.specs.declared.place.Stop.{Stop}
@@ -8,14 +8,14 @@ use Rattle.reach.specs.declared.walk.Step.{Step}
 use Rattle.tables.specs.Rules.{Rule, first_broken}
 use Rattle.tables.specs.declared.rolling_stock.Kind.{Kind}
 use Rattle.tables.specs.declared.roster.Company.{Company}
-use Rattle.certificate.specs.Fault.{has_border_twice, has_stop_twice, has_token, is_full, is_wrong_number, passes, rules_of_walk, run_fault, steps_of}
+use Rattle.certificate.specs.Fault.{has_border_twice, has_stop_twice, has_token, is_full, is_wrong_number, passes, rules_of_walk, steps_of}
 use Rattle.certificate.specs.Law.{LegalWhereNoRuleIsBroken, NameLegalRun}
 use Rattle.certificate.specs.Legal.{IsLegalRun, crossed, visited}
 use Rattle.certificate.specs.Named.{walk_named}
 use Rattle.certificate.specs.declared.run_fault.RunFault.{RunFault}
 use Rattle.certificate.specs.declared.run_fault.RunFault.TheVariants.{NoTrack, WrongNumber, StopTwice, BorderTwice, PassesFull, NoToken, RedInside}
 use Rattle.certificate.proofs.Joined.{stops_distinct, distinct_stops, borders_distinct, distinct_borders, passes_none, none_passes, has_such, such_has, number_is, is_number}
-use Rattle.certificate.proofs.Named.{IsWhole, StopToStop, named_is_whole}
+use Rattle.certificate.proofs.Named.{IsWhole, named_is_whole}
 use Rattle.certificate.proofs.Tests.{has_token_is, is_full_is}
 
 abbrev ruling : RunFault → Bool → Rule RunFault
@@ -98,6 +98,7 @@ module _ (position : Position) (company : Company) (kind : Kind) (used : List Bo
 
 -- what places name is a legal run exactly where they break no rule
 pub legal_where_unbroken : LegalWhereNoRuleIsBroken
-legal_where_unbroken position company kind used places =
-    (λ h. by_walk position company kind used places (walk_named position places) refl h,
-     λ run. by_run position company kind used (walk_named position places) run.0 run.1 run.2)
+legal_where_unbroken position company kind used places = (
+  λ h. by_walk position company kind used places (walk_named position places) refl h,
+  λ run. by_run position company kind used (walk_named position places) run.0 run.1 run.2,
+)

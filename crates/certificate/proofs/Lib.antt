@@ -5,3 +5,4 @@ pub mod Ruled
 pub mod Named
 pub mod Joined
 pub mod Lawful
+pub mod Borders

@@ -1,5 +1,5 @@
 -- The walk that places name is a walk, from a stop to a stop.
-use Rattle.std.proofs.Common.{◌≡◌, ℕ, ◌+◌, ◌<◌, ◌==◌, Bool, true, false, ◌&&◌, ltb, eqb, ◌⊎◌, inl, inr, if◌then◌else◌, Option, Some, None, option_map, option_and_then, List, [], ◌∷◌, refl, ap, sym, ◌∙◌, subst, arith, find}
+use Rattle.std.proofs.Common.{◌≡◌, ◌==◌, Bool, true, false, ◌&&◌, ltb, inl, inr, if◌then◌else◌, Option, Some, None, option_map, option_and_then, List, [], ◌∷◌, refl, ap, sym, ◌∙◌, subst, arith, find}
 use Rattle.std.specs.List.{list_any}
 use Rattle.std.proofs.lemmas.Bool.{eqb-true}
 use Rattle.map_tables.specs.Border.{neighbour_of}
@@ -15,14 +15,14 @@ use Rattle.map_tables.specs.declared.side.Side.{Side}
 use Rattle.map_tables.specs.declared.track.End.{End}
 use Rattle.map_tables.specs.declared.track.End.TheVariants.{Side as AtSide, Stop as AtStop}
 use Rattle.map_tables.specs.declared.track.Link.{Link}
-use Rattle.reach.specs.Position.{Position, IsAmong, links_of}
-use Rattle.reach.specs.Walk.{AreJoined, BeginsAt, GoesOn, IsTrack, IsWalk, across, begins_at, entered_at, left_at, spot_at, stop_of}
+use Rattle.reach.specs.Position.{Position, links_of}
+use Rattle.reach.specs.Walk.{AreJoined, BeginsAt, GoesOn, IsTrack, IsWalk, across, entered_at, left_at, spot_at, stop_of}
 use Rattle.reach.specs.declared.walk.Spot.{Spot}
 use Rattle.reach.specs.declared.walk.Step.{Step}
 use Rattle.reach.proofs.Hexes.{same_index, same_side, same_stop_index, side_low}
 use Rattle.reach.proofs.Lists.{among_found}
 use Rattle.certificate.specs.Legal.{EndsAtStop}
-use Rattle.certificate.specs.Named.{arrived, beginning, is_hex, leg_by_stop, leg_from, leg_over, leg_to, same_link, side_towards, step_between, step_over, taken, travelled, walk_named, with_leg, with_second}
+use Rattle.certificate.specs.Named.{arrived, is_hex, leg_by_stop, leg_from, leg_over, leg_to, same_link, side_towards, step_between, step_over, taken, travelled, walk_named, with_leg}
 use Rattle.certificate.specs.declared.leg.Leg.{Leg}
 
 -- what a search finds passes its test
@@ -165,7 +165,7 @@ module _ (position : Position) where
   on_from steps at side place (Some first) leg goes beside found is =
       on_by_stop steps first place.hex (facing_of side) place.stop leg
       (one_step steps first at.hex at.end (AtSide side) (spot_at place.hex (AtSide (facing_of side))) (joins position at.hex at.end (AtSide side) first found) goes.walk goes.begins goes.stands
-        (ap (option_map (λ other. spot_at other (AtSide (facing_of side)))) beside))
+      (ap (option_map (λ other. spot_at other (AtSide (facing_of side)))) beside))
       is
 
   on_over : (steps : List Step) (at : Spot) (place : Place) (side : Option Side) (leg : Leg) → Goes position steps at → side_towards at.hex place.hex ≡ side → leg_over position at place side ≡ Some leg → Goes position (with_leg taken steps leg) leg.at

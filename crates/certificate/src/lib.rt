@@ -22,6 +22,6 @@ mod tally;
 mod used;
 
 pub use check::check_run;
-pub use laws::legal_where_no_rule_is_broken;
+pub use laws::{borders_are_told_apart, crossed_borders_are_used, legal_where_no_rule_is_broken};
 pub use run_fault::RunFault;
 pub use used::Used;
