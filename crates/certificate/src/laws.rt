@@ -7,14 +7,14 @@ ghost use Rattle.certificate.specs.Law.{
 
 use map_tables::neighbours_pair;
 
-/// What some places name is a legal run exactly where they break no rule: the walk that they name is
-/// then one from a stop to a stop that keeps all that a legal run must keep.
+/// What some places name is a legal run exactly where they break no rule: the walk that they name
+/// is then one from a stop to a stop that keeps all that a legal run must keep.
 pub fn legal_where_no_rule_is_broken()
     ensures { LegalWhereNoRuleIsBroken }
 {}
 
-/// Borders are told apart by their numbers: two sides of hexes have one number exactly where they are
-/// one side, or the two sides of one border.
+/// Borders are told apart by their numbers: two sides of hexes have one number exactly where they
+/// are one side, or the two sides of one border.
 pub fn borders_are_told_apart()
     ensures { BordersAreToldApart }
 {
