@@ -1,3 +1,4 @@
+pub mod Same
 pub mod Positions
 pub mod Tokens
 pub mod Tiles

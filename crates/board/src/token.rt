@@ -10,7 +10,7 @@ use crate::asker::{Asker, TurnStep};
 use crate::board::Board;
 use crate::fault::TokenFault;
 use crate::shown::{same_company, same_hex, same_stop};
-use map_tables::{Hex, Place, Stop, hexes_are_told_apart, home, joined_stop};
+use map_tables::{Hex, Place, Stop, home, joined_stop};
 use std::alloc::AllocError;
 use tables::{Amount, Company, Money, token_price, tokens};
 
@@ -153,7 +153,6 @@ fn is_token_used(asker: &Asker) -> bool
 fn is_among(stop: Stop, stops: &[Stop]) -> bool
     ensures { IsTrue result ↔ IsAmong stop stops.now }
 {
-    hexes_are_told_apart();
     for one in stops {
         if same_stop(*one, stop) {
             return true;
