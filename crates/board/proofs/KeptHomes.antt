@@ -40,7 +40,7 @@ one_le true b implied = rw (implied refl) (omega arith)
 one_le false b implied = omega arith
 
 -- no more pass a test than one that it implies
-count_le : {X : Type 0} (p q : X → Bool) (xs : List X) → ((x : X) → p x ≡ true → q x ≡ true) → count_by p xs ≤ count_by q xs
+pub count_le : {X : Type 0} (p q : X → Bool) (xs : List X) → ((x : X) → p x ≡ true → q x ≡ true) → count_by p xs ≤ count_by q xs
 count_le p q xs implied =
     sum_by-le-sum_by (λ x. cond (p x) 1 0) (λ x. cond (q x) 1 0) xs (λ x. one_le (p x) (q x) (implied x))
 

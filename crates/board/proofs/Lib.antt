@@ -11,3 +11,5 @@ pub mod Fitting
 pub mod Growing
 pub mod FitLaws
 pub mod KeptHomes
+pub mod Stocked
+pub mod Examples

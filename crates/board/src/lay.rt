@@ -1,6 +1,6 @@
 ghost use Rattle.std.specs.Prelude.{◌≡◌, ◌⊎◌, ◌↔◌, ◌≤◌, ◌<◌, Err, None, IfOk, IsTrue, count_by};
 ghost use Rattle.std.specs.List.{list_any};
-ghost use Rattle.board.specs.Ground.{is_stop, position_of, tile_on, with_lay};
+ghost use Rattle.board.specs.Ground.{position_of, tile_on, with_lay};
 ghost use Rattle.board.specs.LayRules.{HaveStopIn, IsConnected, IsLayAnswer, ShareLink, ground_rules, is_blocked, is_colour_closed, is_kept, is_lay_used, is_none_left, is_tile, is_wrong_colour, lay_cost_of, loses_track, lying_of, place_of_colour};
 ghost use Rattle.map_tables.specs.Hex.{same_hex};
 ghost use Rattle.map_tables.specs.Laws.{link_order};

@@ -1,8 +1,6 @@
-ghost use Rattle.std.specs.Prelude.{◌≡◌, ◌⊎◌, ◌↔◌, Err, None, Some, IfOk, IsTrue, count_by};
-ghost use Rattle.std.specs.List.{list_any};
+ghost use Rattle.std.specs.Prelude.{◌≡◌, ◌⊎◌, ◌↔◌, Err, None, Some, IfOk, IsTrue};
 ghost use Rattle.board.specs.Ground.{position_of};
 ghost use Rattle.board.specs.TokenRules.{IsReachedPlace, IsTokenAnswer, has_none_left, has_token_in, is_full_at, is_kept_for, is_no_free_slot, is_token_used, kept_at, laid_by, slot_rules, token_cost_of};
-ghost use Rattle.map_tables.specs.Place.{stop_of};
 ghost use Rattle.reach.specs.Position.{IsAmong};
 ghost use Rattle.tables.specs.Rules.{first_broken};
 
