@@ -1,3 +1,4 @@
+pub mod Choices
 pub mod EventAtEnd
 pub mod Places
 pub mod Words

@@ -5,7 +5,7 @@ use Rattle.std.proofs.lemmas.Bool.Decides.{nat_tests}
 use Rattle.std.proofs.lemmas.Int.{ints}
 use Rattle.std.proofs.lemmas.List.Sums.{sum_by-cons}
 use Rattle.std.specs.List.{range_with_len}
-use Rattle.history.proofs.Tenths.{chosen, passed_over}
+use Rattle.history.proofs.Choices.{chosen, passed_over}
 use Rattle.history.specs.Event.{party_at, payment_of}
 use Rattle.history.specs.LookBack.{cash_of, paid_by, paid_to, same_party}
 use Rattle.history.specs.Money.{AllMoneyStays, IsParty, IsWithin, cash_together, parties, party_of_company}
@@ -45,15 +45,15 @@ no_later_seat : (seat : Seat) (sum from count : ℕ) → seat.0 < from → sum_w
 no_later_seat seat sum from zero before = refl
 no_later_seat seat sum from (suc count) before =
     let apart : seat.0 ≢ from = omega arith in
-    omega (arith, passed_over seat.0 from sum apart, no_later_seat seat sum (from + 1) count (omega arith))
+    omega (arith, passed_over seat.0 from sum 0 apart, no_later_seat seat sum (from + 1) count (omega arith))
 
 -- it is with the seats among whom the one is
 with_its_seat : (seat : Seat) (sum from count : ℕ) → from ≤ seat.0 → seat.0 < from + count → sum_with (party_at seat) sum (map party_at (map seat_at (range_with_len from count))) ≡ sum
 with_its_seat seat sum from zero low high = absurd (omega arith)
 with_its_seat seat sum from (suc count) low high =
     elim (cases_eq seat.0 from) [
-      | inl same ↦ omega (arith, chosen seat.0 from sum same, no_later_seat seat sum (from + 1) count (omega arith))
-      | inr apart ↦ omega (arith, passed_over seat.0 from sum apart, with_its_seat seat sum (from + 1) count (omega arith) (omega arith))
+      | inl same ↦ omega (arith, chosen seat.0 from sum 0 same, no_later_seat seat sum (from + 1) count (omega arith))
+      | inr apart ↦ omega (arith, passed_over seat.0 from sum 0 apart, with_its_seat seat sum (from + 1) count (omega arith) (omega arith))
     ]
 
 -- what a company has is with the companies
