@@ -3,6 +3,7 @@ use Rattle.std.proofs.Common.{◌≡◌, ℕ, zero, suc, ◌<◌, false, List, [
 use Rattle.certs.specs.Purchase.{is_at_limit, is_none_there, is_over_six, is_second, is_short, purchase_judgement}
 use Rattle.history.specs.LookBack.{Game}
 use Rattle.history.specs.declared.event.Event.{Event}
+use Rattle.market.specs.OperatingOrder.{operating_order_of}
 use Rattle.privates.specs.Opening.{IsOpeningRound, in_play, opened}
 use Rattle.privates.specs.Sale.{settled}
 use Rattle.privates.specs.Turn.{opening_turns}
@@ -62,7 +63,7 @@ stock_goes_on (suc (suc (suc (suc (suc k))))) below = absurd (omega arith)
 
 -- the stock round leads to the end
 stock_played : stock.IsStockRound second_file (Stock 1) after_opening second_end.game
-unfolding sheet_of players_of body_of content_of written_lines is_blank begins is_sheet_line purchase_judgement is_none_there is_short is_at_limit is_over_six is_second
+unfolding sheet_of players_of body_of content_of written_lines is_blank begins is_sheet_line purchase_judgement is_none_there is_short is_at_limit is_over_six is_second operating_order_of
 stock_played =
     record {
       last = stock_end;
