@@ -9,3 +9,4 @@ pub mod LayAnswers
 pub mod Fitting
 pub mod Growing
 pub mod FitLaws
+pub mod KeptHomes

@@ -27,4 +27,7 @@ mod token;
 pub use asker::{Asker, TurnStep};
 pub use board::Board;
 pub use fault::{BoardFault, LayFault, TokenFault};
-pub use laws::{lay_keeps_fit, phase_keeps_fit};
+pub use laws::{
+    fits_without_homes, home_keeps_fit, lay_keeps_fit, nothing_fits, phase_keeps_fit,
+    token_keeps_fit,
+};
