@@ -269,15 +269,15 @@ module _ (position : Position) (company : Company) (used : List Bool) where
   tally_keeps whole [] = none_keeps
   tally_keeps whole (step ∷ before) = step_keeps whole before step (tally_keeps whole before)
 
-low_before : (used : List Bool) (hex : Hex) (end : End) (borders : List ℕ) → 279 ≤ length used → AllByRecursion (λ b. b < length used) borders → AllByRecursion (λ b. b < length used) (border_at hex end ++ borders)
-low_before used hex (AtSide side) borders whole low = (omega (arith, border_low hex side), low)
-low_before used hex (AtStop number) borders whole low = low
+low_before : (bound : ℕ) (hex : Hex) (end : End) (borders : List ℕ) → 279 ≤ bound → AllByRecursion (λ b. b < bound) borders → AllByRecursion (λ b. b < bound) (border_at hex end ++ borders)
+low_before bound hex (AtSide side) borders whole low = (omega (arith, border_low hex side), low)
+low_before bound hex (AtStop number) borders whole low = low
 
--- the borders that a walk crosses have marks
-crossed_low : (used : List Bool) (steps : List Step) → 279 ≤ length used → AllByRecursion (λ b. b < length used) (crossed steps)
-crossed_low used [] whole = tt
-crossed_low used (step ∷ before) whole =
-    low_before used (entered_at step).hex (entered_at step).end (crossed before) whole (crossed_low used before whole)
+-- the borders that a walk crosses have low numbers
+pub crossed_low : (bound : ℕ) (steps : List Step) → 279 ≤ bound → AllByRecursion (λ b. b < bound) (crossed steps)
+crossed_low bound [] whole = tt
+crossed_low bound (step ∷ before) whole =
+    low_before bound (entered_at step).hex (entered_at step).end (crossed before) whole (crossed_low bound before whole)
 
 -- a test of an element or of others
 or_is : (a b : Bool) → (a || b) ≡ true → (a ≡ true) ⊎ (b ≡ true)
@@ -292,7 +292,7 @@ is_or false b (inr h) = h
 -- after a walk those borders are used that were used before, and those that it crosses
 pub crossed_used : CrossedBordersAreUsed
 crossed_used used steps border whole =
-    let low : AllByRecursion (λ b. b < length used) (crossed steps) = crossed_low used steps (omega arith) in
+    let low : AllByRecursion (λ b. b < length used) (crossed steps) = crossed_low (length used) steps (omega arith) in
     let is : get_or (marked used (crossed steps)) border false ≡ is_taken used (crossed steps) border = marked_is used (crossed steps) border low in (
       λ h. elim (or_is (get_or used border false) (list_any (λ other. other == border) (crossed steps)) (sym is ∙ h)) [
         | inl before ↦ inl before

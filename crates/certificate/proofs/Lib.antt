@@ -7,4 +7,5 @@ pub mod Joined
 pub mod Lawful
 pub mod Borders
 pub mod Sharing
+pub mod Counting
 pub mod Written

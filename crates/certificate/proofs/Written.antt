@@ -1,6 +1,6 @@
 -- Each legal run can be written out. Its places are found step by step: a step that is left at a stop is
 -- named with the stop, one that is left at a side is named by where it goes on.
-use Rattle.std.proofs.Common.{◌≡◌, ℕ, ◌+◌, ◌-◌, ◌<◌, ◌==◌, Bool, true, false, ◌&&◌, ltb, ◌⊎◌, inl, inr, if◌then◌else◌, Option, Some, None, IfSome, option_map, option_and_then, List, [], ◌∷◌, refl, ap, sym, ◌∙◌, subst, arith, find, lit<}
+use Rattle.std.proofs.Common.{◌≡◌, ℕ, ◌+◌, ◌-◌, ◌<◌, ◌==◌, Bool, true, false, ◌&&◌, ltb, ◌⊎◌, inl, inr, if◌then◌else◌, Option, Some, None, IfSome, option_map, option_and_then, List, [], ◌∷◌, ◌++◌, length, suc, ◌≤◌, refl, ap, sym, ◌∙◌, subst, arith, find, lit<}
 use Rattle.std.specs.List.{list_any}
 use Rattle.std.proofs.lemmas.Bool.{eqb-true, eq-eqb, ltb-true, lt-ltb}
 use Rattle.map_tables.specs.Border.{adjacent, neighbour_of, open_to, is_closed}
@@ -26,10 +26,13 @@ use Rattle.reach.specs.Walk.{AreJoined, BeginsAt, IsTrack, IsWalk, PassesOnly, e
 use Rattle.reach.specs.declared.walk.Spot.{Spot}
 use Rattle.reach.specs.declared.walk.Step.{Step}
 use Rattle.reach.proofs.Lists.{found_among}
+use Rattle.certificate.specs.Legal.{border_at, crossed}
 use Rattle.certificate.specs.Named.{arrived, is_hex, leg_by_stop, leg_from, leg_over, leg_to, same_link, side_towards, step_between, step_over, taken, travelled, walk_named, with_leg}
-use Rattle.certificate.specs.Law.{EachLegalRunIsNamed, PartsHaveOneStop}
+use Rattle.certificate.specs.Law.{AreItsPlaces, EachLegalRunIsNamed, PartsHaveOneStop}
 use Rattle.certificate.specs.declared.leg.Leg.{Leg}
+use Rattle.certificate.proofs.Counting.{no_more}
 use Rattle.certificate.proofs.Joined.{not_less}
+use Rattle.certificate.proofs.Kept.{crossed_low}
 use Rattle.certificate.proofs.Named.{found_passes, hex_found}
 use Rattle.certificate.proofs.Tests.{all_three}
 
@@ -235,23 +238,39 @@ abbrev onto : List Place → List Place → List Place
 onto [] rest = rest
 onto (place ∷ earlier) rest = onto earlier (place ∷ rest)
 
+-- one more border where a train stands at one
+abbrev borders_at : End → ℕ
+borders_at (AtSide side) = 1
+borders_at (AtStop number) = 0
+
+length_at : (hex : Hex) (end : End) (borders : List ℕ) → length (border_at hex end ++ borders) ≡ borders_at end + length borders
+length_at hex (AtSide side) borders = omega arith
+length_at hex (AtStop number) borders = omega arith
+
+length_onto : (places rest : List Place) → length (onto places rest) ≡ length places + length rest
+length_onto [] rest = omega arith
+length_onto (place ∷ earlier) rest = let later : length (onto earlier (place ∷ rest)) ≡ length earlier + length (place ∷ rest) = length_onto earlier (place ∷ rest) in omega (arith, later)
+
 module _ (position : Position) (lawful : IsLawful position) (parts : PartsHaveOneStop position) where
   -- some places lead a train to a spot by these steps
   record Led (at : Spot) (steps : List Step) : Type 0 where
     places : List Place
+    counts : length places ≡ 1 + length (crossed steps) + borders_at at.end
     leads_on : (rest : List Place) → walk_named position (onto places rest) ≡ travelled taken position at steps rest
 
   -- the first place
   led_first : (hex : Hex) (number : StopNumber) → Led (spot_at hex (AtStop number)) []
   led_first hex number = record {
     places = record { hex = hex; stop = Some number } ∷ [];
+    counts = refl;
     leads_on = λ rest. refl;
   }
 
   -- one more place
-  led_further : (at : Spot) (steps : List Step) (place : Place) (leg : Leg) → leg_to position at place ≡ Some leg → Led at steps → Led leg.at (with_leg taken steps leg)
-  led_further at steps place leg is led = record {
+  led_further : (at : Spot) (steps : List Step) (place : Place) (leg : Leg) → leg_to position at place ≡ Some leg → length (crossed (with_leg taken steps leg)) + borders_at leg.at.end ≡ suc (length (crossed steps) + borders_at at.end) → Led at steps → Led leg.at (with_leg taken steps leg)
+  led_further at steps place leg is more led = record {
     places = place ∷ led.places;
+    counts = omega (arith, more, led.counts);
     leads_on = λ rest. led.leads_on (place ∷ rest) ∙ ap (option_and_then (λ l. travelled taken position l.at (with_leg taken steps l) rest)) is;
   }
 
@@ -344,13 +363,15 @@ module _ (position : Position) (lawful : IsLawful position) (parts : PartsHaveOn
       let first : step_between position earlier.link.hex (entered_at earlier).end (AtSide side) ≡ Some earlier = ap (step_between position earlier.link.hex (entered_at earlier).end) (sym leaves) ∙ between_is position lawful earlier was in
       subst (λ (e : End). Led (spot_at step.link.hex e) (earlier ∷ before)) (sym enters)
       (led_further (entered_at earlier) before (record { hex = step.link.hex; stop = None }) (record { first = earlier; second = None; at = spot_at step.link.hex (AtSide (facing_of side)) })
-      (leg_through (entered_at earlier) earlier side step.link.hex beside first) led)
+      (leg_through (entered_at earlier) earlier side step.link.hex beside first)
+      (omega (arith, length_at (entered_at earlier).hex (entered_at earlier).end (crossed before))) led)
   over_written step earlier before side track was leaves beside enters led (AtStop number) goes =
       let first : step_between position earlier.link.hex (entered_at earlier).end (AtSide side) ≡ Some earlier = ap (step_between position earlier.link.hex (entered_at earlier).end) (sym leaves) ∙ between_is position lawful earlier was in
       let second : step_between position step.link.hex (AtSide (facing_of side)) (AtStop number) ≡ Some step = ap (λ (e : End). step_between position step.link.hex e (AtStop number)) (sym enters) ∙ ap (step_between position step.link.hex (entered_at step).end) (sym goes) ∙ between_is position lawful step track in
       subst (λ (e : End). Led (spot_at step.link.hex e) (step ∷ earlier ∷ before)) (sym goes)
       (led_further (entered_at earlier) before (record { hex = step.link.hex; stop = Some number }) (record { first = earlier; second = Some step; at = spot_at step.link.hex (AtStop number) })
-      (leg_to_stop (entered_at earlier) earlier step side step.link.hex number beside first second) led)
+      (leg_to_stop (entered_at earlier) earlier step side step.link.hex number beside first second)
+      (omega (arith, length_at (entered_at earlier).hex (entered_at earlier).end (crossed before), length_at step.link.hex (entered_at step).end (crossed (earlier ∷ before)), ap borders_at enters)) led)
 
   -- a later step
   later_written : (step earlier : Step) (before : List Step) → IsTrack position step → IsTrack position earlier → AreJoined (left_at earlier) (entered_at step) → IfSome (stop_of (entered_at step)) (λ stop. ¬ (is_red position stop ≡ true)) → (left entered : End) → (left_at earlier).end ≡ left → (entered_at step).end ≡ entered → NowAt earlier before left → NowAt step (earlier ∷ before) (left_at step).end
@@ -383,15 +404,32 @@ module _ (position : Position) (lawful : IsLawful position) (parts : PartsHaveOn
       later_written step earlier before walk.0 walk.2.0 walk.1 passes.0 (left_at earlier).end (entered_at step).end refl refl
       (written earlier before walk.2 begins passes.1)
 
+  -- a step that is left at a stop came over a border
+  over_one : (step : Step) (before : List Step) (number : StopNumber) → IsTrack position step → (left_at step).end ≡ AtStop number → (end : End) → (entered_at step).end ≡ end → 1 ≤ length (crossed (step ∷ before))
+  over_one step before number track leaves (AtSide side) enters =
+      omega (arith, length_at step.link.hex (entered_at step).end (crossed before), ap borders_at enters)
+  over_one step before number track leaves (AtStop other) enters =
+      absurd (stop_to_stop step.link step.turned other number (ordered position lawful step track) enters leaves)
+
   -- at its end
-  at_stop : (step : Step) (before : List Step) (end : End) → (left_at step).end ≡ end → (stop : Stop) → stop_of (spot_at step.link.hex end) ≡ Some stop → NowAt step before end → (places : List Place) × (walk_named position places ≡ Some (step ∷ before))
-  at_stop step before (AtSide side) leaves stop is led = let wrong : None ≡ Some stop = is in absurd cc
-  at_stop step before (AtStop number) leaves stop is led =
-      (onto led.places [], led.leads_on [] ∙ ap (λ (e : End). arrived e (step ∷ before)) leaves)
+  at_stop : (step : Step) (before : List Step) → IsTrack position step → length (crossed (step ∷ before)) ≤ 279 → (end : End) → (left_at step).end ≡ end → (stop : Stop) → stop_of (spot_at step.link.hex end) ≡ Some stop → NowAt step before end → (places : List Place) × AreItsPlaces position (step ∷ before) places
+  at_stop step before track few (AtSide side) leaves stop is led = let wrong : None ≡ Some stop = is in absurd cc
+  at_stop step before track few (AtStop number) leaves stop is led =
+      let count : length (onto led.places []) ≡ length led.places + 0 = length_onto led.places [] in
+      let borders : borders_at (left_at step).end ≡ 0 = ap borders_at leaves in (
+        onto led.places [],
+        record {
+          name_it = led.leads_on [] ∙ ap (λ (e : End). arrived e (step ∷ before)) leaves;
+          least = omega (arith, count, borders, led.counts, over_one step before number track leaves (entered_at step).end refl);
+          most = omega (arith, count, borders, led.counts, few);
+        },
+      )
 
 -- each legal run can be written out
 pub each_named : EachLegalRunIsNamed
 each_named position company kind used [] lawful parts run = absurd run.begins
 each_named position company kind used (step ∷ before) lawful parts run =
-    at_stop position lawful parts step before (left_at step).end refl run.ends.0 run.ends.1
+    at_stop position lawful parts step before run.walk.0
+    (no_more 279 (crossed (step ∷ before)) run.no_border_twice (crossed_low 279 (step ∷ before) (omega arith)))
+    (left_at step).end refl run.ends.0 run.ends.1
     (written position lawful parts step before run.walk run.begins run.no_red_inside)

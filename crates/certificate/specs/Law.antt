@@ -2,7 +2,7 @@
 -- no rule, and each legal run is named by some. And what the numbers of borders and the marks of used
 -- ones are worth: a number is one border's; a run adds its borders to the marks and no others; a run that
 -- is legal after it shares no border with it.
-use Rattle.std.specs.Prelude.{◌≡◌, ◌↔◌, ◌⊎◌, ℕ, Bool, Some, None, List, length}
+use Rattle.std.specs.Prelude.{◌≡◌, ◌↔◌, ◌≤◌, ◌⊎◌, ℕ, Bool, Some, None, List, length}
 use Rattle.std.specs.List.{AllByRecursion}
 use Rattle.map_tables.specs.Border.{neighbour_of}
 use Rattle.map_tables.specs.declared.hex.Hex.{Hex}
@@ -62,9 +62,15 @@ abbrev pub PartsHaveOneStop : Position → Type 0
 PartsHaveOneStop position =
     (hex : Hex) (link : Link) → IsAmong link (links_of position hex) → link.b ≡ AtStop Second → joined_hex hex ≡ hex
 
--- each legal run can be written out: some places name it
+-- these places name a walk, and are as many as a run may have
+pub record AreItsPlaces (position : Position) (steps : List Step) (places : List Place) : Type 0 where
+  pub name_it : walk_named position places ≡ Some steps
+  pub least : 2 ≤ length places
+  pub most : length places ≤ 280
+
+-- each legal run can be written out: some places name it, from 2 to 280
 abbrev pub EachLegalRunIsNamed : Type 0
 EachLegalRunIsNamed =
     (position : Position) (company : Company) (kind : Kind) (used : List Bool) (steps : List Step) →
     IsLawful position → PartsHaveOneStop position → IsLegalRun position company kind used steps →
-    (places : List Place) × (walk_named position places ≡ Some steps)
+    (places : List Place) × AreItsPlaces position steps places

@@ -33,8 +33,8 @@ pub fn runs_share_no_border()
     ensures { RunsShareNoBorder }
 {}
 
-/// Each legal run can be written out: some places name it. A hex that is a part of another's stop
-/// must have that stop alone, as it has on the map.
+/// Each legal run can be written out: some places name it, from 2 to 280. A hex that is a part of
+/// another's stop must have that stop alone, as it has on the map.
 pub fn each_legal_run_is_named()
     ensures { EachLegalRunIsNamed }
 {}

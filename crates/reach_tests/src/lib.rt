@@ -1,9 +1,10 @@
-//! Tests of the map's tables, of what companies reach and of their runs, through their public calls
-//! alone.
+//! Tests of the map's tables, of what companies reach, lay and place, and of their runs, through
+//! their public calls alone.
 //!
 //! They hold worked examples, whose answers were found by hand on the printed map:
 //! `tiles_on_the_map`, and `reached_stops` and `checked_runs` over an `Example`, which is the
-//! printed map with some tiles and tokens and keeps a position as it is given.
+//! printed map with some tiles and tokens and keeps a position as it is given; and
+//! `lays_and_tokens` over a board.
 #![tactic(auto)]
 
 mod example;
@@ -14,6 +15,8 @@ pub use example::{Example, Token};
 mod boards;
 #[cfg(test)]
 mod checked_runs;
+#[cfg(test)]
+mod lays_and_tokens;
 #[cfg(test)]
 mod reached_stops;
 #[cfg(test)]
