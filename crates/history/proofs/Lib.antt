@@ -16,3 +16,4 @@ pub mod Blocks
 pub mod Arrivals
 pub mod Money
 pub mod Cheapest
+pub mod Telling

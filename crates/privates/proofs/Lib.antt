@@ -6,7 +6,6 @@ pub mod Revenues
 pub mod Pars
 pub mod RoundEnds
 pub mod Sales
-pub mod Seats
 pub mod Settling
 pub mod Small
 pub mod StandingBids

@@ -2,7 +2,7 @@
 -- close where all have passed, and what was left. Once all privates are sold nothing falls and nothing is
 -- paid. Else SV falls by 5 if it is unsold, and at 0 goes to the holder of priority for nothing, with the
 -- sales that follow from it; if it is sold, each sold private pays its revenue, in roster order.
-use Rattle.std.specs.Prelude.{◌≡◌, ℕ, ◌+◌, ◌-◌, ◌*◌, ◌≤◌, ◌==◌, if◌then◌else◌, List, [], ◌∷◌, ◌++◌, map, Option, Some, None}
+use Rattle.std.specs.Prelude.{◌≡◌, ℕ, ◌-◌, ◌*◌, ◌≤◌, ◌==◌, if◌then◌else◌, List, [], ◌∷◌, ◌++◌, Option, Some, None}
 use Rattle.std.specs.List.{range_with_len}
 use Rattle.history.specs.LookBack.{Game, is_sold, owner_of, priority_of, sv_price_of}
 use Rattle.history.specs.Tell.{with_broken, with_left}
@@ -12,22 +12,15 @@ use Rattle.history.specs.declared.event.Holder.{Holder}
 use Rattle.privates.specs.Sale.{after_sale, settled}
 use Rattle.privates.specs.Standing.{after_standing}
 use Rattle.privates.specs.Turn.{all_sold, opening_turns}
-use Rattle.sheets.specs.Part.{Numbered, groups_of, lines_in_groups, parts_for}
+use Rattle.sheets.specs.Part.{Numbered}
+pub use Rattle.sheets.specs.Taken.{groups_for, in_play}
+use Rattle.sheets.specs.Taken.{told_of_left}
 use Rattle.tables.specs.Roster.{privates, revenue_of}
-use Rattle.tables.specs.Seat.{seat_at}
 use Rattle.tables.specs.Turns.{InPlay, TurnsEnd}
 use Rattle.tables.specs.declared.roster.Private.{Private}
 use Rattle.tables.specs.declared.roster.Private.TheVariants.{SchuylkillValley}
 use Rattle.tables.specs.declared.round.Round.{Round}
 use Rattle.tables.specs.declared.seat.Seat.{Seat}
-
--- the groups of each seat's sheet
-abbrev pub groups_for : ℕ → List ℕ → Round → List (List (List Numbered))
-groups_for seats file round = map (λ seat. groups_of (parts_for file round seat)) (range_with_len 0 seats)
-
--- turns in play
-abbrev pub in_play : List Event → ℕ → ℕ → List (List (List Numbered)) → InPlay (List Event) Numbered
-in_play events seat passes groups = record { now = events; seat = seat; passes = passes; groups = groups }
 
 -- the round before its first turn: that is of the holder of priority
 abbrev pub opened : ℕ → List ℕ → Round → List Event → InPlay (List Event) Numbered
@@ -69,8 +62,7 @@ closed seats events = if all_sold events then events else after_passing seats ev
 
 -- the lines that were not taken up, seat by seat
 abbrev pub left_from : ℕ → List (List (List Numbered)) → List Event
-left_from seat [] = []
-left_from seat (groups ∷ others) = with_left (seat_at seat) (lines_in_groups groups) (left_from (seat + 1) others)
+left_from seat groups = told_of_left with_left seat groups
 
 -- the list at the end of the round
 abbrev pub finished : ℕ → InPlay (List Event) Numbered → List Event

@@ -13,11 +13,11 @@ use Rattle.order_grammar.specs.declared.fault.Fault.{Fault}
 use Rattle.order_grammar.specs.declared.order.Order.{Order}
 use Rattle.order_grammar.specs.declared.order.Order.TheVariants.{Limit, Par}
 use Rattle.privates.specs.Judgement.{judged}
-use Rattle.sheets.specs.Part.{Numbered, parts_for}
+use Rattle.sheets.specs.Part.{Numbered}
 use Rattle.sheets.specs.Place.{placed}
+use Rattle.sheets.specs.Taken.{after_all_before, after_each, after_lines_before}
 use Rattle.tables.specs.Roster.{same_company}
 use Rattle.history.specs.Shares.{is_par_value}
-use Rattle.tables.specs.Seat.{seat_at}
 use Rattle.tables.specs.declared.roster.Company.{Company}
 use Rattle.tables.specs.declared.roster.Company.TheVariants.{BaltimoreOhio}
 use Rattle.tables.specs.declared.round.Round.{Round}
@@ -54,14 +54,12 @@ after_standing_line seat events line = events ++ Ruled seat line.number (standin
 
 -- after standing lines of a seat, in order
 abbrev pub after_standing_lines : Seat → List Event → List Numbered → List Event
-after_standing_lines seat events [] = events
-after_standing_lines seat events (line ∷ lines) = after_standing_lines seat (after_standing_line seat events line) lines
+after_standing_lines seat events lines = after_each (after_standing_line seat) events lines
 
 -- after the standing lines of a seat's sheet for a round
 abbrev pub after_standing_of : List ℕ → Round → List Event → ℕ → List Event
-after_standing_of file round events seat = after_standing_lines (seat_at seat) events (parts_for file round seat).before
+after_standing_of file round events seat = after_lines_before after_standing_line file round events seat
 
 -- after the standing lines of seats, in order
 abbrev pub after_standing : List ℕ → Round → List Event → List ℕ → List Event
-after_standing file round events [] = events
-after_standing file round events (seat ∷ seats) = after_standing file round (after_standing_of file round events seat) seats
+after_standing file round events seats = after_all_before after_standing_line file round events seats

@@ -8,3 +8,4 @@ pub mod LawLemmas
 pub mod AcceptedLemmas
 pub mod NumberLemmas
 pub mod GroupLemmas
+pub mod TakenLemmas

@@ -6,4 +6,5 @@ pub mod Collecting
 pub mod Sheet
 pub mod Part
 pub mod Place
+pub mod Taken
 pub mod Laws

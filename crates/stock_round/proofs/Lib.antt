@@ -4,6 +4,5 @@ pub mod Others
 pub mod Rises
 pub mod RoundEnds
 pub mod Sales
-pub mod Seats
 pub mod Turns
 pub mod WholeRound

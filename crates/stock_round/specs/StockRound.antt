@@ -2,7 +2,7 @@
 -- place, the turns from the holder of priority to the left until all have passed, the moves of the companies
 -- that are sold out, and what was left. A company is sold out where all its tenths are with players; its token
 -- then moves up. These companies move in operating order, as it is when the turns are over.
-use Rattle.std.specs.Prelude.{◌≡◌, ℕ, ◌+◌, ◌*◌, ◌≤◌, Bool, false, ◌&&◌, if◌then◌else◌, List, [], ◌∷◌, ◌++◌, map, Result, Ok, Err, pos}
+use Rattle.std.specs.Prelude.{◌≡◌, ℕ, ◌*◌, ◌≤◌, Bool, false, ◌&&◌, if◌then◌else◌, List, [], ◌∷◌, ◌++◌, Result, Ok, Err, pos}
 use Rattle.std.specs.List.{range_with_len}
 use Rattle.std.specs.Ordering.{int_eq}
 use Rattle.history.specs.LookBack.{Game, priority_of}
@@ -17,10 +17,11 @@ use Rattle.market.specs.OperatingOrder.{operating_order_of}
 use Rattle.order_grammar.specs.declared.fault.Fault.{Fault}
 use Rattle.order_grammar.specs.declared.fault.Fault.TheVariants.{OutOfPlace}
 use Rattle.order_grammar.specs.declared.order.Order.{Order}
-use Rattle.sheets.specs.Part.{Numbered, groups_of, lines_in_groups, parts_for}
+use Rattle.sheets.specs.Part.{Numbered}
+pub use Rattle.sheets.specs.Taken.{groups_for, in_play}
+use Rattle.sheets.specs.Taken.{after_all_before, after_each, after_lines_before, told_of_left}
 use Rattle.stock_round.specs.Act.{with_move}
 use Rattle.stock_round.specs.Turn.{stock_turns}
-use Rattle.tables.specs.Seat.{seat_at}
 use Rattle.tables.specs.Turns.{InPlay, TurnsEnd}
 use Rattle.tables.specs.declared.roster.Company.{Company}
 use Rattle.tables.specs.declared.round.Round.{Round}
@@ -37,25 +38,15 @@ after_standing_line seat events line = events ++ event.Ruled seat line.number (F
 
 -- after standing lines of a seat, in order
 abbrev pub after_standing_lines : Seat → List Event → List Numbered → List Event
-after_standing_lines seat events [] = events
-after_standing_lines seat events (line ∷ lines) = after_standing_lines seat (after_standing_line seat events line) lines
+after_standing_lines seat events lines = after_each (after_standing_line seat) events lines
 
 -- after the standing lines of a seat's sheet for a round
 abbrev pub after_standing_of : List ℕ → Round → List Event → ℕ → List Event
-after_standing_of file round events seat = after_standing_lines (seat_at seat) events (parts_for file round seat).before
+after_standing_of file round events seat = after_lines_before after_standing_line file round events seat
 
 -- after the standing lines of seats, in order
 abbrev pub after_standing : List ℕ → Round → List Event → List ℕ → List Event
-after_standing file round events [] = events
-after_standing file round events (seat ∷ seats) = after_standing file round (after_standing_of file round events seat) seats
-
--- the groups of each seat's sheet
-abbrev pub groups_for : ℕ → List ℕ → Round → List (List (List Numbered))
-groups_for seats file round = map (λ seat. groups_of (parts_for file round seat)) (range_with_len 0 seats)
-
--- turns in play
-abbrev pub in_play : List Event → ℕ → ℕ → List (List (List Numbered)) → InPlay (List Event) Numbered
-in_play events seat passes groups = record { now = events; seat = seat; passes = passes; groups = groups }
+after_standing file round events seats = after_all_before after_standing_line file round events seats
 
 -- the round before its first turn: that is of the holder of priority
 abbrev pub opened : ℕ → List ℕ → Round → List Event → InPlay (List Event) Numbered
@@ -83,8 +74,7 @@ closed events = all_risen events (operating_order_of events)
 
 -- the lines that were not taken up, seat by seat
 abbrev pub left_from : ℕ → List (List (List Numbered)) → List Event
-left_from seat [] = []
-left_from seat (groups ∷ others) = with_left (seat_at seat) (lines_in_groups groups) (left_from (seat + 1) others)
+left_from seat groups = told_of_left with_left seat groups
 
 -- the list at the end of the round
 abbrev pub finished : InPlay (List Event) Numbered → List Event

@@ -1,9 +1,10 @@
 use Rattle.std.proofs.Common.{◌<◌, length, rules, sym, subst, ◌∙◌}
 use Rattle.std.proofs.lemmas.List.Elements.{All-push}
-use Rattle.privates.proofs.Seats.{groups_more, standing_goes_on}
+use Rattle.sheets.proofs.TakenLemmas.{groups_more, standing_goes_on}
 use Rattle.sheets.specs.File.{players_of}
 use Rattle.privates.proofs.Small.{parts_small, ready_after}
 use Rattle.privates.specs.Small.{IsReady, PartsAreSmall}
+use Rattle.privates.specs.Standing.{after_standing_line}
 use Rattle.privates.proofs.opening.rule_all_standing.Goals as goal
 
 pub loop-seat-preserved : goal.loop-seat-preserved
@@ -13,7 +14,7 @@ loop-seat-preserved c =
     let within : c.loop-seat.seat < length (players_of file) = search rules in
     record {
       seats = c.in_ok-rule_standing.ensures.seats ∙ c.loop-seat.invariant.seats;
-      events = standing_goes_on file c.args.round c.loop-seat.seat (length (players_of file)) c.loop-seat.history.events c.rule_standing.new.history.events c.parts-sheet.result c.at-seat.result within c.in_ok-rule_standing.ensures.events c.at-seat.ensures c.parts-sheet.ensures ∙ c.loop-seat.invariant.events;
+      events = standing_goes_on after_standing_line file c.args.round c.loop-seat.seat (length (players_of file)) c.loop-seat.history.events c.rule_standing.new.history.events c.parts-sheet.result c.at-seat.result within c.in_ok-rule_standing.ensures.events c.at-seat.ensures c.parts-sheet.ensures ∙ c.loop-seat.invariant.events;
       left = rw c.push.ensures.items (groups_more file c.args.round c.loop-seat.seat c.loop-seat.unruled.items c.parts-sheet.result c.rule_standing.new.sheet c.at-seat.result c.loop-seat.invariant.left c.at-seat.ensures c.parts-sheet.ensures c.in_ok-rule_standing.ensures.left);
       each = search rules;
       ready = rw c.push.ensures.items (All-push IsReady _ _ c.loop-seat.invariant.ready (ready_after c.parts-sheet.result c.rule_standing.new.sheet c.in_ok-rule_standing.ensures.left small));

@@ -1,10 +1,11 @@
 use Rattle.std.proofs.Common.{◌≡◌, ◌+◌, ◌<◌, ℕ, List, [], ◌++◌, ◌∷◌, drop, get_or, map, length, sym, ap, ◌∙◌, add-one}
 use Rattle.std.proofs.Math.Seq.{drop-cons}
 use Rattle.std.proofs.lemmas.List.Elements.{All-get_or}
+use Rattle.history.proofs.Telling.{left_first}
 use Rattle.history.specs.Tell.{with_left}
-use Rattle.privates.proofs.Seats.{left_goes_on}
 use Rattle.privates.specs.Opening.{left_from}
 use Rattle.privates.specs.Small.{IsReady}
+use Rattle.sheets.proofs.TakenLemmas.{left_goes_on}
 use Rattle.sheets.specs.Part.{Parts, groups_of, lines_in}
 use Rattle.tables.specs.declared.seat.Seat.{Seat}
 use Rattle.privates.proofs.opening.tell_all_left.Goals as goal
@@ -25,7 +26,7 @@ loop-seat-preserved c =
     record {
       seats = c.in_ok-tell_seat_left.ensures.seats ∙ c.loop-seat.invariant.seats;
       events =
-          left_goes_on old c.tell_seat_left.new.history.events i c.count.result (get_or all i d) (drop (i + 1) all) (told ∙ ap (λ (s : Seat). old ++ with_left s c.count.result []) c.at.ensures) (c.count.ensures ∙ ap lines_in c.index-unruled-seat.is) ready.stands
+          left_goes_on with_left left_first old c.tell_seat_left.new.history.events i c.count.result (get_or all i d) (drop (i + 1) all) (told ∙ ap (λ (s : Seat). old ++ with_left s c.count.result []) c.at.ensures) (c.count.ensures ∙ ap lines_in c.index-unruled-seat.is) ready.stands
           ∙ ap (λ (left : List Parts). old ++ left_from i (map groups_of left)) (sym (next_sheet all i d c.loop-seat-test.true))
           ∙ c.loop-seat.invariant.events;
       underway = c.in_ok-tell_seat_left.ensures.underway;

@@ -1,0 +1,36 @@
+-- What every round takes up of its sheets, whatever becomes of a line: first the lines that stand before the
+-- first head of each sheet, seat by seat; then the groups, turn by turn; and at the end it tells of the lines
+-- that were not taken up.
+use Rattle.std.specs.Prelude.{ℕ, ◌+◌, List, [], ◌∷◌, map}
+use Rattle.std.specs.List.{range_with_len}
+use Rattle.sheets.specs.Part.{Numbered, groups_of, lines_in_groups, parts_for}
+use Rattle.tables.specs.Seat.{seat_at}
+use Rattle.tables.specs.Turns.{InPlay}
+use Rattle.tables.specs.declared.round.Round.{Round}
+use Rattle.tables.specs.declared.seat.Seat.{Seat}
+
+-- after some things in order, where each of them does this
+abbrev pub after_each : {State Item : Type 0} → (State → Item → State) → State → List Item → State
+after_each step state [] = state
+after_each step state (item ∷ items) = after_each step (step state item) items
+
+-- after the standing lines of a seat's sheet for a round, where a line of a seat does this
+abbrev pub after_lines_before : {State : Type 0} → (Seat → State → Numbered → State) → List ℕ → Round → State → ℕ → State
+after_lines_before step file round state seat = after_each (step (seat_at seat)) state (parts_for file round seat).before
+
+-- after the standing lines of these seats, in order
+abbrev pub after_all_before : {State : Type 0} → (Seat → State → Numbered → State) → List ℕ → Round → State → List ℕ → State
+after_all_before step file round state seats = after_each (after_lines_before step file round) state seats
+
+-- the groups of each seat's sheet for a round
+abbrev pub groups_for : ℕ → List ℕ → Round → List (List (List Numbered))
+groups_for seats file round = map (λ seat. groups_of (parts_for file round seat)) (range_with_len 0 seats)
+
+-- turns in play: the state so far, whose turn it is, how many have passed, and what is left of the groups
+abbrev pub in_play : {State : Type 0} → State → ℕ → ℕ → List (List (List Numbered)) → InPlay State Numbered
+in_play state seat passes groups = record { now = state; seat = seat; passes = passes; groups = groups }
+
+-- what is told of the lines that were not taken up, seat by seat, where so much is told in front of the rest
+abbrev pub told_of_left : {Told : Type 0} → (Seat → ℕ → List Told → List Told) → ℕ → List (List (List Numbered)) → List Told
+told_of_left tell seat [] = []
+told_of_left tell seat (groups ∷ others) = tell (seat_at seat) (lines_in_groups groups) (told_of_left tell (seat + 1) others)
