@@ -1,6 +1,6 @@
 -- An event that moves money and says nothing else keeps a list sound, where no seat pays and each company has
 -- what it pays.
-use Rattle.std.proofs.Common.{◌≡◌, ℕ, ◌⊎◌, inl, inr, true, false, if◌then◌else◌, None, Some, pos, ◌≤ℤ◌, refl, sym, subst, ap, ◌∙◌, arith}
+use Rattle.std.proofs.Common.{◌≡◌, ℕ, inl, inr, if◌then◌else◌, None, pos, ◌≤ℤ◌, refl, subst, arith}
 use Rattle.std.proofs.lemmas.Int.{ints}
 use Rattle.history.proofs.Choices.{same_company_is, truth}
 use Rattle.history.proofs.EventAtEnd.{bids_of_before, cash_of_at_end}
@@ -11,8 +11,6 @@ use Rattle.history.specs.LookBack.{Game, cash_of, paid_by, with_event}
 use Rattle.history.specs.Sound.{CompaniesAreSolvent, IsSound}
 use Rattle.history.specs.declared.event.Event.{Event}
 use Rattle.history.specs.declared.event.Event.TheVariants.{Home, Laid, Token, Withheld}
-use Rattle.history.specs.declared.event.Party.TheVariants as party
-use Rattle.history.specs.declared.event.Payment.{Payment}
 use Rattle.tables.specs.Roster.{same_company}
 use Rattle.tables.specs.declared.roster.Company.{Company}
 use Rattle.tables.specs.declared.seat.Seat.{Seat}
