@@ -1,0 +1,70 @@
+-- What joins the legal runs and the rules: what some places name is a legal run exactly where they break
+-- no rule, and each legal run is named by some. And what the numbers of borders and the marks of used
+-- ones are worth: a number is one border's; a run adds its borders to the marks and no others; a run that
+-- is legal after it shares no border with it.
+use Rattle.std.specs.Prelude.{◌≡◌, ◌↔◌, ◌⊎◌, ℕ, Bool, Some, None, List, length}
+use Rattle.std.specs.List.{AllByRecursion}
+use Rattle.map_tables.specs.Border.{neighbour_of}
+use Rattle.map_tables.specs.declared.hex.Hex.{Hex}
+use Rattle.map_tables.specs.Place.{joined_hex}
+use Rattle.map_tables.specs.declared.place.Place.{Place}
+use Rattle.map_tables.specs.declared.place.StopNumber.TheVariants.{Second}
+use Rattle.map_tables.specs.declared.side.Side.{Side}
+use Rattle.map_tables.specs.declared.track.End.TheVariants.{Side as AtSide, Stop as AtStop}
+use Rattle.map_tables.specs.declared.track.Link.{Link}
+use Rattle.reach.specs.Lawful.{IsLawful}
+use Rattle.reach.specs.Position.{Position, IsAmong, links_of}
+use Rattle.reach.specs.Walk.{across, spot_at}
+use Rattle.reach.specs.declared.walk.Spot.{Spot}
+use Rattle.reach.specs.declared.walk.Step.{Step}
+use Rattle.tables.specs.declared.rolling_stock.Kind.{Kind}
+use Rattle.tables.specs.declared.roster.Company.{Company}
+use Rattle.certificate.specs.Fault.{marked, run_fault}
+use Rattle.certificate.specs.Legal.{IsLegalRun, IsUsed, border_of, crossed}
+use Rattle.certificate.specs.Named.{walk_named}
+
+-- some places name a legal run
+abbrev pub NameLegalRun : Position → Company → Kind → List Bool → List Place → Type 0
+NameLegalRun position company kind used places =
+    (steps : List Step) × (walk_named position places ≡ Some steps) × IsLegalRun position company kind used steps
+
+abbrev pub LegalWhereNoRuleIsBroken : Type 0
+LegalWhereNoRuleIsBroken =
+    (position : Position) (company : Company) (kind : Kind) (used : List Bool) (places : List Place) →
+    (run_fault position company kind used places ≡ None) ↔ NameLegalRun position company kind used places
+
+-- two sides of hexes are one, or they are the two sides of one border
+abbrev pub AreSidesOfOneBorder : Spot → Spot → Type 0
+AreSidesOfOneBorder side other = (side ≡ other) ⊎ (across side ≡ Some other)
+
+-- two sides at borders have one number exactly where they are sides of one border
+abbrev pub BordersAreToldApart : Type 0
+BordersAreToldApart =
+    (hex other next beyond : Hex) (side far : Side) →
+    neighbour_of hex side ≡ Some next → neighbour_of other far ≡ Some beyond →
+    (border_of hex side ≡ border_of other far) ↔ AreSidesOfOneBorder (spot_at hex (AtSide side)) (spot_at other (AtSide far))
+
+-- after a run those borders are used that were used before it, and those that it crosses
+abbrev pub CrossedBordersAreUsed : Type 0
+CrossedBordersAreUsed =
+    (used : List Bool) (steps : List Step) (border : ℕ) → length used ≡ 279 →
+    IsUsed (marked used (crossed steps)) border ↔ (IsUsed used border ⊎ IsAmong border (crossed steps))
+
+-- a run that is legal after another shares no border with it
+abbrev pub RunsShareNoBorder : Type 0
+RunsShareNoBorder =
+    (position : Position) (company : Company) (kind : Kind) (used : List Bool) (first second : List Step) → length used ≡ 279 →
+    IsLegalRun position company kind (marked used (crossed first)) second →
+    AllByRecursion (λ border. ¬ IsAmong border (crossed first)) (crossed second)
+
+-- a hex that is part of another's stop has one stop: no track of it leads to a second
+abbrev pub PartsHaveOneStop : Position → Type 0
+PartsHaveOneStop position =
+    (hex : Hex) (link : Link) → IsAmong link (links_of position hex) → link.b ≡ AtStop Second → joined_hex hex ≡ hex
+
+-- each legal run can be written out: some places name it
+abbrev pub EachLegalRunIsNamed : Type 0
+EachLegalRunIsNamed =
+    (position : Position) (company : Company) (kind : Kind) (used : List Bool) (steps : List Step) →
+    IsLawful position → PartsHaveOneStop position → IsLegalRun position company kind used steps →
+    (places : List Place) × (walk_named position places ≡ Some steps)

@@ -1,0 +1,40 @@
+//! What holds of runs: each law is the contract of a function that does nothing.
+ghost use Rattle.certificate.specs.Law.{
+  BordersAreToldApart,
+  CrossedBordersAreUsed,
+  EachLegalRunIsNamed,
+  LegalWhereNoRuleIsBroken,
+  RunsShareNoBorder,
+};
+
+use map_tables::neighbours_pair;
+
+/// What some places name is a legal run exactly where they break no rule: the walk that they name
+/// is then one from a stop to a stop that keeps all that a legal run must keep.
+pub fn legal_where_no_rule_is_broken()
+    ensures { LegalWhereNoRuleIsBroken }
+{}
+
+/// Borders are told apart by their numbers: two sides of hexes have one number exactly where they
+/// are one side, or the two sides of one border.
+pub fn borders_are_told_apart()
+    ensures { BordersAreToldApart }
+{
+    neighbours_pair();
+}
+
+/// After a run those borders are used that were used before it, and those that it crosses.
+pub fn crossed_borders_are_used()
+    ensures { CrossedBordersAreUsed }
+{}
+
+/// A run that is legal once the borders of another are used shares no border with it.
+pub fn runs_share_no_border()
+    ensures { RunsShareNoBorder }
+{}
+
+/// Each legal run can be written out: some places name it. A hex that is a part of another's stop
+/// must have that stop alone, as it has on the map.
+pub fn each_legal_run_is_named()
+    ensures { EachLegalRunIsNamed }
+{}
