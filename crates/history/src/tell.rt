@@ -39,8 +39,8 @@ impl History {
         self.tell(Event::Broken)
     }
 
-    /// Each private pays its owner, in roster order, if it has one; perhaps that breaks the bank. An
-    /// `Err` leaves a list that may have the first of these revenues.
+    /// Each private that has an owner pays it its revenue, in roster order; perhaps that breaks the
+    /// bank. An `Err` leaves a list that may have the first of these revenues.
     pub fn tell_revenues(&mut self) -> Result<(), AllocError>
         requires { IsSound self.old }
         ensures ok { OnOk result (self.new ≡ revenues_told self.old) }

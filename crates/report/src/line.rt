@@ -179,8 +179,8 @@ fn push_of_company(out: &mut Vec<u8>, sheets: &Sheets, event: &Event) -> Result<
     }
 }
 
-/// Adds an event of a company's turn in an operating round as its line: its home, a tile, a token, or
-/// what it withholds.
+/// Adds an event of a company's turn in an operating round as its line: its home, a tile, a token,
+/// or what it withholds.
 fn push_of_turn(out: &mut Vec<u8>, sheets: &Sheets, event: &Event) -> Result<(), AllocError>
     requires { IsOfTurn event.now }
     ensures { OnOk result (Adds out.old out.new (event_line sheets.now event.now)) }
