@@ -15,5 +15,8 @@ pub mod Settled
 pub mod Blocks
 pub mod Arrivals
 pub mod Money
+pub mod Payments
+pub mod InOrder
+pub mod Revenues
 pub mod Cheapest
 pub mod Telling

@@ -6,9 +6,9 @@ use Rattle.std.proofs.lemmas.Int.{ints}
 use Rattle.std.proofs.lemmas.List.Sums.{sum_by-cons}
 use Rattle.std.specs.List.{range_with_len}
 use Rattle.history.proofs.Choices.{chosen, passed_over}
-use Rattle.history.specs.Event.{party_at, payment_of}
+use Rattle.history.specs.Event.{party_at, party_of_company, payment_of}
 use Rattle.history.specs.LookBack.{cash_of, paid_by, paid_to, same_party}
-use Rattle.history.specs.Money.{AllMoneyStays, IsParty, IsWithin, cash_together, parties, party_of_company}
+use Rattle.history.specs.Money.{AllMoneyStays, IsParty, IsWithin, cash_together, parties}
 use Rattle.history.specs.declared.event.Event.{Event}
 use Rattle.history.specs.declared.event.Holder.TheVariants as holder
 use Rattle.history.specs.declared.event.Party.{Party}

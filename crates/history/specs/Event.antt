@@ -1,7 +1,9 @@
 -- An event has a few aspects: the payment that it makes, the tenths that it moves, what it says of a
 -- private's owner and of the bids on it, the par value, square and president of a company that it sets,
--- the company that floats, the price of SV that it sets, the round that it begins, the order of a seat
--- that was obeyed, and whether it tells that the bank is broken. Every fact about a game looks back over one of them.
+-- the company that floats, the price of SV that it sets, the tile that it lays, the token that it places,
+-- the company that it leaves without earnings, the round that it begins, the seat of a line that was ruled,
+-- the order that was obeyed, and whether it tells that the bank is broken. Every fact about a game looks back
+-- over one of them.
 use Rattle.std.specs.Prelude.{◌≡◌, ℕ, Bool, true, false, List, codes, Option, Some, None}
 use Rattle.order_grammar.specs.declared.order.Order.{Order}
 use Rattle.order_grammar.specs.declared.order.Order.TheVariants as order
@@ -10,7 +12,7 @@ use Rattle.order_grammar.specs.declared.order.ShareSource.TheVariants as source
 use Rattle.history.specs.declared.event.Bidding.{Bidding}
 use Rattle.history.specs.declared.event.Bidding.TheVariants.{Made, Ended}
 use Rattle.history.specs.declared.event.Event.{Event}
-use Rattle.history.specs.declared.event.Event.TheVariants.{Round, Ruled, Bids, Sold, Price, Revenue, Given, Par, President, Bought, Sells, Exchanged, Floats, Moves, Broken}
+use Rattle.history.specs.declared.event.Event.TheVariants.{Round, Ruled, Bids, Sold, Price, Revenue, Given, Par, President, Bought, Sells, Exchanged, Floats, Moves, Home, Laid, Token, Withheld, Broken}
 use Rattle.history.specs.declared.event.Holder.TheVariants as holder
 use Rattle.history.specs.declared.event.Office.{Office}
 use Rattle.history.specs.declared.event.Ownership.{Ownership}
@@ -22,6 +24,8 @@ use Rattle.history.specs.declared.event.Placement.{Placement}
 use Rattle.history.specs.declared.event.Shareholder.{Shareholder}
 use Rattle.history.specs.declared.event.Shareholder.TheVariants as place
 use Rattle.history.specs.declared.event.Transfer.{Transfer}
+use Rattle.history.specs.declared.ruling.LayRule.{LayRule}
+use Rattle.history.specs.declared.ruling.LayRule.TheVariants as lay_rule
 use Rattle.history.specs.declared.ruling.OpeningRule.{OpeningRule}
 use Rattle.history.specs.declared.ruling.OpeningRule.TheVariants as opening
 use Rattle.history.specs.declared.ruling.Refusal.{Refusal}
@@ -30,6 +34,10 @@ use Rattle.history.specs.declared.ruling.Ruling.{Ruling}
 use Rattle.history.specs.declared.ruling.Ruling.TheVariants.{Obeyed}
 use Rattle.history.specs.declared.ruling.StockRule.{StockRule}
 use Rattle.history.specs.declared.ruling.StockRule.TheVariants as stock
+use Rattle.history.specs.declared.ruling.TokenRule.{TokenRule}
+use Rattle.history.specs.declared.ruling.TokenRule.TheVariants as token_rule
+use Rattle.map_tables.specs.declared.lay.Lay.{Lay}
+use Rattle.map_tables.specs.declared.place.Place.{Place}
 use Rattle.tables.specs.Chart.{par_square_of}
 use Rattle.tables.specs.declared.roster.Company.{Company}
 use Rattle.tables.specs.declared.roster.Company.TheVariants.{NewYorkCentral}
@@ -42,19 +50,26 @@ use Rattle.tables.specs.declared.squares.Square.{Square}
 abbrev pub party_at : Seat → Party
 party_at seat = party.Holder (holder.Seat seat)
 
+-- a company, as one that pays or is paid
+abbrev pub party_of_company : Company → Party
+party_of_company company = party.Holder (holder.Company company)
+
 -- where a tenth lies that is bought from there
 abbrev pub place_of_source : ShareSource → Shareholder
 place_of_source source.InitialOffering = place.InitialOffering
 place_of_source source.BankPool = place.BankPool
 
--- the money that an event moves: a seat pays the bank for a private or for tenths; the bank pays a revenue,
--- a seat for tenths, and a company that floats
+-- the money that an event moves: a seat pays the bank for a private or for tenths, and a company for a lay
+-- or a token; the bank pays a revenue, a seat for tenths, a company that floats, and one that withholds
 abbrev pub payment_of : Event → Option Payment
 payment_of (Sold private seat price) = Some (record { from = party_at seat; to = party.Bank; amount = price })
 payment_of (Revenue private owner amount) = Some (record { from = party.Bank; to = party.Holder owner; amount = amount })
 payment_of (Bought company seat tenths from price) = Some (record { from = party_at seat; to = party.Bank; amount = price })
 payment_of (Sells company seat tenths price) = Some (record { from = party.Bank; to = party_at seat; amount = price })
-payment_of (Floats company amount) = Some (record { from = party.Bank; to = party.Holder (holder.Company company); amount = amount })
+payment_of (Floats company amount) = Some (record { from = party.Bank; to = party_of_company company; amount = amount })
+payment_of (Laid company lay cost) = Some (record { from = party_of_company company; to = party.Bank; amount = cost })
+payment_of (Token company place cost) = Some (record { from = party_of_company company; to = party.Bank; amount = cost })
+payment_of (Withheld company amount) = Some (record { from = party.Bank; to = party_of_company company; amount = amount })
 payment_of other = None
 
 -- the sum of money that an event names, or 0
@@ -67,6 +82,9 @@ sum_of (Par company price) = price
 sum_of (Bought company seat tenths from price) = price
 sum_of (Sells company seat tenths price) = price
 sum_of (Floats company amount) = amount
+sum_of (Laid company lay cost) = cost
+sum_of (Token company place cost) = cost
+sum_of (Withheld company amount) = amount
 sum_of other = 0
 
 -- what an event says of a private: that this holder owns it from then on, or nobody
@@ -125,10 +143,31 @@ abbrev pub sv_price_set : Event → Option ℕ
 sv_price_set (Price price) = Some price
 sv_price_set other = None
 
+-- the tile that an event lays
+abbrev pub tile_laid : Event → Option Lay
+tile_laid (Laid company lay cost) = Some lay
+tile_laid other = None
+
+-- the token that an event places: that of a company's home, or a further one
+abbrev pub token_placed : Event → Option (Place × Company)
+token_placed (Home company place) = Some (place, company)
+token_placed (Token company place cost) = Some (place, company)
+token_placed other = None
+
+-- the company that has operated by an event: it withholds what it earned
+abbrev pub operated_by : Event → Option Company
+operated_by (Withheld company amount) = Some company
+operated_by other = None
+
 -- the round that an event begins
 abbrev pub round_of : Event → Option TheRound
 round_of (Round round) = Some round
 round_of other = None
+
+-- the seat of whose sheet an event rules a line
+abbrev pub ruled_by : Event → Option Seat
+ruled_by (Ruled seat line ruling) = Some seat
+ruled_by other = None
 
 -- it tells that the bank is broken
 abbrev pub tells_broken : Event → Bool
@@ -198,7 +237,31 @@ code_of_stock_rule stock.OverSixTenths = codes "S12"
 code_of_stock_rule stock.BoughtBefore = codes "S13"
 code_of_stock_rule stock.NoExchange = codes "S14"
 
+-- the code of a rule of lays
+abbrev pub code_of_lay_rule : LayRule → List ℕ
+code_of_lay_rule lay_rule.StepUsed = codes "L1"
+code_of_lay_rule lay_rule.GreyOrRed = codes "L2"
+code_of_lay_rule lay_rule.NoneLeft = codes "L3"
+code_of_lay_rule lay_rule.ColourClosed = codes "L4"
+code_of_lay_rule lay_rule.WrongTile = codes "L5"
+code_of_lay_rule lay_rule.TrackLost = codes "L6"
+code_of_lay_rule lay_rule.BadSide = codes "L7"
+code_of_lay_rule lay_rule.Blocked = codes "L8"
+code_of_lay_rule lay_rule.NotReached = codes "L9"
+code_of_lay_rule lay_rule.CashTooSmall = codes "L10"
+
+-- the code of a rule of tokens
+abbrev pub code_of_token_rule : TokenRule → List ℕ
+code_of_token_rule token_rule.StepUsed = codes "K1"
+code_of_token_rule token_rule.NoTokenLeft = codes "K2"
+code_of_token_rule token_rule.NoFreeSlot = codes "K3"
+code_of_token_rule token_rule.InHexAlready = codes "K4"
+code_of_token_rule token_rule.NotReached = codes "K5"
+code_of_token_rule token_rule.CashTooSmall = codes "K6"
+
 -- the code of a rule of play
 abbrev pub code_of_refusal : Refusal → List ℕ
 code_of_refusal (refusal.Opening rule) = code_of_opening_rule rule
 code_of_refusal (refusal.Stock rule) = code_of_stock_rule rule
+code_of_refusal (refusal.Lay rule) = code_of_lay_rule rule
+code_of_refusal (refusal.Token rule) = code_of_token_rule rule

@@ -1,19 +1,22 @@
 -- Laws of games: what a list says once one more event stands at its end, and what keeps it sound.
 use Rattle.std.specs.Prelude.{◌≡◌, ◌≢◌, ◌≤◌, ◌<◌, ℕ, ◌+◌, List, [], ◌∷◌, ◌++◌, Option, Some, None, true, false, if◌then◌else◌, is_some, length, ◌≤ℤ◌, pos, ◌-ℤ◌, ◌+ℤ◌}
 use Rattle.std.specs.Option.{option_or}
-use Rattle.history.specs.Event.{IsQuiet, party_at, payment_of, place_of_source, square_set}
+use Rattle.history.specs.Event.{IsQuiet, party_at, party_of_company, payment_of, place_of_source, square_set}
 use Rattle.history.specs.LookBack.{Game, cash_of, cheapest_of, is_sold, last_said, owner_of, paid_by, paid_to, sv_price_of, with_event}
 use Rattle.history.specs.Bids.{bid_of, bids_elsewhere_of, bids_of, bids_on as the_bids_on, free_cash_of}
+use Rattle.history.specs.Operating.{lays_of, rulings_in_round, rulings_then, tokens_of}
 use Rattle.history.specs.Shares.{arrival_of, is_floated, is_par_value, par_of, president_of, shares_of, square_of, square_said}
 use Rattle.history.specs.Sound.{IsSound, IsSvPrice, least_offered}
 use Rattle.history.specs.Tell.{broken_told}
 use Rattle.history.specs.declared.event.Event.{Event}
-use Rattle.history.specs.declared.event.Event.TheVariants.{Bids, Sold, Price, Revenue, Given, Par, President, Bought, Sells, Exchanged, Floats, Moves}
+use Rattle.history.specs.declared.event.Event.TheVariants.{Bids, Sold, Price, Revenue, Given, Par, President, Bought, Sells, Exchanged, Floats, Moves, Home, Laid, Token, Withheld}
 use Rattle.history.specs.declared.event.Holder.{Holder}
 use Rattle.history.specs.declared.event.Holder.TheVariants as holder
 use Rattle.history.specs.declared.event.Party.{Party}
 use Rattle.history.specs.declared.event.Shareholder.{Shareholder}
 use Rattle.history.specs.declared.event.Shareholder.TheVariants.{InitialOffering, Seat as OfSeat}
+use Rattle.map_tables.specs.declared.lay.Lay.{Lay}
+use Rattle.map_tables.specs.declared.place.Place.{Place}
 use Rattle.order_grammar.specs.declared.order.ShareSource.{ShareSource}
 use Rattle.order_grammar.specs.declared.order.ShareSource.TheVariants as source
 use Rattle.tables.specs.Roster.{face_of}
@@ -165,6 +168,43 @@ abbrev pub MoveKeepsSound : Type 0
 MoveKeepsSound =
     (game : Game) (company : Company) (from to : Square) →
     square_of game.events company ≡ Some from → IsSound game → IsSound (with_event game (Moves company to))
+
+-- a company's home token keeps a list sound
+abbrev pub HomeKeepsSound : Type 0
+HomeKeepsSound =
+    (game : Game) (company : Company) (place : Place) → IsSound game → IsSound (with_event game (Home company place))
+
+-- a token that a company can pay keeps a list sound
+abbrev pub TokenKeepsSound : Type 0
+TokenKeepsSound =
+    (game : Game) (company : Company) (place : Place) (cost : ℕ) →
+    pos cost ≤ℤ cash_of game.seats game.events (party_of_company company) → IsSound game → IsSound (with_event game (Token company place cost))
+
+-- a lay that a company can pay keeps a list sound
+abbrev pub LayKeepsSound : Type 0
+LayKeepsSound =
+    (game : Game) (company : Company) (lay : Lay) (cost : ℕ) →
+    pos cost ≤ℤ cash_of game.seats game.events (party_of_company company) → IsSound game → IsSound (with_event game (Laid company lay cost))
+
+-- a company that withholds what it earned keeps a list sound
+abbrev pub WithholdingKeepsSound : Type 0
+WithholdingKeepsSound =
+    (game : Game) (company : Company) (amount : ℕ) → IsSound game → IsSound (with_event game (Withheld company amount))
+
+-- a tile that the event at the end lays is the last
+abbrev pub LaysGrow : Type 0
+LaysGrow = (events : List Event) (event : Event) → lays_of (events ++ event ∷ []) ≡ lays_of events ++ lays_of (event ∷ [])
+
+-- and a token that it places
+abbrev pub TokensGrow : Type 0
+TokensGrow =
+    (events : List Event) (event : Event) → tokens_of (events ++ event ∷ []) ≡ tokens_of events ++ tokens_of (event ∷ [])
+
+-- the event at the end begins the count of a seat's rulings anew, or adds one, or leaves it
+abbrev pub RulingsAreCounted : Type 0
+RulingsAreCounted =
+    (events : List Event) (event : Event) (seat : Seat) →
+    rulings_in_round (events ++ event ∷ []) seat ≡ rulings_then seat (rulings_in_round events seat) event
 
 -- two companies with squares have not come there by the same event
 abbrev pub ArrivalsDiffer : Type 0

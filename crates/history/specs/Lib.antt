@@ -4,6 +4,7 @@ pub mod Event
 pub mod LookBack
 pub mod Bids
 pub mod Shares
+pub mod Operating
 pub mod Orders
 pub mod Tell
 pub mod Sound

@@ -1,7 +1,7 @@
 -- All money of a game. What the bank, the seats at the table and the companies have together is 12,000, whatever
 -- has happened, as long as money has gone only between them.
 use Rattle.std.specs.Prelude.{◌≡◌, ℕ, ◌<◌, List, [], ◌∷◌, ◌++◌, map, Option, Some, None, ℤ, pos, ◌+ℤ◌}
-use Rattle.history.specs.Event.{party_at, payment_of}
+use Rattle.history.specs.Event.{party_at, party_of_company, payment_of}
 use Rattle.history.specs.LookBack.{cash_of}
 use Rattle.history.specs.declared.event.Event.{Event}
 use Rattle.history.specs.declared.event.Holder.TheVariants as holder
@@ -10,11 +10,6 @@ use Rattle.history.specs.declared.event.Party.TheVariants as party
 use Rattle.history.specs.declared.event.Payment.{Payment}
 use Rattle.tables.specs.Roster.{companies}
 use Rattle.tables.specs.Seat.{all_seats}
-use Rattle.tables.specs.declared.roster.Company.{Company}
-
--- a company, as one that pays or is paid
-abbrev pub party_of_company : Company → Party
-party_of_company company = party.Holder (holder.Company company)
 
 -- the parties of a game: the bank, the seats at the table, the companies
 abbrev pub parties : ℕ → List Party

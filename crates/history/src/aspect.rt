@@ -1,6 +1,7 @@
 //! The ways of looking back over a list of events, each generic over the aspect of an event that it
 //! looks at.
-ghost use Rattle.std.specs.Prelude.{◌≡◌, ℕ, Option};
+ghost use Rattle.std.specs.Prelude.{◌≡◌, ℕ, Option, slice_get};
+ghost use Rattle.std.specs.List.{filter_map};
 ghost use Rattle.history.specs.LookBack.{IsModerate, balance, in_round, last_place_from, last_said};
 ghost use Rattle.history.specs.declared.event.Event.{Event};
 
@@ -64,6 +65,24 @@ where
         }
     }
     last
+}
+
+/// What an event says of a thing, the one at this place, from 0, among those that speak of it.
+pub(crate) fn nth_said<T: Topic>(topic: &T, events: &[Event], place: usize) -> Option<T::Word>
+where
+    T::Word: Drop,
+    ensures { result ≡ slice_get (filter_map (T.word topic.now) events.now) place }
+{
+    let mut left = place;
+    for event in events {
+        if let Some(word) = topic.word(event) {
+            if left == 0 {
+                return Some(word);
+            }
+            left -= 1;
+        }
+    }
+    None
 }
 
 /// An account to which some events bring and from which some take.

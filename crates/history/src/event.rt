@@ -1,11 +1,10 @@
 ghost use Rattle.std.specs.Prelude.{◌≡◌};
-ghost use Rattle.history.specs.Event.{bidding_of, floated_by, office_of, ownership_of, par_set, party_at, payment_of, place_of_source, round_of, square_set, sum_of, sv_price_set, transfer_of};
+ghost use Rattle.history.specs.Event.{bidding_of, floated_by, office_of, operated_by, ownership_of, par_set, party_at, party_of_company, payment_of, place_of_source, round_of, ruled_by, square_set, sum_of, sv_price_set, tile_laid, token_placed, transfer_of};
 ghost use Rattle.history.specs.LookBack.{actor_of};
-ghost use Rattle.history.specs.declared.event.Holder.TheVariants as holder;
-ghost use Rattle.history.specs.declared.event.Party.TheVariants as party;
 ghost use Rattle.tables.specs.Seat.{seat_at};
 
 use crate::ruling::Ruling;
+use map_tables::{Lay, Place};
 use order_grammar::ShareSource;
 use tables::{Amount, Company, Private, Round, Seat, Square, par_square};
 
@@ -40,7 +39,7 @@ impl Party {
 
     /// A share company.
     pub fn of_company(company: Company) -> Party
-        ensures { result ≡ party.Holder (holder.Company company) }
+        ensures { result ≡ party_of_company company }
     {
         Party::Holder(Holder::Company(company))
     }
@@ -134,6 +133,28 @@ pub enum Event {
     Moves {
         company: Company,
         square: Square,
+    },
+    /// A company places the token of its home, for nothing.
+    Home {
+        company: Company,
+        place: Place,
+    },
+    /// A company lays a tile, and pays the bank what the terrain costs.
+    Laid {
+        company: Company,
+        lay: Lay,
+        cost: Amount,
+    },
+    /// A company places a token, and pays the bank for it.
+    Token {
+        company: Company,
+        place: Place,
+        cost: Amount,
+    },
+    /// A company withholds what it earned: the bank pays it. Its turn is past its run.
+    Withheld {
+        company: Company,
+        amount: Amount,
     },
     /// The bank's cash came to 0 or less.
     Broken,
@@ -280,11 +301,20 @@ impl Event {
                 to: Party::of_seat(*seat),
                 amount: *price,
             }),
-            Event::Floats { company, amount } => Some(Payment {
-                from: Party::Bank,
-                to: Party::of_company(*company),
-                amount: *amount,
-            }),
+            Event::Floats { company, amount } | Event::Withheld { company, amount } => {
+                Some(Payment {
+                    from: Party::Bank,
+                    to: Party::of_company(*company),
+                    amount: *amount,
+                })
+            }
+            Event::Laid { company, cost, .. } | Event::Token { company, cost, .. } => {
+                Some(Payment {
+                    from: Party::of_company(*company),
+                    to: Party::Bank,
+                    amount: *cost,
+                })
+            }
             _ => None,
         }
     }
@@ -297,7 +327,8 @@ impl Event {
             Event::Sold { price, .. } | Event::Price { price } | Event::Par { price, .. } => *price,
             Event::Bids { amount, .. } | Event::Revenue { amount, .. } => *amount,
             Event::Bought { price, .. } | Event::Sells { price, .. } => *price,
-            Event::Floats { amount, .. } => *amount,
+            Event::Floats { amount, .. } | Event::Withheld { amount, .. } => *amount,
+            Event::Laid { cost, .. } | Event::Token { cost, .. } => *cost,
             _ => 0,
         }
     }
@@ -450,6 +481,48 @@ impl Event {
     {
         match self {
             Event::Price { price } => Some(*price),
+            _ => None,
+        }
+    }
+
+    /// The tile that it lays.
+    pub fn lay(&self) -> Option<Lay>
+        ensures { result ≡ tile_laid self.now }
+    {
+        match self {
+            Event::Laid { lay, .. } => Some(*lay),
+            _ => None,
+        }
+    }
+
+    /// The token that it places: where, and whose.
+    pub fn token(&self) -> Option<(Place, Company)>
+        ensures { result ≡ token_placed self.now }
+    {
+        match self {
+            Event::Home { company, place } | Event::Token { company, place, .. } => {
+                Some((*place, *company))
+            }
+            _ => None,
+        }
+    }
+
+    /// The company that has operated by it.
+    pub fn operated(&self) -> Option<Company>
+        ensures { result ≡ operated_by self.now }
+    {
+        match self {
+            Event::Withheld { company, .. } => Some(*company),
+            _ => None,
+        }
+    }
+
+    /// The seat of whose sheet it rules a line.
+    pub fn ruled(&self) -> Option<Seat>
+        ensures { result ≡ ruled_by self.now }
+    {
+        match self {
+            Event::Ruled { seat, .. } => Some(*seat),
             _ => None,
         }
     }

@@ -1,7 +1,7 @@
 //! Laws of games: each function does nothing, and its contract is the law.
 
 ghost use Rattle.history.specs.Money.{AllMoneyStays};
-ghost use Rattle.history.specs.Laws.{ArrivalIsLast, ArrivalsDiffer, BidKeepsSound, BlockKeepsSound, BlockWithSuccessionKeepsSound, CaIsSoldWithItsGift, CashMoves, ExchangeKeepsSound, FirstIsCheapest, FloatKeepsSound, GiftKeepsSound, LastWordIsLast, MoveKeepsSound, PriceKeepsSound, PurchaseKeepsSound, QuietKeepsSound, QuietSaysTheSame, RevenueKeepsSound, SaleKeepsSound, StartByPurchaseKeepsSound, StartKeepsSound, SuccessionKeepsSound, SvIsGivenAway};
+ghost use Rattle.history.specs.Laws.{ArrivalIsLast, ArrivalsDiffer, BidKeepsSound, BlockKeepsSound, BlockWithSuccessionKeepsSound, CaIsSoldWithItsGift, CashMoves, ExchangeKeepsSound, FirstIsCheapest, FloatKeepsSound, GiftKeepsSound, HomeKeepsSound, LastWordIsLast, LayKeepsSound, LaysGrow, MoveKeepsSound, PriceKeepsSound, PurchaseKeepsSound, QuietKeepsSound, QuietSaysTheSame, RevenueKeepsSound, RulingsAreCounted, SaleKeepsSound, StartByPurchaseKeepsSound, StartKeepsSound, SuccessionKeepsSound, SvIsGivenAway, TokenKeepsSound, TokensGrow, WithholdingKeepsSound};
 
 /// What was said last of a thing is what the last event says, or else what was said before it.
 pub fn last_word_is_last<T>()
@@ -98,6 +98,34 @@ pub fn float_keeps_sound()
 /// A token that moves from square to square keeps a list sound.
 pub fn move_keeps_sound()
     ensures { MoveKeepsSound }
+{}
+
+/// A lay that a company can pay keeps a list sound.
+pub fn lay_keeps_sound()
+    ensures { LayKeepsSound }
+{}
+
+/// A token keeps a list sound: that of a home, and one that a company can pay.
+pub fn token_keeps_sound()
+    ensures home { HomeKeepsSound }
+    ensures token { TokenKeepsSound }
+{}
+
+/// A company that withholds what it earned keeps a list sound.
+pub fn withholding_keeps_sound()
+    ensures { WithholdingKeepsSound }
+{}
+
+/// A tile that is laid is the last of those that were, and a token that is placed is the last.
+pub fn ground_grows()
+    ensures lays { LaysGrow }
+    ensures tokens { TokensGrow }
+{}
+
+/// A line of a seat's sheet that is ruled is one more in the round, and a round begins the count
+/// anew.
+pub fn rulings_are_counted()
+    ensures { RulingsAreCounted }
 {}
 
 /// Companies with squares have come there by different events, so that one came earlier; an event

@@ -3,16 +3,17 @@
 //! Every fact about a game is what the list says when it is looked back over. An event has a few
 //! aspects: the payment that it makes, the tenths that it moves, what it says of a private's owner
 //! and of the bids on it, the par value, square and president of a company that it sets, .. There
-//! are two ways of looking back, each generic over the aspect: an account, such as a party's cash,
-//! is its start with all that came in less all that went out; anything else is what the last event
-//! that speaks of it says. A list is sound where no such fact is against the rules, as
+//! are a few ways of looking back, each generic over the aspect: an account, such as a party's
+//! cash, is its start with all that came in less all that went out; the tiles and the tokens on the
+//! map are all that was said of them, in order; nearly anything else is what the last event that
+//! speaks of it says. A list is sound where no such fact is against the rules, as
 //! `specs/Sound.antt` has it; most events leave most facts alone, and the laws say which event
 //! keeps a list sound.
 //!
 //! Reading order: `event` (events and their aspects), `ruling` (what became of a line), `aspect`
-//! (the ways of looking back), `topics` (what is looked for), `look_back`, `owners`, `bids` and
-//! `shares` (the readers of `Past`), `list` (`History`), `tell` (events that change no fact),
-//! `laws`.
+//! (the ways of looking back), `topics` (what is looked for), `look_back`, `owners`, `bids`,
+//! `shares` and `operating` (the readers of `Past`), `list` (`History`), `tell` (events that follow
+//! from the list alone), `laws`.
 #![tactic(auto)]
 
 mod aspect;
@@ -21,6 +22,7 @@ mod event;
 mod laws;
 mod list;
 mod look_back;
+mod operating;
 mod owners;
 mod ruling;
 mod shares;
@@ -33,13 +35,14 @@ pub use event::{
 };
 pub use laws::{
     all_money_stays, arrivals_differ, bid_keeps_sound, block_keeps_sound, cash_moves,
-    exchange_keeps_sound, first_is_cheapest, float_keeps_sound, gift_keeps_sound,
-    last_word_is_last, move_keeps_sound, price_keeps_sound, purchase_keeps_sound,
-    quiet_keeps_sound, quiet_says_the_same, revenue_keeps_sound, sale_keeps_sound,
-    start_keeps_sound, succession_keeps_sound,
+    exchange_keeps_sound, first_is_cheapest, float_keeps_sound, gift_keeps_sound, ground_grows,
+    last_word_is_last, lay_keeps_sound, move_keeps_sound, price_keeps_sound, purchase_keeps_sound,
+    quiet_keeps_sound, quiet_says_the_same, revenue_keeps_sound, rulings_are_counted,
+    sale_keeps_sound, start_keeps_sound, succession_keeps_sound, token_keeps_sound,
+    withholding_keeps_sound,
 };
 pub use list::History;
 pub use look_back::Past;
 pub use owners::Owners;
-pub use ruling::{KeptOrder, OpeningRule, Refusal, Ruling, StockRule};
+pub use ruling::{KeptOrder, LayRule, OpeningRule, Refusal, Ruling, StockRule, TokenRule};
 pub use shares::Tenths;

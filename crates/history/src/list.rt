@@ -1,7 +1,8 @@
-ghost use Rattle.std.specs.Prelude.{◌≡◌, ◌↔◌, ◌≤◌, IfOk, IsTrue, OnOk, OnErr, option_map, pos, []};
+ghost use Rattle.std.specs.Prelude.{◌≡◌, ◌↔◌, ◌≤◌, IfOk, IsTrue, OnOk, OnErr, option_map, pos, slice_get, []};
 ghost use Rattle.history.specs.Bids.{bid_of, free_cash_of};
 ghost use Rattle.history.specs.Event.{sum_of};
 ghost use Rattle.history.specs.LookBack.{IsModerate, broken_in, cash_of, cheapest_in, cheapest_of, is_sold, is_sold_in, owner_in, owner_of, priority_of, round_of, sv_price_of, with_event};
+ghost use Rattle.history.specs.Operating.{has_operated, lays_of, rulings_in_round, tokens_of, tokens_placed};
 ghost use Rattle.history.specs.Shares.{arrival_of, has_sold_in_round, is_floated, is_started, par_of, president_of, shares_of, square_of};
 ghost use Rattle.history.specs.Sound.{IsSound};
 
@@ -10,6 +11,7 @@ use crate::look_back::Past;
 use crate::owners::Owners;
 use crate::ruling::KeptOrder;
 use crate::shares::Tenths;
+use map_tables::{Lay, Place};
 use order_grammar::Order;
 use std::alloc::{AllocError, Global};
 use std::marker::Model;
@@ -227,6 +229,42 @@ impl History {
         ensures { result ≡ president_of self.now.events company }
     {
         self.now().president(company)
+    }
+
+    /// The tile that was laid at this place among all that were, from 0; the oldest is the first.
+    pub fn laid(&self, place: usize) -> Option<Lay>
+        ensures { result ≡ slice_get (lays_of self.now.events) place }
+    {
+        self.now().laid(place)
+    }
+
+    /// The token that was placed at this place among all that were, from 0, those of homes among
+    /// them; the oldest is the first.
+    pub fn token(&self, place: usize) -> Option<(Place, Company)>
+        ensures { result ≡ slice_get (tokens_of self.now.events) place }
+    {
+        self.now().token(place)
+    }
+
+    /// How many tokens a company has placed, that of its home among them.
+    pub fn tokens_placed(&self, company: Company) -> usize
+        ensures { result ≡ tokens_placed self.now.events company }
+    {
+        self.now().tokens_placed(company)
+    }
+
+    /// Whether a company has operated since the last round began.
+    pub fn has_operated(&self, company: Company) -> bool
+        ensures { result ≡ has_operated self.now.events company }
+    {
+        self.now().has_operated(company)
+    }
+
+    /// How many lines of a seat's sheet were ruled since the last round began.
+    pub fn rulings_in_round(&self, seat: Seat) -> usize
+        ensures { result ≡ rulings_in_round self.now.events seat }
+    {
+        self.now().rulings_in_round(seat)
     }
 
     /// A seat's cash less its standing bids.

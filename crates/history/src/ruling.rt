@@ -1,7 +1,7 @@
 ghost use Rattle.std.specs.Prelude.{◌≡◌, IfOk};
 ghost use Rattle.history.specs.Orders.{limit_in, par_of_baltimore_in};
 ghost use Rattle.order_grammar.specs.declared.order.Order.TheVariants as order;
-ghost use Rattle.history.specs.Event.{code_of_opening_rule, code_of_refusal, code_of_stock_rule, is_act};
+ghost use Rattle.history.specs.Event.{code_of_lay_rule, code_of_opening_rule, code_of_refusal, code_of_stock_rule, code_of_token_rule, is_act};
 
 use order_grammar::{Fault, Order, ShareSource};
 use std::alloc::{AllocError, Global};
@@ -15,6 +15,10 @@ pub enum Refusal {
     Opening(OpeningRule),
     /// A rule of a stock round.
     Stock(StockRule),
+    /// A rule of lays.
+    Lay(LayRule),
+    /// A rule of tokens.
+    Token(TokenRule),
 }
 
 impl Refusal {
@@ -25,6 +29,8 @@ impl Refusal {
         match self {
             Refusal::Opening(rule) => rule.code(),
             Refusal::Stock(rule) => rule.code(),
+            Refusal::Lay(rule) => rule.code(),
+            Refusal::Token(rule) => rule.code(),
         }
     }
 }
@@ -121,6 +127,85 @@ impl StockRule {
             StockRule::OverSixTenths => "S12",
             StockRule::BoughtBefore => "S13",
             StockRule::NoExchange => "S14",
+        }
+    }
+}
+
+/// A rule that the lay of a tile may break.
+#[derive(Clone, Copy, Debug, PartialEq, Eq)]
+pub enum LayRule {
+    /// L1: the turn is past its lay, or the lay is used.
+    StepUsed,
+    /// L2: the hex is grey or red.
+    GreyOrRed,
+    /// L3: the stock has no such tile left.
+    NoneLeft,
+    /// L4: the tile's colour has not come yet.
+    ColourClosed,
+    /// L5: the tile is of another kind than the hex, or not of its next colour, or its stops are to
+    /// be swapped where there are not two.
+    WrongTile,
+    /// L6: some track of the hex is not on the tile.
+    TrackLost,
+    /// L7: the track of the tile leads to a bad side.
+    BadSide,
+    /// L8: a player owns the private of the hex.
+    Blocked,
+    /// L9: the company would reach no piece of the tile.
+    NotReached,
+    /// L10: the terrain costs more than the company has.
+    CashTooSmall,
+}
+
+impl LayRule {
+    /// The code that a report prints.
+    pub fn code(self) -> &'static str
+        ensures { result.now ≡ code_of_lay_rule self }
+    {
+        match self {
+            LayRule::StepUsed => "L1",
+            LayRule::GreyOrRed => "L2",
+            LayRule::NoneLeft => "L3",
+            LayRule::ColourClosed => "L4",
+            LayRule::WrongTile => "L5",
+            LayRule::TrackLost => "L6",
+            LayRule::BadSide => "L7",
+            LayRule::Blocked => "L8",
+            LayRule::NotReached => "L9",
+            LayRule::CashTooSmall => "L10",
+        }
+    }
+}
+
+/// A rule that the placing of a token may break.
+#[derive(Clone, Copy, Debug, PartialEq, Eq)]
+pub enum TokenRule {
+    /// K1: the turn is past its token.
+    StepUsed,
+    /// K2: the company has no token left.
+    NoTokenLeft,
+    /// K3: the place is no city, or its slots are all taken or kept.
+    NoFreeSlot,
+    /// K4: the company has a token in the hex.
+    InHexAlready,
+    /// K5: the company does not reach the city.
+    NotReached,
+    /// K6: the token costs more than the company has.
+    CashTooSmall,
+}
+
+impl TokenRule {
+    /// The code that a report prints.
+    pub fn code(self) -> &'static str
+        ensures { result.now ≡ code_of_token_rule self }
+    {
+        match self {
+            TokenRule::StepUsed => "K1",
+            TokenRule::NoTokenLeft => "K2",
+            TokenRule::NoFreeSlot => "K3",
+            TokenRule::InHexAlready => "K4",
+            TokenRule::NotReached => "K5",
+            TokenRule::CashTooSmall => "K6",
         }
     }
 }

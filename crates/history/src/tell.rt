@@ -1,14 +1,14 @@
-//! Events that tell what follows from the list, and change nothing that a party has or owns.
+//! Events that follow from the list alone.
 ghost use Rattle.std.specs.Prelude.{◌≡◌, ◌≤◌, OnErr, OnOk};
 ghost use Rattle.history.specs.Event.{IsQuiet, sum_of};
 ghost use Rattle.history.specs.LookBack.{with_event};
 ghost use Rattle.history.specs.Sound.{IsSound};
-ghost use Rattle.history.specs.Tell.{broken_told, left_told};
+ghost use Rattle.history.specs.Tell.{broken_told, left_told, revenue_told, revenues_told};
 
 use crate::event::{Event, Party};
 use crate::list::History;
 use std::alloc::AllocError;
-use tables::Seat;
+use tables::{Private, Seat, revenue};
 
 impl History {
     /// Adds an event that changes nothing of what parties have and own. An `Err` leaves the list as
@@ -37,6 +37,36 @@ impl History {
             return Ok(());
         }
         self.tell(Event::Broken)
+    }
+
+    /// Each private that has an owner pays it its revenue, in roster order; perhaps that breaks the
+    /// bank. An `Err` leaves a list that may have the first of these revenues.
+    pub fn tell_revenues(&mut self) -> Result<(), AllocError>
+        requires { IsSound self.old }
+        ensures ok { OnOk result (self.new ≡ revenues_told self.old) }
+        ensures sound { IsSound self.new }
+    {
+        for private in Private::ALL {
+            self.tell_revenue(private)?;
+        }
+        Ok(())
+    }
+
+    /// A private pays its owner, if it has one.
+    fn tell_revenue(&mut self, private: Private) -> Result<(), AllocError>
+        requires { IsSound self.old }
+        ensures ok { OnOk result (self.new ≡ revenue_told private self.old) }
+        ensures sound { IsSound self.new }
+    {
+        let Some(owner) = self.owner(private) else {
+            return Ok(());
+        };
+        self.append(Event::Revenue {
+            private,
+            owner,
+            amount: revenue(private),
+        })?;
+        self.tell_broken()
     }
 
     /// Tells that so many lines of a seat's sheet were not taken up, if there are any. An `Err`

@@ -1,13 +1,15 @@
 //! The things of which events speak, and the accounts that they change.
 ghost use Rattle.history.specs.Bids.{bid_said};
-ghost use Rattle.history.specs.Event.{bidding_of, floated_by, obeyed_of, office_of, ownership_of, par_set, payment_of, round_of as round_begun, square_set, sv_price_set, transfer_of};
+ghost use Rattle.history.specs.Event.{bidding_of, floated_by, obeyed_of, office_of, operated_by, ownership_of, par_set, payment_of, round_of as round_begun, square_set, sv_price_set, tile_laid, token_placed, transfer_of};
 ghost use Rattle.history.specs.LookBack.{actor_of, owner_said, paid_by, paid_to};
+ghost use Rattle.history.specs.Operating.{turn_said};
 ghost use Rattle.history.specs.Orders.{limit_in, par_of_baltimore_in, said_by};
 ghost use Rattle.history.specs.Shares.{brought_to, float_said, par_said, president_said, sale_said, square_said, taken_from};
 
 use crate::aspect::{Account, Topic};
 use crate::event::{Bidding, Event, Holder, Party, Shareholder};
 use crate::ruling::Ruling;
+use map_tables::{Lay, Place};
 use tables::{Amount, Company, Private, Round, Seat, Square};
 
 /// The cash of a party.
@@ -252,6 +254,51 @@ impl Topic for SaleBy {
                 if transfer.company == self.0
                     && transfer.from == Shareholder::Seat(self.1)
                     && transfer.to == Shareholder::BankPool => { Some(transfer.tenths) }
+            _ => None,
+        }
+    }
+}
+
+/// The tiles that are laid.
+#[derive(Clone, Copy)]
+pub(crate) struct TileLaid;
+
+impl Topic for TileLaid {
+    type Word = Lay;
+
+    ghost word = { λ a event. tile_laid event };
+
+    fn word(&self, event: &Event) -> Option<Lay> {
+        event.lay()
+    }
+}
+
+/// The tokens that are placed.
+#[derive(Clone, Copy)]
+pub(crate) struct TokenPlaced;
+
+impl Topic for TokenPlaced {
+    type Word = (Place, Company);
+
+    ghost word = { λ a event. token_placed event };
+
+    fn word(&self, event: &Event) -> Option<(Place, Company)> {
+        event.token()
+    }
+}
+
+/// A company's turn of an operating round.
+#[derive(Clone, Copy)]
+pub(crate) struct TurnOf(pub Company);
+
+impl Topic for TurnOf {
+    type Word = Company;
+
+    ghost word = { λ a event. turn_said a.0 (operated_by event) };
+
+    fn word(&self, event: &Event) -> Option<Company> {
+        match event.operated() {
+            Some(company) if company == self.0 => Some(company),
             _ => None,
         }
     }

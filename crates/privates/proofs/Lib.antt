@@ -2,7 +2,6 @@ pub mod Auctions
 pub mod Bidders
 pub mod Judged
 pub mod Limits
-pub mod Revenues
 pub mod Pars
 pub mod RoundEnds
 pub mod Sales

@@ -1,8 +1,8 @@
--- What acts keep an opening round under way: bids, sales with what they bring, revenues, and the fall of SV.
+-- What acts keep an opening round under way: bids, sales with what they bring, and the fall of SV.
 use Rattle.std.proofs.Common.{◌≡◌, ◌≢◌, ℕ, zero, suc, ◌+◌, ◌-◌, ◌<◌, ◌≤◌, Bool, true, false, ◌||◌, nat_lt, List, [], ◌∷◌, ◌++◌, Option, Some, None, is_some, append_assoc, inl, inr, refl, sym, subst, ap, ◌∙◌, arith}
 use Rattle.std.proofs.lemmas.Bool.{cases_eq}
 use Rattle.std.proofs.lemmas.Bool.Decides.{nat_tests}
-use Rattle.history.proofs.Acts.{bid_sound, gift_sound, price_sound, revenue_sound, sale_sound}
+use Rattle.history.proofs.Acts.{bid_sound, gift_sound, price_sound, sale_sound}
 use Rattle.history.proofs.EventAtEnd.{last_said_at_end, last_said_before, square_of_before}
 use Rattle.history.proofs.Gifts.{ca_sound}
 use Rattle.history.proofs.Starts.{started_sound}
@@ -14,7 +14,6 @@ use Rattle.history.specs.Sound.{IsSound, IsSvPrice}
 use Rattle.history.specs.declared.event.Bid.{Bid}
 use Rattle.history.specs.declared.event.Event.{Event}
 use Rattle.history.specs.declared.event.Event.TheVariants as event
-use Rattle.history.specs.declared.event.Holder.{Holder}
 use Rattle.privates.proofs.Limits.{limits_kept}
 use Rattle.privates.proofs.Pars.{par_set_is_par}
 use Rattle.privates.proofs.StandingBids.{EachBid, bids_from}
@@ -31,11 +30,6 @@ use Rattle.tables.specs.declared.roster.Private.{Private}
 use Rattle.tables.specs.declared.roster.Private.TheVariants.{SchuylkillValley, CamdenAmboy, BaltimoreOhio}
 use Rattle.tables.specs.declared.seat.Seat.{Seat}
 use Rattle.tables.specs.declared.squares.Square.{Square}
-
--- a revenue
-pub revenue_underway : (game new : Game) (private : Private) (owner : Holder) (amount : ℕ) → new ≡ with_event game (event.Revenue private owner amount) → IsUnderway game → IsUnderway new
-revenue_underway game new private owner amount told before =
-    event_underway game new (event.Revenue private owner amount) refl (λ its seat. refl) told (revenue_sound game private owner amount before.sound) before
 
 -- 5 less than a price of SV that is over 5
 fallen_price : (before after : ℕ) → after ≡ before - 5 → after ≢ 0 → IsSvPrice before → IsSvPrice after

@@ -3,15 +3,17 @@ use Rattle.std.proofs.Common.{◌≡◌, ℕ, ◌==◌, Bool, true, false, if◌
 use Rattle.std.specs.Option.{option_or}
 use Rattle.history.proofs.EventAtEnd.{last_said_at_end, square_of_before}
 use Rattle.history.specs.Event.{ownership_of, square_set}
-use Rattle.history.specs.LookBack.{Game, is_sold, last_said, owner_said, with_event}
+use Rattle.history.specs.LookBack.{Game, is_sold, last_said, owner_of, owner_said, with_event}
 use Rattle.history.specs.Sound.{IsSound}
-use Rattle.history.specs.Tell.{breaks, with_broken, with_left}
+use Rattle.history.specs.Tell.{after_revenues, breaks, paid_to_owner, revenues_told, with_broken, with_left}
 use Rattle.history.specs.declared.event.Event.{Event}
 use Rattle.history.specs.declared.event.Event.TheVariants as event
+use Rattle.history.specs.declared.event.Holder.{Holder}
 use Rattle.history.specs.declared.ruling.Ruling.{Ruling}
 use Rattle.privates.proofs.Limits.{limit_said, limits_kept, limits_ruled, no_limits}
 use Rattle.privates.specs.Small.{IsSmallRuling}
 use Rattle.privates.specs.Underway.{BaltimoreWaits, IsUnderway, IsWaiting, LimitsAreSmall, PennsylvaniaWaits}
+use Rattle.tables.specs.Roster.{privates, revenue_of}
 use Rattle.tables.specs.declared.roster.Company.TheVariants.{Pennsylvania, BaltimoreOhio}
 use Rattle.tables.specs.declared.roster.Private.{Private}
 use Rattle.tables.specs.declared.roster.Private.TheVariants as private
@@ -81,11 +83,29 @@ left_underway game new seat lines told sound before =
     subst IsUnderway (sym told) (left_cases (lines == 0) game seat lines (subst IsSound told sound) before)
 
 -- that the bank is broken, or not
-broken_cases : (b : Bool) (game : Game) → IsSound (record { seats = game.seats; events = if b then game.events ++ event.Broken ∷ [] else game.events }) → IsUnderway game → IsUnderway (record { seats = game.seats; events = if b then game.events ++ event.Broken ∷ [] else game.events })
-broken_cases true game sound before =
-    event_underway game (with_event game event.Broken) event.Broken refl (λ its other. refl) refl sound before
-broken_cases false game sound before = before
+waiting_broken : (seats : ℕ) (events : List Event) → IsWaiting events → IsWaiting (with_broken seats events)
+waiting_broken seats events before =
+    elim (breaks seats events) as (λ b. IsWaiting (if b then events ++ event.Broken ∷ [] else events)) [
+      | true ↦ waiting_silent events event.Broken refl (λ its seat. refl) before
+      | false ↦ before
+    ]
 
-pub broken_underway : (game new : Game) → new ≡ record { seats = game.seats; events = with_broken game.seats game.events } → IsSound new → IsUnderway game → IsUnderway new
-broken_underway game new told sound before =
-    subst IsUnderway (sym told) (broken_cases (breaks game.seats game.events) game (subst IsSound told sound) before)
+-- a private's revenue
+waiting_paid : (seats : ℕ) (events : List Event) (its : Private) (owner : Option Holder) → IsWaiting events → IsWaiting (paid_to_owner seats events its owner)
+waiting_paid seats events its None before = before
+waiting_paid seats events its (Some owner) before =
+    waiting_broken seats (events ++ event.Revenue its owner (revenue_of its) ∷ []) (waiting_silent events (event.Revenue its owner (revenue_of its)) refl (λ other seat. refl) before)
+
+-- those of some privates
+waiting_revenues : (seats : ℕ) (events : List Event) (paying : List Private) → IsWaiting events → IsWaiting (after_revenues seats events paying)
+waiting_revenues seats events [] before = before
+waiting_revenues seats events (its ∷ others) before =
+    waiting_revenues seats (paid_to_owner seats events its (owner_of events its)) others (waiting_paid seats events its (owner_of events its) before)
+
+-- the revenues of all
+pub revenues_underway : (game new : Game) → new ≡ revenues_told game → IsSound new → IsUnderway game → IsUnderway new
+revenues_underway game new told sound before =
+    record {
+      sound = sound;
+      waiting = subst (λ (after : Game). IsWaiting after.events) (sym told) (waiting_revenues game.seats game.events privates before.waiting);
+    }

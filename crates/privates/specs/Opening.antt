@@ -2,22 +2,20 @@
 -- close where all have passed, and what was left. Once all privates are sold nothing falls and nothing is
 -- paid. Else SV falls by 5 if it is unsold, and at 0 goes to the holder of priority for nothing, with the
 -- sales that follow from it; if it is sold, each sold private pays its revenue, in roster order.
-use Rattle.std.specs.Prelude.{◌≡◌, ℕ, ◌-◌, ◌*◌, ◌≤◌, ◌==◌, if◌then◌else◌, List, [], ◌∷◌, ◌++◌, Option, Some, None}
+use Rattle.std.specs.Prelude.{◌≡◌, ℕ, ◌-◌, ◌*◌, ◌≤◌, ◌==◌, if◌then◌else◌, List, [], ◌∷◌, ◌++◌}
 use Rattle.std.specs.List.{range_with_len}
-use Rattle.history.specs.LookBack.{Game, is_sold, owner_of, priority_of, sv_price_of}
-use Rattle.history.specs.Tell.{with_broken, with_left}
+use Rattle.history.specs.LookBack.{Game, is_sold, priority_of, sv_price_of}
+use Rattle.history.specs.Tell.{after_revenues, with_left}
 use Rattle.history.specs.declared.event.Event.{Event}
 use Rattle.history.specs.declared.event.Event.TheVariants as event
-use Rattle.history.specs.declared.event.Holder.{Holder}
 use Rattle.privates.specs.Sale.{after_sale, settled}
 use Rattle.privates.specs.Standing.{after_standing}
 use Rattle.privates.specs.Turn.{all_sold, opening_turns}
 use Rattle.sheets.specs.Part.{Numbered}
 pub use Rattle.sheets.specs.Taken.{groups_for, in_play}
 use Rattle.sheets.specs.Taken.{told_of_left}
-use Rattle.tables.specs.Roster.{privates, revenue_of}
+use Rattle.tables.specs.Roster.{privates}
 use Rattle.tables.specs.Turns.{InPlay, TurnsEnd}
-use Rattle.tables.specs.declared.roster.Private.{Private}
 use Rattle.tables.specs.declared.roster.Private.TheVariants.{SchuylkillValley}
 use Rattle.tables.specs.declared.round.Round.{Round}
 use Rattle.tables.specs.declared.seat.Seat.{Seat}
@@ -27,18 +25,6 @@ abbrev pub opened : ℕ → List ℕ → Round → List Event → InPlay (List E
 opened seats file round events =
     in_play
     (after_standing file round (events ++ event.Round round ∷ []) (range_with_len 0 seats)) (priority_of seats events).0 0 (groups_for seats file round)
-
--- after the revenue of a private to its owner, if it has one
-abbrev pub paid_to_owner : ℕ → List Event → Private → Option Holder → List Event
-paid_to_owner seats events private None = events
-paid_to_owner seats events private (Some owner) =
-    with_broken seats (events ++ event.Revenue private owner (revenue_of private) ∷ [])
-
--- after the revenues of some privates, in order
-abbrev pub after_revenues : ℕ → List Event → List Private → List Event
-after_revenues seats events [] = events
-after_revenues seats events (private ∷ others) =
-    after_revenues seats (paid_to_owner seats events private (owner_of events private)) others
 
 -- after SV's price has come to 0, and SV has gone to a seat for nothing
 abbrev pub given_away : List Event → Seat → List Event

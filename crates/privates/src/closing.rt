@@ -1,16 +1,15 @@
 ghost use Rattle.std.specs.Prelude.{◌≡◌, ◌≢◌, ◌≤◌, ◌-◌, OnOk, false};
-ghost use Rattle.history.specs.LookBack.{is_sold, owner_of, priority_of, sv_price_of, with_event};
-ghost use Rattle.history.specs.Tell.{with_broken};
+ghost use Rattle.history.specs.LookBack.{is_sold, priority_of, sv_price_of, with_event};
+ghost use Rattle.history.specs.Tell.{revenues_told};
 ghost use Rattle.history.specs.declared.event.Event.TheVariants as event;
-ghost use Rattle.privates.specs.Opening.{after_fall, after_revenues, closed, given_away, paid_to_owner};
+ghost use Rattle.privates.specs.Opening.{after_fall, closed, given_away};
 ghost use Rattle.privates.specs.Underway.{IsUnderway};
-ghost use Rattle.tables.specs.Roster.{privates};
 ghost use Rattle.tables.specs.declared.roster.Private.TheVariants.{SchuylkillValley};
 
 use crate::sale::settle_all;
-use history::{Event, History, Holder};
+use history::{Event, History};
 use std::alloc::AllocError;
-use tables::{Amount, Private, Seat, revenue};
+use tables::{Amount, Private, Seat};
 
 /// What SV's price falls by in a round in which all pass before it is sold.
 const FALL: u32 = 5;
@@ -87,62 +86,9 @@ fn give_away(history: &mut History, seat: Seat) -> Result<(), AllocError>
 /// Each sold private pays its owner, in roster order.
 fn pay_revenues(history: &mut History) -> Result<(), AllocError>
     requires { IsUnderway history.old }
-    ensures seats { OnOk result (history.new.seats ≡ history.old.seats) }
-    ensures events { OnOk result (history.new.events
-        ≡ after_revenues history.old.seats history.old.events privates) }
+    ensures game { OnOk result (history.new ≡ revenues_told history.old) }
     ensures underway { OnOk result (IsUnderway history.new) }
 {
-    for private in Private::ALL {
-        pay_revenue(history, private)?;
-    }
-    Ok(())
-}
-
-/// A private pays its owner, if it has one.
-fn pay_revenue(history: &mut History, private: Private) -> Result<(), AllocError>
-    requires { IsUnderway history.old }
-    ensures seats { OnOk result (history.new.seats ≡ history.old.seats) }
-    ensures events { OnOk result (history.new.events
-        ≡ paid_to_owner history.old.seats history.old.events private
-        (owner_of history.old.events private)) }
-    ensures underway { OnOk result (IsUnderway history.new) }
-{
-    let Some(owner) = history.owner(private) else {
-        return Ok(());
-    };
-    pay(history, private, owner, revenue(private))?;
-    tell_broken(history)
-}
-
-/// The bank pays a revenue.
-fn pay(
-    history: &mut History,
-    private: Private,
-    owner: Holder,
-    amount: Amount,
-) -> Result<(), AllocError>
-    requires small { amount ≤ 1000000 }
-    requires underway { IsUnderway history.old }
-    ensures event { OnOk result (history.new
-        ≡ with_event history.old (event.Revenue private owner amount)) }
-    ensures underway { OnOk result (IsUnderway history.new) }
-{
-    history.append(Event::Revenue {
-        private,
-        owner,
-        amount,
-    })?;
-    Ok(())
-}
-
-/// Tells that the bank is broken, where it has just come to that.
-fn tell_broken(history: &mut History) -> Result<(), AllocError>
-    requires { IsUnderway history.old }
-    ensures seats { OnOk result (history.new.seats ≡ history.old.seats) }
-    ensures events { OnOk result (history.new.events
-        ≡ with_broken history.old.seats history.old.events) }
-    ensures underway { OnOk result (IsUnderway history.new) }
-{
-    history.tell_broken()?;
+    history.tell_revenues()?;
     Ok(())
 }

@@ -1,18 +1,26 @@
 -- An event as a line of the report: its words, parted by single spaces, and its LF.
-use Rattle.std.specs.Prelude.{ℕ, List, [], ◌∷◌, ◌++◌, Option, Some, None, map, codes, decimal, unwrap_or, slice_get, ⊤}
+use Rattle.std.specs.Prelude.{ℕ, Bool, if◌then◌else◌, List, [], ◌∷◌, ◌++◌, Option, Some, None, map, codes, decimal, unwrap_or, slice_get, ⊤}
 use Rattle.history.specs.Event.{code_of_refusal}
 use Rattle.history.specs.declared.event.Event.{Event}
-use Rattle.history.specs.declared.event.Event.TheVariants.{Round, Ruled, Passes, Left, Sold, Bids, Price, Revenue, Given, Par, President, Bought, Sells, Exchanged, Floats, Moves, Broken}
+use Rattle.history.specs.declared.event.Event.TheVariants.{Round, Ruled, Passes, Left, Sold, Bids, Price, Revenue, Given, Par, President, Bought, Sells, Exchanged, Floats, Moves, Home, Laid, Token, Withheld, Broken}
 use Rattle.history.specs.declared.event.Holder.{Holder}
 use Rattle.history.specs.declared.event.Holder.TheVariants as holder
 use Rattle.history.specs.declared.ruling.Ruling.{Ruling}
 use Rattle.history.specs.declared.ruling.Ruling.TheVariants.{Obeyed, Refused, Faulty}
+use Rattle.map_tables.specs.Hex.{column_of, row_of}
+use Rattle.map_tables.specs.Place.{stop_index_of}
+use Rattle.map_tables.specs.Side.{turns_of}
+use Rattle.map_tables.specs.Tile.{number_of_tile}
+use Rattle.map_tables.specs.declared.hex.Hex.{Hex}
+use Rattle.map_tables.specs.declared.lay.Lay.{Lay}
+use Rattle.map_tables.specs.declared.place.Place.{Place}
+use Rattle.map_tables.specs.declared.place.StopNumber.{StopNumber}
 use Rattle.order_grammar.specs.Fault.{code_of as code_of_fault}
 use Rattle.order_grammar.specs.Order.{text_of_source}
 use Rattle.order_grammar.specs.declared.order.ShareSource.{ShareSource}
 use Rattle.order_grammar.specs.Print.{spaced, spelling_of, text_of_round}
 use Rattle.report.specs.declared.line.Field.{Field}
-use Rattle.report.specs.declared.line.Field.TheVariants.{Word, Name, Holds, Number, Tenths, Source, On, OfRound, Spelt}
+use Rattle.report.specs.declared.line.Field.TheVariants.{Word, Name, Holds, Number, Tenths, Source, On, Tile, In, Turned, At, OfRound, Spelt}
 use Rattle.sheets.specs.File.{players_of}
 use Rattle.tables.specs.Chart.{price_of}
 use Rattle.tables.specs.Roster.{code_of_company, code_of_private}
@@ -57,6 +65,31 @@ letter_text (Some letter) = letter ∷ []
 abbrev pub text_of_square : Square → List ℕ
 text_of_square square = letter_text (slice_get (codes "ABCDEFGHIJK") square.row) ++ decimal square.column
 
+-- a hex of the map: the letter of its row, and its column
+abbrev pub text_of_hex : Hex → List ℕ
+text_of_hex hex = row_of hex ∷ decimal (column_of hex)
+
+-- the number of a stop behind its hex, if a place names one
+abbrev pub stop_text : Option StopNumber → List ℕ
+stop_text None = []
+stop_text (Some number) = 46 ∷ decimal (stop_index_of number)
+
+-- a place: a hex, or a stop of one
+abbrev pub text_of_place : Place → List ℕ
+text_of_place place = text_of_hex place.hex ++ stop_text place.stop
+
+-- the word of stops that are swapped
+abbrev pub swap_words : Bool → List (List ℕ)
+swap_words swapped = if swapped then codes "SWAP" ∷ [] else []
+
+-- a tile as it lies: its number, its hex, how far it is turned, and whether its stops are swapped
+abbrev pub words_of_lay : Lay → List (List ℕ)
+words_of_lay lay = decimal (number_of_tile lay.tile) ∷ text_of_hex lay.hex ∷ decimal (turns_of lay.rot) ∷ swap_words lay.swap
+
+-- the line of a tile that a company lays
+abbrev pub lay_line : Company → Lay → ℕ → List ℕ
+lay_line company lay cost = line_of (codes "LAID") (code_of_company company ∷ words_of_lay lay ++ decimal cost ∷ [])
+
 -- the line of a tenth of NYC that a seat has for MH
 abbrev pub exchange_line : List ℕ → Seat → ShareSource → List ℕ
 exchange_line file seat from = line_of (codes "EXCHANGED") (codes "MH" ∷ name_of file seat ∷ text_of_source from ∷ [])
@@ -82,6 +115,11 @@ event_line file (Exchanged seat from) = exchange_line file seat from
 event_line file (Floats company amount) = line_of (codes "FLOATS") (code_of_company company ∷ decimal amount ∷ [])
 event_line file (Moves company square) =
     line_of (codes "MOVES") (code_of_company company ∷ decimal (price_of square) ∷ text_of_square square ∷ [])
+event_line file (Home company place) = line_of (codes "HOME") (code_of_company company ∷ text_of_place place ∷ [])
+event_line file (Laid company lay cost) = lay_line company lay cost
+event_line file (Token company place cost) =
+    line_of (codes "TOKEN") (code_of_company company ∷ text_of_place place ∷ decimal cost ∷ [])
+event_line file (Withheld company amount) = line_of (codes "WITHHELD") (code_of_company company ∷ decimal amount ∷ [])
 event_line file Broken = line_of (codes "BROKEN") []
 
 -- the event tells of a private: of its sale, of a bid on it, of its revenue, or of the price of SV
@@ -108,6 +146,14 @@ IsOfCompany (Floats company amount) = ⊤
 IsOfCompany (Moves company square) = ⊤
 IsOfCompany other = ⊥
 
+-- the event tells of a company's turn: of its home, of a tile, of a token, or of what it withholds
+abbrev pub IsOfTurn : Event → Type 0
+IsOfTurn (Home company place) = ⊤
+IsOfTurn (Laid company lay cost) = ⊤
+IsOfTurn (Token company place cost) = ⊤
+IsOfTurn (Withheld company amount) = ⊤
+IsOfTurn other = ⊥
+
 -- a field of a line as its text
 abbrev pub field_text : List ℕ → Field → List ℕ
 field_text file (Word word) = word.now
@@ -117,6 +163,10 @@ field_text file (Number number) = decimal number
 field_text file (Tenths tenths) = decimal tenths
 field_text file (Source source) = text_of_source source
 field_text file (On square) = text_of_square square
+field_text file (Tile tile) = decimal (number_of_tile tile)
+field_text file (In hex) = text_of_hex hex
+field_text file (Turned rotation) = decimal (turns_of rotation)
+field_text file (At place) = text_of_place place
 field_text file (OfRound round) = text_of_round round
 field_text file (Spelt order) = spelling_of order.now
 

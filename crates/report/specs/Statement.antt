@@ -5,6 +5,7 @@ use Rattle.std.specs.List.{flat_map, range_with_len}
 use Rattle.std.specs.Fmt.{signed_decimal}
 use Rattle.history.specs.Event.{party_at}
 use Rattle.history.specs.LookBack.{cash_of, owner_in, owner_of, same_holder}
+use Rattle.history.specs.Operating.{tokens_placed}
 use Rattle.history.specs.Shares.{president_of, shares_of, square_of}
 use Rattle.history.specs.declared.event.Event.{Event}
 use Rattle.history.specs.declared.event.Holder.{Holder}
@@ -77,13 +78,13 @@ abbrev pub president_name : List ℕ → Option Seat → List ℕ
 president_name file None = []
 president_name file (Some seat) = name_of file seat
 
--- a company's cash, the price of its square, its tenths in the initial offering and the bank pool, and its
--- tokens; none is laid before the first operating round
+-- a company's cash, the price of its square, its tenths in the initial offering and the bank pool, and the
+-- tokens that it has placed
 unfoldable pub company_figures : ℕ → List Event → Company → Square → List ℕ
 company_figures seats events company square =
     cash_column seats events (party.Holder (holder.Company company))
     ++ at_right 4 (decimal (price_of square))
-    ++ tenths_column events company InitialOffering ++ tenths_column events company BankPool ++ at_right 2 (decimal 0)
+    ++ tenths_column events company InitialOffering ++ tenths_column events company BankPool ++ at_right 2 (decimal (tokens_placed events company))
 
 -- the same, as a game stood
 abbrev pub company_figures_at : Past → Company → Square → List ℕ

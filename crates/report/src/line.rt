@@ -1,9 +1,10 @@
 ghost use Rattle.std.specs.Prelude.{◌≡◌, OnOk};
 ghost use Rattle.report.specs.Column.{Adds};
-ghost use Rattle.report.specs.Line.{IsOfCompany, IsOfPrivate, IsOfTenths, event_line, exchange_line, field_text, line_of_company, line_of_fields, line_of_seat, line_of_word, name_of, private_line, ruled_line, text_of_square};
+ghost use Rattle.report.specs.Line.{IsOfCompany, IsOfPrivate, IsOfTenths, IsOfTurn, event_line, exchange_line, field_text, lay_line, line_of_company, line_of_fields, line_of_seat, line_of_word, name_of, private_line, ruled_line, text_of_hex, text_of_place, text_of_square};
 
-use Field::{Holds, Name, Number, OfRound, On, Source, Spelt, Tenths, Word};
+use Field::{At, Holds, In, Name, Number, OfRound, On, Source, Spelt, Tenths, Tile, Turned, Word};
 use history::{Event, Holder, KeptOrder, Ruling};
+use map_tables::{Hex, Lay, Place, Rotation, TileNo};
 use order_grammar::{ShareSource, print_number, print_order, print_round};
 use sheets::Sheets;
 use std::alloc::AllocError;
@@ -26,6 +27,14 @@ pub(crate) enum Field<'a> {
     Source(ShareSource),
     /// A square of the stock market.
     On(Square),
+    /// A tile.
+    Tile(TileNo),
+    /// A hex of the map.
+    In(Hex),
+    /// How far a tile is turned.
+    Turned(Rotation),
+    /// A place of the map.
+    At(Place),
     /// A round.
     OfRound(Round),
     /// The spelling of an order.
@@ -57,6 +66,9 @@ pub(crate) fn push_event(
         | Event::Exchanged { .. } => { push_of_tenths(out, sheets, event) }
         Event::Par { .. } | Event::President { .. } | Event::Floats { .. } | Event::Moves { .. } =>
             { push_of_company(out, sheets, event) }
+        Event::Home { .. } | Event::Laid { .. } | Event::Token { .. } | Event::Withheld { .. } => {
+            push_of_turn(out, sheets, event)
+        }
         Event::Broken => tell(out, sheets, "BROKEN", &[]),
     }
 }
@@ -167,6 +179,48 @@ fn push_of_company(out: &mut Vec<u8>, sheets: &Sheets, event: &Event) -> Result<
     }
 }
 
+/// Adds an event of a company's turn in an operating round as its line: its home, a tile, a token,
+/// or what it withholds.
+fn push_of_turn(out: &mut Vec<u8>, sheets: &Sheets, event: &Event) -> Result<(), AllocError>
+    requires { IsOfTurn event.now }
+    ensures { OnOk result (Adds out.old out.new (event_line sheets.now event.now)) }
+{
+    match event {
+        Event::Home { company, place } => {
+            tell_company(out, sheets, "HOME", *company, &[At(*place)])
+        }
+        Event::Laid { company, lay, cost } => push_laid(out, sheets, *company, *lay, *cost),
+        Event::Token {
+            company,
+            place,
+            cost,
+        } => tell_company(out, sheets, "TOKEN", *company, &[At(*place), Number(*cost)]),
+        Event::Withheld { company, amount } => {
+            tell_company(out, sheets, "WITHHELD", *company, &[Number(*amount)])
+        }
+        _ => unreachable!(),
+    }
+}
+
+/// Adds the line of a tile that a company lays.
+fn push_laid(
+    out: &mut Vec<u8>,
+    sheets: &Sheets,
+    company: Company,
+    lay: Lay,
+    cost: Amount,
+) -> Result<(), AllocError>
+    ensures { OnOk result (Adds out.old out.new (lay_line company lay cost)) }
+{
+    let (tile, hex, turned) = (Tile(lay.tile), In(lay.hex), Turned(lay.rot));
+    if lay.swap {
+        let fields = [tile, hex, turned, Word("SWAP"), Number(cost)];
+        return tell_company(out, sheets, "LAID", company, &fields);
+    }
+    let fields = [tile, hex, turned, Number(cost)];
+    tell_company(out, sheets, "LAID", company, &fields)
+}
+
 /// Adds a line that begins with a word.
 fn tell(out: &mut Vec<u8>, sheets: &Sheets, word: &str, fields: &[Field]) -> Result<(), AllocError>
     ensures { OnOk result (Adds out.old out.new (line_of_word sheets.now word.now fields.now)) }
@@ -253,6 +307,10 @@ fn push_field(out: &mut Vec<u8>, sheets: &Sheets, field: &Field) -> Result<(), A
         Tenths(tenths) => print_number(out, *tenths),
         Source(source) => out.extend_from_slice(source.text()),
         On(square) => push_square(out, *square),
+        Tile(tile) => print_number(out, tile.number()),
+        In(hex) => push_hex(out, *hex),
+        Turned(rotation) => print_number(out, rotation.turns()),
+        At(place) => push_place(out, *place),
         OfRound(round) => print_round(out, round),
         Spelt(order) => print_order(out, &order.order()),
     }
@@ -267,6 +325,26 @@ fn push_square(out: &mut Vec<u8>, square: Square) -> Result<(), AllocError>
         out.push(*letter)?;
     }
     print_number(out, square.column)
+}
+
+/// Adds a hex of the map: the letter of its row, and its column.
+fn push_hex(out: &mut Vec<u8>, hex: Hex) -> Result<(), AllocError>
+    ensures { OnOk result (Adds out.old out.new (text_of_hex hex)) }
+{
+    out.push(hex.row())?;
+    print_number(out, hex.column())
+}
+
+/// Adds a place of the map: a hex, or a stop of one.
+fn push_place(out: &mut Vec<u8>, place: Place) -> Result<(), AllocError>
+    ensures { OnOk result (Adds out.old out.new (text_of_place place)) }
+{
+    push_hex(out, place.hex)?;
+    if let Some(number) = place.stop {
+        out.push(b'.')?;
+        print_number(out, number.index())?;
+    }
+    Ok(())
 }
 
 /// Adds what became of a line of a seat's sheet.

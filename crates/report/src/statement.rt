@@ -208,7 +208,7 @@ fn push_started(
 }
 
 /// Adds a company's cash, the price of its square, its tenths in the initial offering and the bank
-/// pool, and its tokens.
+/// pool, and how many tokens it has placed.
 #[tactic(auto, unfolding(crate::specs::Statement::company_figures))]
 fn push_figures(
     out: &mut Vec<u8>,
@@ -223,7 +223,7 @@ fn push_figures(
     push_right(out, price(square), PRICE_WIDTH)?;
     push_tenths(out, standing, company, Shareholder::InitialOffering)?;
     push_tenths(out, standing, company, Shareholder::BankPool)?;
-    push_right(out, 0u32, TOKEN_WIDTH)
+    push_right(out, standing.past.tokens_placed(company), TOKEN_WIDTH)
 }
 
 /// Adds the cash of a party in its column.

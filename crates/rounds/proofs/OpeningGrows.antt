@@ -4,6 +4,7 @@ use Rattle.std.specs.List.{range_with_len}
 use Rattle.std.proofs.lemmas.List.{append_assoc}
 use Rattle.history.specs.Bids.{bids_on}
 use Rattle.history.specs.LookBack.{Game, cheapest_of, is_sold, owner_of, priority_of, sv_price_of}
+use Rattle.history.specs.Tell.{after_revenues, paid_to_owner}
 use Rattle.history.specs.declared.event.Bid.{Bid}
 use Rattle.history.specs.declared.event.Event.{Event}
 use Rattle.history.specs.declared.event.Event.TheVariants as event
@@ -13,7 +14,7 @@ use Rattle.history.specs.declared.ruling.Ruling.TheVariants as ruling
 use Rattle.order_grammar.specs.declared.order.Order.{Order}
 use Rattle.order_grammar.specs.declared.order.Order.TheVariants as order
 use Rattle.privates.specs.Judgement.{price_of, ruling_of}
-use Rattle.privates.specs.Opening.{IsOpeningRound, after_fall, after_passing, after_revenues, closed, finished, given_away, left_from, opened, paid_to_owner}
+use Rattle.privates.specs.Opening.{IsOpeningRound, after_fall, after_passing, closed, finished, given_away, left_from, opened}
 use Rattle.privates.specs.Sale.{after_sale, gifts, settle, settled, settled_by, settled_of}
 use Rattle.privates.specs.Standing.{after_standing, after_standing_line, after_standing_lines, after_standing_of}
 use Rattle.privates.specs.Turn.{InTurn, after_act, after_line, after_lines, after_obeyed, all_sold, opening_turns}
