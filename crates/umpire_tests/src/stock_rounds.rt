@@ -107,10 +107,10 @@ fn after_two(alloc: Global, sheets: &Sheets) -> Result<History, AllocError> {
 
 /// How many lines are refused by this rule.
 fn refused_by(history: &History, broken: StockRule) -> usize {
-    let mut count = 0;
+    let mut count: usize = 0;
     for event in history.events() {
         if is_refused_by(event, broken) {
-            count += 1;
+            count = count.saturating_add(1);
         }
     }
     count
@@ -129,10 +129,10 @@ fn is_refused_by(event: &Event, broken: StockRule) -> bool {
 
 /// How many turns were passes.
 fn passes(history: &History) -> usize {
-    let mut count = 0;
+    let mut count: usize = 0;
     for event in history.events() {
         if matches!(event, Event::Passes(_)) {
-            count += 1;
+            count = count.saturating_add(1);
         }
     }
     count
