@@ -3,10 +3,11 @@ ghost use Rattle.tables.specs.Roster.{code_of_company, code_of_private, face_of,
 
 use crate::seat::Amount;
 
-/// A share company, in roster order.
-#[derive(Clone, Copy, Debug, PartialEq, Eq, Hash)]
+/// A share company, in roster order. The default is the first of them.
+#[derive(Clone, Copy, Debug, PartialEq, Eq, Hash, Default)]
 pub enum Company {
     /// PRR, the Pennsylvania.
+    #[default]
     Pennsylvania,
     /// NYC, the New York Central.
     NewYorkCentral,
@@ -168,8 +169,8 @@ pub fn tokens(company: Company) -> usize
     }
 }
 
-/// What a company pays for its next token when so many of its tokens lie: nothing for the home token,
-/// 40 for the second and 100 for each later one.
+/// What a company pays for its next token when so many of its tokens lie: nothing for the home
+/// token, 40 for the second and 100 for each later one.
 pub fn token_price(laid: usize) -> Amount
     ensures { result ≡ token_price_of laid }
 {

@@ -14,8 +14,8 @@ const ANN: Seat = Seat(0);
 
 const BOB: Seat = Seat(1);
 
-/// ANN starts PRR at 100 and comes to five tenths, BOB to one, so that PRR floats. In the second
-/// round ANN sells three, and may not sell more, since nobody else could preside.
+/// ANN starts PRR at 100 and comes to five tenths, BOB to one, so that PRR floats. In the second round
+/// ANN sells three, and may not sell more, since nobody else could preside.
 const BLOCK: &str = "GAME 1830 1
 PLAYERS ANN BOB CYD
 SHEET ANN SR1
@@ -39,8 +39,8 @@ SHEET BOB SR2
 SHEET CYD SR2
 ";
 
-/// BOB starts PRR at 67 and comes to six tenths, ANN to two. In the second round BOB sells four, and
-/// then ANN may not sell.
+/// BOB starts PRR at 67 and comes to six tenths, ANN to two. In the second round BOB sells four, and then
+/// ANN may not sell.
 const POOL: &str = "GAME 1830 1
 PLAYERS ANN BOB CYD
 SHEET ANN SR1
@@ -107,13 +107,11 @@ fn after_two(alloc: Global, sheets: &Sheets) -> Result<History, AllocError> {
 
 /// How many lines are refused by this rule.
 fn refused_by(history: &History, broken: StockRule) -> usize {
-    let mut count: usize = 0;
-    for event in history.events() {
-        if is_refused_by(event, broken) {
-            count = count.saturating_add(1);
-        }
-    }
-    count
+    history
+        .events()
+        .iter()
+        .filter(|event| is_refused_by(event, broken))
+        .count()
 }
 
 /// Whether an event refuses a line by this rule.
@@ -129,13 +127,11 @@ fn is_refused_by(event: &Event, broken: StockRule) -> bool {
 
 /// How many turns were passes.
 fn passes(history: &History) -> usize {
-    let mut count: usize = 0;
-    for event in history.events() {
-        if matches!(event, Event::Passes(_)) {
-            count = count.saturating_add(1);
-        }
-    }
-    count
+    history
+        .events()
+        .iter()
+        .filter(|event| matches!(event, Event::Passes(_)))
+        .count()
 }
 
 #[test]
