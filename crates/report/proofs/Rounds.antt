@@ -30,8 +30,13 @@ alone event false [] = refl
 alone event false (round ∷ rounds) = refl
 
 -- the first event is in front of the others
-pub first_event : (event : Event) (rest : List Event) → rounds_in (event ∷ rest) ≡ with_events (event ∷ []) (ends_round rest) (rounds_in rest)
+first_event : (event : Event) (rest : List Event) → rounds_in (event ∷ rest) ≡ with_events (event ∷ []) (ends_round rest) (rounds_in rest)
 first_event event rest = alone event (ends_round rest) (rounds_in rest)
+
+-- the first of some events is in front of the others
+pub first_of_some : (events : List Event) → 1 ≤ length events → rounds_in events ≡ with_events (take 1 events) (ends_round (drop 1 events)) (rounds_in (drop 1 events))
+first_of_some [] some = absurd (omega (arith, some))
+first_of_some (event ∷ rest) some = first_event event rest
 
 -- one event more is of the first round, where it does not end here and this is what follows
 one_more_of : (events rest : List Event) (n : ℕ) → n ≤ length events → drop n events ≡ rest → ends_round rest ≡ false → rounds_in events ≡ with_events (take n events) (ends_round rest) (rounds_in rest) → (n + 1 ≤ length events) × (rounds_in events ≡ with_events (take (n + 1) events) (ends_round (drop (n + 1) events)) (rounds_in (drop (n + 1) events)))
