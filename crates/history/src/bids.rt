@@ -1,10 +1,10 @@
 //! Standing bids, and what the standing orders of a seat say.
 ghost use Rattle.std.specs.Prelude.{◌≡◌, ◌^◌, ◌<◌, ◌≤◌, option_map, pos};
 ghost use Rattle.history.specs.Orders.{limit_of, par_ordered_of};
-ghost use Rattle.history.specs.Bids.{bid_of, bids_elsewhere_of, bids_of, bids_on, free_cash_of, free_for, tied_on};
+ghost use Rattle.history.specs.Bids.{AreTied, NotesBid, bid_of, bids_elsewhere_of, bids_of, bids_on, free_cash_of, free_for, tied_on};
 
 use crate::aspect::{InRound, last_said};
-use crate::event::{Bid, Holder, Party};
+use crate::event::{Bid, Bidding, Event, Holder, Party};
 use crate::look_back::Past;
 use crate::topics::{BidOn, LimitOn, ParOrdered};
 use arrayvec::ArrayVec;
@@ -59,11 +59,24 @@ impl Past<'_> {
         ensures sum { result ≡ pos (bids_of self.now.events.now seat) }
         ensures within { bids_of self.now.events.now seat < 2 ^ 35 }
     {
+        let tied = self.tied_by(seat);
         let mut sum: u64 = 0;
         for private in Private::ALL {
-            sum += u64::from(self.tied_on(seat, private));
+            sum += u64::from(tied[private.place()]);
         }
         Money::from(sum)
+    }
+
+    /// What a seat's standing bid on each private ties, by the private's place in the roster, by one
+    /// look over the list.
+    fn tied_by(&self, seat: Seat) -> [Amount; 6]
+        ensures { AreTied self.now.events.now seat result }
+    {
+        let mut tied = [0; 6];
+        for event in self.events {
+            note_bid(&mut tied, seat, event);
+        }
+        tied
     }
 
     /// What a seat can spend on a private: its cash less its standing bids on the others.
@@ -93,5 +106,20 @@ impl Past<'_> {
         ensures { result ≡ tied_on self.now.events.now seat private }
     {
         self.standing_bid(private, seat).unwrap_or(0)
+    }
+}
+
+/// Notes what an event says of a seat's bids in a table of what they tie.
+fn note_bid(tied: &mut [Amount; 6], seat: Seat, event: &Event)
+    ensures { NotesBid seat event.now tied.old tied.new }
+{
+    match event.bidding() {
+        Some(Bidding::Made(private, bid)) => {
+            if bid.seat == seat {
+                tied[private.place()] = bid.amount;
+            }
+        }
+        Some(Bidding::Ended(private)) => tied[private.place()] = 0,
+        None => {}
     }
 }
