@@ -1,6 +1,6 @@
 -- Standing bids. A seat's newest bid on a private replaces its older one there, and the sale of the
 -- private ends the bids on it. A seat's standing bids tie its cash.
-use Rattle.std.specs.Prelude.{◌≡◌, ℕ, ◌==◌, ◌&&◌, if◌then◌else◌, List, [], ◌∷◌, Option, Some, None, sum_by, pos, ◌-ℤ◌, ℤ, slice_index_or, unwrap_or}
+use Rattle.std.specs.Prelude.{◌≡◌, ℕ, ◌<◌, ◌==◌, ◌&&◌, if◌then◌else◌, List, [], ◌∷◌, Option, Some, None, sum_by, pos, ◌-ℤ◌, ℤ, slice_index_or, unwrap_or}
 use Rattle.std.specs.List.{flat_map}
 use Rattle.history.specs.Event.{bidding_of, party_at}
 use Rattle.history.specs.LookBack.{cash_of, now_said}
@@ -9,7 +9,7 @@ use Rattle.history.specs.declared.event.Bidding.{Bidding}
 use Rattle.history.specs.declared.event.Bidding.TheVariants.{Made, Ended}
 use Rattle.history.specs.declared.event.Event.{Event}
 use Rattle.tables.specs.Roster.{place_of_private, privates, same_private}
-use Rattle.tables.specs.Seat.{all_seats}
+use Rattle.tables.specs.Seat.{all_seats, seat_at}
 use Rattle.tables.specs.declared.roster.Private.{Private}
 use Rattle.tables.specs.declared.seat.Seat.{Seat}
 
@@ -32,6 +32,16 @@ as_bid seat (Some amount) = record { seat = seat; amount = amount } ∷ []
 -- the standing bids on a private, in the order of the seats
 abbrev pub bids_on : ℕ → List Event → Private → List Bid
 bids_on seats events private = flat_map (λ seat. as_bid seat (bid_of events private seat)) (all_seats seats)
+
+-- the table has the standing bid of each of six seats on a private
+abbrev pub AreStanding : List Event → Private → List (Option ℕ) → Type 0
+AreStanding events private standing =
+    (number : ℕ) → number < 6 → slice_index_or standing number None ≡ bid_of events private (seat_at number)
+
+-- a table after an event has what the event says of the bids on a private, and else what it had
+abbrev pub NotesBidOn : Private → Event → List (Option ℕ) → List (Option ℕ) → Type 0
+NotesBidOn private event old new =
+    (number : ℕ) → number < 6 → slice_index_or new number None ≡ unwrap_or (bid_said private (seat_at number) (bidding_of event)) (slice_index_or old number None)
 
 -- what a seat's standing bid on a private ties
 abbrev pub tied_on : List Event → Seat → Private → ℕ

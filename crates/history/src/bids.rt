@@ -1,7 +1,7 @@
 //! Standing bids, and what the standing orders of a seat say.
 ghost use Rattle.std.specs.Prelude.{◌≡◌, ◌^◌, ◌<◌, ◌≤◌, option_map, pos};
 ghost use Rattle.history.specs.Orders.{limit_of, par_ordered_of};
-ghost use Rattle.history.specs.Bids.{AreTied, NotesBid, bid_of, bids_elsewhere_of, bids_of, bids_on, free_cash_of, free_for, tied_on};
+ghost use Rattle.history.specs.Bids.{AreStanding, AreTied, NotesBid, NotesBidOn, bid_of, bids_elsewhere_of, bids_of, bids_on, free_cash_of, free_for, tied_on};
 
 use crate::aspect::{InRound, last_said};
 use crate::event::{Bid, Bidding, Event, Holder, Party};
@@ -30,14 +30,26 @@ impl Past<'_> {
         requires { self.now.seats ≤ 6 }
         ensures { result.items ≡ bids_on self.now.seats self.now.events.now private }
     {
+        let standing = self.standing_by_seat(private);
         let mut bids = ArrayVec::new();
         for number in 0..self.seats {
             let seat = Seat::at(number);
-            if let Some(amount) = self.standing_bid(private, seat) {
+            if let Some(amount) = standing[number] {
                 bids.push(Bid { seat, amount });
             }
         }
         bids
+    }
+
+    /// The standing bid of each of six seats on a private, by one look over the list.
+    fn standing_by_seat(&self, private: Private) -> [Option<Amount>; PLAYERS_MOST]
+        ensures { AreStanding self.now.events.now private result }
+    {
+        let mut standing = [None; PLAYERS_MOST];
+        for event in self.events {
+            note_bid_on(&mut standing, private, event);
+        }
+        standing
     }
 
     /// How far a seat goes in an auction of a private, by its last obeyed LIMIT line of this round.
@@ -120,6 +132,26 @@ fn note_bid(tied: &mut [Amount; 6], seat: Seat, event: &Event)
             }
         }
         Some(Bidding::Ended(private)) => tied[private.place()] = 0,
+        None => {}
+    }
+}
+
+/// Notes what an event says of the bids on a private in a table of the seats' standing bids.
+fn note_bid_on(standing: &mut [Option<Amount>; PLAYERS_MOST], private: Private, event: &Event)
+    ensures { NotesBidOn private event.now standing.old standing.new }
+{
+    match event.bidding() {
+        Some(Bidding::Made(other, bid)) => {
+            let number = bid.seat.number();
+            if other == private && number < PLAYERS_MOST {
+                standing[number] = Some(bid.amount);
+            }
+        }
+        Some(Bidding::Ended(other)) => {
+            if other == private {
+                *standing = [None; PLAYERS_MOST];
+            }
+        }
         None => {}
     }
 }
