@@ -106,8 +106,10 @@ fn is_too_low(past: &Past, private: Private, amount: Amount) -> bool
     requires { past.now.seats ≤ 6 }
     ensures { result ≡ is_too_low_for past.now.seats past.now.events.now private amount }
 {
-    let bids = past.bids_on(private);
-    u64::from(amount) < u64::from(face(private)) + STEP || is_near(amount, bids.as_slice())
+    if u64::from(amount) < u64::from(face(private)) + STEP {
+        return true;
+    }
+    is_near(amount, past.bids_on(private).as_slice())
 }
 
 /// Whether a sum is less than the step over one of these bids.
