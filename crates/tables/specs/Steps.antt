@@ -18,3 +18,7 @@ pub record Ends {A : Type 0} (step : A → A) (over : A → Bool) (a z : A) : Ty
   pub reached : iterate step steps a ≡ z
   pub over_then : over z ≡ true
   pub not_before : (k : ℕ) → k < steps → over (iterate step k a) ≡ false
+
+-- steps lead to at most one end, whatever is stepped
+abbrev pub StepsEndOnce : Type 0 → Type 0
+StepsEndOnce A = (step : A → A) (over : A → Bool) (a y z : A) → Ends step over a y → Ends step over a z → y ≡ z

@@ -81,3 +81,18 @@ groups_left at = sum_by (λ groups. length groups) at.groups
 -- a bound on the turns that are still to come: no rule of the game, but the measure by which they end
 abbrev pub turns_most : {State Line : Type 0} → Play State Line → InPlay State Line → ℕ
 turns_most play at = groups_left at * play.seats + (play.seats - at.passes)
+
+-- turns have at most one outcome, whatever a turn does
+abbrev pub TurnsEndOnce : Type 0 → Type 0 → Type 0
+TurnsEndOnce State Line =
+    (play : Play State Line) (start a b : InPlay State Line) → TurnsEnd play start a → TurnsEnd play start b → a ≡ b
+
+-- turns have an outcome soon, where no seat acts without lines and none has over 512 groups
+abbrev pub TurnsEndSoon : Type 0 → Type 0 → Type 0
+TurnsEndSoon State Line =
+    (play : Play State Line) (start : InPlay State Line) → IsIdleWithoutLines play → CanBegin play start → EndSoon play start
+
+-- each turn brings the end nearer, where no seat acts without lines
+abbrev pub TurnsComeNearer : Type 0 → Type 0 → Type 0
+TurnsComeNearer State Line =
+    (play : Play State Line) (at : InPlay State Line) → IsIdleWithoutLines play → turns_over play at ≡ false → turns_most play (after_turn play at) < turns_most play at

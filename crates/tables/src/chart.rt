@@ -51,8 +51,8 @@ struct Entry {
     zone: Zone,
 }
 
-/// What a mark and a price on the chart stand for: `y`, `o` and `b` a zone, `p` a par value, `w` none of
-/// these, and `x` no square.
+/// What a mark and a price on the chart stand for: `y`, `o` and `b` a zone, `p` a par value, `w` none
+/// of these, and `x` no square.
 macro_rules! entry {
     (w $price:literal) => { Some(Entry { price: $price, zone: Zone::White }) };
     (p $price:literal) => { entry!(w $price) };
@@ -72,12 +72,12 @@ fn row_at(row: u8) -> &'static [Option<Entry>]
     ensures { result.now ≡ the_row_at row }
 {
     match row {
-        0 =>
-            row!(y 60 w 67 w 71 w 76 w 82 w 90 p 100 w 112 w 126 w 142 w 160 w 180 w 200 w 225 w 250 w 275 w 300 w 325 w 350),
-        1 =>
-            row!(y 53 y 60 w 66 w 70 w 76 w 82 p 90 w 100 w 112 w 126 w 142 w 160 w 180 w 200 w 220 w 240 w 260 w 280 w 300),
-        2 =>
-            row!(y 46 y 55 y 60 w 65 w 70 w 76 p 82 w 90 w 100 w 111 w 125 w 140 w 155 w 170 w 185 w 200),
+        0 => row!(y 60 w 67 w 71 w 76 w 82 w 90 p 100 w 112 w 126 w 142 w 160 w 180 w 200 w 225
+            w 250 w 275 w 300 w 325 w 350),
+        1 => row!(y 53 y 60 w 66 w 70 w 76 w 82 p 90 w 100 w 112 w 126 w 142 w 160 w 180 w 200
+            w 220 w 240 w 260 w 280 w 300),
+        2 => row!(y 46 y 55 y 60 w 65 w 70 w 76 p 82 w 90 w 100 w 111 w 125 w 140 w 155 w 170
+            w 185 w 200),
         3 => row!(o 39 y 48 y 54 y 60 w 66 w 71 p 76 w 82 w 90 w 100 w 110 w 120 w 130),
         4 => row!(o 32 o 41 y 48 y 55 w 62 w 67 p 71 w 76 w 82 w 90 w 100),
         5 => row!(b 25 o 34 o 42 y 50 y 58 w 65 p 67 w 71 w 75 w 80),

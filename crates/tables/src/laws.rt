@@ -1,12 +1,12 @@
 //! Laws of the definitions, each the contract of a function that does nothing.
-ghost use Rattle.std.specs.Prelude.{◌≡◌, ◌<◌, Bool, List, None, Some, false, map, true};
+ghost use Rattle.std.specs.Prelude.{◌≡◌, map};
 ghost use Rattle.std.specs.List.{range_with_len};
 ghost use Rattle.tables.specs.Roster.{companies, place_of_company, place_of_private, privates};
 ghost use Rattle.tables.specs.Round.{RoundsAreInOrder};
-ghost use Rattle.tables.specs.Rules.{AreKept, BreaksFirst, Rule, first_broken};
-ghost use Rattle.tables.specs.Steps.{Ends};
+ghost use Rattle.tables.specs.Rules.{FirstOfThoseBroken, KeptWhereNoneIsBroken};
+ghost use Rattle.tables.specs.Steps.{StepsEndOnce};
 ghost use Rattle.tables.specs.Train.{kinds, place_of_kind};
-ghost use Rattle.tables.specs.Turns.{CanBegin, EndSoon, InPlay, IsIdleWithoutLines, Play, TurnsEnd, after_turn, turns_most, turns_over};
+ghost use Rattle.tables.specs.Turns.{TurnsComeNearer, TurnsEndOnce, TurnsEndSoon};
 
 use crate::rolling_stock::Kind;
 use crate::roster::{Company, Private};
@@ -21,35 +21,36 @@ pub fn rosters_in_order()
     ensures kind_places { map place_of_kind kinds ≡ range_with_len 0 6 }
 {}
 
-/// Rounds are in order: the openings, then each stock round followed by the operating rounds of its set.
+/// Rounds are in order: the openings, then each stock round followed by the operating rounds of its
+/// set.
 pub fn rounds_in_order()
     ensures { RoundsAreInOrder }
 {}
 
 /// A step that is repeated until it is over leads to at most one end, whatever is stepped.
 pub fn one_end<T>()
-    ensures { (step : T → T) (over : T → Bool) (a : T) (y : T) (z : T) → Ends step over a y → Ends step over a z → y ≡ z }
+    ensures { StepsEndOnce T }
 {}
 
 /// Turns to the left have at most one outcome, whatever a turn does.
 pub fn one_end_of_turns<S, L>()
-    ensures { (play : Play S L) (start : InPlay S L) (a : InPlay S L) (b : InPlay S L) → TurnsEnd play start a → TurnsEnd play start b → a ≡ b }
+    ensures { TurnsEndOnce S L }
 {}
 
 /// Turns to the left have an outcome, after at most 513 turns for each seat, where no seat acts
 /// without lines and none has over 512 groups.
 pub fn turns_end_soon<S, L>()
-    ensures { (play : Play S L) (start : InPlay S L) → IsIdleWithoutLines play → CanBegin play start → EndSoon play start }
+    ensures { TurnsEndSoon S L }
 {}
 
 /// Each turn brings the end nearer, where no seat acts without lines.
 pub fn each_turn_is_nearer_the_end<S, L>()
-    ensures { (play : Play S L) (at : InPlay S L) → IsIdleWithoutLines play → turns_over play at ≡ false → turns_most play (after_turn play at) < turns_most play at }
+    ensures { TurnsComeNearer S L }
 {}
 
-/// Where no rule of a table is broken each rule is kept, and else the code is that of a rule which is
-/// broken while each before it is kept.
+/// Where no rule of a table is broken each rule is kept, and else the code is that of a rule which
+/// is broken while each before it is kept.
 pub fn first_rule_broken<C>()
-    ensures none { (rules : List (Rule C)) → first_broken rules ≡ None → AreKept rules }
-    ensures some { (code : C) (rules : List (Rule C)) → first_broken rules ≡ Some code → BreaksFirst code rules }
+    ensures none { KeptWhereNoneIsBroken C }
+    ensures some { FirstOfThoseBroken C }
 {}

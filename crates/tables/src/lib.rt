@@ -2,12 +2,12 @@
 //! trains and the chart of the stock market.
 //!
 //! Each call answers its entry of a table and takes no memory. `specs/` also holds the few general
-//! words that several crates share: a step that is repeated until it is over, turns to the left until
-//! all pass, and the first rule of a table that is broken.
+//! words that several crates share: a step that is repeated until it is over, turns to the left
+//! until all pass, and the first rule of a table that is broken.
 //!
 //! Reading order: `roster` (companies and privates), `seat` (players, their money and the limit of
-//! certificates), `round`, `rolling_stock`, `squares` and `chart` (the stock market), `laws` (what holds of
-//! rounds, of turns and of tables of rules).
+//! certificates), `round`, `rolling_stock`, `squares` and `chart` (the stock market), `laws` (what
+//! holds of rounds, of turns and of tables of rules).
 #![tactic(auto)]
 
 mod chart;

@@ -168,8 +168,8 @@ pub fn tokens(company: Company) -> usize
     }
 }
 
-/// What a company pays for its next token when so many of its tokens lie: nothing for the home token,
-/// 40 for the second and 100 for each later one.
+/// What a company pays for its next token when so many of its tokens lie: nothing for the home
+/// token, 40 for the second and 100 for each later one.
 pub fn token_price(laid: usize) -> Amount
     ensures { result ≡ token_price_of laid }
 {

@@ -47,8 +47,8 @@ pub const PLAYERS_LEAST: usize = 3;
 /// The most players of a game.
 pub const PLAYERS_MOST: usize = 6;
 
-/// What each player begins with, paid by the bank: 800, 600, 480 or 400 for 3, 4, 5 or 6 players, and 0
-/// for any other number, with which nobody plays.
+/// What each player begins with, paid by the bank: 800, 600, 480 or 400 for 3, 4, 5 or 6 players,
+/// and 0 for any other number, with which nobody plays.
 pub fn start_money(players: usize) -> Amount
     ensures { result ≡ start_money_of players }
 {
@@ -61,8 +61,8 @@ pub fn start_money(players: usize) -> Amount
     }
 }
 
-/// What the bank has of its 12,000 once the players have their start money: 9,600 for 3 to 6 players, and
-/// all of it for any other number.
+/// What the bank has of its 12,000 once the players have their start money: 9,600 for 3 to 6
+/// players, and all of it for any other number.
 pub fn bank_start(players: usize) -> Amount
     ensures { result ≡ bank_start_of players }
 {
@@ -72,8 +72,8 @@ pub fn bank_start(players: usize) -> Amount
     }
 }
 
-/// How many certificates a player may hold that count: 20, 16, 13 or 11 for 3, 4, 5 or 6 players, and 0
-/// for any other number, with which nobody plays.
+/// How many certificates a player may hold that count: 20, 16, 13 or 11 for 3, 4, 5 or 6 players,
+/// and 0 for any other number, with which nobody plays.
 pub fn certificate_limit(players: usize) -> usize
     ensures { result ≡ certificate_limit_of players }
 {
