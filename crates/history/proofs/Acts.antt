@@ -6,7 +6,7 @@ use Rattle.std.proofs.lemmas.Int.{ints}
 use Rattle.std.specs.Option.{option_flatten, option_or}
 use Rattle.history.proofs.BidWords.{differ_after_bid, differ_after_sale, elsewhere_kept, bid_silent, sale_silent, same_private_is, seated_after_bid, seated_after_sale, small_after_bid, small_after_sale, tied_by_bid, untied_by_sale}
 use Rattle.history.proofs.EventAtEnd.{bids_of_before, cash_of_at_end, cash_of_before, is_sold_before, last_said_at_end, shares_of_before, square_of_before, sv_price_of_at_end}
-use Rattle.history.proofs.Soundness.{companies_kept, differ_kept, given_kept, held_kept, led_kept, offered_kept, price_kept, seated_kept, small_kept, solvent_kept, ten_kept}
+use Rattle.history.proofs.Soundness.{companies_kept, differ_kept, floated_kept, given_kept, held_kept, led_kept, offered_kept, price_kept, seated_kept, small_kept, solvent_kept, ten_kept}
 use Rattle.history.proofs.Standing.{bids_split}
 use Rattle.history.specs.Bids.{bids_elsewhere_of, free_cash_of, tied_on}
 use Rattle.history.specs.Event.{ownership_of, party_at}
@@ -28,11 +28,11 @@ use Rattle.tables.specs.declared.roster.Private.TheVariants.{SchuylkillValley, M
 use Rattle.tables.specs.declared.seat.Seat.{Seat}
 
 -- a choice by two numbers that are the same
-chosen : (i k a b : ℕ) → i ≡ k → (if i == k then a else b) ≡ a
+pub chosen : (i k a b : ℕ) → i ≡ k → (if i == k then a else b) ≡ a
 chosen i k a b same = grind (arith, nat_tests)
 
 -- a choice by two numbers that are not
-passed_over : (i k a b : ℕ) → i ≢ k → (if i == k then a else b) ≡ b
+pub passed_over : (i k a b : ℕ) → i ≢ k → (if i == k then a else b) ≡ b
 passed_over i k a b apart = grind (arith, nat_tests)
 
 -- after a bid each seat still has what its bids tie
@@ -66,6 +66,7 @@ bid_sound game private seat amount low seated apart affordable sound =
       ten = ten_kept game (Bids private seat amount) refl sound.ten;
       offered = offered_kept game.events (Bids private seat amount) refl refl refl sound.offered;
       led = led_kept game.events (Bids private seat amount) refl refl refl refl sound.led;
+      floated = floated_kept game.events (Bids private seat amount) refl refl refl refl sound.floated;
     }
 
 -- after a sale each seat still has what its bids tie
@@ -156,6 +157,7 @@ sale_sound game private seat price unsold affordable sound =
       ten = ten_kept game (Sold private seat price) refl sound.ten;
       offered = offered_after_sale game.events private seat price unsold sound.offered;
       led = led_kept game.events (Sold private seat price) refl refl refl refl sound.led;
+      floated = floated_kept game.events (Sold private seat price) refl refl refl refl sound.floated;
     }
 
 -- a revenue takes nothing from a holder
@@ -177,6 +179,7 @@ revenue_sound game private owner amount sound =
       ten = ten_kept game (Revenue private owner amount) refl sound.ten;
       offered = offered_kept game.events (Revenue private owner amount) refl refl refl sound.offered;
       led = led_kept game.events (Revenue private owner amount) refl refl refl refl sound.led;
+      floated = floated_kept game.events (Revenue private owner amount) refl refl refl refl sound.floated;
     }
 
 -- a new price of SV, which is 0 only once SV is sold
@@ -195,6 +198,7 @@ price_sound game price some given sound =
       ten = ten_kept game (Price price) refl sound.ten;
       offered = offered_kept game.events (Price price) refl refl refl sound.offered;
       led = led_kept game.events (Price price) refl refl refl refl sound.led;
+      floated = floated_kept game.events (Price price) refl refl refl refl sound.floated;
     }
 
 -- SV, once its price is 0, is given away
@@ -219,4 +223,5 @@ gift_sound game seat unsold sound =
       ten = ten_kept priced (Sold SchuylkillValley seat 0) refl (ten_kept game (Price 0) refl sound.ten);
       offered = offered_after_sale priced.events SchuylkillValley seat 0 still_unsold (offered_kept game.events (Price 0) refl refl refl sound.offered);
       led = led_kept priced.events (Sold SchuylkillValley seat 0) refl refl refl refl (led_kept game.events (Price 0) refl refl refl refl sound.led);
+      floated = floated_kept priced.events (Sold SchuylkillValley seat 0) refl refl refl refl (floated_kept game.events (Price 0) refl refl refl refl sound.floated);
     }

@@ -6,5 +6,12 @@ pub mod BidWords
 pub mod Tied
 pub mod Acts
 pub mod Soundness
-pub mod Cheapest
+pub mod Tenths
+pub mod Gains
 pub mod Gifts
+pub mod Starts
+pub mod Purchases
+pub mod Settled
+pub mod Blocks
+pub mod Arrivals
+pub mod Cheapest

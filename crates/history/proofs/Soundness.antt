@@ -1,13 +1,13 @@
 -- What keeps a list sound: an event without the aspects of a fact keeps that fact.
 use Rattle.std.proofs.Common.{◌≡◌, ℕ, ◌≤◌, List, [], ◌∷◌, ◌++◌, None, pos, ◌≤ℤ◌, ◌-ℤ◌, ◌+ℤ◌, ℤ, refl, sym, subst, ap, ◌∙◌, arith, if◌then◌else◌, inl}
 use Rattle.std.proofs.lemmas.Int.{ints}
-use Rattle.history.proofs.EventAtEnd.{bid_of_before, bids_of_before, cash_of_before, is_closed_before, is_sold_before, par_of_before, president_of_before, shares_of_before, square_of_before, sv_price_of_before}
+use Rattle.history.proofs.EventAtEnd.{bid_of_before, bids_of_before, cash_of_before, is_closed_before, is_floated_before, is_sold_before, par_of_before, president_of_before, shares_of_before, square_of_before, sv_price_of_before}
 use Rattle.history.specs.Bids.{bids_of, free_cash_of}
-use Rattle.history.specs.Event.{bidding_of, office_of, ownership_of, par_set, party_at, payment_of, square_set, sv_price_set, transfer_of}
+use Rattle.history.specs.Event.{bidding_of, floated_by, office_of, ownership_of, par_set, party_at, payment_of, square_set, sv_price_set, transfer_of}
 use Rattle.history.specs.Laws.{QuietKeepsSound}
 use Rattle.history.specs.LookBack.{Game, cash_of, sv_price_of, with_event}
 use Rattle.history.specs.Shares.{held_by, shares_of}
-use Rattle.history.specs.Sound.{AreLed, AreOffered, AreTenInAll, BiddersAreSeated, BidsAreSmall, BidsDiffer, CompaniesAreSolvent, IsGivenAway, IsSound, IsSvPrice, SeatsAreSolvent, TenthsAreHeld, least_offered}
+use Rattle.history.specs.Sound.{AreLed, AreOffered, AreTenInAll, BiddersAreSeated, BidsAreSmall, BidsDiffer, CompaniesAreSolvent, FloatedAreLed, IsGivenAway, IsLed, IsSound, IsSvPrice, SeatsAreSolvent, TenthsAreHeld, least_offered}
 use Rattle.history.specs.declared.event.Event.{Event}
 use Rattle.history.specs.declared.event.Holder.TheVariants as holder
 use Rattle.history.specs.declared.event.Party.TheVariants as party
@@ -91,10 +91,10 @@ pub offered_kept : (events : List Event) (event : Event) → ownership_of event 
 offered_kept events event no_owner no_square no_transfer offered =
     λ company unplaced. subst (λ (least : ℕ). pos least ≤ℤ shares_of (events ++ event ∷ []) company InitialOffering) (sym (least_offered_before events event company no_owner)) (subst (λ (tenths : ℤ). pos (least_offered events company) ≤ℤ tenths) (sym (shares_of_before events event company InitialOffering no_transfer)) (offered company (sym (square_of_before events event company no_square) ∙ unplaced)))
 
--- without a par value, a square, an office or tenths, companies are led as before
-pub led_kept : (events : List Event) (event : Event) → par_set event ≡ None → square_set event ≡ None → office_of event ≡ None → transfer_of event ≡ None → AreLed events → AreLed (events ++ event ∷ [])
-led_kept events event no_par no_square no_office no_transfer led =
-    λ company square placed. let before = led company square (sym (square_of_before events event company no_square) ∙ placed) in record {
+-- a company is led as before
+pub is_led_kept : (events : List Event) (event : Event) (company : Company) → par_set event ≡ None → office_of event ≡ None → transfer_of event ≡ None → IsLed events company → IsLed (events ++ event ∷ []) company
+is_led_kept events event company no_par no_office no_transfer before =
+    record {
       par = before.par;
       has_par = par_of_before events event company no_par ∙ before.has_par;
       is_par = before.is_par;
@@ -102,6 +102,16 @@ led_kept events event no_par no_square no_office no_transfer led =
       has_president = president_of_before events event company no_office ∙ before.has_president;
       holds_two = subst (λ (tenths : ℤ). pos 2 ≤ℤ tenths) (sym (shares_of_before events event company (OfSeat before.president) no_transfer)) before.holds_two;
     }
+
+-- without a par value, a square, an office or tenths, companies with a square are led as before
+pub led_kept : (events : List Event) (event : Event) → par_set event ≡ None → square_set event ≡ None → office_of event ≡ None → transfer_of event ≡ None → AreLed events → AreLed (events ++ event ∷ [])
+led_kept events event no_par no_square no_office no_transfer led =
+    λ company square placed. is_led_kept events event company no_par no_office no_transfer (led company square (sym (square_of_before events event company no_square) ∙ placed))
+
+-- without a par value, a float, an office or tenths, companies that have floated are led as before
+pub floated_kept : (events : List Event) (event : Event) → par_set event ≡ None → floated_by event ≡ None → office_of event ≡ None → transfer_of event ≡ None → FloatedAreLed events → FloatedAreLed (events ++ event ∷ [])
+floated_kept events event no_par no_float no_office no_transfer led =
+    λ company floated. is_led_kept events event company no_par no_office no_transfer (led company (sym (is_floated_before events event company no_float) ∙ floated))
 
 -- a quiet event keeps each fact
 pub quiet_sound : QuietKeepsSound
@@ -118,6 +128,7 @@ quiet_sound game event quiet sound =
       ten = ten_kept game event quiet.transfer sound.ten;
       offered = offered_kept game.events event quiet.ownership quiet.square quiet.transfer sound.offered;
       led = led_kept game.events event quiet.par quiet.square quiet.office quiet.transfer sound.led;
+      floated = floated_kept game.events event quiet.par quiet.float quiet.office quiet.transfer sound.floated;
     }
 
 -- at first nobody bids
@@ -155,4 +166,5 @@ start_sound seats =
       ten = λ company. omega (arith, ints, holds_none company (all_seats seats));
       offered = λ company unplaced. omega (arith, ints, least_low company);
       led = λ company square placed. absurd (cc);
+      floated = λ company floated. absurd (cc);
     }

@@ -1,23 +1,28 @@
 -- Laws of games: what a list says once one more event stands at its end, and what keeps it sound.
-use Rattle.std.specs.Prelude.{◌≡◌, ◌≢◌, ◌≤◌, ◌<◌, ℕ, ◌+◌, List, [], ◌∷◌, ◌++◌, Option, Some, None, true, false, ◌≤ℤ◌, pos, ◌-ℤ◌, ◌+ℤ◌}
+use Rattle.std.specs.Prelude.{◌≡◌, ◌≢◌, ◌≤◌, ◌<◌, ℕ, ◌+◌, List, [], ◌∷◌, ◌++◌, Option, Some, None, true, false, if◌then◌else◌, is_some, length, ◌≤ℤ◌, pos, ◌-ℤ◌, ◌+ℤ◌}
 use Rattle.std.specs.Option.{option_or}
-use Rattle.history.specs.Event.{IsQuiet, party_at, payment_of}
+use Rattle.history.specs.Event.{IsQuiet, party_at, payment_of, place_of_source, square_set}
 use Rattle.history.specs.LookBack.{Game, cash_of, cheapest_of, is_sold, last_said, owner_of, paid_by, paid_to, sv_price_of, with_event}
-use Rattle.history.specs.Bids.{bid_of, bids_elsewhere_of, bids_of, bids_on as the_bids_on}
-use Rattle.history.specs.Shares.{is_floated, is_par_value, par_of, president_of, shares_of, square_of}
+use Rattle.history.specs.Bids.{bid_of, bids_elsewhere_of, bids_of, bids_on as the_bids_on, free_cash_of}
+use Rattle.history.specs.Shares.{arrival_of, is_floated, is_par_value, par_of, president_of, shares_of, square_of, square_said}
 use Rattle.history.specs.Sound.{IsSound, IsSvPrice, least_offered}
+use Rattle.history.specs.Tell.{with_broken}
 use Rattle.history.specs.declared.event.Event.{Event}
-use Rattle.history.specs.declared.event.Event.TheVariants.{Bids, Sold, Price, Revenue, Given, Par, President}
+use Rattle.history.specs.declared.event.Event.TheVariants.{Bids, Sold, Price, Revenue, Given, Par, President, Bought, Sells, Exchanged, Floats, Moves}
 use Rattle.history.specs.declared.event.Holder.{Holder}
+use Rattle.history.specs.declared.event.Holder.TheVariants as holder
 use Rattle.history.specs.declared.event.Party.{Party}
 use Rattle.history.specs.declared.event.Shareholder.{Shareholder}
-use Rattle.history.specs.declared.event.Shareholder.TheVariants.{InitialOffering}
+use Rattle.history.specs.declared.event.Shareholder.TheVariants.{InitialOffering, Seat as OfSeat}
+use Rattle.order_grammar.specs.declared.order.ShareSource.{ShareSource}
+use Rattle.order_grammar.specs.declared.order.ShareSource.TheVariants as source
 use Rattle.tables.specs.Roster.{face_of}
 use Rattle.tables.specs.declared.roster.Company.{Company}
-use Rattle.tables.specs.declared.roster.Company.TheVariants.{Pennsylvania}
+use Rattle.tables.specs.declared.roster.Company.TheVariants.{Pennsylvania, NewYorkCentral}
 use Rattle.tables.specs.declared.roster.Private.{Private}
-use Rattle.tables.specs.declared.roster.Private.TheVariants.{SchuylkillValley, CamdenAmboy}
+use Rattle.tables.specs.declared.roster.Private.TheVariants.{SchuylkillValley, MohawkHudson, CamdenAmboy}
 use Rattle.tables.specs.declared.seat.Seat.{Seat}
+use Rattle.tables.specs.declared.squares.Square.{Square}
 
 -- what was said last: what the event at the end says, or else what was said before it
 abbrev pub LastWordIsLast : Type 0 → Type 0
@@ -46,6 +51,11 @@ pub record SaysTheSame (before after : List Event) : Type 0 where
   pub president : (company : Company) → president_of after company ≡ president_of before company
   pub floated : (company : Company) → is_floated after company ≡ is_floated before company
   pub sv_price : sv_price_of after ≡ sv_price_of before
+
+-- a game after the bank has paid a seat for tenths of a company; perhaps that breaks the bank
+abbrev pub block_sold : Game → Company → Seat → ℕ → ℕ → Game
+block_sold game company seat tenths price =
+    record { seats = game.seats; events = with_broken game.seats (game.events ++ Sells company seat tenths price ∷ []) }
 
 -- a quiet event changes none of it
 abbrev pub QuietSaysTheSame : Type 0
@@ -105,6 +115,69 @@ abbrev pub StartKeepsSound : Type 0
 StartKeepsSound =
     (game : Game) (company : Company) (seat : Seat) (price : ℕ) →
     is_par_value price ≡ true → square_of game.events company ≡ None → seat.0 < game.seats → IsSound game → IsSound (with_event (with_event (with_event game (Par company price)) (Given company seat 2)) (President company seat))
+
+-- so does the start of a company that has no square by a purchase: its par value, two tenths of the initial
+-- offering for a seat at the table that has their price free of its bids, and that seat as its president
+abbrev pub StartByPurchaseKeepsSound : Type 0
+StartByPurchaseKeepsSound =
+    (game : Game) (company : Company) (seat : Seat) (price cost : ℕ) →
+    is_par_value price ≡ true → square_of game.events company ≡ None → seat.0 < game.seats → pos cost ≤ℤ free_cash_of game.seats game.events seat → IsSound game → IsSound (with_event (with_event (with_event game (Par company price)) (Bought company seat 2 source.InitialOffering cost)) (President company seat))
+
+-- a purchase of tenths of a company that has a square, by a seat at the table that has their price free of
+-- its bids, keeps a list sound, where there are so many
+abbrev pub PurchaseKeepsSound : Type 0
+PurchaseKeepsSound =
+    (game : Game) (company : Company) (seat : Seat) (tenths : ℕ) (from : ShareSource) (price : ℕ) (square : Square) →
+    square_of game.events company ≡ Some square → seat.0 < game.seats → pos tenths ≤ℤ shares_of game.events company (place_of_source from) → pos price ≤ℤ free_cash_of game.seats game.events seat → IsSound game → IsSound (with_event game (Bought company seat tenths from price))
+
+-- MH's exchange keeps a list sound, where a seat at the table owns MH and there is a tenth of NYC
+abbrev pub ExchangeKeepsSound : Type 0
+ExchangeKeepsSound =
+    (game : Game) (seat : Seat) (from : ShareSource) →
+    owner_of game.events MohawkHudson ≡ Some (holder.Seat seat) → seat.0 < game.seats → pos 1 ≤ℤ shares_of game.events NewYorkCentral (place_of_source from) → IsSound game → IsSound (with_event game (Exchanged seat from))
+
+-- a presidency that passes to a seat with no fewer tenths than the president has keeps a list sound
+abbrev pub SuccessionKeepsSound : Type 0
+SuccessionKeepsSound =
+    (game : Game) (company : Company) (old new : Seat) →
+    president_of game.events company ≡ Some old → shares_of game.events company (OfSeat old) ≤ℤ shares_of game.events company (OfSeat new) → IsSound game → IsSound (with_event game (President company new))
+
+-- a sale of tenths that a seat at the table has keeps a list sound, where the president keeps two; perhaps it
+-- breaks the bank
+abbrev pub BlockKeepsSound : Type 0
+BlockKeepsSound =
+    (game : Game) (company : Company) (seat : Seat) (tenths price : ℕ) →
+    seat.0 < game.seats → pos tenths ≤ℤ shares_of game.events company (OfSeat seat) → ((president : Seat) → president_of game.events company ≡ Some president → pos 2 ≤ℤ shares_of (block_sold game company seat tenths price).events company (OfSeat president)) → IsSound game → IsSound (block_sold game company seat tenths price)
+
+-- so does a sale after which the presidency passes to a seat that then has two
+abbrev pub BlockWithSuccessionKeepsSound : Type 0
+BlockWithSuccessionKeepsSound =
+    (game : Game) (company : Company) (seat : Seat) (tenths price : ℕ) (president : Seat) →
+    seat.0 < game.seats → pos tenths ≤ℤ shares_of game.events company (OfSeat seat) → pos 2 ≤ℤ shares_of (block_sold game company seat tenths price).events company (OfSeat president) → IsSound game → IsSound (with_event (block_sold game company seat tenths price) (President company president))
+
+-- a company that floats keeps a list sound, where at most four tenths are left in its initial offering
+abbrev pub FloatKeepsSound : Type 0
+FloatKeepsSound =
+    (game : Game) (company : Company) (amount : ℕ) →
+    shares_of game.events company InitialOffering ≤ℤ pos 4 → IsSound game → IsSound (with_event game (Floats company amount))
+
+-- a token that moves from a square to another keeps a list sound
+abbrev pub MoveKeepsSound : Type 0
+MoveKeepsSound =
+    (game : Game) (company : Company) (from to : Square) →
+    square_of game.events company ≡ Some from → IsSound game → IsSound (with_event game (Moves company to))
+
+-- two companies with squares have not come there by the same event
+abbrev pub ArrivalsDiffer : Type 0
+ArrivalsDiffer =
+    (events : List Event) (a b : Company) (at there : Square) →
+    square_of events a ≡ Some at → square_of events b ≡ Some there → a ≢ b → arrival_of events a ≢ arrival_of events b
+
+-- a company has come to its square by the event at the end, if that sets it, or else when it did before
+abbrev pub ArrivalIsLast : Type 0
+ArrivalIsLast =
+    (events : List Event) (event : Event) (company : Company) →
+    arrival_of (events ++ event ∷ []) company ≡ (if is_some (square_said company (square_set event)) then length events else arrival_of events company)
 
 -- these prices are what the bank asks: SV goes at the price that was set last, another private at its
 -- face value

@@ -4,12 +4,13 @@
 -- SV's price is 5, 10, 15 or 20, or 0 once it is sold;
 -- each company's tenths are nowhere under 0 and ten in all, and of a company without a square at least
 -- eight are in its initial offering, nine of PRR while CA is unsold and of NYC while MH is open;
--- a company with a square has one of the six par values and a president with at least two tenths.
+-- a company that has a square or has floated has one of the six par values and a president with at least
+-- two tenths.
 -- Each fact is about a few aspects of events: an event without those keeps it.
 use Rattle.std.specs.Prelude.{◌≡◌, ◌⊎◌, ℕ, ◌<◌, ◌≤◌, true, if◌then◌else◌, List, Some, None, pos, ◌≤ℤ◌}
 use Rattle.history.specs.Bids.{bid_of, free_cash_of}
 use Rattle.history.specs.LookBack.{Game, cash_of, is_closed, is_sold, sv_price_of}
-use Rattle.history.specs.Shares.{is_par_value, par_of, president_of, shares_of, square_of, tenths_in_all}
+use Rattle.history.specs.Shares.{is_floated, is_par_value, par_of, president_of, shares_of, square_of, tenths_in_all}
 use Rattle.history.specs.declared.event.Event.{Event}
 use Rattle.history.specs.declared.event.Holder.TheVariants as holder
 use Rattle.history.specs.declared.event.Party.TheVariants as party
@@ -86,6 +87,10 @@ pub record IsLed (events : List Event) (company : Company) : Type 0 where
 abbrev pub AreLed : List Event → Type 0
 AreLed events = (company : Company) (square : Square) → square_of events company ≡ Some square → IsLed events company
 
+-- and each that has floated
+abbrev pub FloatedAreLed : List Event → Type 0
+FloatedAreLed events = (company : Company) → is_floated events company ≡ true → IsLed events company
+
 pub record IsSound (game : Game) : Type 0 where
   pub solvent : SeatsAreSolvent game
   pub companies : CompaniesAreSolvent game
@@ -98,3 +103,4 @@ pub record IsSound (game : Game) : Type 0 where
   pub ten : AreTenInAll game
   pub offered : AreOffered game.events
   pub led : AreLed game.events
+  pub floated : FloatedAreLed game.events

@@ -1,6 +1,6 @@
 //! Laws of games: each function does nothing, and its contract is the law.
 
-ghost use Rattle.history.specs.Laws.{BidKeepsSound, CaIsSoldWithItsGift, CashMoves, FirstIsCheapest, GiftKeepsSound, LastWordIsLast, PriceKeepsSound, QuietKeepsSound, QuietSaysTheSame, RevenueKeepsSound, SaleKeepsSound, StartKeepsSound, SvIsGivenAway};
+ghost use Rattle.history.specs.Laws.{ArrivalIsLast, ArrivalsDiffer, BidKeepsSound, BlockKeepsSound, BlockWithSuccessionKeepsSound, CaIsSoldWithItsGift, CashMoves, ExchangeKeepsSound, FirstIsCheapest, FloatKeepsSound, GiftKeepsSound, LastWordIsLast, MoveKeepsSound, PriceKeepsSound, PurchaseKeepsSound, QuietKeepsSound, QuietSaysTheSame, RevenueKeepsSound, SaleKeepsSound, StartByPurchaseKeepsSound, StartKeepsSound, SuccessionKeepsSound, SvIsGivenAway};
 
 /// What was said last of a thing is what the last event says, or else what was said before it.
 pub fn last_word_is_last<T>()
@@ -51,9 +51,52 @@ pub fn gift_keeps_sound()
     ensures ca { CaIsSoldWithItsGift }
 {}
 
-/// The start of a company by a seat at the table keeps a list sound.
+/// The start of a company by a seat at the table keeps a list sound, whether its president's two tenths
+/// are a gift or bought.
 pub fn start_keeps_sound()
-    ensures { StartKeepsSound }
+    ensures gift { StartKeepsSound }
+    ensures purchase { StartByPurchaseKeepsSound }
+{}
+
+/// A purchase of tenths of a started company keeps a list sound, where there are so many and a seat at the
+/// table has their price free of its bids.
+pub fn purchase_keeps_sound()
+    ensures { PurchaseKeepsSound }
+{}
+
+/// The exchange of MH for a tenth of NYC keeps a list sound, where its owner is at the table and there is
+/// such a tenth.
+pub fn exchange_keeps_sound()
+    ensures { ExchangeKeepsSound }
+{}
+
+/// A presidency that passes to a seat with no fewer tenths keeps a list sound.
+pub fn succession_keeps_sound()
+    ensures { SuccessionKeepsSound }
+{}
+
+/// A sale of tenths keeps a list sound, where the president keeps two; and so does one after which the
+/// presidency passes to a seat that has two.
+pub fn block_keeps_sound()
+    ensures stays { BlockKeepsSound }
+    ensures passes { BlockWithSuccessionKeepsSound }
+{}
+
+/// A float keeps a list sound, where at most four tenths are left in the initial offering.
+pub fn float_keeps_sound()
+    ensures { FloatKeepsSound }
+{}
+
+/// A token that moves from square to square keeps a list sound.
+pub fn move_keeps_sound()
+    ensures { MoveKeepsSound }
+{}
+
+/// Companies with squares have come there by different events, so that one came earlier; an event at the end
+/// by which a company comes to a square is later than all before.
+pub fn arrivals_differ()
+    ensures differ { ArrivalsDiffer }
+    ensures last { ArrivalIsLast }
 {}
 
 /// In a sound game the private that `Past::cheapest_unsold` gives is a cheapest of those that are

@@ -30,9 +30,10 @@ pub use event::{
     Shareholder, Transfer,
 };
 pub use laws::{
-    bid_keeps_sound, cash_moves, first_is_cheapest, gift_keeps_sound, last_word_is_last,
-    price_keeps_sound, quiet_keeps_sound, quiet_says_the_same, revenue_keeps_sound,
-    sale_keeps_sound, start_keeps_sound,
+    arrivals_differ, bid_keeps_sound, block_keeps_sound, cash_moves, exchange_keeps_sound,
+    first_is_cheapest, float_keeps_sound, gift_keeps_sound, last_word_is_last, move_keeps_sound,
+    price_keeps_sound, purchase_keeps_sound, quiet_keeps_sound, quiet_says_the_same,
+    revenue_keeps_sound, sale_keeps_sound, start_keeps_sound, succession_keeps_sound,
 };
 pub use list::History;
 pub use look_back::Past;

@@ -4,7 +4,8 @@ use Rattle.std.proofs.lemmas.Bool.{cases_eq}
 use Rattle.std.proofs.lemmas.Bool.Decides.{nat_tests}
 use Rattle.history.proofs.Acts.{bid_sound, gift_sound, price_sound, revenue_sound, sale_sound}
 use Rattle.history.proofs.EventAtEnd.{last_said_at_end, last_said_before, square_of_before}
-use Rattle.history.proofs.Gifts.{ca_sound, started_sound}
+use Rattle.history.proofs.Gifts.{ca_sound}
+use Rattle.history.proofs.Starts.{started_sound}
 use Rattle.history.specs.Bids.{as_bid, bid_of, bids_on}
 use Rattle.history.specs.Event.{ownership_of, placed, square_set}
 use Rattle.history.specs.LookBack.{Game, is_sold, owner_said, sv_price_of, with_event}

@@ -4,11 +4,13 @@
 //! memory does not answer it without need, and what readers and writers see of the calls that
 //! reach them. Games whole, each with its report, are data under `games/`, which `./check` plays.
 //!
-//! Reading order: `support` (readers and writers that give and take as they are told), and then a
-//! module for each library: `chart`, `lines`, `sheets_of_a_file`, `looking_back`, `openings`,
-//! `sequence`, `texts`, `watching`, `running`.
+//! Reading order: `support` (games built event by event; readers and writers that give and take as
+//! they are told), and then a module for each library: `chart`, `lines`, `sheets_of_a_file`,
+//! `looking_back`, `payments`, `certificates`, `openings`, `sequence`, `texts`, `watching`, `running`.
 #![tactic(auto)]
 
+#[cfg(test)]
+mod certificates;
 #[cfg(test)]
 mod chart;
 #[cfg(test)]
@@ -17,6 +19,8 @@ mod lines;
 mod looking_back;
 #[cfg(test)]
 mod openings;
+#[cfg(test)]
+mod payments;
 #[cfg(test)]
 mod running;
 #[cfg(test)]

@@ -1,3 +1,4 @@
+use crate::support::{add, player};
 use history::{Event, History, Holder, Party, Ruling};
 use order_grammar::Order;
 use std::alloc::AllocError;
@@ -9,11 +10,6 @@ const SV: Private = Private::SchuylkillValley;
 const CS: Private = Private::ChamplainStLawrence;
 
 const DH: Private = Private::DelawareHudson;
-
-/// The player of a seat, who pays and is paid.
-fn player(seat: u8) -> Party {
-    Party::of_seat(Seat(seat))
-}
 
 fn sold(private: Private, seat: u8, price: u32) -> Event {
     Event::Sold {
@@ -45,12 +41,6 @@ fn add_bought(
         ruling: Ruling::Obeyed(kept),
     };
     add(rt, history, event)
-}
-
-/// Adds an event, for which there is room.
-fn add(rt: &impl Abort, history: &mut History, event: Event) -> Result<(), AllocError> {
-    assert!(rt; history.has_room(&event));
-    history.append(event)
 }
 
 #[test]

@@ -2,6 +2,7 @@ use crate::support::{
     AfterEnd, Endless, FIRST, FIRST_REPORT, GIFT, Sink, Source, Trouble, outcome_of, plain,
 };
 use sheets::FileFault;
+use std::test::Fail;
 use umpire::{Fault, Watched, run, status, word};
 
 const GIFT_REPORT: &str = "GAME 1830 1
@@ -46,16 +47,35 @@ BANK   9600
 AWAITING PR5 ANN BOB CYD
 ";
 
+/// The sheets of the first game in another order.
+const SWAPPED: &str = "GAME 1830 1
+PLAYERS ANN BOB CYD
+SHEET BOB PR1
+SHEET ANN PR1
+TURN
+BUY SV
+SHEET CYD PR1
+";
+
+/// The first game, with an older sheet of ANN's that does not count.
+const REPLACED: &str = "GAME 1830 1
+PLAYERS ANN BOB CYD
+SHEET ANN PR1
+TURN
+BUY BO
+SHEET BOB PR1
+SHEET ANN PR1
+TURN
+BUY SV
+SHEET CYD PR1
+";
+
 #[test]
 fn writes_the_report_of_a_file(rt: HostRuntime) {
-    let swapped =
-        "GAME 1830 1\nPLAYERS ANN BOB CYD\nSHEET BOB PR1\nSHEET ANN PR1\nTURN\nBUY SV\nSHEET CYD PR1\n";
-    let replaced =
-        "GAME 1830 1\nPLAYERS ANN BOB CYD\nSHEET ANN PR1\nTURN\nBUY BO\nSHEET BOB PR1\nSHEET ANN PR1\nTURN\nBUY SV\nSHEET CYD PR1\n";
     for (file, report, name) in [
         (FIRST, FIRST_REPORT, "first"),
-        (swapped, FIRST_REPORT, "swapped"),
-        (replaced, FIRST_REPORT, "replaced"),
+        (SWAPPED, FIRST_REPORT, "swapped"),
+        (REPLACED, FIRST_REPORT, "replaced"),
         (GIFT, GIFT_REPORT, "gift"),
     ] {
         let run = plain(rt.alloc(), file);
@@ -63,6 +83,44 @@ fn writes_the_report_of_a_file(rt: HostRuntime) {
         assert_eq!(rt; run.text.as_slice(), report.as_bytes(), "{name}");
         assert!(rt; !run.read_failed && !run.write_failed, "{name}");
     }
+}
+
+/// The first game with lines before ANN's purchase: one too long by a byte, a bid over the greatest
+/// number, one with a tab. Her sheet comes last, without an LF at its end.
+const FAULTY: [&str; 3] = [
+    "GAME 1830 1
+PLAYERS ANN BOB CYD
+SHEET BOB PR1
+SHEET CYD PR1
+SHEET ANN PR1
+TURN
+",
+    "
+BID CS 100000
+\tPASS
+BUY SV",
+    "ANN 2 REFUSED G1
+ANN 3 REFUSED G5
+ANN 4 REFUSED G2
+ANN 5 OBEYED BUY SV
+",
+];
+
+#[test]
+fn falls_to_the_next_line(rt: HostRuntime) -> Result<(), Fail> {
+    let [before, after, rulings] = FAULTY;
+    let mut file = String::from_str(rt.alloc(), before)?;
+    for _ in 0..1_025 {
+        file.push('X')?;
+    }
+    file.push_str(after)?;
+    let run = plain(rt.alloc(), file.as_str());
+    assert_eq!(rt; run.result, Ok(()));
+    let first = "ANN 2 OBEYED BUY SV\n";
+    let (head, rest) = FIRST_REPORT.split_once(first).ok_or("her purchase")?;
+    let report = format!(in rt.alloc(); "{head}{rulings}{rest}")?;
+    assert_eq!(rt; run.text.as_slice(), report.as_bytes());
+    Ok(())
 }
 
 #[test]

@@ -1,10 +1,24 @@
-//! Readers and writers over memory that give and take as they are told and count what they saw, and
-//! two order files with their reports.
+//! Games built event by event, two order files with their reports, and readers and writers over
+//! memory that give and take as they are told and count what they saw.
 
-use std::alloc::Global;
+use history::{Event, History, Party};
+use std::alloc::{AllocError, Global};
 use std::io;
 use std::io::{Read, Write};
+use std::process::Abort;
+use tables::Seat;
 use umpire::{Fault, Watched, run};
+
+/// The player of a seat, who pays and is paid.
+pub(crate) fn player(seat: u8) -> Party {
+    Party::of_seat(Seat(seat))
+}
+
+/// Adds an event, for which there is room.
+pub(crate) fn add(rt: &impl Abort, history: &mut History, event: Event) -> Result<(), AllocError> {
+    assert!(rt; history.has_room(&event));
+    history.append(event)
+}
 
 /// ANN buys SV in the first opening round, and then all pass.
 pub(crate) const FIRST: &str = "GAME 1830 1
@@ -61,7 +75,8 @@ pub(crate) enum AfterEnd {
     Gives,
 }
 
-/// Gives a text, at most so many bytes a call, and then its end. One call, counted from 0, may fail.
+/// Gives a text, at most so many bytes a call, and then its end. One call, counted from 0, may
+/// fail.
 #[derive(Drop)]
 pub(crate) struct Source<'a> {
     pub(crate) text: &'a [u8],

@@ -1,0 +1,57 @@
+-- What the position shows in a hex and at a stop.
+use Rattle.std.proofs.Common.{◌≡◌, ◌∙◌, ap, refl, ℕ, zero, suc, ◌<◌, true, false, cond, length, map, get_or, lit<, arith}
+use Rattle.std.proofs.lemmas.Bool.{lt-ltb}
+use Rattle.std.proofs.lemmas.List.{get_or-map}
+use Rattle.std.specs.Prelude.{nat_lt}
+use Rattle.board.specs.Ground.{Ground, is_stop, lying_at, lying_in, position_of, stop_numbers}
+use Rattle.map_tables.specs.Hex.{hexes, index_of}
+use Rattle.map_tables.specs.Place.{joined_hex, joined_stop_of, stop_at, stop_index_of}
+use Rattle.map_tables.specs.Print.{print_of}
+use Rattle.map_tables.specs.declared.hex.Hex.{Hex}
+use Rattle.map_tables.specs.declared.hex.Hex.TheVariants.{A9}
+use Rattle.map_tables.specs.declared.place.Stop.{Stop}
+use Rattle.map_tables.specs.declared.place.StopNumber.{StopNumber}
+use Rattle.map_tables.specs.declared.place.StopNumber.TheVariants.{First, Second}
+use Rattle.reach.specs.Position.{AtStop, InHex, at_stop, empty_hex, in_hex, no_stop}
+
+-- a hex stands at its number
+at_index : (hex : Hex) → get_or hexes (index_of hex) A9 ≡ hex
+unfolding hexes index_of
+at_index A9 = refl
+at_index hex = refl
+
+-- each number is under that of all hexes
+index_low : (hex : Hex) → index_of hex < length hexes
+unfolding hexes index_of
+index_low A9 = lit< tt
+index_low hex = lit< tt
+
+-- the position has in a hex what lies there
+pub in_hex_is : (laid : Ground) (hex : Hex) → in_hex (position_of laid) hex ≡ lying_in laid hex
+unfolding position_of
+in_hex_is laid hex =
+    get_or-map (lying_in laid) hexes (index_of hex) A9 empty_hex (index_low hex) ∙ ap (lying_in laid) (at_index hex)
+
+-- what stands at a number among so many stops
+numbered : (f : StopNumber → AtStop) (count : ℕ) (number : StopNumber) (none : AtStop) → get_or (map f (stop_numbers count)) (stop_index_of number) none ≡ cond (nat_lt (stop_index_of number) count) (f number) none
+numbered f zero First none = refl
+numbered f zero Second none = refl
+numbered f (suc zero) First none = refl
+numbered f (suc zero) Second none = refl
+numbered f (suc (suc n)) First none = rw (lt-ltb 0 (suc (suc n)) (omega arith)) refl
+numbered f (suc (suc n)) Second none = rw (lt-ltb 1 (suc (suc n)) (omega arith)) refl
+
+-- what the position has at a stop
+at_stop_is : (laid : Ground) (stop : Stop) → at_stop (position_of laid) stop ≡ cond (is_stop (joined_stop_of stop)) (lying_at laid (joined_stop_of stop)) no_stop
+at_stop_is laid stop =
+    let hex = joined_hex stop.hex in
+    ap (λ (here : InHex). get_or here.stops (stop_index_of stop.number) no_stop) (in_hex_is laid hex)
+    ∙ numbered (λ number. lying_at laid (stop_at hex number)) (print_of hex).stops stop.number no_stop
+
+-- at a stop of a hex it has what lies there
+pub shown : (laid : Ground) (stop : Stop) → is_stop (joined_stop_of stop) ≡ true → at_stop (position_of laid) stop ≡ lying_at laid (joined_stop_of stop)
+shown laid stop is = at_stop_is laid stop ∙ ap (λ b. cond b (lying_at laid (joined_stop_of stop)) no_stop) is
+
+-- and elsewhere nothing
+pub not_shown : (laid : Ground) (stop : Stop) → is_stop (joined_stop_of stop) ≡ false → at_stop (position_of laid) stop ≡ no_stop
+not_shown laid stop is = at_stop_is laid stop ∙ ap (λ b. cond b (lying_at laid (joined_stop_of stop)) no_stop) is

@@ -1,0 +1,8 @@
+-- The links of a hex are those that the position has there.
+use Rattle.std.proofs.Common.{◌∙◌, ap, sym}
+use Rattle.board.proofs.Positions.{in_hex_is}
+use Rattle.reach.specs.Position.{InHex}
+use Rattle.board.proofs.network.BoardNetwork.links.Goals as goal
+
+pub returns : goal.returns
+returns c = c.links_on.ensures ∙ sym (ap (λ (h : InHex). h.links) (in_hex_is c.args.self.now c.args.hex))

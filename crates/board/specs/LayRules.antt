@@ -1,0 +1,138 @@
+-- The rules of a lay. It needs the first step of the turn and the turn's one lay; a hex that is not grey or
+-- red; a tile in the stock; a colour that has come, green with phase 3 and brown with phase 5; the hex's kind
+-- and its next colour, the stops swapped only where there are two; all old track of the hex; no bad side; a
+-- hex of no private that a player owns; some piece of the tile reached in the position after the lay; and the
+-- cash for the terrain, which is paid with the first tile of a hex.
+use Rattle.std.specs.Prelude.{◌≡◌, ℕ, ◌+◌, ◌==◌, ◌&&◌, ◌||◌, ◌⊎◌, ◌↔◌, Bool, false, not, nat_lt, nat_le, IsTrue, List, [], ◌∷◌, ◌++◌, Option, Some, None, Result, Ok, Err, ℤ, pos, slice_index_or, count_by}
+use Rattle.std.specs.Int.Signed.{lt_z}
+use Rattle.std.specs.List.{list_any}
+use Rattle.board.specs.Fit.{has_bad_side, is_open, is_wrong_kind}
+use Rattle.board.specs.Ground.{Ground, by_tile, colour_on, links_on, position_of, tile_on, with_lay}
+use Rattle.board.specs.Turn.{place_of_step}
+use Rattle.board.specs.declared.asker.Asker.{Asker}
+use Rattle.board.specs.declared.asker.TurnStep.TheVariants as step
+use Rattle.board.specs.declared.fault.LayFault.{LayFault}
+use Rattle.board.specs.declared.fault.LayFault.TheVariants as fault
+use Rattle.map_tables.specs.Hex.{hexes, same_hex}
+use Rattle.map_tables.specs.Home.{hexes_of_private}
+use Rattle.map_tables.specs.Laws.{link_order}
+use Rattle.map_tables.specs.Lay.{laid_links_of}
+use Rattle.map_tables.specs.Place.{stop_at}
+use Rattle.map_tables.specs.Print.{print_of}
+use Rattle.map_tables.specs.Tile.{entry_of, tile_index_of}
+use Rattle.map_tables.specs.declared.hex.Hex.{Hex}
+use Rattle.map_tables.specs.declared.lay.Lay.{Lay}
+use Rattle.map_tables.specs.declared.place.Stop.{Stop}
+use Rattle.map_tables.specs.declared.place.StopNumber.{StopNumber}
+use Rattle.map_tables.specs.declared.tiles.Colour.{Colour}
+use Rattle.map_tables.specs.declared.tiles.Colour.TheVariants.{White, Yellow, Green, Brown}
+use Rattle.map_tables.specs.declared.tiles.TileNo.{TileNo}
+use Rattle.map_tables.specs.declared.track.Link.{Link}
+use Rattle.reach.specs.Position.{IsAmong, Position}
+use Rattle.reach.specs.Reached.{ReachesLink, ReachesStop}
+use Rattle.tables.specs.Roster.{place_of_private, privates}
+use Rattle.tables.specs.Rules.{Rule, first_broken}
+use Rattle.tables.specs.Train.{place_of_kind}
+use Rattle.tables.specs.declared.roster.Company.{Company}
+use Rattle.tables.specs.declared.rolling_stock.Kind.{Kind}
+use Rattle.tables.specs.declared.rolling_stock.Kind.TheVariants.{Three, Five}
+
+-- whether the turn is past its lay, or its lay is used
+unfoldable pub is_lay_used : Asker → Bool
+is_lay_used asker = not (place_of_step asker.pointer == place_of_step step.Lay) || asker.lay_used
+
+-- whether a tile that lies is one of this number
+abbrev pub is_tile : TileNo → Option Lay → Bool
+is_tile tile lying = by_tile false (λ lay. tile_index_of lay.tile == tile_index_of tile) lying
+
+-- how many tiles of a number lie on the map; one that was replaced does not
+unfoldable pub lying_of : List Lay → TileNo → ℕ
+lying_of lays tile = count_by (λ hex. is_tile tile (tile_on lays hex)) hexes
+
+-- whether the stock has none left of a tile
+unfoldable pub is_none_left : List Lay → TileNo → Bool
+is_none_left lays tile = nat_le (entry_of tile).count (lying_of lays tile)
+
+-- whether a colour has not come yet
+unfoldable pub is_colour_closed : Kind → Colour → Bool
+is_colour_closed phase White = false
+is_colour_closed phase Yellow = false
+is_colour_closed phase Green = nat_lt (place_of_kind phase) (place_of_kind Three)
+is_colour_closed phase Brown = nat_lt (place_of_kind phase) (place_of_kind Five)
+
+-- the place of a colour in the order of colours
+abbrev pub place_of_colour : Colour → ℕ
+place_of_colour White = 0
+place_of_colour Yellow = 1
+place_of_colour Green = 2
+place_of_colour Brown = 3
+
+-- whether a tile has not the colour that comes next on its hex
+unfoldable pub is_wrong_colour : List Lay → Lay → Bool
+is_wrong_colour lays lay =
+    not (place_of_colour (entry_of lay.tile).colour == place_of_colour (colour_on lays lay.hex) + 1)
+
+-- whether a link of a hex is one of these
+abbrev pub is_kept : List Link → Link → Bool
+is_kept links old = list_any (λ link. link_order link == link_order old) links
+
+-- whether some link of the hex is not one of the tile's
+unfoldable pub loses_track : List Lay → Lay → Bool
+loses_track lays lay = list_any (λ old. not (is_kept (laid_links_of lay) old)) (links_on lays lay.hex)
+
+-- whether a hex is one of a private that a player owns
+unfoldable pub is_blocked : Asker → Hex → Bool
+is_blocked asker hex =
+    list_any (λ private. slice_index_or asker.player_privates (place_of_private private) false && list_any (λ one. same_hex one hex) (hexes_of_private private)) privates
+
+-- what a lay on a hex costs: its terrain, with the first tile
+unfoldable pub lay_cost_of : List Lay → Hex → ℕ
+lay_cost_of lays hex = by_tile (print_of hex).cost (λ lay. 0) (tile_on lays hex)
+
+-- a company reaches some piece of the tile: a link of it, or a stop of its hex
+pub record IsConnected (position : Position) (company : Company) (lay : Lay) : Type 0 where
+  pub piece : ((link : Link) × IsAmong link (laid_links_of lay) × ReachesLink position company link) ⊎ ((number : StopNumber) × ReachesStop position company (stop_at lay.hex number))
+
+-- some of these links is one of those
+abbrev pub ShareLink : List Link → List Link → Type 0
+ShareLink links others = (link : Link) × IsAmong link links × IsAmong link others
+
+-- some of these stops is one of a hex
+abbrev pub HaveStopIn : Hex → List Stop → Type 0
+HaveStopIn hex stops = (number : StopNumber) × IsAmong (stop_at hex number) stops
+
+-- the rules that ask nothing of what is reached
+abbrev pub ground_rules : Ground → Asker → Lay → List (Rule LayFault)
+ground_rules laid asker lay =
+    record { code = fault.StepUsed; broken = is_lay_used asker }
+    ∷ record { code = fault.GreyOrRed; broken = not (is_open (print_of lay.hex).kind) }
+    ∷ record { code = fault.NoneLeft; broken = is_none_left laid.lays lay.tile }
+    ∷ record { code = fault.ColourClosed; broken = is_colour_closed laid.phase (entry_of lay.tile).colour }
+    ∷ record { code = fault.WrongTile; broken = is_wrong_colour laid.lays lay || is_wrong_kind lay }
+    ∷ record { code = fault.TrackLost; broken = loses_track laid.lays lay }
+    ∷ record { code = fault.BadSide; broken = has_bad_side lay }
+    ∷ record { code = fault.Blocked; broken = is_blocked asker lay.hex }
+    ∷ []
+
+-- the rules that are looked at once it is known whether some piece of the tile is reached
+abbrev pub reach_rules : Ground → Asker → Lay → Bool → List (Rule LayFault)
+reach_rules laid asker lay reached =
+    record { code = fault.NotReached; broken = not reached }
+    ∷ record { code = fault.CashTooSmall; broken = lt_z asker.cash (pos (lay_cost_of laid.lays lay.hex)) }
+    ∷ []
+
+-- all rules of a lay
+abbrev pub lay_rules : Ground → Asker → Lay → Bool → List (Rule LayFault)
+lay_rules laid asker lay reached = ground_rules laid asker lay ++ reach_rules laid asker lay reached
+
+-- the cost, or the rule that is broken first
+abbrev pub cost_or : {Fault : Type 0} → ℕ → Option Fault → Result ℤ Fault
+cost_or cost None = Ok (pos cost)
+cost_or cost (Some fault) = Err fault
+
+-- the answer to a lay: its cost, or the first rule that it breaks. Where the rules before it are kept, what
+-- is reached is looked at, in the position after the lay.
+pub record IsLayAnswer (laid : Ground) (asker : Asker) (lay : Lay) (answer : Result ℤ LayFault) : Type 0 where
+  pub reached : Bool
+  pub exact : first_broken (ground_rules laid asker lay) ≡ None → IsTrue reached ↔ IsConnected (position_of (with_lay laid lay)) asker.company lay
+  pub given : answer ≡ cost_or (lay_cost_of laid.lays lay.hex) (first_broken (lay_rules laid asker lay reached))

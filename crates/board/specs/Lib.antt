@@ -1,0 +1,5 @@
+pub mod Ground
+pub mod Fit
+pub mod Turn
+pub mod LayRules
+pub mod TokenRules

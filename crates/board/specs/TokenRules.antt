@@ -1,0 +1,95 @@
+-- The rules of a token. It needs the second step of the turn or the first; a token that the company has not
+-- placed; a free slot of a city, where a slot that is kept for a company counts as taken; a hex without a
+-- token of the company; a stop that is reached; and its price, which goes by how many tokens of the company
+-- lie. One slot of each company's home is kept for it until its token lies there.
+use Rattle.std.specs.Prelude.{◌≡◌, ℕ, ◌+◌, ◌&&◌, ◌↔◌, Bool, true, not, nat_lt, nat_le, IsTrue, List, [], ◌∷◌, ◌++◌, length, Option, Some, None, Result, ℤ, pos, count_by}
+use Rattle.std.specs.Int.Signed.{lt_z}
+use Rattle.std.specs.List.{list_any}
+use Rattle.board.specs.Ground.{Ground, has_token, position_of, same_stop}
+use Rattle.board.specs.LayRules.{cost_or}
+use Rattle.board.specs.Turn.{place_of_step}
+use Rattle.board.specs.declared.asker.Asker.{Asker}
+use Rattle.board.specs.declared.asker.TurnStep.TheVariants as step
+use Rattle.board.specs.declared.fault.TokenFault.{TokenFault}
+use Rattle.board.specs.declared.fault.TokenFault.TheVariants as fault
+use Rattle.map_tables.specs.Hex.{same_hex}
+use Rattle.map_tables.specs.Home.{home_of}
+use Rattle.map_tables.specs.Place.{joined_stop_of, stop_of}
+use Rattle.map_tables.specs.declared.hex.Hex.{Hex}
+use Rattle.map_tables.specs.declared.place.Place.{Place}
+use Rattle.map_tables.specs.declared.place.Stop.{Stop}
+use Rattle.reach.specs.Position.{Position, at_stop}
+use Rattle.reach.specs.Reached.{ReachesStop}
+use Rattle.tables.specs.Roster.{companies, same_company, token_price_of, tokens_of}
+use Rattle.tables.specs.Rules.{Rule, first_broken}
+use Rattle.tables.specs.declared.roster.Company.{Company}
+
+-- whether the turn is past its token
+unfoldable pub is_token_used : Asker → Bool
+is_token_used asker = nat_lt (place_of_step step.Token) (place_of_step asker.pointer)
+
+-- how many tokens of a company lie
+unfoldable pub laid_by : List (Place × Company) → Company → ℕ
+laid_by tokens company = count_by (λ token. same_company token.1 company) tokens
+
+-- whether a company has no token left
+unfoldable pub has_none_left : List (Place × Company) → Company → Bool
+has_none_left tokens company = nat_le (tokens_of company) (laid_by tokens company)
+
+-- whether a slot of a stop is kept for a company
+abbrev pub is_kept_for : List (Place × Company) → Stop → Company → Bool
+is_kept_for tokens stop company = same_stop (home_of company) stop && not (has_token tokens stop company)
+
+-- how many slots of a stop are kept
+unfoldable pub kept_at : List (Place × Company) → Stop → ℕ
+kept_at tokens stop = count_by (is_kept_for tokens stop) companies
+
+-- whether all slots of a stop are taken or kept; a place that is no city has none
+abbrev pub is_full_at : Ground → Option Stop → Bool
+is_full_at laid None = true
+is_full_at laid (Some stop) =
+    let here = at_stop (position_of laid) stop in nat_le here.slots (length here.tokens + kept_at laid.tokens stop)
+
+unfoldable pub is_no_free_slot : Ground → Place → Bool
+is_no_free_slot laid place = is_full_at laid (stop_of place)
+
+-- whether a company has a token in a hex
+unfoldable pub has_token_in : List (Place × Company) → Hex → Company → Bool
+has_token_in tokens hex company = list_any (λ token. same_hex token.0.hex hex && same_company token.1 company) tokens
+
+-- what the company's next token costs
+unfoldable pub token_cost_of : List (Place × Company) → Company → ℕ
+token_cost_of tokens company = token_price_of (laid_by tokens company)
+
+-- a company reaches the stop that a place names
+pub record IsReachedPlace (position : Position) (company : Company) (place : Place) : Type 0 where
+  pub stop : Stop
+  pub is : stop_of place ≡ Some stop
+  pub reached : ReachesStop position company (joined_stop_of stop)
+
+-- the rules that ask nothing of what is reached
+abbrev pub slot_rules : Ground → Asker → Place → List (Rule TokenFault)
+slot_rules laid asker place =
+    record { code = fault.StepUsed; broken = is_token_used asker }
+    ∷ record { code = fault.NoTokenLeft; broken = has_none_left laid.tokens asker.company }
+    ∷ record { code = fault.NoFreeSlot; broken = is_no_free_slot laid place }
+    ∷ record { code = fault.InHexAlready; broken = has_token_in laid.tokens place.hex asker.company }
+    ∷ []
+
+-- the rules that are looked at once it is known whether the stop is reached
+abbrev pub reach_rules : Ground → Asker → Bool → List (Rule TokenFault)
+reach_rules laid asker reached =
+    record { code = fault.NotReached; broken = not reached }
+    ∷ record { code = fault.CashTooSmall; broken = lt_z asker.cash (pos (token_cost_of laid.tokens asker.company)) }
+    ∷ []
+
+-- all rules of a token
+abbrev pub token_rules : Ground → Asker → Place → Bool → List (Rule TokenFault)
+token_rules laid asker place reached = slot_rules laid asker place ++ reach_rules laid asker reached
+
+-- the answer to a token: its cost, or the first rule that it breaks. Where the rules before it are kept, what
+-- is reached is looked at.
+pub record IsTokenAnswer (laid : Ground) (asker : Asker) (place : Place) (answer : Result ℤ TokenFault) : Type 0 where
+  pub reached : Bool
+  pub exact : first_broken (slot_rules laid asker place) ≡ None → IsTrue reached ↔ IsReachedPlace (position_of laid) asker.company place
+  pub given : answer ≡ cost_or (token_cost_of laid.tokens asker.company) (first_broken (token_rules laid asker place reached))

@@ -1,0 +1,47 @@
+ghost use Rattle.std.specs.Prelude.{◌≡◌};
+ghost use Rattle.board.specs.Turn.{place_of_step};
+
+use tables::{Company, Money};
+
+/// A step of a company's turn, in order.
+#[derive(Clone, Copy, Debug, PartialEq, Eq, Hash)]
+pub enum TurnStep {
+    Lay,
+    Token,
+    Run,
+    Pay,
+    Trains,
+}
+
+impl TurnStep {
+    /// Its number, from 1.
+    pub fn number(self) -> u8
+        ensures { result ≡ place_of_step self }
+    {
+        match self {
+            TurnStep::Lay => 1,
+            TurnStep::Token => 2,
+            TurnStep::Run => 3,
+            TurnStep::Pay => 4,
+            TurnStep::Trains => 5,
+        }
+    }
+}
+
+/// The company that asks to lay a tile or to place a token, and how far its turn has come.
+#[derive(Clone, Copy, Debug, PartialEq, Eq)]
+pub struct Asker {
+    pub company: Company,
+    /// What it has to spend, in dollars.
+    pub cash: Money,
+    /// The first step that its turn may still take.
+    pub pointer: TurnStep,
+    /// Whether it has used its lay in this turn.
+    pub lay_used: bool,
+    /// Whether that was DH's lay. No rule asks this yet.
+    pub dh_laid: bool,
+    /// The privates that it owns, by their places in the roster. No rule asks this yet.
+    pub own_privates: [bool; 6],
+    /// The privates that players own, by their places in the roster.
+    pub player_privates: [bool; 6],
+}

@@ -1,0 +1,277 @@
+ghost use Rattle.std.specs.Prelude.{◌≡◌, ◌⊎◌, ◌↔◌, ◌≤◌, ◌<◌, Err, None, IfOk, IsTrue, count_by};
+ghost use Rattle.std.specs.List.{list_any};
+ghost use Rattle.board.specs.Ground.{is_stop, position_of, tile_on, with_lay};
+ghost use Rattle.board.specs.LayRules.{HaveStopIn, IsConnected, IsLayAnswer, ShareLink, ground_rules, is_blocked, is_colour_closed, is_kept, is_lay_used, is_none_left, is_tile, is_wrong_colour, lay_cost_of, loses_track, lying_of, place_of_colour};
+ghost use Rattle.map_tables.specs.Hex.{same_hex};
+ghost use Rattle.map_tables.specs.Laws.{link_order};
+ghost use Rattle.map_tables.specs.Track.{end_order};
+ghost use Rattle.map_tables.specs.declared.hex.Hex.{Hex};
+ghost use Rattle.reach.specs.Reached.{IsReach};
+ghost use Rattle.tables.specs.Rules.{first_broken};
+
+use crate::asker::{Asker, TurnStep};
+use crate::board::Board;
+use crate::fault::LayFault;
+use crate::fit::{has_bad_side, is_open, is_wrong_kind};
+use crate::shown::same_hex;
+use map_tables::{
+    Colour, End, Hex, Lay, Link, Stop, TileNo, hex_kind, hexes_are_told_apart, hexes_stand_once,
+    laid_links, private_hexes, terrain_cost, tile,
+};
+use reach::{Reach, reached};
+use std::alloc::AllocError;
+use tables::{Amount, Company, Kind, Money, Private};
+
+impl Board {
+    /// What a lay costs, in dollars, or the first rule that it breaks. `Memory`, for what is
+    /// reached, comes only where L1 to L8 are kept. The company has to reach some piece of the tile
+    /// in the position after the lay; the board stays as it is.
+    pub fn try_lay(&self, asker: &Asker, lay: Lay) -> Result<Money, LayFault>
+        ensures memory { result ≡ Err LayFault.Memory →
+            first_broken (ground_rules self.now asker.now lay) ≡ None }
+        ensures answer { (result ≡ Err LayFault.Memory)
+            ⊎ IsLayAnswer self.now asker.now lay result }
+    {
+        if let Some(fault) = self.ground_fault(asker, lay) {
+            return Err(fault);
+        }
+        if !self.would_reach(asker.company, lay)? {
+            return Err(LayFault::NotReached);
+        }
+        let cost = Money::from(self.lay_cost(lay.hex));
+        if asker.cash < cost {
+            return Err(LayFault::CashTooSmall);
+        }
+        Ok(cost)
+    }
+
+    /// The first rule that a lay breaks, of those that ask nothing of what is reached.
+    fn ground_fault(&self, asker: &Asker, lay: Lay) -> Option<LayFault>
+        ensures { result ≡ first_broken (ground_rules self.now asker.now lay) }
+    {
+        let entry = tile(lay.tile);
+        if is_lay_used(asker) {
+            return Some(LayFault::StepUsed);
+        }
+        if !is_open(hex_kind(lay.hex)) {
+            return Some(LayFault::GreyOrRed);
+        }
+        if self.is_none_left(lay.tile) {
+            return Some(LayFault::NoneLeft);
+        }
+        if is_colour_closed(self.phase, entry.colour) {
+            return Some(LayFault::ColourClosed);
+        }
+        if self.is_wrong_colour(lay) || is_wrong_kind(lay) {
+            return Some(LayFault::WrongTile);
+        }
+        if self.loses_track(lay) {
+            return Some(LayFault::TrackLost);
+        }
+        if has_bad_side(lay) {
+            return Some(LayFault::BadSide);
+        }
+        if is_blocked(asker, lay.hex) {
+            return Some(LayFault::Blocked);
+        }
+        None
+    }
+
+    /// Whether a company would reach some piece of a tile once it lies.
+    fn would_reach(&self, company: Company, lay: Lay) -> Result<bool, AllocError>
+        ensures { let after = position_of (with_lay self.now lay) in
+            IfOk result (λ reached. IsTrue reached ↔ IsConnected after company lay) }
+    {
+        let after = self.after(lay)?;
+        let reach = after.reach(company)?;
+        let links = laid_links(lay);
+        if share_link(links.as_slice(), &reach) {
+            return Ok(true);
+        }
+        Ok(have_stop_in(reach.stops(), lay.hex))
+    }
+
+    /// The board after a lay.
+    fn after(&self, lay: Lay) -> Result<Board, AllocError>
+        ensures { IfOk result (λ board. board ≡ with_lay self.now lay) }
+    {
+        let mut after = self.duplicate()?;
+        after.put_lay(lay)?;
+        Ok(after)
+    }
+
+    /// What a company reaches.
+    pub(crate) fn reach(&self, company: Company) -> Result<Reach, AllocError>
+        ensures { IfOk result (IsReach (position_of self.now) company) }
+    {
+        reached(*self.lays.allocator(), self, company)
+    }
+
+    /// What a lay on a hex costs: its terrain, with the first tile.
+    #[tactic(auto, unfolding(crate::specs::LayRules::lay_cost_of))]
+    fn lay_cost(&self, hex: Hex) -> Amount
+        ensures { result ≡ lay_cost_of self.now.lays hex }
+    {
+        match self.tile_on(hex) {
+            Some(_) => 0,
+            None => terrain_cost(hex),
+        }
+    }
+
+    /// Whether the stock has none left of a tile.
+    #[tactic(auto, unfolding(crate::specs::LayRules::is_none_left))]
+    fn is_none_left(&self, number: TileNo) -> bool
+        ensures { result ≡ is_none_left self.now.lays number }
+    {
+        usize::from(tile(number).count) <= self.lying_of(number)
+    }
+
+    /// How many tiles of a number lie on the map.
+    fn lying_of(&self, number: TileNo) -> usize
+        ensures { result ≡ lying_of self.now.lays number }
+    {
+        hexes_stand_once();
+        self.count_of(number, &Hex::ALL)
+    }
+
+    /// On how many of some hexes a tile of a number lies.
+    fn count_of(&self, number: TileNo, hexes: &[Hex]) -> usize
+        ensures { result ≡ count_by (λ hex. is_tile number (tile_on self.now.lays hex)) hexes.now }
+    {
+        hexes
+            .iter()
+            .filter(|hex| self.has_tile(**hex, number))
+            .count()
+    }
+
+    /// Whether a tile of a number lies on a hex.
+    fn has_tile(&self, hex: Hex, number: TileNo) -> bool
+        ensures { result ≡ is_tile number (tile_on self.now.lays hex) }
+    {
+        match self.tile_on(hex) {
+            Some(lay) => lay.tile.index() == number.index(),
+            None => false,
+        }
+    }
+
+    /// Whether a tile has not the colour that comes next on its hex.
+    #[tactic(auto, unfolding(crate::specs::LayRules::is_wrong_colour))]
+    fn is_wrong_colour(&self, lay: Lay) -> bool
+        ensures { result ≡ is_wrong_colour self.now.lays lay }
+    {
+        place_of_colour(tile(lay.tile).colour) != place_of_colour(self.colour_on(lay.hex)) + 1
+    }
+
+    /// Whether some link of the hex is not one of the tile's.
+    #[tactic(auto, unfolding(crate::specs::LayRules::loses_track))]
+    fn loses_track(&self, lay: Lay) -> bool
+        ensures { result ≡ loses_track self.now.lays lay }
+    {
+        let links = laid_links(lay);
+        self.links_on(lay.hex)
+            .as_slice()
+            .iter()
+            .any(|old| !is_kept(links.as_slice(), *old))
+    }
+}
+
+/// Whether the turn is past its lay, or its lay is used.
+#[tactic(auto, unfolding(crate::specs::LayRules::is_lay_used))]
+fn is_lay_used(asker: &Asker) -> bool
+    ensures { result ≡ is_lay_used asker.now }
+{
+    asker.pointer.number() != TurnStep::Lay.number() || asker.lay_used
+}
+
+/// Whether a colour has not come yet.
+#[tactic(auto, unfolding(crate::specs::LayRules::is_colour_closed))]
+fn is_colour_closed(phase: Kind, colour: Colour) -> bool
+    ensures { result ≡ is_colour_closed phase colour }
+{
+    match colour {
+        Colour::White | Colour::Yellow => false,
+        Colour::Green => phase.place() < Kind::Three.place(),
+        Colour::Brown => phase.place() < Kind::Five.place(),
+    }
+}
+
+/// The place of a colour in the order of colours.
+fn place_of_colour(colour: Colour) -> u8
+    ensures place { result ≡ place_of_colour colour }
+    ensures few { result ≤ 3 }
+{
+    match colour {
+        Colour::White => 0,
+        Colour::Yellow => 1,
+        Colour::Green => 2,
+        Colour::Brown => 3,
+    }
+}
+
+/// Whether a link of a hex is one of these.
+fn is_kept(links: &[Link], old: Link) -> bool
+    ensures { result ≡ is_kept links.now old }
+{
+    links
+        .iter()
+        .any(|link| link_order(*link) == link_order(old))
+}
+
+/// The place of a link in the order of a hex's links.
+fn link_order(link: Link) -> usize
+    ensures { result ≡ link_order link }
+{
+    8 * end_order(link.a) + end_order(link.b)
+}
+
+/// The place of an end in the order of a hex's ends.
+fn end_order(end: End) -> usize
+    ensures place { result ≡ end_order end }
+    ensures few { result < 8 }
+{
+    match end {
+        End::Side(side) => side.number(),
+        End::Stop(number) => 6 + number.index(),
+    }
+}
+
+/// Whether a hex is one of a private that a player owns.
+#[tactic(auto, unfolding(crate::specs::LayRules::is_blocked))]
+fn is_blocked(asker: &Asker, hex: Hex) -> bool
+    ensures { result ≡ is_blocked asker.now hex }
+{
+    Private::ALL.iter().any(|private| asker.player_privates[private.place()]
+        && is_one_of(hex, private_hexes(*private)))
+}
+
+/// Whether a hex is one of some.
+fn is_one_of(hex: Hex, hexes: &[Hex]) -> bool
+    ensures { result ≡ list_any (λ one. same_hex one hex) hexes.now }
+{
+    hexes.iter().any(|one| same_hex(*one, hex))
+}
+
+/// Whether some of these links is reached.
+fn share_link(links: &[Link], reach: &Reach) -> bool
+    ensures { IsTrue result ↔ ShareLink links.now reach.now.links }
+{
+    for link in links {
+        if reach.touches(link) {
+            return true;
+        }
+    }
+    false
+}
+
+/// Whether some of these stops is one of a hex.
+fn have_stop_in(stops: &[Stop], hex: Hex) -> bool
+    ensures { IsTrue result ↔ HaveStopIn hex stops.now }
+{
+    hexes_are_told_apart();
+    for stop in stops {
+        if same_hex(stop.hex, hex) {
+            return true;
+        }
+    }
+    false
+}

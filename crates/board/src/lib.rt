@@ -1,0 +1,28 @@
+//! The ground of 1830's operating rounds: the tiles and tokens that lie on the map, and the rules
+//! by which a company lays more.
+//!
+//! To a contract a `Board` is the tiles that were laid, oldest first, the tokens that were placed,
+//! and the phase. From these follows the position that it keeps as a `Network`: on each hex the
+//! last tile that was laid there, or its print. `Board::of` refuses what may not lie on the map.
+//! `try_lay` and `try_token` give the cost of a tile or a token, or the first rule that it breaks,
+//! and change nothing; `put_lay` and `put_token` lay it.
+//!
+//! The definitions, in `specs/`: `Ground` (what lies, and the position), `Fit` (what may lie at
+//! all), `LayRules` and `TokenRules` (each rule beside its code, in order).
+//!
+//! Reading order: `board`, `fault`, `fit` (what may lie at all), `shown` (what shows at a hex or a
+//! stop), `network` (the position that is kept), `asker`, `lay`, `token`.
+#![tactic(auto)]
+
+mod asker;
+mod board;
+mod fault;
+mod fit;
+mod lay;
+mod network;
+mod shown;
+mod token;
+
+pub use asker::{Asker, TurnStep};
+pub use board::Board;
+pub use fault::{BoardFault, LayFault, TokenFault};

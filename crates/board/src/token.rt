@@ -1,0 +1,163 @@
+ghost use Rattle.std.specs.Prelude.{◌≡◌, ◌⊎◌, ◌↔◌, Err, None, Some, IfOk, IsTrue, count_by};
+ghost use Rattle.std.specs.List.{list_any};
+ghost use Rattle.board.specs.Ground.{position_of};
+ghost use Rattle.board.specs.TokenRules.{IsReachedPlace, IsTokenAnswer, has_none_left, has_token_in, is_full_at, is_kept_for, is_no_free_slot, is_token_used, kept_at, laid_by, slot_rules, token_cost_of};
+ghost use Rattle.map_tables.specs.Place.{stop_of};
+ghost use Rattle.reach.specs.Position.{IsAmong};
+ghost use Rattle.tables.specs.Rules.{first_broken};
+
+use crate::asker::{Asker, TurnStep};
+use crate::board::Board;
+use crate::fault::TokenFault;
+use crate::shown::{same_company, same_hex, same_stop};
+use map_tables::{Hex, Place, Stop, hexes_are_told_apart, home, joined_stop};
+use std::alloc::AllocError;
+use tables::{Amount, Company, Money, token_price, tokens};
+
+impl Board {
+    /// What a token costs, in dollars, or the first rule that it breaks. `Memory`, for what is
+    /// reached, comes only where K1 to K4 are kept. The board stays as it is.
+    pub fn try_token(&self, asker: &Asker, place: Place) -> Result<Money, TokenFault>
+        ensures memory { result ≡ Err TokenFault.Memory →
+            first_broken (slot_rules self.now asker.now place) ≡ None }
+        ensures answer { (result ≡ Err TokenFault.Memory)
+            ⊎ IsTokenAnswer self.now asker.now place result }
+    {
+        if let Some(fault) = self.slot_fault(asker, place) {
+            return Err(fault);
+        }
+        if !self.reaches(asker.company, place)? {
+            return Err(TokenFault::NotReached);
+        }
+        let cost = Money::from(self.token_cost(asker.company));
+        if asker.cash < cost {
+            return Err(TokenFault::CashTooSmall);
+        }
+        Ok(cost)
+    }
+
+    /// The first rule that a token breaks, of those that ask nothing of what is reached.
+    fn slot_fault(&self, asker: &Asker, place: Place) -> Option<TokenFault>
+        ensures { result ≡ first_broken (slot_rules self.now asker.now place) }
+    {
+        if is_token_used(asker) {
+            return Some(TokenFault::StepUsed);
+        }
+        if self.has_none_left(asker.company) {
+            return Some(TokenFault::NoTokenLeft);
+        }
+        if self.is_no_free_slot(place) {
+            return Some(TokenFault::NoFreeSlot);
+        }
+        if self.has_token_in(place.hex, asker.company) {
+            return Some(TokenFault::InHexAlready);
+        }
+        None
+    }
+
+    /// Whether a company reaches the stop that a place names.
+    fn reaches(&self, company: Company, place: Place) -> Result<bool, AllocError>
+        ensures { let position = position_of self.now in
+            IfOk result (λ reached. IsTrue reached ↔ IsReachedPlace position company place) }
+    {
+        let Some(stop) = place.stop() else {
+            return Ok(false);
+        };
+        let reach = self.reach(company)?;
+        Ok(is_among(joined_stop(stop), reach.stops()))
+    }
+
+    /// How many tokens of a company lie.
+    #[tactic(auto, unfolding(crate::specs::TokenRules::laid_by))]
+    fn laid_by(&self, company: Company) -> usize
+        ensures { result ≡ laid_by self.now.tokens company }
+    {
+        self.tokens
+            .iter()
+            .filter(|token| same_company(token.1, company))
+            .count()
+    }
+
+    /// What the company's next token costs.
+    #[tactic(auto, unfolding(crate::specs::TokenRules::token_cost_of))]
+    fn token_cost(&self, company: Company) -> Amount
+        ensures { result ≡ token_cost_of self.now.tokens company }
+    {
+        token_price(self.laid_by(company))
+    }
+
+    /// Whether a company has no token left.
+    #[tactic(auto, unfolding(crate::specs::TokenRules::has_none_left))]
+    fn has_none_left(&self, company: Company) -> bool
+        ensures { result ≡ has_none_left self.now.tokens company }
+    {
+        tokens(company) <= self.laid_by(company)
+    }
+
+    /// Whether a place is no city, or all slots of it are taken or kept.
+    #[tactic(auto, unfolding(crate::specs::TokenRules::is_no_free_slot))]
+    fn is_no_free_slot(&self, place: Place) -> bool
+        ensures { result ≡ is_no_free_slot self.now place }
+    {
+        match place.stop() {
+            Some(stop) => self.is_taken_up(stop),
+            None => true,
+        }
+    }
+
+    /// Whether all slots of a stop are taken or kept.
+    fn is_taken_up(&self, stop: Stop) -> bool
+        ensures { result ≡ is_full_at self.now (Some stop) }
+    {
+        let taken = self.taken(stop);
+        let slots = self.slots(stop);
+        slots <= taken || slots - taken <= self.kept_at(stop)
+    }
+
+    /// How many slots of a stop are kept for companies whose token does not lie there yet.
+    #[tactic(auto, unfolding(crate::specs::TokenRules::kept_at))]
+    fn kept_at(&self, stop: Stop) -> usize
+        ensures { result ≡ kept_at self.now.tokens stop }
+    {
+        Company::ALL
+            .iter()
+            .filter(|company| self.is_kept_for(stop, **company))
+            .count()
+    }
+
+    /// Whether a slot of a stop is kept for a company.
+    fn is_kept_for(&self, stop: Stop, company: Company) -> bool
+        ensures { result ≡ is_kept_for self.now.tokens stop company }
+    {
+        same_stop(home(company), stop) && !self.has_token(stop, company)
+    }
+
+    /// Whether a company has a token in a hex.
+    #[tactic(auto, unfolding(crate::specs::TokenRules::has_token_in))]
+    fn has_token_in(&self, hex: Hex, company: Company) -> bool
+        ensures { result ≡ has_token_in self.now.tokens hex company }
+    {
+        self.tokens.iter().any(|token| same_hex(token.0.hex, hex) && same_company(token.1, company))
+    }
+}
+
+/// Whether the turn is past its token.
+#[tactic(auto, unfolding(crate::specs::TokenRules::is_token_used))]
+fn is_token_used(asker: &Asker) -> bool
+    ensures { result ≡ is_token_used asker.now }
+{
+    TurnStep::Token.number() < asker.pointer.number()
+}
+
+/// Whether a stop is one of some.
+fn is_among(stop: Stop, stops: &[Stop]) -> bool
+    ensures { IsTrue result ↔ IsAmong stop stops.now }
+{
+    hexes_are_told_apart();
+    for one in stops {
+        if same_stop(*one, stop) {
+            return true;
+        }
+    }
+    false
+}

@@ -1,0 +1,201 @@
+-- What becomes of the tenths of the companies where an event moves some: they leave one place and come to
+-- another, and ten stay ten.
+use Rattle.std.proofs.Common.{◌≡◌, ◌≢◌, ℕ, zero, suc, ◌+◌, ◌≤◌, ◌<◌, ◌==◌, ◌⊎◌, inl, inr, Bool, true, false, if◌then◌else◌, List, [], ◌∷◌, ◌++◌, Option, Some, None, is_some, map, pos, ◌≤ℤ◌, ◌-ℤ◌, ◌+ℤ◌, refl, sym, subst, ap, ◌∙◌, arith}
+use Rattle.std.proofs.lemmas.Bool.{cases_eq}
+use Rattle.std.proofs.lemmas.Bool.Decides.{Decides-eqb, nat_tests}
+use Rattle.std.proofs.lemmas.Int.{ints}
+use Rattle.std.specs.List.{range_with_len}
+use Rattle.std.specs.Option.{option_or}
+use Rattle.history.proofs.EventAtEnd.{shares_of_at_end}
+use Rattle.history.specs.Event.{transfer_of}
+use Rattle.history.specs.LookBack.{Game, with_event}
+use Rattle.history.specs.Shares.{brought_to, held_by, same_shareholder, shares_of, taken_from}
+use Rattle.history.specs.Sound.{AreTenInAll, TenthsAreHeld}
+use Rattle.history.specs.declared.event.Event.{Event}
+use Rattle.history.specs.declared.event.Shareholder.{Shareholder}
+use Rattle.history.specs.declared.event.Shareholder.TheVariants.{InitialOffering, BankPool, Seat as OfSeat}
+use Rattle.history.specs.declared.event.Transfer.{Transfer}
+use Rattle.tables.specs.Roster.{place_of_company, same_company}
+use Rattle.tables.specs.Seat.{all_seats, seat_at}
+use Rattle.tables.specs.declared.roster.Company.{Company}
+use Rattle.tables.specs.declared.roster.Company.TheVariants.{Pennsylvania, NewYorkCentral, CanadianPacific, BaltimoreOhio, ChesapeakeOhio, Erie, NewHaven, BostonMaine}
+use Rattle.tables.specs.declared.seat.Seat.{Seat}
+
+-- the company at a place of the roster
+abbrev company_at : ℕ → Company
+company_at place =
+    if place == 0 then Pennsylvania else if place == 1 then NewYorkCentral else if place == 2 then CanadianPacific else if place == 3 then BaltimoreOhio else if place == 4 then ChesapeakeOhio else if place == 5 then Erie else if place == 6 then NewHaven else BostonMaine
+
+-- is the company
+company_at_place : (company : Company) → company_at (place_of_company company) ≡ company
+company_at_place Pennsylvania = refl
+company_at_place NewYorkCentral = refl
+company_at_place CanadianPacific = refl
+company_at_place BaltimoreOhio = refl
+company_at_place ChesapeakeOhio = refl
+company_at_place Erie = refl
+company_at_place NewHaven = refl
+company_at_place BostonMaine = refl
+
+-- companies of one place are the same
+pub same_company_is : (a b : Company) → same_company a b ≡ true → a ≡ b
+same_company_is a b same =
+    sym (company_at_place a) ∙ ap company_at ((Decides-eqb (place_of_company a) (place_of_company b)).0 same) ∙ company_at_place b
+
+-- a company is itself
+pub is_itself : (company : Company) → same_company company company ≡ true
+is_itself Pennsylvania = refl
+is_itself NewYorkCentral = refl
+is_itself CanadianPacific = refl
+is_itself BaltimoreOhio = refl
+is_itself ChesapeakeOhio = refl
+is_itself Erie = refl
+is_itself NewHaven = refl
+is_itself BostonMaine = refl
+
+-- places that are the same
+same_shareholder_is : (a b : Shareholder) → same_shareholder a b ≡ true → a ≡ b
+same_shareholder_is InitialOffering InitialOffering same = refl
+same_shareholder_is InitialOffering BankPool same = absurd cc
+same_shareholder_is InitialOffering (OfSeat b) same = absurd cc
+same_shareholder_is BankPool InitialOffering same = absurd cc
+same_shareholder_is BankPool BankPool same = refl
+same_shareholder_is BankPool (OfSeat b) same = absurd cc
+same_shareholder_is (OfSeat a) InitialOffering same = absurd cc
+same_shareholder_is (OfSeat a) BankPool same = absurd cc
+same_shareholder_is (OfSeat a) (OfSeat b) same = ap (λ number. OfSeat (seat_at number)) ((Decides-eqb a.0 b.0).0 same)
+
+-- true or false
+pub truth : (test : Bool) → (test ≡ true) ⊎ (test ≡ false)
+truth true = inl refl
+truth false = inr refl
+
+-- an option that has something has it
+pub something : {A : Type 0} (option : Option A) → is_some option ≡ true → (value : A) × (option ≡ Some value)
+something None some = absurd (cc)
+something (Some value) some = (value, refl)
+
+-- the last word on a company, where the event at the end names one
+pub new_word : {A : Type 0} (same : Bool) (word : A) (earlier : Option A) → same ≡ true → option_or (if same then Some word else None) earlier ≡ Some word
+new_word true word earlier is = refl
+new_word false word earlier is = absurd (cc)
+
+-- or where it names another
+pub old_word : {A : Type 0} (same : Bool) (word : A) (earlier : Option A) → same ≡ false → option_or (if same then Some word else None) earlier ≡ earlier
+old_word true word earlier is = absurd (cc)
+old_word false word earlier is = refl
+
+-- what of so many tenths, all at one place, lies at a place
+abbrev pub part : Shareholder → Shareholder → ℕ → ℕ
+part at place tenths = if same_shareholder at place then tenths else 0
+
+-- and with some seats
+abbrev parts : Shareholder → ℕ → List Seat → ℕ
+parts at tenths [] = 0
+parts at tenths (seat ∷ others) = part at (OfSeat seat) tenths + parts at tenths others
+
+-- how many tenths of a company a transfer moves
+abbrev pub moved : Company → Transfer → ℕ
+moved company transfer = if same_company transfer.company company then transfer.tenths else 0
+
+-- two tests in either order
+either_order : (a b : Bool) (n : ℕ) → (if a then (if b then n else 0) else 0) ≡ (if b then (if a then n else 0) else 0)
+either_order true true n = refl
+either_order true false n = refl
+either_order false true n = refl
+either_order false false n = refl
+
+-- the tenths at a place: what comes to it is added, and what leaves it is taken off
+pub shares_after : (events : List Event) (event : Event) (transfer : Transfer) (company : Company) (place : Shareholder) → transfer_of event ≡ Some transfer → shares_of (events ++ event ∷ []) company place ≡ (shares_of events company place +ℤ pos (part transfer.to place (moved company transfer))) -ℤ pos (part transfer.from place (moved company transfer))
+shares_after events event transfer company place is =
+    omega (arith, ints, shares_of_at_end events event company place, ap (brought_to company place) is, ap (taken_from company place) is, either_order (same_company transfer.company company) (same_shareholder transfer.to place) transfer.tenths, either_order (same_company transfer.company company) (same_shareholder transfer.from place) transfer.tenths)
+
+-- seats together
+held_by_after : (events : List Event) (event : Event) (transfer : Transfer) (company : Company) (seats : List Seat) → transfer_of event ≡ Some transfer → held_by (events ++ event ∷ []) company seats ≡ (held_by events company seats +ℤ pos (parts transfer.to (moved company transfer) seats)) -ℤ pos (parts transfer.from (moved company transfer) seats)
+held_by_after events event transfer company [] is = omega (arith, ints)
+held_by_after events event transfer company (seat ∷ others) is =
+    omega (arith, ints, shares_after events event transfer company (OfSeat seat) is, held_by_after events event transfer company others is)
+
+-- the place is one of a table
+abbrev pub IsAtTable : ℕ → Shareholder → Type 0
+IsAtTable seats InitialOffering = Unit {0}
+IsAtTable seats BankPool = Unit {0}
+IsAtTable seats (OfSeat seat) = seat.0 < seats
+
+-- a choice by two numbers that are the same
+chosen : (i k a : ℕ) → i ≡ k → (if i == k then a else 0) ≡ a
+chosen i k a same = grind (arith, nat_tests)
+
+-- a choice by two numbers that are not
+passed_over : (i k a : ℕ) → i ≢ k → (if i == k then a else 0) ≡ 0
+passed_over i k a apart = grind (arith, nat_tests)
+
+-- what the initial offering has is with no seat
+none_offered : (tenths : ℕ) (seats : List Seat) → parts InitialOffering tenths seats ≡ 0
+none_offered tenths [] = refl
+none_offered tenths (seat ∷ others) = omega (arith, none_offered tenths others)
+
+-- nor what the pool has
+none_pooled : (tenths : ℕ) (seats : List Seat) → parts BankPool tenths seats ≡ 0
+none_pooled tenths [] = refl
+none_pooled tenths (seat ∷ others) = omega (arith, none_pooled tenths others)
+
+-- what a seat has is with no later one
+none_later : (seat : Seat) (tenths from count : ℕ) → seat.0 < from → parts (OfSeat seat) tenths (map seat_at (range_with_len from count)) ≡ 0
+none_later seat tenths from zero before = refl
+none_later seat tenths from (suc count) before =
+    let apart : seat.0 ≢ from = omega arith in
+    omega (arith, passed_over seat.0 from tenths apart, none_later seat tenths (from + 1) count (omega arith))
+
+-- it is with the seats among whom the one is
+with_seats : (seat : Seat) (tenths from count : ℕ) → from ≤ seat.0 → seat.0 < from + count → parts (OfSeat seat) tenths (map seat_at (range_with_len from count)) ≡ tenths
+with_seats seat tenths from zero low high = absurd (omega arith)
+with_seats seat tenths from (suc count) low high =
+    elim (cases_eq seat.0 from) [
+      | inl same ↦ omega (arith, chosen seat.0 from tenths same, none_later seat tenths (from + 1) count (omega arith))
+      | inr apart ↦ omega (arith, passed_over seat.0 from tenths apart, with_seats seat tenths (from + 1) count (omega arith) (omega arith))
+    ]
+
+-- tenths at one place of a table are somewhere
+all_there : (seats : ℕ) (at : Shareholder) (tenths : ℕ) → IsAtTable seats at → (part at InitialOffering tenths + part at BankPool tenths) + parts at tenths (all_seats seats) ≡ tenths
+all_there seats InitialOffering tenths there = omega (arith, none_offered tenths (all_seats seats))
+all_there seats BankPool tenths there = omega (arith, none_pooled tenths (all_seats seats))
+all_there seats (OfSeat seat) tenths there = omega (arith, with_seats seat tenths 0 seats (omega arith) (omega arith))
+
+-- ten tenths stay ten
+pub ten_after : (game : Game) (event : Event) (transfer : Transfer) → transfer_of event ≡ Some transfer → IsAtTable game.seats transfer.from → IsAtTable game.seats transfer.to → AreTenInAll game → AreTenInAll (with_event game event)
+ten_after game event transfer is from to ten company =
+    omega (arith, ints, ten company, shares_after game.events event transfer company InitialOffering is, shares_after game.events event transfer company BankPool is, held_by_after game.events event transfer company (all_seats game.seats) is, all_there game.seats transfer.from (moved company transfer) from, all_there game.seats transfer.to (moved company transfer) to)
+
+-- nothing either way
+pub nothing_there : (test : Bool) → ◌≡◌ {A = ℕ} (if test then 0 else 0) 0
+nothing_there true = refl
+nothing_there false = refl
+
+-- no more leave a place than it has
+taken_low : (events : List Event) (transfer : Transfer) (company : Company) (place : Shareholder) → pos transfer.tenths ≤ℤ shares_of events transfer.company transfer.from → pos 0 ≤ℤ shares_of events company place → pos (part transfer.from place (moved company transfer)) ≤ℤ shares_of events company place
+taken_low events transfer company place enough held =
+    elim (truth (same_company transfer.company company)) [
+      | inl same ↦
+          elim (truth (same_shareholder transfer.from place)) [
+            | inl here ↦
+                let its : moved company transfer ≡ transfer.tenths = ap (λ (is : Bool). if is then transfer.tenths else 0) same in
+                let taken : part transfer.from place (moved company transfer) ≡ moved company transfer = ap (λ (is : Bool). if is then moved company transfer else 0) here in
+                let at_company : pos transfer.tenths ≤ℤ shares_of events company transfer.from = subst (λ (one : Company). pos transfer.tenths ≤ℤ shares_of events one transfer.from) (same_company_is transfer.company company same) enough in
+                let at_place : pos transfer.tenths ≤ℤ shares_of events company place = subst (λ (one : Shareholder). pos transfer.tenths ≤ℤ shares_of events company one) (same_shareholder_is transfer.from place here) at_company in
+                omega (arith, ints)
+            | inr elsewhere ↦
+                let taken : part transfer.from place (moved company transfer) ≡ 0 = ap (λ (is : Bool). if is then moved company transfer else 0) elsewhere in
+                omega (arith, ints)
+          ]
+      | inr apart ↦
+          let its : moved company transfer ≡ 0 = ap (λ (is : Bool). if is then transfer.tenths else 0) apart in
+          let taken : part transfer.from place (moved company transfer) ≡ part transfer.from place 0 = ap (part transfer.from place) its in
+          let nothing : part transfer.from place 0 ≡ 0 = nothing_there (same_shareholder transfer.from place) in
+          omega (arith, ints)
+    ]
+
+-- tenths are held as before, where there were so many
+pub held_after : (events : List Event) (event : Event) (transfer : Transfer) → transfer_of event ≡ Some transfer → pos transfer.tenths ≤ℤ shares_of events transfer.company transfer.from → TenthsAreHeld events → TenthsAreHeld (events ++ event ∷ [])
+held_after events event transfer is enough held company place =
+    omega (arith, ints, shares_after events event transfer company place is, taken_low events transfer company place enough (held company place))
