@@ -1,8 +1,12 @@
 pub mod Positions
 pub mod Tokens
 pub mod Tiles
-pub mod Laws
+pub mod Lawfulness
 pub mod Searches
 pub mod Connected
 pub mod RuleTables
 pub mod LayAnswers
+pub mod Fitting
+pub mod Growing
+pub mod FitLaws
+pub mod KeptHomes

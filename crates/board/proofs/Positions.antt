@@ -1,10 +1,10 @@
 -- What the position shows in a hex and at a stop.
-use Rattle.std.proofs.Common.{◌≡◌, ◌∙◌, ap, refl, ℕ, zero, suc, ◌<◌, true, false, cond, length, map, get_or, lit<, arith}
+use Rattle.std.proofs.Common.{◌≡◌, ◌∙◌, ap, refl, ℕ, zero, suc, ◌<◌, true, false, cond, [], length, map, get_or, lit<, arith}
 use Rattle.std.proofs.lemmas.Bool.{lt-ltb}
 use Rattle.std.proofs.lemmas.List.{get_or-map}
 use Rattle.std.specs.Prelude.{nat_lt}
-use Rattle.board.specs.Ground.{Ground, is_stop, lying_at, lying_in, position_of, stop_numbers}
-use Rattle.map_tables.specs.Hex.{hexes, index_of}
+use Rattle.board.specs.Ground.{Ground, is_stop, lying_at, lying_in, position_of, stop_numbers, stops_in}
+use Rattle.map_tables.specs.Hex.{hexes, index_of, same_hex}
 use Rattle.map_tables.specs.Place.{joined_hex, joined_stop_of, stop_at, stop_index_of}
 use Rattle.map_tables.specs.Print.{print_of}
 use Rattle.map_tables.specs.declared.hex.Hex.{Hex}
@@ -41,11 +41,24 @@ numbered f (suc zero) Second none = refl
 numbered f (suc (suc n)) First none = rw (lt-ltb 0 (suc (suc n)) (omega arith)) refl
 numbered f (suc (suc n)) Second none = rw (lt-ltb 1 (suc (suc n)) (omega arith)) refl
 
+-- what names an area names itself
+joined_twice : (hex : Hex) → same_hex (joined_hex (joined_hex hex)) (joined_hex hex) ≡ true
+unfolding index_of
+joined_twice A9 = refl
+joined_twice hex = refl
+
+-- so its stops are kept there
+stops_kept : (laid : Ground) (hex : Hex) → stops_in laid (joined_hex hex) ≡ map (λ number. lying_at laid (stop_at (joined_hex hex) number)) (stop_numbers (print_of (joined_hex hex)).stops)
+stops_kept laid hex =
+    let there = map (λ number. lying_at laid (stop_at (joined_hex hex) number)) (stop_numbers (print_of (joined_hex hex)).stops) in
+    ap (λ b. cond b there []) (joined_twice hex)
+
 -- what the position has at a stop
 at_stop_is : (laid : Ground) (stop : Stop) → at_stop (position_of laid) stop ≡ cond (is_stop (joined_stop_of stop)) (lying_at laid (joined_stop_of stop)) no_stop
 at_stop_is laid stop =
     let hex = joined_hex stop.hex in
     ap (λ (here : InHex). get_or here.stops (stop_index_of stop.number) no_stop) (in_hex_is laid hex)
+    ∙ ap (λ stops. get_or stops (stop_index_of stop.number) no_stop) (stops_kept laid stop.hex)
     ∙ numbered (λ number. lying_at laid (stop_at hex number)) (print_of hex).stops stop.number no_stop
 
 -- at a stop of a hex it has what lies there

@@ -2,9 +2,9 @@
 -- two; grey and red hexes take none. None of its track leads to a bad side: off the map, to a closed border,
 -- or to a grey or red hex without track at the side that faces it. Each token has a slot of its own, in a
 -- city. Colours, the stock and kept slots are no matter here.
-use Rattle.std.specs.Prelude.{ℕ, ◌==◌, ◌&&◌, ◌||◌, Bool, true, false, not, nat_lt, List, [], ◌∷◌, length, Option, Some, None}
+use Rattle.std.specs.Prelude.{ℕ, ◌==◌, ◌&&◌, ◌||◌, Bool, true, false, not, nat_lt, List, [], ◌∷◌, Option, Some, None}
 use Rattle.std.specs.List.{list_any}
-use Rattle.board.specs.Ground.{Ground, position_of}
+use Rattle.board.specs.Ground.{Ground, slots_at, taken_at}
 use Rattle.board.specs.declared.fault.BoardFault.{BoardFault}
 use Rattle.board.specs.declared.fault.BoardFault.TheVariants as fault
 use Rattle.map_tables.specs.Border.{neighbour_of}
@@ -24,7 +24,6 @@ use Rattle.map_tables.specs.declared.tiles.TileKind.{TileKind}
 use Rattle.map_tables.specs.declared.tiles.TileKind.TheVariants.{Plain, Town, TwoTowns, City, CityB, CitiesNY, CitiesOO}
 use Rattle.map_tables.specs.declared.track.End.{End}
 use Rattle.map_tables.specs.declared.track.End.TheVariants.{Side as AtSide, Stop as AtNumber}
-use Rattle.reach.specs.Position.{Position, at_stop}
 use Rattle.tables.specs.Rules.{Rule, first_broken}
 use Rattle.tables.specs.declared.roster.Company.{Company}
 
@@ -82,21 +81,21 @@ is_bad_end hex (AtNumber number) = false
 unfoldable pub has_bad_side : Lay → Bool
 has_bad_side lay = list_any (λ link. is_bad_end lay.hex link.a || is_bad_end lay.hex link.b) (laid_links_of lay)
 
--- whether more tokens lie at a stop than it takes; a place that is no stop takes none
-abbrev pub is_over_full : Position → Option Stop → Bool
-is_over_full position None = true
-is_over_full position (Some stop) = nat_lt (at_stop position stop).slots (length (at_stop position stop).tokens)
+-- whether more tokens name a stop than it takes; a place that is no stop takes none
+abbrev pub is_over_full : Ground → Option Stop → Bool
+is_over_full laid None = true
+is_over_full laid (Some stop) = nat_lt (slots_at laid.lays stop) (taken_at laid.tokens stop)
 
 -- whether a token, with the others that lie there, has no slot
-abbrev pub has_no_slot : Position → Place × Company → Bool
-has_no_slot position token = is_over_full position (stop_of token.0)
+abbrev pub has_no_slot : Ground → Place × Company → Bool
+has_no_slot laid token = is_over_full laid (stop_of token.0)
 
 -- the rules that what lies may break
 abbrev pub board_rules : Ground → List (Rule BoardFault)
 board_rules laid =
     record { code = fault.Kind; broken = list_any is_wrong_kind laid.lays }
     ∷ record { code = fault.BadSide; broken = list_any has_bad_side laid.lays }
-    ∷ record { code = fault.NoSlot; broken = list_any (has_no_slot (position_of laid)) laid.tokens }
+    ∷ record { code = fault.NoSlot; broken = list_any (has_no_slot laid) laid.tokens }
     ∷ []
 
 -- the first of them that is broken

@@ -2,10 +2,10 @@
 -- the phase. The last tile that was laid on a hex lies there; those before it are back in the stock. Where no
 -- tile lies, the hex shows its print. From this follows the position.
 use Rattle.std.specs.Prelude.{ℕ, zero, suc, ◌==◌, ◌&&◌, Bool, true, false, nat_lt, if◌then◌else◌, List, [], ◌∷◌, ◌++◌, map, reverse, Option, Some, None}
-use Rattle.std.specs.List.{filter, find, list_any}
+use Rattle.std.specs.List.{count_by, filter, find, list_any}
 use Rattle.map_tables.specs.Hex.{hexes, same_hex}
 use Rattle.map_tables.specs.Lay.{laid_links_of}
-use Rattle.map_tables.specs.Place.{joined_stop_of, stop_at, stop_index_of, stop_of}
+use Rattle.map_tables.specs.Place.{joined_hex, joined_stop_of, stop_at, stop_index_of, stop_of}
 use Rattle.map_tables.specs.Print.{print_of, printed_links_of}
 use Rattle.map_tables.specs.Tile.{entry_of}
 use Rattle.map_tables.specs.declared.hex.Hex.{Hex}
@@ -74,6 +74,15 @@ abbrev pub value_on : Kind → List Lay → Hex → ℕ
 value_on phase lays hex =
     by_tile (value_in phase (print_of hex).value) (λ lay. (entry_of lay.tile).value) (tile_on lays hex)
 
+-- whether a hex has a stop of this number; no tile changes how many it has
+abbrev pub is_stop : Stop → Bool
+is_stop stop = nat_lt (stop_index_of stop.number) (print_of stop.hex).stops
+
+-- how many tokens a stop takes; none where there is no such stop
+abbrev pub slots_at : List Lay → Stop → ℕ
+slots_at lays stop =
+    let joined = joined_stop_of stop in if is_stop joined then slots_on lays joined.hex else 0
+
 -- whether two stops are one
 abbrev pub same_stop : Stop → Stop → Bool
 same_stop a b = same_hex a.hex b.hex && stop_index_of a.number == stop_index_of b.number
@@ -90,6 +99,10 @@ names stop place = is_part_of stop (stop_of place)
 -- the companies whose tokens lie at a stop
 abbrev pub tokens_at : List (Place × Company) → Stop → List Company
 tokens_at tokens stop = map (λ token. token.1) (filter (λ token. names stop token.0) tokens)
+
+-- how many tokens name a stop
+abbrev pub taken_at : List (Place × Company) → Stop → ℕ
+taken_at tokens stop = count_by (λ token. names (joined_stop_of stop) token.0) tokens
 
 -- whether a company has a token there
 abbrev pub has_token : List (Place × Company) → Stop → Company → Bool
@@ -117,17 +130,14 @@ stop_numbers zero = []
 stop_numbers (suc zero) = First ∷ []
 stop_numbers (suc (suc more)) = First ∷ Second ∷ []
 
--- whether a hex has a stop of this number; no tile changes how many it has
-abbrev pub is_stop : Stop → Bool
-is_stop stop = nat_lt (stop_index_of stop.number) (print_of stop.hex).stops
+-- what lies at the stops of a hex; a stop that lies in two hexes is kept in the one that names it
+abbrev pub stops_in : Ground → Hex → List AtStop
+stops_in laid hex =
+    if same_hex (joined_hex hex) hex then map (λ number. lying_at laid (stop_at hex number)) (stop_numbers (print_of hex).stops) else []
 
 -- what lies in a hex
 abbrev pub lying_in : Ground → Hex → InHex
-lying_in laid hex =
-    record {
-      links = links_on laid.lays hex;
-      stops = map (λ number. lying_at laid (stop_at hex number)) (stop_numbers (print_of hex).stops);
-    }
+lying_in laid hex = record { links = links_on laid.lays hex; stops = stops_in laid hex }
 
 -- the position
 unfoldable pub position_of : Ground → Position

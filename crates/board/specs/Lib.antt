@@ -3,3 +3,4 @@ pub mod Fit
 pub mod Turn
 pub mod LayRules
 pub mod TokenRules
+pub mod Homes

@@ -2,10 +2,10 @@
 -- placed; a free slot of a city, where a slot that is kept for a company counts as taken; a hex without a
 -- token of the company; a stop that is reached; and its price, which goes by how many tokens of the company
 -- lie. One slot of each company's home is kept for it until its token lies there.
-use Rattle.std.specs.Prelude.{◌≡◌, ℕ, ◌+◌, ◌&&◌, ◌↔◌, Bool, true, not, nat_lt, nat_le, IsTrue, List, [], ◌∷◌, ◌++◌, length, Option, Some, None, Result, ℤ, pos, count_by}
+use Rattle.std.specs.Prelude.{◌≡◌, ℕ, ◌+◌, ◌&&◌, ◌↔◌, Bool, true, not, nat_lt, nat_le, IsTrue, List, [], ◌∷◌, ◌++◌, Option, Some, None, Result, ℤ, pos, count_by}
 use Rattle.std.specs.Int.Signed.{lt_z}
 use Rattle.std.specs.List.{list_any}
-use Rattle.board.specs.Ground.{Ground, has_token, position_of, same_stop}
+use Rattle.board.specs.Ground.{Ground, has_token, position_of, same_stop, slots_at, taken_at}
 use Rattle.board.specs.LayRules.{cost_or}
 use Rattle.board.specs.Turn.{place_of_step}
 use Rattle.board.specs.declared.asker.Asker.{Asker}
@@ -18,7 +18,7 @@ use Rattle.map_tables.specs.Place.{joined_stop_of, stop_of}
 use Rattle.map_tables.specs.declared.hex.Hex.{Hex}
 use Rattle.map_tables.specs.declared.place.Place.{Place}
 use Rattle.map_tables.specs.declared.place.Stop.{Stop}
-use Rattle.reach.specs.Position.{Position, at_stop}
+use Rattle.reach.specs.Position.{Position}
 use Rattle.reach.specs.Reached.{ReachesStop}
 use Rattle.tables.specs.Roster.{companies, same_company, token_price_of, tokens_of}
 use Rattle.tables.specs.Rules.{Rule, first_broken}
@@ -48,7 +48,7 @@ kept_at tokens stop = count_by (is_kept_for tokens stop) companies
 abbrev pub is_full_at : Ground → Option Stop → Bool
 is_full_at laid None = true
 is_full_at laid (Some stop) =
-    let here = at_stop (position_of laid) stop in nat_le here.slots (length here.tokens + kept_at laid.tokens stop)
+    nat_le (slots_at laid.lays stop) (taken_at laid.tokens stop + kept_at laid.tokens (joined_stop_of stop))
 
 unfoldable pub is_no_free_slot : Ground → Place → Bool
 is_no_free_slot laid place = is_full_at laid (stop_of place)

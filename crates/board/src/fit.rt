@@ -1,7 +1,6 @@
 ghost use Rattle.std.specs.Prelude.{◌≡◌};
 ghost use Rattle.std.specs.List.{list_any};
 ghost use Rattle.board.specs.Fit.{board_fault_of, has_bad_side, has_no_slot, has_print_at, is_bad_end, is_open, is_over_full, is_shut, is_side, is_wrong_kind, place_of_tile_kind, takes};
-ghost use Rattle.board.specs.Ground.{position_of};
 ghost use Rattle.map_tables.specs.Place.{stop_of};
 
 use crate::board::Board;
@@ -32,17 +31,17 @@ impl Board {
 
     /// Whether one of some tokens has no slot.
     fn lacks_slot(&self, tokens: &[(Place, Company)]) -> bool
-        ensures { result ≡ list_any (has_no_slot (position_of self.now)) tokens.now }
+        ensures { result ≡ list_any (has_no_slot self.now) tokens.now }
     {
         tokens.iter().any(|token| self.is_over_full(token.0))
     }
 
-    /// Whether more tokens lie at a place than it takes.
+    /// Whether more tokens name a place than it takes.
     fn is_over_full(&self, place: Place) -> bool
-        ensures { result ≡ is_over_full (position_of self.now) (stop_of place) }
+        ensures { result ≡ is_over_full self.now (stop_of place) }
     {
         match place.stop() {
-            Some(stop) => self.slots(stop) < self.taken(stop),
+            Some(stop) => self.slots(stop) < self.named(stop),
             None => true,
         }
     }

@@ -18,6 +18,7 @@ mod asker;
 mod board;
 mod fault;
 mod fit;
+mod laws;
 mod lay;
 mod network;
 mod shown;
@@ -26,3 +27,7 @@ mod token;
 pub use asker::{Asker, TurnStep};
 pub use board::Board;
 pub use fault::{BoardFault, LayFault, TokenFault};
+pub use laws::{
+    fits_without_homes, home_keeps_fit, lay_keeps_fit, nothing_fits, phase_keeps_fit,
+    token_keeps_fit,
+};

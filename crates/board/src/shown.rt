@@ -2,7 +2,7 @@ ghost use Rattle.std.specs.Prelude.{◌≡◌, length};
 ghost use Rattle.std.specs.List.{count_by};
 ghost use Rattle.map_tables.specs.declared.place.Place.{Place};
 ghost use Rattle.tables.specs.declared.roster.Company.{Company};
-ghost use Rattle.board.specs.Ground.{colour_on, links_on, has_token, is_red_kind, is_stop, names, position_of, same_stop, slots_on, tile_on, value_in, value_on};
+ghost use Rattle.board.specs.Ground.{colour_on, links_on, has_token, is_red_kind, is_stop, names, position_of, same_stop, slots_at, slots_on, taken_at, tile_on, value_in, value_on};
 ghost use Rattle.map_tables.specs.Hex.{same_hex};
 ghost use Rattle.reach.specs.Position.{at_stop};
 ghost use Rattle.tables.specs.Roster.{same_company};
@@ -143,7 +143,8 @@ impl Board {
 
     /// How many tokens a stop takes; 0 where there is no such stop.
     pub(crate) fn slots(&self, stop: Stop) -> usize
-        ensures { result ≡ (at_stop (position_of self.now) stop).slots }
+        ensures slots { result ≡ slots_at self.now.lays stop }
+        ensures shown { result ≡ (at_stop (position_of self.now) stop).slots }
     {
         let stop = joined_stop(stop);
         if is_stop(stop) {
@@ -163,6 +164,13 @@ impl Board {
         } else {
             0
         }
+    }
+
+    /// How many tokens name a stop.
+    pub(crate) fn named(&self, stop: Stop) -> usize
+        ensures { result ≡ taken_at self.now.tokens stop }
+    {
+        count_naming(&self.tokens, joined_stop(stop))
     }
 
     /// How many tokens lie at a stop; none where there is no such stop.

@@ -109,9 +109,9 @@ impl Board {
     fn is_taken_up(&self, stop: Stop) -> bool
         ensures { result ≡ is_full_at self.now (Some stop) }
     {
-        let taken = self.taken(stop);
+        let taken = self.named(stop);
         let slots = self.slots(stop);
-        slots <= taken || slots - taken <= self.kept_at(stop)
+        slots <= taken || slots - taken <= self.kept_at(joined_stop(stop))
     }
 
     /// How many slots of a stop are kept for companies whose token does not lie there yet.

@@ -1,9 +1,9 @@
 -- A bid, a sale, a revenue or a new price of SV keeps a list sound.
-use Rattle.std.proofs.Common.{◌≡◌, ◌≢◌, ℕ, ◌≤◌, ◌==◌, inl, inr, Bool, true, false, if◌then◌else◌, List, [], ◌∷◌, ◌++◌, Option, Some, None, is_some, is_none, ◌&&◌, pos, ◌≤ℤ◌, ◌-ℤ◌, refl, sym, subst, ap, ◌∙◌, arith}
+use Rattle.std.proofs.Common.{◌≡◌, ℕ, ◌≤◌, inl, inr, Bool, true, false, if◌then◌else◌, List, [], ◌∷◌, ◌++◌, Option, Some, None, is_some, is_none, ◌&&◌, pos, ◌≤ℤ◌, ◌-ℤ◌, refl, sym, subst, ap, ◌∙◌, arith}
 use Rattle.std.proofs.lemmas.Bool.{cases_eq}
-use Rattle.std.proofs.lemmas.Bool.Decides.{nat_tests}
 use Rattle.std.proofs.lemmas.Int.{ints}
 use Rattle.std.specs.Option.{option_flatten, option_or}
+use Rattle.history.proofs.Choices.{chosen, passed_over}
 use Rattle.history.proofs.BidWords.{differ_after_bid, differ_after_sale, elsewhere_kept, bid_silent, sale_silent, same_private_is, seated_after_bid, seated_after_sale, small_after_bid, small_after_sale, tied_by_bid, untied_by_sale}
 use Rattle.history.proofs.EventAtEnd.{bids_of_before, cash_of_at_end, cash_of_before, is_sold_before, last_said_at_end, shares_of_before, square_of_before, sv_price_of_at_end}
 use Rattle.history.proofs.Soundness.{companies_kept, differ_kept, floated_kept, given_kept, held_kept, led_kept, offered_kept, price_kept, seated_kept, small_kept, solvent_kept, ten_kept}
@@ -26,14 +26,6 @@ use Rattle.tables.specs.declared.roster.Company.TheVariants.{Pennsylvania, NewYo
 use Rattle.tables.specs.declared.roster.Private.{Private}
 use Rattle.tables.specs.declared.roster.Private.TheVariants.{SchuylkillValley, MohawkHudson, CamdenAmboy}
 use Rattle.tables.specs.declared.seat.Seat.{Seat}
-
--- a choice by two numbers that are the same
-pub chosen : (i k a b : ℕ) → i ≡ k → (if i == k then a else b) ≡ a
-chosen i k a b same = grind (arith, nat_tests)
-
--- a choice by two numbers that are not
-pub passed_over : (i k a b : ℕ) → i ≢ k → (if i == k then a else b) ≡ b
-passed_over i k a b apart = grind (arith, nat_tests)
 
 -- after a bid each seat still has what its bids tie
 solvent_after_bid : (game : Game) (private : Private) (seat : Seat) (amount : ℕ) → pos amount ≤ℤ (cash_of game.seats game.events (party_at seat) -ℤ pos (bids_elsewhere_of game.events seat private)) → SeatsAreSolvent game → SeatsAreSolvent (with_event game (Bids private seat amount))

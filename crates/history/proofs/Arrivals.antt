@@ -1,8 +1,8 @@
 -- Companies with squares have come there by different events.
 use Rattle.std.proofs.Common.{◌≡◌, ℕ, ◌+◌, ◌≤◌, Bool, true, false, if◌then◌else◌, List, [], ◌∷◌, Option, Some, None, is_some, length, refl, sym, ap, ◌∙◌, arith, unwrap_or}
 use Rattle.std.specs.Option.{option_or}
+use Rattle.history.proofs.Choices.{same_company_is, something}
 use Rattle.history.proofs.Places.{last_place_at_end}
-use Rattle.history.proofs.Tenths.{same_company_is, something}
 use Rattle.history.specs.Event.{square_set}
 use Rattle.history.specs.Laws.{ArrivalIsLast, ArrivalsDiffer}
 use Rattle.history.specs.LookBack.{last_place_from, last_said}

@@ -1,3 +1,4 @@
+pub mod Choices
 pub mod EventAtEnd
 pub mod Places
 pub mod Words
@@ -14,4 +15,5 @@ pub mod Purchases
 pub mod Settled
 pub mod Blocks
 pub mod Arrivals
+pub mod Money
 pub mod Cheapest

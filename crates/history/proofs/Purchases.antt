@@ -3,12 +3,13 @@ use Rattle.std.proofs.Common.{◌≡◌, ℕ, ◌≤◌, ◌<◌, inl, inr, Bool
 use Rattle.std.proofs.lemmas.Bool.{cases_eq}
 use Rattle.std.proofs.lemmas.Int.{ints}
 use Rattle.std.specs.Option.{option_flatten}
-use Rattle.history.proofs.Acts.{chosen, passed_over, stays_sold}
+use Rattle.history.proofs.Choices.{chosen, passed_over, same_company_is, truth}
+use Rattle.history.proofs.Acts.{stays_sold}
 use Rattle.history.proofs.EventAtEnd.{bids_of_before, cash_of_at_end, last_said_at_end, square_of_before, sv_price_of_before}
 use Rattle.history.proofs.Gains.{EnoughAreLeft, Gains, bank_at_table, floated_gained, gain_sound, led_gained, source_of_bank}
 use Rattle.history.proofs.Soundness.{companies_kept, differ_kept, free_cash_before, price_kept, seated_kept, small_kept, solvent_kept}
 use Rattle.history.proofs.Starts.{start_sound_by}
-use Rattle.history.proofs.Tenths.{held_after, moved, part, same_company_is, shares_after, ten_after, truth}
+use Rattle.history.proofs.Tenths.{held_after, moved, part, shares_after, ten_after}
 use Rattle.history.specs.Bids.{free_cash_of}
 use Rattle.history.specs.Event.{ownership_of, party_at, place_of_source}
 use Rattle.history.specs.Laws.{ExchangeKeepsSound, PurchaseKeepsSound, StartByPurchaseKeepsSound}

@@ -7,7 +7,7 @@ use Rattle.history.specs.Event.{IsQuiet}
 use Rattle.history.specs.Laws.{SaysTheSame}
 use Rattle.history.specs.LookBack.{Game, sv_price_of, with_event}
 use Rattle.history.specs.Sound.{AreLed, AreOffered, AreTenInAll, BiddersAreSeated, BidsAreSmall, BidsDiffer, CompaniesAreSolvent, FloatedAreLed, IsGivenAway, IsSound, IsSvPrice, SeatsAreSolvent, TenthsAreHeld}
-use Rattle.history.specs.Tell.{breaks, with_broken}
+use Rattle.history.specs.Tell.{breaks, broken_told}
 use Rattle.history.specs.declared.event.Event.{Event}
 use Rattle.history.specs.declared.event.Event.TheVariants.{Broken}
 
@@ -92,12 +92,8 @@ same_itself events =
       sv_price = refl;
     }
 
--- told that the bank is broken, if it is
-abbrev pub told : Game → Game
-told game = record { seats = game.seats; events = with_broken game.seats game.events }
-
--- that changes nothing of what parties have and own
-pub told_same : (game : Game) → SaysTheSame game.events (told game).events
+-- the word that the bank is broken changes nothing of what parties have and own
+pub told_same : (game : Game) → SaysTheSame game.events (broken_told game).events
 told_same game =
     elim (breaks game.seats game.events) as (λ b. SaysTheSame game.events (if b then game.events ++ Broken ∷ [] else game.events)) [
       | true ↦ quiet_same game.events Broken broken_quiet
@@ -105,7 +101,7 @@ told_same game =
     ]
 
 -- and keeps the list settled
-pub told_settled : (game : Game) → IsSettled game → IsSettled (told game)
+pub told_settled : (game : Game) → IsSettled game → IsSettled (broken_told game)
 told_settled game settled =
     elim (breaks game.seats game.events) as (λ b. IsSettled (record { seats = game.seats; events = if b then game.events ++ Broken ∷ [] else game.events })) [
       | true ↦ settled_quiet game Broken broken_quiet settled

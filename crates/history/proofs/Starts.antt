@@ -3,10 +3,11 @@ use Rattle.std.proofs.Common.{◌≡◌, ℕ, ◌≤◌, ◌==◌, inl, inr, Boo
 use Rattle.std.proofs.lemmas.Bool.Decides.{nat_tests}
 use Rattle.std.proofs.lemmas.Int.{ints}
 use Rattle.std.specs.Option.{option_or}
+use Rattle.history.proofs.Choices.{new_word, old_word, same_company_is, something, truth}
 use Rattle.history.proofs.EventAtEnd.{is_floated_before, last_said_at_end, par_of_before, president_of_before, shares_of_before, square_of_before}
 use Rattle.history.proofs.Gains.{Gains}
 use Rattle.history.proofs.Soundness.{companies_kept, differ_kept, given_kept, held_kept, least_offered_before, price_kept, seated_kept, small_kept, solvent_kept, ten_kept}
-use Rattle.history.proofs.Tenths.{held_after, moved, new_word, old_word, same_company_is, shares_after, something, ten_after, truth}
+use Rattle.history.proofs.Tenths.{held_after, moved, shares_after, ten_after}
 use Rattle.history.specs.Event.{office_of, par_set, placed, square_set}
 use Rattle.history.specs.Laws.{StartKeepsSound}
 use Rattle.history.specs.LookBack.{Game, is_closed, is_sold, with_event}

@@ -1,11 +1,11 @@
 -- What becomes of the tenths of the companies where an event moves some: they leave one place and come to
 -- another, and ten stay ten.
-use Rattle.std.proofs.Common.{◌≡◌, ◌≢◌, ℕ, zero, suc, ◌+◌, ◌≤◌, ◌<◌, ◌==◌, ◌⊎◌, inl, inr, Bool, true, false, if◌then◌else◌, List, [], ◌∷◌, ◌++◌, Option, Some, None, is_some, map, pos, ◌≤ℤ◌, ◌-ℤ◌, ◌+ℤ◌, refl, sym, subst, ap, ◌∙◌, arith}
+use Rattle.std.proofs.Common.{◌≡◌, ◌≢◌, ℕ, zero, suc, ◌+◌, ◌≤◌, ◌<◌, inl, inr, Bool, true, if◌then◌else◌, List, [], ◌∷◌, ◌++◌, Some, map, pos, ◌≤ℤ◌, ◌-ℤ◌, ◌+ℤ◌, refl, subst, ap, arith}
 use Rattle.std.proofs.lemmas.Bool.{cases_eq}
-use Rattle.std.proofs.lemmas.Bool.Decides.{Decides-eqb, nat_tests}
+use Rattle.std.proofs.lemmas.Bool.Decides.{Decides-eqb}
 use Rattle.std.proofs.lemmas.Int.{ints}
 use Rattle.std.specs.List.{range_with_len}
-use Rattle.std.specs.Option.{option_or}
+use Rattle.history.proofs.Choices.{chosen, either_order, nothing_there, passed_over, same_company_is, truth}
 use Rattle.history.proofs.EventAtEnd.{shares_of_at_end}
 use Rattle.history.specs.Event.{transfer_of}
 use Rattle.history.specs.LookBack.{Game, with_event}
@@ -15,43 +15,10 @@ use Rattle.history.specs.declared.event.Event.{Event}
 use Rattle.history.specs.declared.event.Shareholder.{Shareholder}
 use Rattle.history.specs.declared.event.Shareholder.TheVariants.{InitialOffering, BankPool, Seat as OfSeat}
 use Rattle.history.specs.declared.event.Transfer.{Transfer}
-use Rattle.tables.specs.Roster.{place_of_company, same_company}
+use Rattle.tables.specs.Roster.{same_company}
 use Rattle.tables.specs.Seat.{all_seats, seat_at}
 use Rattle.tables.specs.declared.roster.Company.{Company}
-use Rattle.tables.specs.declared.roster.Company.TheVariants.{Pennsylvania, NewYorkCentral, CanadianPacific, BaltimoreOhio, ChesapeakeOhio, Erie, NewHaven, BostonMaine}
 use Rattle.tables.specs.declared.seat.Seat.{Seat}
-
--- the company at a place of the roster
-abbrev company_at : ℕ → Company
-company_at place =
-    if place == 0 then Pennsylvania else if place == 1 then NewYorkCentral else if place == 2 then CanadianPacific else if place == 3 then BaltimoreOhio else if place == 4 then ChesapeakeOhio else if place == 5 then Erie else if place == 6 then NewHaven else BostonMaine
-
--- is the company
-company_at_place : (company : Company) → company_at (place_of_company company) ≡ company
-company_at_place Pennsylvania = refl
-company_at_place NewYorkCentral = refl
-company_at_place CanadianPacific = refl
-company_at_place BaltimoreOhio = refl
-company_at_place ChesapeakeOhio = refl
-company_at_place Erie = refl
-company_at_place NewHaven = refl
-company_at_place BostonMaine = refl
-
--- companies of one place are the same
-pub same_company_is : (a b : Company) → same_company a b ≡ true → a ≡ b
-same_company_is a b same =
-    sym (company_at_place a) ∙ ap company_at ((Decides-eqb (place_of_company a) (place_of_company b)).0 same) ∙ company_at_place b
-
--- a company is itself
-pub is_itself : (company : Company) → same_company company company ≡ true
-is_itself Pennsylvania = refl
-is_itself NewYorkCentral = refl
-is_itself CanadianPacific = refl
-is_itself BaltimoreOhio = refl
-is_itself ChesapeakeOhio = refl
-is_itself Erie = refl
-is_itself NewHaven = refl
-is_itself BostonMaine = refl
 
 -- places that are the same
 same_shareholder_is : (a b : Shareholder) → same_shareholder a b ≡ true → a ≡ b
@@ -65,26 +32,6 @@ same_shareholder_is (OfSeat a) InitialOffering same = absurd cc
 same_shareholder_is (OfSeat a) BankPool same = absurd cc
 same_shareholder_is (OfSeat a) (OfSeat b) same = ap (λ number. OfSeat (seat_at number)) ((Decides-eqb a.0 b.0).0 same)
 
--- true or false
-pub truth : (test : Bool) → (test ≡ true) ⊎ (test ≡ false)
-truth true = inl refl
-truth false = inr refl
-
--- an option that has something has it
-pub something : {A : Type 0} (option : Option A) → is_some option ≡ true → (value : A) × (option ≡ Some value)
-something None some = absurd (cc)
-something (Some value) some = (value, refl)
-
--- the last word on a company, where the event at the end names one
-pub new_word : {A : Type 0} (same : Bool) (word : A) (earlier : Option A) → same ≡ true → option_or (if same then Some word else None) earlier ≡ Some word
-new_word true word earlier is = refl
-new_word false word earlier is = absurd (cc)
-
--- or where it names another
-pub old_word : {A : Type 0} (same : Bool) (word : A) (earlier : Option A) → same ≡ false → option_or (if same then Some word else None) earlier ≡ earlier
-old_word true word earlier is = absurd (cc)
-old_word false word earlier is = refl
-
 -- what of so many tenths, all at one place, lies at a place
 abbrev pub part : Shareholder → Shareholder → ℕ → ℕ
 part at place tenths = if same_shareholder at place then tenths else 0
@@ -97,13 +44,6 @@ parts at tenths (seat ∷ others) = part at (OfSeat seat) tenths + parts at tent
 -- how many tenths of a company a transfer moves
 abbrev pub moved : Company → Transfer → ℕ
 moved company transfer = if same_company transfer.company company then transfer.tenths else 0
-
--- two tests in either order
-either_order : (a b : Bool) (n : ℕ) → (if a then (if b then n else 0) else 0) ≡ (if b then (if a then n else 0) else 0)
-either_order true true n = refl
-either_order true false n = refl
-either_order false true n = refl
-either_order false false n = refl
 
 -- the tenths at a place: what comes to it is added, and what leaves it is taken off
 pub shares_after : (events : List Event) (event : Event) (transfer : Transfer) (company : Company) (place : Shareholder) → transfer_of event ≡ Some transfer → shares_of (events ++ event ∷ []) company place ≡ (shares_of events company place +ℤ pos (part transfer.to place (moved company transfer))) -ℤ pos (part transfer.from place (moved company transfer))
@@ -122,14 +62,6 @@ IsAtTable seats InitialOffering = Unit {0}
 IsAtTable seats BankPool = Unit {0}
 IsAtTable seats (OfSeat seat) = seat.0 < seats
 
--- a choice by two numbers that are the same
-chosen : (i k a : ℕ) → i ≡ k → (if i == k then a else 0) ≡ a
-chosen i k a same = grind (arith, nat_tests)
-
--- a choice by two numbers that are not
-passed_over : (i k a : ℕ) → i ≢ k → (if i == k then a else 0) ≡ 0
-passed_over i k a apart = grind (arith, nat_tests)
-
 -- what the initial offering has is with no seat
 none_offered : (tenths : ℕ) (seats : List Seat) → parts InitialOffering tenths seats ≡ 0
 none_offered tenths [] = refl
@@ -145,15 +77,15 @@ none_later : (seat : Seat) (tenths from count : ℕ) → seat.0 < from → parts
 none_later seat tenths from zero before = refl
 none_later seat tenths from (suc count) before =
     let apart : seat.0 ≢ from = omega arith in
-    omega (arith, passed_over seat.0 from tenths apart, none_later seat tenths (from + 1) count (omega arith))
+    omega (arith, passed_over seat.0 from tenths 0 apart, none_later seat tenths (from + 1) count (omega arith))
 
 -- it is with the seats among whom the one is
 with_seats : (seat : Seat) (tenths from count : ℕ) → from ≤ seat.0 → seat.0 < from + count → parts (OfSeat seat) tenths (map seat_at (range_with_len from count)) ≡ tenths
 with_seats seat tenths from zero low high = absurd (omega arith)
 with_seats seat tenths from (suc count) low high =
     elim (cases_eq seat.0 from) [
-      | inl same ↦ omega (arith, chosen seat.0 from tenths same, none_later seat tenths (from + 1) count (omega arith))
-      | inr apart ↦ omega (arith, passed_over seat.0 from tenths apart, with_seats seat tenths (from + 1) count (omega arith) (omega arith))
+      | inl same ↦ omega (arith, chosen seat.0 from tenths 0 same, none_later seat tenths (from + 1) count (omega arith))
+      | inr apart ↦ omega (arith, passed_over seat.0 from tenths 0 apart, with_seats seat tenths (from + 1) count (omega arith) (omega arith))
     ]
 
 -- tenths at one place of a table are somewhere
@@ -166,11 +98,6 @@ all_there seats (OfSeat seat) tenths there = omega (arith, with_seats seat tenth
 pub ten_after : (game : Game) (event : Event) (transfer : Transfer) → transfer_of event ≡ Some transfer → IsAtTable game.seats transfer.from → IsAtTable game.seats transfer.to → AreTenInAll game → AreTenInAll (with_event game event)
 ten_after game event transfer is from to ten company =
     omega (arith, ints, ten company, shares_after game.events event transfer company InitialOffering is, shares_after game.events event transfer company BankPool is, held_by_after game.events event transfer company (all_seats game.seats) is, all_there game.seats transfer.from (moved company transfer) from, all_there game.seats transfer.to (moved company transfer) to)
-
--- nothing either way
-pub nothing_there : (test : Bool) → ◌≡◌ {A = ℕ} (if test then 0 else 0) 0
-nothing_there true = refl
-nothing_there false = refl
 
 -- no more leave a place than it has
 taken_low : (events : List Event) (transfer : Transfer) (company : Company) (place : Shareholder) → pos transfer.tenths ≤ℤ shares_of events transfer.company transfer.from → pos 0 ≤ℤ shares_of events company place → pos (part transfer.from place (moved company transfer)) ≤ℤ shares_of events company place

@@ -6,7 +6,7 @@ use Rattle.history.specs.LookBack.{Game, cash_of, cheapest_of, is_sold, last_sai
 use Rattle.history.specs.Bids.{bid_of, bids_elsewhere_of, bids_of, bids_on as the_bids_on, free_cash_of}
 use Rattle.history.specs.Shares.{arrival_of, is_floated, is_par_value, par_of, president_of, shares_of, square_of, square_said}
 use Rattle.history.specs.Sound.{IsSound, IsSvPrice, least_offered}
-use Rattle.history.specs.Tell.{with_broken}
+use Rattle.history.specs.Tell.{broken_told}
 use Rattle.history.specs.declared.event.Event.{Event}
 use Rattle.history.specs.declared.event.Event.TheVariants.{Bids, Sold, Price, Revenue, Given, Par, President, Bought, Sells, Exchanged, Floats, Moves}
 use Rattle.history.specs.declared.event.Holder.{Holder}
@@ -54,8 +54,7 @@ pub record SaysTheSame (before after : List Event) : Type 0 where
 
 -- a game after the bank has paid a seat for tenths of a company; perhaps that breaks the bank
 abbrev pub block_sold : Game → Company → Seat → ℕ → ℕ → Game
-block_sold game company seat tenths price =
-    record { seats = game.seats; events = with_broken game.seats (game.events ++ Sells company seat tenths price ∷ []) }
+block_sold game company seat tenths price = broken_told (with_event game (Sells company seat tenths price))
 
 -- a quiet event changes none of it
 abbrev pub QuietSaysTheSame : Type 0

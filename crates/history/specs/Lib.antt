@@ -8,3 +8,4 @@ pub mod Orders
 pub mod Tell
 pub mod Sound
 pub mod Laws
+pub mod Money

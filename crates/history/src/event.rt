@@ -103,8 +103,8 @@ pub enum Event {
         company: Company,
         seat: Seat,
     },
-    /// A seat pays the bank for tenths of a company, which come from the initial offering or from the
-    /// bank pool. The price is that of them all.
+    /// A seat pays the bank for tenths of a company, which come from the initial offering or from
+    /// the bank pool. The price is that of them all.
     Bought {
         company: Company,
         seat: Seat,
@@ -112,8 +112,8 @@ pub enum Event {
         from: ShareSource,
         price: Amount,
     },
-    /// The bank pays a seat for tenths of a company, which go to the bank pool. The price is that of
-    /// them all.
+    /// The bank pays a seat for tenths of a company, which go to the bank pool. The price is that
+    /// of them all.
     Sells {
         company: Company,
         seat: Seat,

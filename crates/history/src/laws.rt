@@ -1,5 +1,6 @@
 //! Laws of games: each function does nothing, and its contract is the law.
 
+ghost use Rattle.history.specs.Money.{AllMoneyStays};
 ghost use Rattle.history.specs.Laws.{ArrivalIsLast, ArrivalsDiffer, BidKeepsSound, BlockKeepsSound, BlockWithSuccessionKeepsSound, CaIsSoldWithItsGift, CashMoves, ExchangeKeepsSound, FirstIsCheapest, FloatKeepsSound, GiftKeepsSound, LastWordIsLast, MoveKeepsSound, PriceKeepsSound, PurchaseKeepsSound, QuietKeepsSound, QuietSaysTheSame, RevenueKeepsSound, SaleKeepsSound, StartByPurchaseKeepsSound, StartKeepsSound, SuccessionKeepsSound, SvIsGivenAway};
 
 /// What was said last of a thing is what the last event says, or else what was said before it.
@@ -12,6 +13,12 @@ pub fn cash_moves()
     ensures { CashMoves }
 {}
 
+/// What the bank, the seats at the table and the companies have together is 12,000, as long as
+/// money goes only between them.
+pub fn all_money_stays()
+    ensures { AllMoneyStays }
+{}
+
 /// An event that says nothing of what parties have and own, or of SV's price, changes none of it.
 pub fn quiet_says_the_same()
     ensures { QuietSaysTheSame }
@@ -22,13 +29,14 @@ pub fn quiet_keeps_sound()
     ensures { QuietKeepsSound }
 {}
 
-/// A bid that differs from those of other seats on the private keeps a list sound, where the seat has
-/// its sum free of its other bids.
+/// A bid that differs from those of other seats on the private keeps a list sound, where the seat
+/// has its sum free of its other bids.
 pub fn bid_keeps_sound()
     ensures { BidKeepsSound }
 {}
 
-/// A sale of an unsold private keeps a list sound, where the seat has the price free of its other bids.
+/// A sale of an unsold private keeps a list sound, where the seat has the price free of its other
+/// bids.
 pub fn sale_keeps_sound()
     ensures { SaleKeepsSound }
 {}
@@ -44,28 +52,28 @@ pub fn price_keeps_sound()
     ensures gift { SvIsGivenAway }
 {}
 
-/// A gift of tenths to a seat at the table keeps a list sound, where enough of them are left; so does
-/// the sale of CA with its tenth of PRR.
+/// A gift of tenths to a seat at the table keeps a list sound, where enough of them are left; so
+/// does the sale of CA with its tenth of PRR.
 pub fn gift_keeps_sound()
     ensures gift { GiftKeepsSound }
     ensures ca { CaIsSoldWithItsGift }
 {}
 
-/// The start of a company by a seat at the table keeps a list sound, whether its president's two tenths
-/// are a gift or bought.
+/// The start of a company by a seat at the table keeps a list sound, whether its president's two
+/// tenths are a gift or bought.
 pub fn start_keeps_sound()
     ensures gift { StartKeepsSound }
     ensures purchase { StartByPurchaseKeepsSound }
 {}
 
-/// A purchase of tenths of a started company keeps a list sound, where there are so many and a seat at the
-/// table has their price free of its bids.
+/// A purchase of tenths of a started company keeps a list sound, where there are so many and a seat
+/// at the table has their price free of its bids.
 pub fn purchase_keeps_sound()
     ensures { PurchaseKeepsSound }
 {}
 
-/// The exchange of MH for a tenth of NYC keeps a list sound, where its owner is at the table and there is
-/// such a tenth.
+/// The exchange of MH for a tenth of NYC keeps a list sound, where its owner is at the table and
+/// there is such a tenth.
 pub fn exchange_keeps_sound()
     ensures { ExchangeKeepsSound }
 {}
@@ -75,8 +83,8 @@ pub fn succession_keeps_sound()
     ensures { SuccessionKeepsSound }
 {}
 
-/// A sale of tenths keeps a list sound, where the president keeps two; and so does one after which the
-/// presidency passes to a seat that has two.
+/// A sale of tenths keeps a list sound, where the president keeps two; and so does one after which
+/// the presidency passes to a seat that has two.
 pub fn block_keeps_sound()
     ensures stays { BlockKeepsSound }
     ensures passes { BlockWithSuccessionKeepsSound }
@@ -92,8 +100,8 @@ pub fn move_keeps_sound()
     ensures { MoveKeepsSound }
 {}
 
-/// Companies with squares have come there by different events, so that one came earlier; an event at the end
-/// by which a company comes to a square is later than all before.
+/// Companies with squares have come there by different events, so that one came earlier; an event
+/// at the end by which a company comes to a square is later than all before.
 pub fn arrivals_differ()
     ensures differ { ArrivalsDiffer }
     ensures last { ArrivalIsLast }

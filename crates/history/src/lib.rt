@@ -1,16 +1,18 @@
 //! The one value that a game is: the number of its seats, and the list of its events, oldest first.
 //!
 //! Every fact about a game is what the list says when it is looked back over. An event has a few
-//! aspects: the payment that it makes, the tenths that it moves, what it says of a private's owner and
-//! of the bids on it, the par value, square and president of a company that it sets, .. There are two
-//! ways of looking back, each generic over the aspect: an account, such as a party's cash, is its
-//! start with all that came in less all that went out; anything else is what the last event that
-//! speaks of it says. A list is sound where no such fact is against the rules, as `specs/Sound.antt`
-//! has it; most events leave most facts alone, and the laws say which event keeps a list sound.
+//! aspects: the payment that it makes, the tenths that it moves, what it says of a private's owner
+//! and of the bids on it, the par value, square and president of a company that it sets, .. There
+//! are two ways of looking back, each generic over the aspect: an account, such as a party's cash,
+//! is its start with all that came in less all that went out; anything else is what the last event
+//! that speaks of it says. A list is sound where no such fact is against the rules, as
+//! `specs/Sound.antt` has it; most events leave most facts alone, and the laws say which event
+//! keeps a list sound.
 //!
-//! Reading order: `event` (events and their aspects), `ruling` (what became of a line), `aspect` (the
-//! ways of looking back), `topics` (what is looked for), `look_back`, `owners`, `bids` and `shares`
-//! (the readers of `Past`), `list` (`History`), `tell` (events that change no fact), `laws`.
+//! Reading order: `event` (events and their aspects), `ruling` (what became of a line), `aspect`
+//! (the ways of looking back), `topics` (what is looked for), `look_back`, `owners`, `bids` and
+//! `shares` (the readers of `Past`), `list` (`History`), `tell` (events that change no fact),
+//! `laws`.
 #![tactic(auto)]
 
 mod aspect;
@@ -30,10 +32,11 @@ pub use event::{
     Shareholder, Transfer,
 };
 pub use laws::{
-    arrivals_differ, bid_keeps_sound, block_keeps_sound, cash_moves, exchange_keeps_sound,
-    first_is_cheapest, float_keeps_sound, gift_keeps_sound, last_word_is_last, move_keeps_sound,
-    price_keeps_sound, purchase_keeps_sound, quiet_keeps_sound, quiet_says_the_same,
-    revenue_keeps_sound, sale_keeps_sound, start_keeps_sound, succession_keeps_sound,
+    all_money_stays, arrivals_differ, bid_keeps_sound, block_keeps_sound, cash_moves,
+    exchange_keeps_sound, first_is_cheapest, float_keeps_sound, gift_keeps_sound,
+    last_word_is_last, move_keeps_sound, price_keeps_sound, purchase_keeps_sound,
+    quiet_keeps_sound, quiet_says_the_same, revenue_keeps_sound, sale_keeps_sound,
+    start_keeps_sound, succession_keeps_sound,
 };
 pub use list::History;
 pub use look_back::Past;

@@ -103,8 +103,8 @@ impl History {
         self.now().owner(private)
     }
 
-    /// The price of SV, at first its face. It comes as `Money`, like a cash that it is compared with;
-    /// `Past::sv_price` gives the same price as the `Amount` that a payment names.
+    /// The price of SV, at first its face. It comes as `Money`, like a cash that it is compared
+    /// with; `Past::sv_price` gives the same price as the `Amount` that a payment names.
     pub fn sv_price(&self) -> Money
         ensures { result ≡ pos (sv_price_of self.now.events) }
     {
@@ -156,8 +156,10 @@ impl History {
 
     /// The owners of all privates, by one look over the list.
     pub fn owners(&self) -> Owners
-        ensures owner { (private : Private) → owner_in result private ≡ owner_of self.now.events private }
-        ensures sold { (private : Private) → is_sold_in result private ≡ is_sold self.now.events private }
+        ensures owner { (private : Private) →
+            owner_in result private ≡ owner_of self.now.events private }
+        ensures sold { (private : Private) →
+            is_sold_in result private ≡ is_sold self.now.events private }
         ensures cheapest { cheapest_in result ≡ cheapest_of self.now.events }
     {
         self.now().owners()
@@ -198,8 +200,8 @@ impl History {
         self.now().has_sold_in_round(company, seat)
     }
 
-    /// The place in the list, from 0, of the event that set the square of a company's token. It is 0 where
-    /// the token has no square.
+    /// The place in the list, from 0, of the event that set the square of a company's token. It is
+    /// 0 where the token has no square.
     pub fn arrival(&self, company: Company) -> usize
         ensures { result ≡ arrival_of self.now.events company }
     {

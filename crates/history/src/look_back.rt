@@ -41,8 +41,10 @@ impl Past<'_> {
 
     /// The owners of all privates, by one look over the list.
     pub fn owners(&self) -> Owners
-        ensures owner { (private : Private) → owner_in result private ≡ owner_of self.now.events.now private }
-        ensures sold { (private : Private) → is_sold_in result private ≡ is_sold self.now.events.now private }
+        ensures owner { (private : Private) →
+            owner_in result private ≡ owner_of self.now.events.now private }
+        ensures sold { (private : Private) →
+            is_sold_in result private ≡ is_sold self.now.events.now private }
         ensures cheapest { cheapest_in result ≡ cheapest_of self.now.events.now }
     {
         let mut said = [None; 6];
@@ -84,8 +86,8 @@ impl Past<'_> {
         last_said(&RoundPlayed, self.events)
     }
 
-    /// The holder of priority: the seat at the left of the last seat that bought a private, bid on one,
-    /// or bought or sold tenths in its own turn; at first seat 0.
+    /// The holder of priority: the seat at the left of the last seat that bought a private, bid on
+    /// one, or bought or sold tenths in its own turn; at first seat 0.
     pub fn priority(&self) -> Seat
         ensures { result ≡ priority_of self.now.seats self.now.events.now }
     {

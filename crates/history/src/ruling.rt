@@ -85,7 +85,8 @@ pub enum StockRule {
     NoneThere,
     /// S8: the sum is no par value, or the company has none.
     NoParValue,
-    /// S9: a company that is started can't be started, and of one that is not nothing is bought or sold.
+    /// S9: a company that is started can't be started, and of one that is not nothing is bought or
+    /// sold.
     WrongStart,
     /// S10: the sum is over the seat's cash that is free of its bids.
     CashTooSmall,
@@ -95,7 +96,8 @@ pub enum StockRule {
     OverSixTenths,
     /// S13: the seat has bought in this turn.
     BoughtBefore,
-    /// S14: the seat doesn't own MH, no tenth of NYC is with the bank, or the seat would have over six.
+    /// S14: the seat doesn't own MH, no tenth of NYC is with the bank, or the seat would have over
+    /// six.
     NoExchange,
 }
 
@@ -153,8 +155,8 @@ impl Model for KeptOrder {
 }
 
 impl KeptOrder {
-    /// Keeps a copy of an order. An `Err` comes only where a box gets no memory; the forms of an opening
-    /// and of a stock round need none.
+    /// Keeps a copy of an order. An `Err` comes only where a box gets no memory; the forms of an
+    /// opening and of a stock round need none.
     pub fn keep(alloc: Global, order: &Order) -> Result<KeptOrder, AllocError>
         ensures { IfOk result (λ kept. kept ≡ order.now) }
     {
@@ -217,8 +219,8 @@ impl KeptOrder {
         }
     }
 
-    /// Whether it is by itself an act of a turn: the purchase of a private, a bid on one, or a sale of
-    /// tenths. The purchase of tenths shows by its event.
+    /// Whether it is by itself an act of a turn: the purchase of a private, a bid on one, or a sale
+    /// of tenths. The purchase of tenths shows by its event.
     pub fn is_act(&self) -> bool
         ensures { result ≡ is_act self.now }
     {

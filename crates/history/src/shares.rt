@@ -58,8 +58,8 @@ impl Past<'_> {
         last_said(&TokenSquare(company), self.events)
     }
 
-    /// The place in the list, from 0, of the event that set the square of a company's token: the lesser,
-    /// the earlier it came there. It is 0 where the token has no square.
+    /// The place in the list, from 0, of the event that set the square of a company's token: the
+    /// lesser, the earlier it came there. It is 0 where the token has no square.
     pub fn arrival(&self, company: Company) -> usize
         ensures { result ≡ arrival_of self.now.events.now company }
     {

@@ -1,9 +1,9 @@
 //! Events that tell what follows from the list, and change nothing that a party has or owns.
-ghost use Rattle.std.specs.Prelude.{◌≡◌, ◌≤◌, ◌++◌, [], OnErr, OnOk};
+ghost use Rattle.std.specs.Prelude.{◌≡◌, ◌≤◌, OnErr, OnOk};
 ghost use Rattle.history.specs.Event.{IsQuiet, sum_of};
 ghost use Rattle.history.specs.LookBack.{with_event};
 ghost use Rattle.history.specs.Sound.{IsSound};
-ghost use Rattle.history.specs.Tell.{with_broken, with_left};
+ghost use Rattle.history.specs.Tell.{broken_told, left_told};
 
 use crate::event::{Event, Party};
 use crate::list::History;
@@ -29,7 +29,7 @@ impl History {
     /// each payment of the bank. An `Err` leaves the list as it was.
     pub fn tell_broken(&mut self) -> Result<(), AllocError>
         requires { IsSound self.old }
-        ensures ok { OnOk result (self.new ≡ record { seats = self.old.seats; events = with_broken self.old.seats self.old.events }) }
+        ensures ok { OnOk result (self.new ≡ broken_told self.old) }
         ensures err { OnErr result (self.new ≡ self.old) }
         ensures sound { IsSound self.new }
     {
@@ -39,11 +39,11 @@ impl History {
         self.tell(Event::Broken)
     }
 
-    /// Tells that so many lines of a seat's sheet were not taken up, if there are any. An `Err` leaves
-    /// the list as it was.
+    /// Tells that so many lines of a seat's sheet were not taken up, if there are any. An `Err`
+    /// leaves the list as it was.
     pub fn tell_left(&mut self, seat: Seat, lines: u32) -> Result<(), AllocError>
         requires { IsSound self.old }
-        ensures ok { OnOk result (self.new ≡ record { seats = self.old.seats; events = self.old.events ++ with_left seat lines [] }) }
+        ensures ok { OnOk result (self.new ≡ left_told seat lines self.old) }
         ensures err { OnErr result (self.new ≡ self.old) }
         ensures sound { IsSound self.new }
     {

@@ -1,1 +1,3 @@
 mod Chart
+mod Orders
+mod Operating

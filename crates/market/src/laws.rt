@@ -1,6 +1,8 @@
 //! Laws of the definitions, each the contract of a function that does nothing.
-ghost use Rattle.std.specs.Prelude.{ℕ};
+ghost use Rattle.std.specs.Prelude.{List, ℕ};
+ghost use Rattle.history.specs.declared.event.Event.{Event};
 ghost use Rattle.market.specs.Moves.{StaysOnChart, down_of, fallen, left_of, right_of, up_of};
+ghost use Rattle.market.specs.OperatingOrder.{IsOperatingOrder, operating_order_of};
 
 /// A token on the chart stays on the chart, however it moves.
 pub fn moves_stay_on_chart()
@@ -9,4 +11,10 @@ pub fn moves_stay_on_chart()
     ensures up { StaysOnChart up_of }
     ensures down { StaysOnChart down_of }
     ensures fall { (squares : ℕ) → StaysOnChart (fallen squares) }
+{}
+
+/// The operating order has each floated company with a square once, and no other, and each comes before all
+/// that stand behind it.
+pub fn floated_companies_in_order()
+    ensures { (events : List Event) → IsOperatingOrder events (operating_order_of events) }
 {}

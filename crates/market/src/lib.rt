@@ -1,13 +1,14 @@
-//! The stock market: how a company's token moves over the chart.
+//! The stock market: how a company's token moves over the chart, and the order in which companies operate.
 //!
-//! Each call answers the square to which a token comes. A move for which the chart has no square is not
-//! made: the token stays.
+//! A move answers the square to which a token comes. A move for which the chart has no square is not
+//! made: the token stays. The order is that of the floated companies by their squares.
 //!
-//! Reading order: `moves`, `laws` (a token on the chart stays on it).
+//! Reading order: `moves`, `order`, `laws` (a token on the chart stays on it; the order is one).
 #![tactic(auto)]
 
 mod laws;
 mod moves;
+mod order;
 
-pub use laws::moves_stay_on_chart;
+pub use laws::{floated_companies_in_order, moves_stay_on_chart};
 pub use moves::{down, fall, left, right, up};

@@ -1,33 +1,8 @@
-use crate::example::{Example, Token};
-use map_tables::{End, Hex, Lay, Link, Rotation, Side, Stop, StopNumber, TileNo};
+use crate::boards::{first, once_turned, token};
+use crate::example::Example;
+use map_tables::{End, Hex, Link, Side, TileNo};
 use reach::reached;
 use tables::Company;
-
-/// A tile that is turned by one sixth.
-fn once_turned((hex, tile): (Hex, TileNo)) -> Lay {
-    Lay {
-        hex,
-        tile,
-        rot: Rotation::One,
-        swap: false,
-    }
-}
-
-/// The first stop of a hex.
-fn first(hex: Hex) -> Stop {
-    Stop {
-        hex,
-        number: StopNumber::First,
-    }
-}
-
-/// A token at the first stop of a hex.
-fn token((company, hex): (Company, Hex)) -> Token {
-    Token {
-        stop: first(hex),
-        company,
-    }
-}
 
 /// The piece of track that joins a hex's west side to its east side.
 fn west_to_east(hex: Hex) -> Link {

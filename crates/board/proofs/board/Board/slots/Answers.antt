@@ -6,12 +6,12 @@ use Rattle.map_tables.specs.Place.{joined_stop_of}
 use Rattle.reach.specs.Position.{AtStop}
 use Rattle.board.proofs.board.Board.slots.Goals as goal
 
-pub returns-then-is_stop : goal.returns-then-is_stop
-returns-then-is_stop c =
+pub returns-then-is_stop-clause-shown : goal.returns-then-is_stop-clause-shown
+returns-then-is_stop-clause-shown c =
     let is : is_stop (joined_stop_of c.args.stop) ≡ true = cc in
     let here = ap (λ (s : AtStop). s.slots) (shown c.args.self.now c.args.stop is) in cc
 
-pub returns-else-is_stop : goal.returns-else-is_stop
-returns-else-is_stop c =
+pub returns-else-is_stop-clause-shown : goal.returns-else-is_stop-clause-shown
+returns-else-is_stop-clause-shown c =
     let is : is_stop (joined_stop_of c.args.stop) ≡ false = cc in
     sym (ap (λ (s : AtStop). s.slots) (not_shown c.args.self.now c.args.stop is))

@@ -1,5 +1,5 @@
 -- The laws of the map's tables make the position lawful.
-use Rattle.board.proofs.Laws.{lawful}
+use Rattle.board.proofs.Lawfulness.{lawful}
 use Rattle.board.proofs.network.BoardNetwork.keeps_laws.Goals as goal
 
 pub returns : goal.returns

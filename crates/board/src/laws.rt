@@ -1,0 +1,32 @@
+//! Laws of the definitions, each the contract of a function that does nothing.
+ghost use Rattle.board.specs.Homes.{FitsWithoutHomes, HomeKeepsFit, LayKeepsFit, NothingFits, PhaseKeepsFit, TokenKeepsFit};
+
+/// Before anything is laid what lies fits: each home has a slot for its token.
+pub fn nothing_fits()
+    ensures { NothingFits }
+{}
+
+/// What fits with the home tokens that are still to come is not refused as a board.
+pub fn fits_without_homes()
+    ensures { FitsWithoutHomes }
+{}
+
+/// A lay by the rules keeps what lies fit, with the home tokens that are still to come.
+pub fn lay_keeps_fit()
+    ensures { LayKeepsFit }
+{}
+
+/// A token by the rules keeps it so.
+pub fn token_keeps_fit()
+    ensures { TokenKeepsFit }
+{}
+
+/// A home token keeps it so.
+pub fn home_keeps_fit()
+    ensures { HomeKeepsFit }
+{}
+
+/// A new phase keeps it so.
+pub fn phase_keeps_fit()
+    ensures { PhaseKeepsFit }
+{}

@@ -1,0 +1,4 @@
+pub mod Tests
+pub mod Along
+pub mod Kept
+pub mod Ruled

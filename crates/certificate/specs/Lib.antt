@@ -1,0 +1,5 @@
+pub mod Legal
+pub mod Named
+pub mod Fault
+pub mod Code
+pub mod Tally

@@ -1,0 +1,24 @@
+//! Runs of trains of 1830: what is a legal run, and the check of one that a player has written out.
+//!
+//! `check_run` rules a run of a company's train over any `reach::Network`: it answers what the run
+//! earns and marks the borders that it crosses as used, or names the first rule that it breaks. It
+//! takes no memory.
+//!
+//! The definitions, in `specs/`: `Legal` says which stops a walk visits, which borders it crosses
+//! and what a legal run is, and knows nothing of places; `Named` says which walk a list of places
+//! names; `Fault` is the table of the rules. `Tally` is what the check keeps of the steps that it
+//! has gone over.
+//!
+//! Reading order: `check` (the public call), `run_fault`, `used`, `leg` (from place to place),
+//! `tally`.
+#![tactic(auto)]
+
+mod check;
+mod leg;
+mod run_fault;
+mod tally;
+mod used;
+
+pub use check::check_run;
+pub use run_fault::RunFault;
+pub use used::Used;

@@ -1,0 +1,36 @@
+ghost use Rattle.std.specs.Prelude.{◌≡◌, false, replicate};
+
+use std::marker::Model;
+
+/// How many borders the hexes of the map have: each hex numbers three of its six.
+pub(crate) const BORDERS: usize = 279;
+
+/// The borders that the trains of a company have crossed in its turn, by their numbers.
+#[derive(Drop)]
+pub struct Used {
+    pub(crate) crossed: [bool; BORDERS],
+}
+
+/// To a contract it is the list of marks, one for each border.
+impl Model for Used {
+    ghost use Rattle.std.specs.Prelude.{◌≡◌, Bool, List, length};
+
+    ghost Value = { List Bool };
+
+    ghost view = { λ used. used.crossed };
+
+    ghost invariant = { λ used. length used.crossed ≡ 279 };
+
+    ghost inverse = { λ marks. record { crossed = marks } };
+}
+
+impl Used {
+    /// No border has been crossed yet.
+    pub fn new() -> Used
+        ensures { result ≡ replicate 279 false }
+    {
+        Used {
+            crossed: [false; BORDERS],
+        }
+    }
+}

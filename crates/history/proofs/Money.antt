@@ -1,0 +1,141 @@
+-- A payment takes from one party what it brings to another, so that all money stays what it was at first.
+use Rattle.std.proofs.Common.{◌≡◌, ◌≢◌, ℕ, zero, suc, ◌+◌, ◌*◌, ◌-◌, ◌≤◌, ◌<◌, inl, inr, if◌then◌else◌, List, [], ◌∷◌, ◌++◌, map, Option, Some, None, pos, ◌-ℤ◌, ◌+ℤ◌, refl, sym, subst, ap, ◌∙◌, arith}
+use Rattle.std.proofs.lemmas.Bool.{cases_eq}
+use Rattle.std.proofs.lemmas.Bool.Decides.{nat_tests}
+use Rattle.std.proofs.lemmas.Int.{ints}
+use Rattle.std.proofs.lemmas.List.Sums.{sum_by-cons}
+use Rattle.std.specs.List.{range_with_len}
+use Rattle.history.proofs.Choices.{chosen, passed_over}
+use Rattle.history.specs.Event.{party_at, payment_of}
+use Rattle.history.specs.LookBack.{cash_of, paid_by, paid_to, same_party}
+use Rattle.history.specs.Money.{AllMoneyStays, IsParty, IsWithin, cash_together, parties, party_of_company}
+use Rattle.history.specs.declared.event.Event.{Event}
+use Rattle.history.specs.declared.event.Holder.TheVariants as holder
+use Rattle.history.specs.declared.event.Party.{Party}
+use Rattle.history.specs.declared.event.Party.TheVariants as party
+use Rattle.history.specs.declared.event.Payment.{Payment}
+use Rattle.tables.specs.Roster.{bank_start_of, companies, start_money_of}
+use Rattle.tables.specs.Seat.{all_seats, seat_at}
+use Rattle.tables.specs.declared.roster.Company.{Company}
+use Rattle.tables.specs.declared.roster.Company.TheVariants.{Pennsylvania, NewYorkCentral, CanadianPacific, BaltimoreOhio, ChesapeakeOhio, Erie, NewHaven, BostonMaine}
+use Rattle.tables.specs.declared.seat.Seat.{Seat}
+
+-- what of a sum, all with one party, is with some parties
+abbrev sum_with : Party → ℕ → List Party → ℕ
+sum_with at sum [] = 0
+sum_with at sum (one ∷ others) = (if same_party at one then sum else 0) + sum_with at sum others
+
+-- parties in two parts
+sum_with_both : (at : Party) (sum : ℕ) (some more : List Party) → sum_with at sum (some ++ more) ≡ sum_with at sum some + sum_with at sum more
+sum_with_both at sum [] more = omega arith
+sum_with_both at sum (one ∷ others) more = omega (arith, sum_with_both at sum others more)
+
+-- what the bank has is with no seat
+no_seat_of_bank : (sum : ℕ) (seats : List Seat) → sum_with party.Bank sum (map party_at seats) ≡ 0
+no_seat_of_bank sum [] = refl
+no_seat_of_bank sum (seat ∷ others) = omega (arith, no_seat_of_bank sum others)
+
+-- nor what a company has
+no_seat_of_company : (company : Company) (sum : ℕ) (seats : List Seat) → sum_with (party_of_company company) sum (map party_at seats) ≡ 0
+no_seat_of_company company sum [] = refl
+no_seat_of_company company sum (seat ∷ others) = omega (arith, no_seat_of_company company sum others)
+
+-- what a seat has is with no later one
+no_later_seat : (seat : Seat) (sum from count : ℕ) → seat.0 < from → sum_with (party_at seat) sum (map party_at (map seat_at (range_with_len from count))) ≡ 0
+no_later_seat seat sum from zero before = refl
+no_later_seat seat sum from (suc count) before =
+    let apart : seat.0 ≢ from = omega arith in
+    omega (arith, passed_over seat.0 from sum 0 apart, no_later_seat seat sum (from + 1) count (omega arith))
+
+-- it is with the seats among whom the one is
+with_its_seat : (seat : Seat) (sum from count : ℕ) → from ≤ seat.0 → seat.0 < from + count → sum_with (party_at seat) sum (map party_at (map seat_at (range_with_len from count))) ≡ sum
+with_its_seat seat sum from zero low high = absurd (omega arith)
+with_its_seat seat sum from (suc count) low high =
+    elim (cases_eq seat.0 from) [
+      | inl same ↦ omega (arith, chosen seat.0 from sum 0 same, no_later_seat seat sum (from + 1) count (omega arith))
+      | inr apart ↦ omega (arith, passed_over seat.0 from sum 0 apart, with_its_seat seat sum (from + 1) count (omega arith) (omega arith))
+    ]
+
+-- what a company has is with the companies
+with_its_company : (company : Company) (sum : ℕ) → sum_with (party_of_company company) sum (map party_of_company companies) ≡ sum
+with_its_company Pennsylvania sum = omega arith
+with_its_company NewYorkCentral sum = omega arith
+with_its_company CanadianPacific sum = omega arith
+with_its_company BaltimoreOhio sum = omega arith
+with_its_company ChesapeakeOhio sum = omega arith
+with_its_company Erie sum = omega arith
+with_its_company NewHaven sum = omega arith
+with_its_company BostonMaine sum = omega arith
+
+-- a sum with a party of the game is with its parties
+with_parties : (seats : ℕ) (at : Party) (sum : ℕ) → IsParty seats at → sum_with at sum (parties seats) ≡ sum
+with_parties seats party.Bank sum is =
+    omega (arith, sum_with_both party.Bank sum (map party_at (all_seats seats)) (map party_of_company companies), no_seat_of_bank sum (all_seats seats))
+with_parties seats (party.Holder (holder.Seat seat)) sum is =
+    omega (arith, sum_with_both (party_at seat) sum (map party_at (all_seats seats)) (map party_of_company companies), with_its_seat seat sum 0 seats (omega arith) (omega arith))
+with_parties seats (party.Holder (holder.Company company)) sum is =
+    omega (arith, sum_with_both (party_of_company company) sum (map party_at (all_seats seats)) (map party_of_company companies), no_seat_of_company company sum (all_seats seats), with_its_company company sum)
+
+-- a party's cash with an event in front
+cash_in_front : (seats : ℕ) (event : Event) (events : List Event) (one : Party) → cash_of seats (event ∷ events) one ≡ (cash_of seats events one +ℤ pos (paid_to one (payment_of event))) -ℤ pos (paid_by one (payment_of event))
+cash_in_front seats event events one =
+    omega (arith, ints, sum_by-cons (λ e. paid_to one (payment_of e)) event events, sum_by-cons (λ e. paid_by one (payment_of e)) event events)
+
+-- without a payment parties have together what they had
+unpaid : (seats : ℕ) (event : Event) (events : List Event) (some : List Party) → payment_of event ≡ None → cash_together seats (event ∷ events) some ≡ cash_together seats events some
+unpaid seats event events [] none = refl
+unpaid seats event events (one ∷ others) none =
+    omega (arith, ints, cash_in_front seats event events one, ap (paid_to one) none, ap (paid_by one) none, unpaid seats event events others none)
+
+-- with one they have what it brings more, and what it takes less
+paid : (seats : ℕ) (event : Event) (events : List Event) (payment : Payment) (some : List Party) → payment_of event ≡ Some payment → cash_together seats (event ∷ events) some ≡ (cash_together seats events some +ℤ pos (sum_with payment.to payment.amount some)) -ℤ pos (sum_with payment.from payment.amount some)
+paid seats event events payment [] pays = omega (arith, ints)
+paid seats event events payment (one ∷ others) pays =
+    omega (arith, ints, cash_in_front seats event events one, ap (paid_to one) pays, ap (paid_by one) pays, paid seats event events payment others pays)
+
+-- so all parties have together what they had
+together_stays : (seats : ℕ) (event : Event) (events : List Event) (payment : Option Payment) → payment_of event ≡ payment → IsWithin seats payment → cash_together seats (event ∷ events) (parties seats) ≡ cash_together seats events (parties seats)
+together_stays seats event events None pays within = unpaid seats event events (parties seats) pays
+together_stays seats event events (Some payment) pays within =
+    omega (arith, ints, paid seats event events payment (parties seats) pays, with_parties seats payment.to payment.amount within.1, with_parties seats payment.from payment.amount within.0)
+
+-- at any other number of seats nobody begins with money
+begin_with_none : (seats : ℕ) (some : List Seat) → start_money_of seats ≡ 0 → cash_together seats [] (map party_at some ++ map party_of_company companies) ≡ pos 0
+begin_with_none seats [] none = omega (arith, ints)
+begin_with_none seats (seat ∷ others) none = omega (arith, ints, begin_with_none seats others none)
+
+-- the start money at any other number of seats
+no_start_money : (seats : ℕ) → seats ≢ 3 → seats ≢ 4 → seats ≢ 5 → seats ≢ 6 → start_money_of seats ≡ 0
+no_start_money seats not_three not_four not_five not_six = grind (arith, nat_tests)
+
+-- the bank then has all
+bank_has_all : (seats : ℕ) → start_money_of seats ≡ 0 → bank_start_of seats ≡ 12000
+bank_has_all seats none = ap (λ money. 12000 - seats * money) none ∙ omega arith
+
+-- at first all money is 12,000
+money_at_first : (seats : ℕ) → cash_together seats [] (parties seats) ≡ pos 12000
+money_at_first seats =
+    elim (cases_eq seats 3) [
+      | inl same ↦ subst (λ n. cash_together n [] (parties n) ≡ pos 12000) (sym same) refl
+      | inr not_three ↦
+          elim (cases_eq seats 4) [
+            | inl same ↦ subst (λ n. cash_together n [] (parties n) ≡ pos 12000) (sym same) refl
+            | inr not_four ↦
+                elim (cases_eq seats 5) [
+                  | inl same ↦ subst (λ n. cash_together n [] (parties n) ≡ pos 12000) (sym same) refl
+                  | inr not_five ↦
+                      elim (cases_eq seats 6) [
+                        | inl same ↦ subst (λ n. cash_together n [] (parties n) ≡ pos 12000) (sym same) refl
+                        | inr not_six ↦
+                            let none = no_start_money seats not_three not_four not_five not_six in
+                            omega (arith, ints, bank_has_all seats none, begin_with_none seats (all_seats seats) none)
+                      ]
+                ]
+          ]
+    ]
+
+-- and it stays so
+pub money_stays : AllMoneyStays
+money_stays seats [] within = money_at_first seats
+money_stays seats (event ∷ events) within =
+    together_stays seats event events (payment_of event) refl within.0 ∙ money_stays seats events within.1
