@@ -1,5 +1,5 @@
 -- What the tally keeps of a walk is what the tests find in it.
-use Rattle.std.proofs.Common.{◌≡◌, ℕ, zero, suc, ◌+◌, ◌-◌, ◌*◌, ◌<◌, ◌≤◌, ◌==◌, Bool, true, false, ltb, eqb, ◌||◌, inl, inr, if◌then◌else◌, Option, Some, None, List, [], ◌∷◌, ◌++◌, length, get_or, set, replicate, refl, ap, sym, ◌∙◌, subst, arith, get_or-set_same, get_or-set_other, length-set}
+use Rattle.std.proofs.Common.{◌≡◌, ℕ, zero, suc, ◌+◌, ◌-◌, ◌*◌, ◌<◌, ◌≤◌, ◌==◌, Bool, true, false, ltb, eqb, ◌||◌, ◌⊎◌, inl, inr, if◌then◌else◌, Option, Some, None, List, [], ◌∷◌, ◌++◌, length, get_or, set, replicate, refl, ap, sym, ◌∙◌, subst, arith, get_or-set_same, get_or-set_other, length-set}
 use Rattle.std.specs.List.{AllByRecursion, list_any}
 use Rattle.std.proofs.lemmas.Bool.{cases_eq, eqb-true, eq-eqb, ltb-true, ltb-false}
 use Rattle.map_tables.specs.Border.{neighbour_of}
@@ -15,8 +15,10 @@ use Rattle.reach.specs.Reached.{stop_order}
 use Rattle.reach.specs.Walk.{entered_at, left_at, stop_of}
 use Rattle.reach.specs.declared.walk.Step.{Step}
 use Rattle.reach.proofs.Hexes.{index_low, side_low, stop_index_low}
+use Rattle.reach.proofs.Lists.{among_found, found_among}
 use Rattle.tables.specs.declared.roster.Company.{Company}
 use Rattle.certificate.specs.Fault.{has_border_twice, has_stop, has_stop_twice, has_token, is_full, is_such, is_taken, marked, passes}
+use Rattle.certificate.specs.Law.{CrossedBordersAreUsed}
 use Rattle.certificate.specs.Legal.{border_at, border_beyond, border_of, crossed, first_stop, listed, visited, worth}
 use Rattle.certificate.specs.Tally.{counted, crossing, entering, entering_side, entering_stop, leaving_stop, no_steps, passing, tally_of, visiting}
 use Rattle.certificate.specs.declared.tally.Tally.{Tally}
@@ -266,3 +268,38 @@ module _ (position : Position) (company : Company) (used : List Bool) where
   pub tally_keeps : 279 ≤ length used → (steps : List Step) → Keeps (tally_of position company used steps) (has_begun steps) (visited steps) (crossed steps) (passes (is_full position company) steps) (passes (is_red position) steps)
   tally_keeps whole [] = none_keeps
   tally_keeps whole (step ∷ before) = step_keeps whole before step (tally_keeps whole before)
+
+low_before : (used : List Bool) (hex : Hex) (end : End) (borders : List ℕ) → 279 ≤ length used → AllByRecursion (λ b. b < length used) borders → AllByRecursion (λ b. b < length used) (border_at hex end ++ borders)
+low_before used hex (AtSide side) borders whole low = (omega (arith, border_low hex side), low)
+low_before used hex (AtStop number) borders whole low = low
+
+-- the borders that a walk crosses have marks
+crossed_low : (used : List Bool) (steps : List Step) → 279 ≤ length used → AllByRecursion (λ b. b < length used) (crossed steps)
+crossed_low used [] whole = tt
+crossed_low used (step ∷ before) whole =
+    low_before used (entered_at step).hex (entered_at step).end (crossed before) whole (crossed_low used before whole)
+
+-- a test of an element or of others
+or_is : (a b : Bool) → (a || b) ≡ true → (a ≡ true) ⊎ (b ≡ true)
+or_is true b h = inl refl
+or_is false b h = inr h
+
+is_or : (a b : Bool) → (a ≡ true) ⊎ (b ≡ true) → (a || b) ≡ true
+is_or true b h = refl
+is_or false b (inl h) = cc
+is_or false b (inr h) = h
+
+-- after a walk those borders are used that were used before, and those that it crosses
+pub crossed_used : CrossedBordersAreUsed
+crossed_used used steps border whole =
+    let low : AllByRecursion (λ b. b < length used) (crossed steps) = crossed_low used steps (omega arith) in
+    let is : get_or (marked used (crossed steps)) border false ≡ is_taken used (crossed steps) border = marked_is used (crossed steps) border low in (
+      λ h. elim (or_is (get_or used border false) (list_any (λ other. other == border) (crossed steps)) (sym is ∙ h)) [
+        | inl before ↦ inl before
+        | inr among ↦ inr (among_found (λ a b. a == b) (λ a b same. eqb-true a b same) (crossed steps) border among)
+      ],
+      λ h. is ∙ is_or (get_or used border false) (list_any (λ other. other == border) (crossed steps)) (elim h [
+        | inl before ↦ inl before
+        | inr among ↦ inr (found_among (λ a b. a == b) (λ a b same. eq-eqb a b same) (crossed steps) border among)
+      ]),
+    )

@@ -3,3 +3,4 @@ pub mod Named
 pub mod Fault
 pub mod Code
 pub mod Tally
+pub mod Law

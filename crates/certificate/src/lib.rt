@@ -6,19 +6,22 @@
 //!
 //! The definitions, in `specs/`: `Legal` says which stops a walk visits, which borders it crosses
 //! and what a legal run is, and knows nothing of places; `Named` says which walk a list of places
-//! names; `Fault` is the table of the rules. `Tally` is what the check keeps of the steps that it
-//! has gone over.
+//! names; `Fault` is the table of the rules. `Law` joins them: what the places name is a legal run
+//! exactly where they break no rule. `Tally` is what the check keeps of the steps that it has gone
+//! over.
 //!
 //! Reading order: `check` (the public call), `run_fault`, `used`, `leg` (from place to place),
-//! `tally`.
+//! `tally`, `laws`.
 #![tactic(auto)]
 
 mod check;
+mod laws;
 mod leg;
 mod run_fault;
 mod tally;
 mod used;
 
 pub use check::check_run;
+pub use laws::{borders_are_told_apart, crossed_borders_are_used, legal_where_no_rule_is_broken};
 pub use run_fault::RunFault;
 pub use used::Used;

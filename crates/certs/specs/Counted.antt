@@ -56,11 +56,16 @@ abbrev pub certificates_in : (Company → ℤ) → List Company → ℤ
 certificates_in certificates [] = pos 0
 certificates_in certificates (company ∷ others) = certificates company +ℤ certificates_in certificates others
 
+-- the certificates of a company that a seat has, by the holdings
+abbrev pub certificates_by : Holdings → Seat → Company → ℤ
+certificates_by holdings seat company =
+    certificates_of seat (square_in holdings company) (president_in holdings company) (tenths_in holdings company (OfSeat seat))
+
 -- how many of a seat's certificates count, by the holdings
 abbrev pub counted_in : Holdings → Seat → ℤ
 counted_in holdings seat =
     pos (privates_owned (owner_in holdings.owners) seat)
-    +ℤ certificates_in (λ company. certificates_of seat (square_in holdings company) (president_in holdings company) (tenths_in holdings company (OfSeat seat))) companies
+    +ℤ certificates_in (λ company. certificates_by holdings seat company) companies
 
 -- how many count, by the events of a game
 abbrev pub counted_of : List Event → Seat → ℤ

@@ -41,3 +41,8 @@ abbrev pub IsFirstWithMost : (Seat → ℤ) → Seat → List Seat → Type 0
 IsFirstWithMost tenths first [] = ⊥
 IsFirstWithMost tenths first (seat ∷ others) =
     ((seat ≡ first) × HaveAtMost tenths (tenths first) others) ⊎ ((tenths seat <ℤ tenths first) × IsFirstWithMost tenths first others)
+
+-- the seat that presides is the first with most, beginning with the one that presided
+abbrev pub FirstWithMostPresides : Type 0
+FirstWithMostPresides =
+    (tenths : Seat → ℤ) (old : Seat) (others : List Seat) → IsFirstWithMost tenths (with_most tenths old others) (old ∷ others)

@@ -1,6 +1,6 @@
 -- A row of tenths of one company: first the initial offering's, then the bank pool's, then those of each of
 -- six seats.
-use Rattle.std.specs.Prelude.{ℕ, ◌+◌, ◌*◌, ◌^◌, ◌<◌, ◌≤◌, List, [], ◌∷◌, ℤ, pos, ◌+ℤ◌, ◌≤ℤ◌, length, slice_index_or}
+use Rattle.std.specs.Prelude.{◌≡◌, ℕ, ◌+◌, ◌*◌, ◌^◌, ◌<◌, ◌≤◌, ◌==◌, if◌then◌else◌, List, [], ◌∷◌, ℤ, pos, ◌+ℤ◌, ◌-ℤ◌, ◌≤ℤ◌, length, slice_index_or}
 use lib.IntN.{neg_ℤ}
 use Rattle.history.specs.declared.event.Shareholder.{Shareholder}
 use Rattle.history.specs.declared.event.Shareholder.TheVariants.{InitialOffering, BankPool, Seat as OfSeat}
@@ -37,6 +37,20 @@ pub record IsNear (moves : ℕ) (row : List ℤ) : Type 0 where
   pub not_under : (i : ℕ) → neg_ℤ (pos (256 * moves)) ≤ℤ slice_index_or row i (pos 0)
   pub not_over : (i : ℕ) → slice_index_or row i (pos 0) ≤ℤ pos (256 * moves)
   pub short : length row ≤ 8
+
+-- tenths at one place of a row
+abbrev pub only_at : ℕ → ℕ → ℤ → ℤ
+only_at index k tenths = if index == k then tenths else pos 0
+
+-- a row is another in which tenths came to a place, or went from it where they are under 0
+abbrev pub IsChanged : List ℤ → List ℤ → ℕ → ℤ → Type 0
+IsChanged old new index change =
+    (k : ℕ) → k < 8 → slice_index_or new k (pos 0) ≡ slice_index_or old k (pos 0) +ℤ only_at index k change
+
+-- a row is another in which tenths went from one place to another
+abbrev pub IsMoved : List ℤ → List ℤ → ℕ → ℕ → ℕ → Type 0
+IsMoved old new from to tenths =
+    (k : ℕ) → slice_index_or new k (pos 0) ≡ (slice_index_or old k (pos 0) +ℤ only_at to k (pos tenths)) -ℤ only_at from k (pos tenths)
 
 -- tenths that are neither many nor far under 0
 pub record IsSmall (tenths : ℤ) : Type 0 where

@@ -1,9 +1,8 @@
 ghost use Rattle.std.specs.Prelude.{◌≡◌, ◌≤◌};
-ghost use Rattle.certs.specs.Counted.{certificates_of, counted_in, counts_on, one_owned, presides as presides_over, privates_owned};
-ghost use Rattle.certs.specs.Holdings.{president_in, square_in, tenths_in};
+ghost use Rattle.certs.specs.Counted.{certificates_by, counted_in, counts_on, one_owned, presides as presides_over, privates_owned};
+ghost use Rattle.certs.specs.Holdings.{president_in, square_in};
 ghost use Rattle.certs.specs.Rows.{IsFew};
 ghost use Rattle.history.specs.LookBack.{owner_in};
-ghost use Rattle.history.specs.declared.event.Shareholder.TheVariants.{Seat as OfSeat};
 
 use crate::holdings::Holdings;
 use history::{Holder, Shareholder, Tenths};
@@ -47,7 +46,7 @@ impl Holdings {
 
     /// How many certificates of a company a seat has that count.
     fn certificates(&self, company: Company, seat: Seat) -> Tenths
-        ensures certificates { result ≡ certificates_of seat (square_in self.now company) (president_in self.now company) (tenths_in self.now company (OfSeat seat)) }
+        ensures certificates { result ≡ certificates_by self.now seat company }
         ensures small { IsFew result }
     {
         if !self.is_counted(company) {

@@ -1,8 +1,6 @@
-ghost use Rattle.std.specs.Prelude.{◌≡◌, ◌≤ℤ◌, [], None, pos, slice_index_or};
-ghost use Rattle.certs.specs.Rows.{AreBounded, HasPlace, index_of as the_index_of};
-ghost use Rattle.history.specs.Shares.{president_of, shares_of, square_of};
+ghost use Rattle.std.specs.Prelude.{◌≡◌, ◌≤ℤ◌, pos};
+ghost use Rattle.certs.specs.Rows.{AreBounded, HasPlace};
 ghost use Rattle.history.specs.declared.event.Shareholder.{Shareholder};
-ghost use Rattle.tables.specs.Roster.{place_of_company};
 ghost use Rattle.tables.specs.declared.roster.Company.{Company};
 
 use crate::notes::{Notes, notes_of};

@@ -1,13 +1,11 @@
 //! Laws of the definitions, each the contract of a function that does nothing.
-ghost use Rattle.std.specs.Prelude.{◌≡◌, ◌<◌, ◌∷◌, List, ℤ};
 ghost use Rattle.certs.specs.Counted.{CountsByGame};
-ghost use Rattle.certs.specs.President.{IsFirstWithMost, with_most};
-ghost use Rattle.tables.specs.declared.seat.Seat.{Seat};
+ghost use Rattle.certs.specs.President.{FirstWithMostPresides};
 
 /// The seat that presides is the first with most, beginning with the one that presided: each seat before it
 /// has fewer tenths, and none after it has more.
 pub fn first_with_most_presides()
-    ensures { (tenths : Seat → ℤ) (old : Seat) (others : List Seat) → IsFirstWithMost tenths (with_most tenths old others) (old ∷ others) }
+    ensures { FirstWithMostPresides }
 {}
 
 /// The certificates that count by the holdings of a game are those that count by its events.

@@ -1,12 +1,11 @@
 //! Tables of what the events of a game say of its companies, noted event by event.
-ghost use Rattle.std.specs.Prelude.{◌≡◌, ◌^◌, ◌<◌, ◌==◌, ◌+◌, ◌+ℤ◌, ◌-ℤ◌, ℕ, ℤ, [], None, if◌then◌else◌, pos, slice_index_or};
-ghost use Rattle.std.specs.Option.{option_or};
+ghost use Rattle.std.specs.Prelude.{◌^◌, ◌+◌, ℕ};
 ghost use Rattle.certs.specs.Notes.{AreNear, AreNoted, IsChange, NotesOffice, NotesSquare, NotesTransfer};
-ghost use Rattle.certs.specs.Rows.{IsNear};
+ghost use Rattle.certs.specs.Rows.{IsChanged, IsNear};
 
 use crate::rows::{Row, index_of};
-use history::{Event, Past, Shareholder, Tenths};
-use tables::{Company, Seat, Square};
+use history::{Event, Past, Tenths};
+use tables::{Seat, Square};
 
 /// What a list of events says of each company, by its place in the roster.
 #[derive(Clone, Copy, Debug)]
@@ -60,7 +59,7 @@ fn note_transfer(rows: &mut [Row; 8], event: &Event)
 fn changed(mut row: Row, index: usize, change: Tenths) -> Row
     requires near { IsNear (2 ^ 71) row }
     requires few { IsChange change }
-    ensures changed { (k : ℕ) → k < 8 → slice_index_or result k (pos 0) ≡ slice_index_or row k (pos 0) +ℤ (if index == k then change else pos 0) }
+    ensures changed { IsChanged row result index change }
     ensures near { (n : ℕ) → IsNear n row → IsNear (n + 1) result }
 {
     if index < row.len() {

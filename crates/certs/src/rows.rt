@@ -1,10 +1,9 @@
-ghost use Rattle.std.specs.Prelude.{◌≡◌, ◌<◌, ◌==◌, ◌≤ℤ◌, ◌+ℤ◌, ◌-ℤ◌, ℕ, if◌then◌else◌, pos, slice_index_or};
-ghost use Rattle.certs.specs.Rows.{HasPlace, IsBounded, index_of};
-ghost use Rattle.history.specs.Shares.{shares_of};
+ghost use Rattle.std.specs.Prelude.{◌≡◌, ◌<◌, ◌≤ℤ◌, pos, slice_index_or};
+ghost use Rattle.certs.specs.Rows.{IsBounded, IsMoved, index_of};
 ghost use Rattle.history.specs.declared.event.Shareholder.{Shareholder};
 
-use history::{Past, Shareholder, Tenths};
-use tables::{Company, Seat};
+use history::{Shareholder, Tenths};
+use tables::Seat;
 
 /// The tenths of a company by their places: the initial offering's, the bank pool's, and those of each
 /// of six seats.
@@ -27,7 +26,7 @@ pub(crate) fn moved(mut row: Row, from: usize, to: usize, tenths: u8) -> Row
     requires to { to < 8 }
     requires held { pos tenths ≤ℤ slice_index_or row from (pos 0) }
     requires bounded { IsBounded row }
-    ensures moved { (k : ℕ) → slice_index_or result k (pos 0) ≡ (slice_index_or row k (pos 0) +ℤ (if to == k then pos tenths else pos 0)) -ℤ (if from == k then pos tenths else pos 0) }
+    ensures moved { IsMoved row result from to tenths }
     ensures bounded { IsBounded result }
 {
     let tenths = Tenths::from(tenths);

@@ -1,0 +1,45 @@
+-- What joins the legal runs and the rules: what some places name is a legal run exactly where they break
+-- no rule. And what the numbers of borders and the marks of used ones are worth: a number is one border's,
+-- and a run adds its borders to the marks and no others.
+use Rattle.std.specs.Prelude.{◌≡◌, ◌↔◌, ◌⊎◌, ℕ, Bool, Some, None, List, length}
+use Rattle.map_tables.specs.Border.{neighbour_of}
+use Rattle.map_tables.specs.declared.hex.Hex.{Hex}
+use Rattle.map_tables.specs.declared.place.Place.{Place}
+use Rattle.map_tables.specs.declared.side.Side.{Side}
+use Rattle.map_tables.specs.declared.track.End.TheVariants.{Side as AtSide}
+use Rattle.reach.specs.Position.{Position, IsAmong}
+use Rattle.reach.specs.Walk.{across, spot_at}
+use Rattle.reach.specs.declared.walk.Spot.{Spot}
+use Rattle.reach.specs.declared.walk.Step.{Step}
+use Rattle.tables.specs.declared.rolling_stock.Kind.{Kind}
+use Rattle.tables.specs.declared.roster.Company.{Company}
+use Rattle.certificate.specs.Fault.{marked, run_fault}
+use Rattle.certificate.specs.Legal.{IsLegalRun, IsUsed, border_of, crossed}
+use Rattle.certificate.specs.Named.{walk_named}
+
+-- some places name a legal run
+abbrev pub NameLegalRun : Position → Company → Kind → List Bool → List Place → Type 0
+NameLegalRun position company kind used places =
+    (steps : List Step) × (walk_named position places ≡ Some steps) × IsLegalRun position company kind used steps
+
+abbrev pub LegalWhereNoRuleIsBroken : Type 0
+LegalWhereNoRuleIsBroken =
+    (position : Position) (company : Company) (kind : Kind) (used : List Bool) (places : List Place) →
+    (run_fault position company kind used places ≡ None) ↔ NameLegalRun position company kind used places
+
+-- two sides of hexes are one, or they are the two sides of one border
+abbrev pub AreSidesOfOneBorder : Spot → Spot → Type 0
+AreSidesOfOneBorder side other = (side ≡ other) ⊎ (across side ≡ Some other)
+
+-- two sides at borders have one number exactly where they are sides of one border
+abbrev pub BordersAreToldApart : Type 0
+BordersAreToldApart =
+    (hex other next beyond : Hex) (side far : Side) →
+    neighbour_of hex side ≡ Some next → neighbour_of other far ≡ Some beyond →
+    (border_of hex side ≡ border_of other far) ↔ AreSidesOfOneBorder (spot_at hex (AtSide side)) (spot_at other (AtSide far))
+
+-- after a run those borders are used that were used before it, and those that it crosses
+abbrev pub CrossedBordersAreUsed : Type 0
+CrossedBordersAreUsed =
+    (used : List Bool) (steps : List Step) (border : ℕ) → length used ≡ 279 →
+    IsUsed (marked used (crossed steps)) border ↔ (IsUsed used border ⊎ IsAmong border (crossed steps))
