@@ -1,19 +1,15 @@
 -- What lies fits where each tile may lie and no stop has more tokens than slots.
 use Rattle.std.proofs.Common.{◌≡◌, ◌∙◌, ap, sym, subst, refl, ◌+◌, ◌≤◌, inl, inr, ◌||◌, Bool, true, false, cond, List, [], ◌∷◌, ◌++◌, Option, Some, None, arith}
-use Rattle.std.proofs.lemmas.Bool.{eqb-true, le-ltb, ltb-false, or_parts, and_parts}
+use Rattle.std.proofs.lemmas.Bool.{le-ltb, ltb-false, or_parts}
 use Rattle.std.proofs.lemmas.List.Sums.{sum_by-cons}
 use Rattle.std.specs.List.{count_by, list_any}
-use Rattle.std.specs.Prelude.{◌==◌}
 use Rattle.board.specs.Fit.{board_fault_of, board_rules, has_bad_side, has_no_slot, is_over_full, is_wrong_kind}
-use Rattle.board.specs.Ground.{Ground, is_part_of, is_stop, names, same_stop, slots_at, slots_on, taken_at}
+use Rattle.board.specs.Ground.{Ground, is_part_of, is_stop, names, slots_at, slots_on, taken_at}
 use Rattle.board.specs.declared.fault.BoardFault.TheVariants as fault
-use Rattle.map_tables.specs.Hex.{index_of, same_hex}
-use Rattle.map_tables.specs.Place.{joined_stop_of, stop_at, stop_index_of, stop_of}
-use Rattle.map_tables.specs.declared.hex.Hex.{Hex}
+use Rattle.board.proofs.Same.{stop_is}
+use Rattle.map_tables.specs.Place.{joined_stop_of, stop_of}
 use Rattle.map_tables.specs.declared.place.Place.{Place}
 use Rattle.map_tables.specs.declared.place.Stop.{Stop}
-use Rattle.map_tables.specs.declared.place.StopNumber.{StopNumber}
-use Rattle.reach.proofs.Hexes.{same_index, same_stop_index}
 use Rattle.reach.specs.Position.{IsAmong}
 use Rattle.tables.proofs.Rules.{none_broken}
 use Rattle.tables.specs.declared.roster.Company.{Company}
@@ -51,17 +47,6 @@ count_none p (y ∷ ys) none =
     let parts = or_parts (p y) (list_any p ys) none in
     let first : cond (p y) 1 0 ≡ 0 = ap (λ b. cond b 1 0) parts.0 in
     sum_by-cons (λ x. cond (p x) 1 0) y ys ∙ ap (λ n. n + count_by p ys) first ∙ ap (λ n. 0 + n) (count_none p ys parts.1)
-
--- hexes that pass for one are one
-pub hex_is : (a b : Hex) → same_hex a b ≡ true → a ≡ b
-hex_is a b same = same_index a b (eqb-true (index_of a) (index_of b) same)
-
--- and stops
-pub stop_is : (a b : Stop) → same_stop a b ≡ true → a ≡ b
-stop_is a b same =
-    let parts = and_parts (same_hex a.hex b.hex) (stop_index_of a.number == stop_index_of b.number) same in
-    ap (λ (hex : Hex). stop_at hex a.number) (hex_is a.hex b.hex parts.0)
-    ∙ ap (λ (number : StopNumber). stop_at b.hex number) (same_stop_index a.number b.number (eqb-true (stop_index_of a.number) (stop_index_of b.number) parts.1))
 
 -- the three rules are kept
 pub record AreFit (laid : Ground) : Type 0 where

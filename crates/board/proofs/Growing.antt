@@ -7,7 +7,7 @@ use Rattle.std.specs.Prelude.{◌==◌}
 use Rattle.board.specs.Fit.{is_wrong_kind, place_of_tile_kind, takes}
 use Rattle.board.specs.Ground.{by_tile, colour_on, is_stop, slots_at, slots_on, tile_on}
 use Rattle.board.specs.LayRules.{is_wrong_colour, place_of_colour}
-use Rattle.board.proofs.Fitting.{hex_is}
+use Rattle.board.proofs.Same.{hex_is}
 use Rattle.board.proofs.Tiles.{last_lies, lies_there}
 use Rattle.map_tables.specs.Hex.{index_of, same_hex}
 use Rattle.map_tables.specs.Place.{joined_stop_of}

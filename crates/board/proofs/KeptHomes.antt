@@ -7,9 +7,7 @@ use Rattle.std.specs.List.{count_by, filter, list_any}
 use Rattle.board.specs.Ground.{Ground, has_token, is_part_of, is_stop, names, same_stop, slots_at, slots_on, taken_at}
 use Rattle.board.specs.Homes.{home_token, homes_to_come}
 use Rattle.board.specs.TokenRules.{is_full_at, is_kept_for, kept_at}
-use Rattle.board.proofs.Fitting.{stop_is}
-use Rattle.board.proofs.Tokens.{company_is_same}
-use Rattle.map_tables.specs.Hex.{index_of}
+use Rattle.board.proofs.Same.{company_is_same, or_true, stop_is, stop_is_same}
 use Rattle.map_tables.specs.Home.{home_of}
 use Rattle.map_tables.specs.Place.{joined_stop_of, stop_of}
 use Rattle.map_tables.specs.declared.place.Place.{Place}
@@ -42,7 +40,7 @@ one_le true b implied = rw (implied refl) (omega arith)
 one_le false b implied = omega arith
 
 -- no more pass a test than one that it implies
-count_le : {X : Type 0} (p q : X → Bool) (xs : List X) → ((x : X) → p x ≡ true → q x ≡ true) → count_by p xs ≤ count_by q xs
+pub count_le : {X : Type 0} (p q : X → Bool) (xs : List X) → ((x : X) → p x ≡ true → q x ≡ true) → count_by p xs ≤ count_by q xs
 count_le p q xs implied =
     sum_by-le-sum_by (λ x. cond (p x) 1 0) (λ x. cond (q x) 1 0) xs (λ x. one_le (p x) (q x) (implied x))
 
@@ -81,12 +79,6 @@ both x y first second = ap (λ b. b && y) first ∙ second
 home_joined : (company : Company) → joined_stop_of (home_of company) ≡ home_of company
 home_joined Pennsylvania = refl
 home_joined company = refl
-
--- a home is itself
-home_itself : (company : Company) → same_stop (home_of company) (home_of company) ≡ true
-unfolding index_of
-home_itself Pennsylvania = refl
-home_itself company = refl
 
 -- a kept slot is that of a home token to come
 kept_is_to_come : (tokens : List (Place × Company)) (stop : Stop) (company : Company) → is_kept_for tokens stop company ≡ true → (not (has_token tokens (home_of company) company) && names stop (home_token company).0) ≡ true
@@ -159,11 +151,6 @@ in_roster Erie = inr (inr (inr (inr (inr (inl refl)))))
 in_roster NewHaven = inr (inr (inr (inr (inr (inr (inl refl))))))
 in_roster BostonMaine = inr (inr (inr (inr (inr (inr (inr (inl refl)))))))
 
--- a test or true
-or_true : (b : Bool) → (b || true) ≡ true
-or_true true = refl
-or_true false = refl
-
 -- a home token takes the slot that was kept for it
 pub home_takes_kept : (tokens : List (Place × Company)) (company : Company) → has_token tokens (home_of company) company ≡ false → kept_at (tokens ++ home_token company ∷ []) (home_of company) + 1 ≤ kept_at tokens (home_of company)
 unfolding kept_at
@@ -171,7 +158,7 @@ home_takes_kept tokens company none =
     let home = home_of company in
     let more = tokens ++ home_token company ∷ [] in
     let has = λ (t : Place × Company). names home t.0 && same_company t.1 company in
-    let itself : same_stop home home ≡ true = home_itself company in
+    let itself : same_stop home home ≡ true = stop_is_same home home refl in
     let named : names home (home_token company).0 ≡ true = ap (λ (s : Stop). same_stop s home) (home_joined company) ∙ itself in
     let last : list_any has (home_token company ∷ []) ≡ true = ap (λ b. b || false) (both (names home (home_token company).0) (same_company company company) named (company_is_same company company refl)) in
     let lies : has_token more home company ≡ true = list_any-append has tokens (home_token company ∷ []) ∙ ap (λ b. list_any has tokens || b) last ∙ or_true (list_any has tokens) in

@@ -2,9 +2,10 @@
 use Rattle.std.proofs.Common.{◌≡◌, ◌∙◌, ap, sym, subst, refl, ◌≤◌, lit≤, true, false, cond, Option, Some, None}
 use Rattle.board.specs.Ground.{Ground, by_tile, is_red_kind, is_stop, position_of, tile_on, value_in}
 use Rattle.board.proofs.Positions.{in_hex_is, not_shown, shown}
+use Rattle.board.proofs.Same.{hex_is}
 use Rattle.board.proofs.Tiles.{lies_there}
 use Rattle.map_tables.specs.Hex.{index_of, same_hex}
-use Rattle.map_tables.specs.Laws.{AreLinksOf, HexesAreToldApart, LaidLinksAreInOrder, NeighboursPair, PrintedLinksAreInOrder, ValuesAreAtMost80}
+use Rattle.map_tables.specs.Laws.{AreLinksOf, LaidLinksAreInOrder, NeighboursPair, PrintedLinksAreInOrder, ValuesAreAtMost80}
 use Rattle.map_tables.specs.Lay.{laid_links_of}
 use Rattle.map_tables.specs.Place.{joined_stop_of, stop_at}
 use Rattle.map_tables.specs.Print.{groups, plain_hexes, print_of, printed_links_of}
@@ -22,10 +23,10 @@ use Rattle.tables.specs.declared.rolling_stock.Kind.{Kind}
 use Rattle.tables.specs.declared.rolling_stock.Kind.TheVariants.{Five}
 
 -- the links of a hex are those of its print, or of the tile that lies on it
-of_tile : HexesAreToldApart → PrintedLinksAreInOrder → LaidLinksAreInOrder → (hex : Hex) (lying : Option Lay) → ((lay : Lay) → lying ≡ Some lay → same_hex lay.hex hex ≡ true) → AreLinksOf hex (by_tile (printed_links_of hex) laid_links_of lying)
-of_tile apart printed laid hex None there = printed hex
-of_tile apart printed laid hex (Some lay) there =
-    subst (λ h. AreLinksOf h (laid_links_of lay)) ((apart lay.hex hex).0 (there lay refl)) (laid lay)
+of_tile : PrintedLinksAreInOrder → LaidLinksAreInOrder → (hex : Hex) (lying : Option Lay) → ((lay : Lay) → lying ≡ Some lay → same_hex lay.hex hex ≡ true) → AreLinksOf hex (by_tile (printed_links_of hex) laid_links_of lying)
+of_tile printed laid hex None there = printed hex
+of_tile printed laid hex (Some lay) there =
+    subst (λ h. AreLinksOf h (laid_links_of lay)) (hex_is lay.hex hex (there lay refl)) (laid lay)
 
 -- a printed value in any phase
 of_print : ValuesAreAtMost80 → (phase : Kind) (hex : Hex) → value_in phase (print_of hex).value ≤ 80
@@ -66,10 +67,10 @@ west_is_red : is_red_kind (print_of A11).kind ≡ true
 unfolding index_of groups plain_hexes print_of
 west_is_red = refl
 
-pub lawful : HexesAreToldApart → NeighboursPair → PrintedLinksAreInOrder → LaidLinksAreInOrder → ValuesAreAtMost80 → (laid : Ground) → IsLawful (position_of laid)
-lawful apart pair printed laid_links values laid =
+pub lawful : NeighboursPair → PrintedLinksAreInOrder → LaidLinksAreInOrder → ValuesAreAtMost80 → (laid : Ground) → IsLawful (position_of laid)
+lawful pair printed laid_links values laid =
     record {
-      links = λ hex. subst (λ (h : InHex). AreLinksOf hex h.links) (sym (in_hex_is laid hex)) (of_tile apart printed laid_links hex (tile_on laid.lays hex) (λ lay e. lies_there laid.lays hex lay e));
+      links = λ hex. subst (λ (h : InHex). AreLinksOf hex h.links) (sym (in_hex_is laid hex)) (of_tile printed laid_links hex (tile_on laid.lays hex) (λ lay e. lies_there laid.lays hex lay e));
       borders_pair = pair;
       values = worth values laid;
       gulf_is_red = ap (λ (s : AtStop). s.red) (shown laid (stop_at J2 First) gulf_is_stop) ∙ gulf_is_red;

@@ -1,3 +1,4 @@
+pub mod Same
 pub mod Positions
 pub mod Tokens
 pub mod Tiles
@@ -10,3 +11,5 @@ pub mod Fitting
 pub mod Growing
 pub mod FitLaws
 pub mod KeptHomes
+pub mod Stocked
+pub mod Examples

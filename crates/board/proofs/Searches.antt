@@ -1,16 +1,13 @@
 -- Searches through a list, one element after another, for one of which something holds.
-use Rattle.std.proofs.Common.{◌≡◌, ◌∙◌, ap, sym, subst, ℕ, ◌+◌, ◌<◌, ◌≤◌, inl, inr, true, false, ◌&&◌, ◌==◌, List, length, take, get_or, refl}
-use Rattle.std.proofs.lemmas.Bool.{and_parts, eq-eqb, eqb-true}
+use Rattle.std.proofs.Common.{◌≡◌, sym, subst, ℕ, ◌+◌, ◌<◌, ◌≤◌, inl, inr, true, false, List, length, take, get_or, refl}
 use Rattle.std.proofs.lemmas.List.{take_all}
 use Rattle.board.specs.Ground.{same_stop}
 use Rattle.board.specs.LayRules.{HaveStopIn}
+use Rattle.board.proofs.Same.{hex_is, hex_is_same, stop_is, stop_is_same}
 use Rattle.map_tables.specs.Hex.{same_hex}
-use Rattle.map_tables.specs.Laws.{HexesAreToldApart}
-use Rattle.map_tables.specs.Place.{stop_at, stop_index_of}
+use Rattle.map_tables.specs.Place.{stop_at}
 use Rattle.map_tables.specs.declared.hex.Hex.{Hex}
 use Rattle.map_tables.specs.declared.place.Stop.{Stop}
-use Rattle.map_tables.specs.declared.place.StopNumber.{StopNumber}
-use Rattle.reach.proofs.Hexes.{same_stop_index}
 use Rattle.reach.proofs.Lists.{among_at, among_next}
 use Rattle.reach.specs.Position.{IsAmong}
 
@@ -23,29 +20,16 @@ none_next P xs i d low none wrong x among holds =
 pub none_all : {A : Type 0} (P : A → Type 0) (xs : List A) (i : ℕ) → length xs ≤ i → ((x : A) → IsAmong x (take i xs) → P x → ⊥) → (x : A) → IsAmong x xs → P x → ⊥
 none_all P xs i over none x among holds = none x (subst (λ ys. IsAmong x ys) (sym (take_all i xs over)) among) holds
 
--- stops that pass for one are one
-pub same_stop_is : HexesAreToldApart → (a b : Stop) → same_stop a b ≡ true → a ≡ b
-same_stop_is apart a b same =
-    let parts = and_parts (same_hex a.hex b.hex) (stop_index_of a.number == stop_index_of b.number) same in
-    ap (λ (hex : Hex). stop_at hex a.number) ((apart a.hex b.hex).0 parts.0)
-    ∙ ap (λ (number : StopNumber). stop_at b.hex number) (same_stop_index a.number b.number (eqb-true (stop_index_of a.number) (stop_index_of b.number) parts.1))
-
--- and one passes for itself
-pub stop_is_same : HexesAreToldApart → (a b : Stop) → a ≡ b → same_stop a b ≡ true
-stop_is_same apart a b is =
-    ap (λ h. h && (stop_index_of a.number == stop_index_of b.number)) ((apart a.hex b.hex).1 (ap (λ (s : Stop). s.hex) is))
-    ∙ eq-eqb (stop_index_of a.number) (stop_index_of b.number) (ap (λ (s : Stop). stop_index_of s.number) is)
-
 -- a stop in the hex stands at an index
-pub hex_found : HexesAreToldApart → (stops : List Stop) (i : ℕ) (d : Stop) (hex : Hex) → i < length stops → same_hex (get_or stops i d).hex hex ≡ true → HaveStopIn hex stops
-hex_found apart stops i d hex low same =
+pub hex_found : (stops : List Stop) (i : ℕ) (d : Stop) (hex : Hex) → i < length stops → same_hex (get_or stops i d).hex hex ≡ true → HaveStopIn hex stops
+hex_found stops i d hex low same =
     let stop = get_or stops i d in
-    (stop.number, subst (λ (h : Hex). IsAmong (stop_at h stop.number) stops) ((apart stop.hex hex).0 same) (among_at stops i d low))
+    (stop.number, subst (λ (h : Hex). IsAmong (stop_at h stop.number) stops) (hex_is stop.hex hex same) (among_at stops i d low))
 
 -- the stop at an index is not in the hex, nor is one before it
-pub hex_next : HexesAreToldApart → (stops : List Stop) (i : ℕ) (d : Stop) (hex : Hex) → i < length stops → ((stop : Stop) → IsAmong stop (take i stops) → stop.hex ≡ hex → ⊥) → same_hex (get_or stops i d).hex hex ≡ false → (stop : Stop) → IsAmong stop (take (i + 1) stops) → stop.hex ≡ hex → ⊥
-hex_next apart stops i d hex low none other =
-    none_next (λ (stop : Stop). stop.hex ≡ hex) stops i d low none (λ is. let same : same_hex (get_or stops i d).hex hex ≡ true = (apart (get_or stops i d).hex hex).1 is in cc)
+pub hex_next : (stops : List Stop) (i : ℕ) (d : Stop) (hex : Hex) → i < length stops → ((stop : Stop) → IsAmong stop (take i stops) → stop.hex ≡ hex → ⊥) → same_hex (get_or stops i d).hex hex ≡ false → (stop : Stop) → IsAmong stop (take (i + 1) stops) → stop.hex ≡ hex → ⊥
+hex_next stops i d hex low none other =
+    none_next (λ (stop : Stop). stop.hex ≡ hex) stops i d low none (λ is. let same : same_hex (get_or stops i d).hex hex ≡ true = hex_is_same (get_or stops i d).hex hex is in cc)
 
 -- no stop is in the hex
 pub hex_none : (stops : List Stop) (i : ℕ) (hex : Hex) → length stops ≤ i → ((stop : Stop) → IsAmong stop (take i stops) → stop.hex ≡ hex → ⊥) → HaveStopIn hex stops → ⊥
@@ -53,11 +37,11 @@ hex_none stops i hex over none (number, among) =
     none_all (λ (stop : Stop). stop.hex ≡ hex) stops i over none (stop_at hex number) among refl
 
 -- the stop at an index is the one looked for
-pub stop_found : HexesAreToldApart → (stops : List Stop) (i : ℕ) (d stop : Stop) → i < length stops → same_stop (get_or stops i d) stop ≡ true → IsAmong stop stops
-stop_found apart stops i d stop low same =
-    subst (λ (s : Stop). IsAmong s stops) (same_stop_is apart (get_or stops i d) stop same) (among_at stops i d low)
+pub stop_found : (stops : List Stop) (i : ℕ) (d stop : Stop) → i < length stops → same_stop (get_or stops i d) stop ≡ true → IsAmong stop stops
+stop_found stops i d stop low same =
+    subst (λ (s : Stop). IsAmong s stops) (stop_is (get_or stops i d) stop same) (among_at stops i d low)
 
 -- it is not, nor is one before it
-pub stop_next : HexesAreToldApart → (stops : List Stop) (i : ℕ) (d stop : Stop) → i < length stops → ((one : Stop) → IsAmong one (take i stops) → one ≡ stop → ⊥) → same_stop (get_or stops i d) stop ≡ false → (one : Stop) → IsAmong one (take (i + 1) stops) → one ≡ stop → ⊥
-stop_next apart stops i d stop low none other =
-    none_next (λ (one : Stop). one ≡ stop) stops i d low none (λ is. let same : same_stop (get_or stops i d) stop ≡ true = stop_is_same apart (get_or stops i d) stop is in cc)
+pub stop_next : (stops : List Stop) (i : ℕ) (d stop : Stop) → i < length stops → ((one : Stop) → IsAmong one (take i stops) → one ≡ stop → ⊥) → same_stop (get_or stops i d) stop ≡ false → (one : Stop) → IsAmong one (take (i + 1) stops) → one ≡ stop → ⊥
+stop_next stops i d stop low none other =
+    none_next (λ (one : Stop). one ≡ stop) stops i d low none (λ is. let same : same_stop (get_or stops i d) stop ≡ true = stop_is_same (get_or stops i d) stop is in cc)

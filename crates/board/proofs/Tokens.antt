@@ -1,30 +1,15 @@
 -- The tokens at a stop.
-use Rattle.std.proofs.Common.{◌≡◌, ◌∙◌, ap, sym, refl, inl, inr, ◌⊎◌, Bool, true, false, ◌&&◌, ◌||◌, cond, List, [], ◌∷◌, length, map, get_or}
-use Rattle.std.proofs.lemmas.Bool.{eqb-true, eq-eqb}
+use Rattle.std.proofs.Common.{◌≡◌, ◌∙◌, ap, refl, inl, inr, ◌⊎◌, true, false, ◌&&◌, ◌||◌, cond, List, [], ◌∷◌, length, map}
 use Rattle.std.proofs.lemmas.List.{length-map}
 use Rattle.std.proofs.lemmas.List.Sums.{length-filter}
 use Rattle.std.specs.List.{count_by, filter}
 use Rattle.board.specs.Ground.{has_token, names, tokens_at}
+use Rattle.board.proofs.Same.{company_is, company_is_same, or_true}
 use Rattle.map_tables.specs.declared.place.Place.{Place}
 use Rattle.map_tables.specs.declared.place.Stop.{Stop}
 use Rattle.reach.specs.Position.{IsAmong}
-use Rattle.tables.specs.Roster.{companies, place_of_company, same_company}
+use Rattle.tables.specs.Roster.{same_company}
 use Rattle.tables.specs.declared.roster.Company.{Company}
-use Rattle.tables.specs.declared.roster.Company.TheVariants.{Pennsylvania}
-
--- a company stands at its place in the roster
-at_place : (company : Company) → get_or companies (place_of_company company) Pennsylvania ≡ company
-at_place Pennsylvania = refl
-at_place company = refl
-
--- companies with one place are one
-pub same_company_is : (a b : Company) → same_company a b ≡ true → a ≡ b
-same_company_is a b same =
-    sym (at_place a) ∙ ap (λ n. get_or companies n Pennsylvania) (eqb-true (place_of_company a) (place_of_company b) same) ∙ at_place b
-
--- and one has one place
-pub company_is_same : (a b : Company) → a ≡ b → same_company a b ≡ true
-company_is_same a b is = eq-eqb (place_of_company a) (place_of_company b) (ap place_of_company is)
 
 -- as many tokens lie at a stop as name it
 pub count_is : (tokens : List (Place × Company)) (stop : Stop) → length (tokens_at tokens stop) ≡ count_by (λ token. names stop token.0) tokens
@@ -37,16 +22,11 @@ among_is [] stop company has = cc
 among_is (token ∷ later) stop company has =
     (elim (names stop token.0) as (λ b. ((b && same_company token.1 company) || has_token later stop company) ≡ true → IsAmong company (map (λ (t : Place × Company). t.1) (cond b (token ∷ filter (λ (t : Place × Company). names stop t.0) later) (filter (λ (t : Place × Company). names stop t.0) later)))) [
       | true ↦ λ found. (elim (same_company token.1 company) as (λ s. same_company token.1 company ≡ s → (s || has_token later stop company) ≡ true → (token.1 ≡ company) ⊎ IsAmong company (tokens_at later stop)) [
-        | true ↦ λ is f. inl (same_company_is token.1 company is)
+        | true ↦ λ is f. inl (company_is token.1 company is)
         | false ↦ λ is f. inr (among_is later stop company f)
       ]) refl found
       | false ↦ λ found. among_is later stop company found
     ]) has
-
--- a test or true
-or_true : (b : Bool) → (b || true) ≡ true
-or_true true = refl
-or_true false = refl
 
 -- and the other way
 pub is_among : (tokens : List (Place × Company)) (stop : Stop) (company : Company) → IsAmong company (tokens_at tokens stop) → has_token tokens stop company ≡ true

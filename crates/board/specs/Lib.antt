@@ -4,3 +4,5 @@ pub mod Turn
 pub mod LayRules
 pub mod TokenRules
 pub mod Homes
+pub mod Stock
+pub mod Example

@@ -1,5 +1,7 @@
 //! Laws of the definitions, each the contract of a function that does nothing.
+ghost use Rattle.board.specs.Example.{WorkedExamples};
 ghost use Rattle.board.specs.Homes.{FitsWithoutHomes, HomeKeepsFit, LayKeepsFit, NothingFits, PhaseKeepsFit, TokenKeepsFit};
+ghost use Rattle.board.specs.Stock.{LayKeepsStock};
 
 /// Before anything is laid what lies fits: each home has a slot for its token.
 pub fn nothing_fits()
@@ -29,4 +31,15 @@ pub fn home_keeps_fit()
 /// A new phase keeps it so.
 pub fn phase_keeps_fit()
     ensures { PhaseKeepsFit }
+{}
+
+/// A lay by the rules leaves no more tiles of any number on the map than there are.
+pub fn lay_keeps_stock()
+    ensures { LayKeepsStock }
+{}
+
+/// Two small examples: a tile whose colour has not come, and then with its stops swapped; a token
+/// that is too dear by a dollar, and then placed.
+pub fn worked_examples()
+    ensures { WorkedExamples }
 {}

@@ -1,6 +1,6 @@
 ghost use Rattle.std.specs.Prelude.{◌≡◌, ◌⊎◌, ◌↔◌, ◌≤◌, ◌<◌, Err, None, IfOk, IsTrue, count_by};
 ghost use Rattle.std.specs.List.{list_any};
-ghost use Rattle.board.specs.Ground.{is_stop, position_of, tile_on, with_lay};
+ghost use Rattle.board.specs.Ground.{position_of, tile_on, with_lay};
 ghost use Rattle.board.specs.LayRules.{HaveStopIn, IsConnected, IsLayAnswer, ShareLink, ground_rules, is_blocked, is_colour_closed, is_kept, is_lay_used, is_none_left, is_tile, is_wrong_colour, lay_cost_of, loses_track, lying_of, place_of_colour};
 ghost use Rattle.map_tables.specs.Hex.{same_hex};
 ghost use Rattle.map_tables.specs.Laws.{link_order};
@@ -15,8 +15,8 @@ use crate::fault::LayFault;
 use crate::fit::{has_bad_side, is_open, is_wrong_kind};
 use crate::shown::same_hex;
 use map_tables::{
-    Colour, End, Hex, Lay, Link, Stop, TileNo, hex_kind, hexes_are_told_apart, hexes_stand_once,
-    laid_links, private_hexes, terrain_cost, tile,
+    Colour, End, Hex, Lay, Link, Stop, TileNo, hex_kind, hexes_stand_once, laid_links,
+    private_hexes, terrain_cost, tile,
 };
 use reach::{Reach, reached};
 use std::alloc::AllocError;
@@ -267,7 +267,6 @@ fn share_link(links: &[Link], reach: &Reach) -> bool
 fn have_stop_in(stops: &[Stop], hex: Hex) -> bool
     ensures { IsTrue result ↔ HaveStopIn hex stops.now }
 {
-    hexes_are_told_apart();
     for stop in stops {
         if same_hex(stop.hex, hex) {
             return true;

@@ -8,10 +8,12 @@
 //! and change nothing; `put_lay` and `put_token` lay it.
 //!
 //! The definitions, in `specs/`: `Ground` (what lies, and the position), `Fit` (what may lie at
-//! all), `LayRules` and `TokenRules` (each rule beside its code, in order).
+//! all), `LayRules` and `TokenRules` (each rule beside its code, in order), `Homes` and `Stock`
+//! (what the rules keep: a slot for each home token, and no more tiles than there are), and two
+//! small examples, `Example`.
 //!
 //! Reading order: `board`, `fault`, `fit` (what may lie at all), `shown` (what shows at a hex or a
-//! stop), `network` (the position that is kept), `asker`, `lay`, `token`.
+//! stop), `network` (the position that is kept), `asker`, `lay`, `token`, `laws`.
 #![tactic(auto)]
 
 mod asker;
@@ -28,6 +30,6 @@ pub use asker::{Asker, TurnStep};
 pub use board::Board;
 pub use fault::{BoardFault, LayFault, TokenFault};
 pub use laws::{
-    fits_without_homes, home_keeps_fit, lay_keeps_fit, nothing_fits, phase_keeps_fit,
-    token_keeps_fit,
+    fits_without_homes, home_keeps_fit, lay_keeps_fit, lay_keeps_stock, nothing_fits,
+    phase_keeps_fit, token_keeps_fit, worked_examples,
 };

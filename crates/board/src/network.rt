@@ -3,8 +3,8 @@ ghost use Rattle.board.specs.Ground.{position_of};
 use crate::board::Board;
 use crate::shown::{is_red, is_stop};
 use map_tables::{
-    Hex, Links, Stop, hex_kind, hexes_are_told_apart, joined_stop, laid_links_are_in_order,
-    neighbours_pair, printed_links_are_in_order, values_are_at_most_80,
+    Hex, Links, Stop, hex_kind, joined_stop, laid_links_are_in_order, neighbours_pair,
+    printed_links_are_in_order, values_are_at_most_80,
 };
 use reach::Network;
 use tables::{Amount, Company};
@@ -36,7 +36,6 @@ impl Network for Board {
     }
 
     fn keeps_laws(&self) {
-        hexes_are_told_apart();
         neighbours_pair();
         printed_links_are_in_order();
         laid_links_are_in_order();

@@ -1,8 +1,6 @@
-ghost use Rattle.std.specs.Prelude.{◌≡◌, ◌⊎◌, ◌↔◌, Err, None, Some, IfOk, IsTrue, count_by};
-ghost use Rattle.std.specs.List.{list_any};
+ghost use Rattle.std.specs.Prelude.{◌≡◌, ◌⊎◌, ◌↔◌, Err, None, Some, IfOk, IsTrue};
 ghost use Rattle.board.specs.Ground.{position_of};
 ghost use Rattle.board.specs.TokenRules.{IsReachedPlace, IsTokenAnswer, has_none_left, has_token_in, is_full_at, is_kept_for, is_no_free_slot, is_token_used, kept_at, laid_by, slot_rules, token_cost_of};
-ghost use Rattle.map_tables.specs.Place.{stop_of};
 ghost use Rattle.reach.specs.Position.{IsAmong};
 ghost use Rattle.tables.specs.Rules.{first_broken};
 
@@ -10,7 +8,7 @@ use crate::asker::{Asker, TurnStep};
 use crate::board::Board;
 use crate::fault::TokenFault;
 use crate::shown::{same_company, same_hex, same_stop};
-use map_tables::{Hex, Place, Stop, hexes_are_told_apart, home, joined_stop};
+use map_tables::{Hex, Place, Stop, home, joined_stop};
 use std::alloc::AllocError;
 use tables::{Amount, Company, Money, token_price, tokens};
 
@@ -153,7 +151,6 @@ fn is_token_used(asker: &Asker) -> bool
 fn is_among(stop: Stop, stops: &[Stop]) -> bool
     ensures { IsTrue result ↔ IsAmong stop stops.now }
 {
-    hexes_are_told_apart();
     for one in stops {
         if same_stop(*one, stop) {
             return true;

@@ -1,7 +1,7 @@
 mod RowLemmas
 mod Moves
 mod Transfers
-mod Presidents
+pub mod Presidents
 mod Counts
 mod NoteLemmas
 pub mod ByGame

@@ -7,7 +7,7 @@ use Rattle.tables.specs.Seat.{left_of, seats_from}
 use Rattle.tables.specs.declared.seat.Seat.{Seat}
 
 -- the first with most has no fewer than the one with which it is compared
-most_le : (tenths : Seat → ℤ) (best : Seat) (others : List Seat) → tenths best ≤ℤ tenths (with_most tenths best others)
+pub most_le : (tenths : Seat → ℤ) (best : Seat) (others : List Seat) → tenths best ≤ℤ tenths (with_most tenths best others)
 most_le tenths best [] = omega (arith, ints)
 most_le tenths best (seat ∷ others) =
     elim (lt_z (tenths best) (tenths seat)) as (λ (b : Bool). lt_z (tenths best) (tenths seat) ≡ b → tenths best ≤ℤ tenths (with_most tenths (if b then seat else best) others)) [

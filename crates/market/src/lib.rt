@@ -12,3 +12,4 @@ mod order;
 
 pub use laws::{floated_companies_in_order, moves_stay_on_chart};
 pub use moves::{down, fall, left, right, up};
+pub use order::{InOrder, operating_order};

@@ -87,8 +87,8 @@ fn push_of_private(out: &mut Vec<u8>, sheets: &Sheets, event: &Event) -> Result<
     }
 }
 
-/// Adds an event of a company's tenths as its line: a gift of them, a purchase, a sale, or that one of
-/// NYC is had for MH.
+/// Adds an event of a company's tenths as its line: a gift of them, a purchase, a sale, or that one
+/// of NYC is had for MH.
 fn push_of_tenths(out: &mut Vec<u8>, sheets: &Sheets, event: &Event) -> Result<(), AllocError>
     requires { IsOfTenths event.now }
     ensures { OnOk result (Adds out.old out.new (event_line sheets.now event.now)) }
@@ -143,8 +143,8 @@ fn push_exchanged(
     )
 }
 
-/// Adds an event of a company as its line: its par value, its president, its float, or where its token
-/// moves.
+/// Adds an event of a company as its line: its par value, its president, its float, or where its
+/// token moves.
 fn push_of_company(out: &mut Vec<u8>, sheets: &Sheets, event: &Event) -> Result<(), AllocError>
     requires { IsOfCompany event.now }
     ensures { OnOk result (Adds out.old out.new (event_line sheets.now event.now)) }
@@ -258,8 +258,8 @@ fn push_field(out: &mut Vec<u8>, sheets: &Sheets, field: &Field) -> Result<(), A
     }
 }
 
-/// Adds a square of the stock market: the letter of its row, and its column. A row that is none of the
-/// chart's has no letter.
+/// Adds a square of the stock market: the letter of its row, and its column. A row that is none of
+/// the chart's has no letter.
 fn push_square(out: &mut Vec<u8>, square: Square) -> Result<(), AllocError>
     ensures { OnOk result (Adds out.old out.new (text_of_square square)) }
 {

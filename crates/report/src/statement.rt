@@ -107,7 +107,8 @@ fn push_player(
     seat: Seat,
 ) -> Result<(), AllocError>
     requires { seat.0 < 6 }
-    ensures { OnOk result (Adds out.old out.new (player_line_at sheets.now standing.now.past seat)) }
+    ensures { OnOk result
+        (Adds out.old out.new (player_line_at sheets.now standing.now.past seat)) }
 {
     out.extend_from_slice(b"PLAYER ")?;
     push_left(out, name(sheets, seat), NAME_WIDTH)?;
@@ -252,7 +253,8 @@ fn push_tenths(
 #[tactic(auto, unfolding(crate::specs::Statement::counted_column))]
 fn push_counted(out: &mut Vec<u8>, standing: &Standing, seat: Seat) -> Result<(), AllocError>
     requires { seat.0 < 6 }
-    ensures { OnOk result (Adds out.old out.new (counted_column standing.now.past.events.now seat)) }
+    ensures { OnOk result
+        (Adds out.old out.new (counted_column standing.now.past.events.now seat)) }
 {
     push_right(out, certificates(standing, seat), COUNT_WIDTH)
 }

@@ -3,27 +3,34 @@
 use Rattle.std.proofs.Common.{◌≡◌, ℕ, zero, suc, ◌+◌, ◌<◌, true, List, length, refl, ap, inl, inr, arith}
 use Rattle.std.proofs.lemmas.Bool.{and_parts, cases_Bool}
 use Rattle.history.specs.LookBack.{Game}
-use Rattle.privates.specs.Opening.{EndsSoon}
+use Rattle.privates.specs.Opening as opening
 use Rattle.privates.specs.Turn.{all_sold}
 use Rattle.rounds.proofs.Forward.{fewer_places, places_left}
 use Rattle.rounds.specs.Play.{AreRounds, Between, IsPlayed, IsRound, Plays, SomeGame, all_posted, before_play, can_play, in_set_before, is_playable}
 use Rattle.rounds.specs.Sequence.{round_after}
 use Rattle.sheets.specs.File.{players_of}
 use Rattle.sheets.specs.Laws.{SheetsAreNumbered, ThreeToSixPlay}
+use Rattle.stock_round.specs.StockRound as stock
 use Rattle.tables.specs.declared.round.Round.{Round}
 use Rattle.tables.specs.declared.round.Round.TheVariants.{Opening, Stock, Operating}
 
 -- each opening round ends
-abbrev pub EachRoundEnds : Type 0
-EachRoundEnds = (file : List ℕ) (round : Round) (old : Game) → EndsSoon file round old
+abbrev pub EachOpeningEnds : Type 0
+EachOpeningEnds = (file : List ℕ) (round : Round) (old : Game) → opening.EndsSoon file round old
 
-module _ (ends : EachRoundEnds) (file : List ℕ) where
+-- so does each stock round
+abbrev pub EachStockRoundEnds : Type 0
+EachStockRoundEnds = (file : List ℕ) (round : Round) (old : Game) → stock.EndsSoon file round old
+
+module _ (opening_ends : EachOpeningEnds) (stock_ends : EachStockRoundEnds) (file : List ℕ) where
   -- a round that is played ends, with as many seats
   played_ends : (round : Round) (old : Game) → is_playable round ≡ true → (new : Game) × IsPlayed file round old new × (new.seats ≡ old.seats)
   played_ends (Opening number) old playable =
-      let played = ends file (Opening number) old in
+      let played = opening_ends file (Opening number) old in
       (played.new, played.played, ap (λ (game : Game). game.seats) played.played.after)
-  played_ends (Stock set) old playable = cc
+  played_ends (Stock set) old playable =
+      let played = stock_ends file (Stock set) old in
+      (played.new, played.played, ap (λ (game : Game). game.seats) played.played.after)
   played_ends (Operating set number) old playable = cc
 
   -- what can be played is played one round further, and then fewer places are left
@@ -50,7 +57,7 @@ module _ (ends : EachRoundEnds) (file : List ℕ) where
       ]
 
 -- a file that is not refused has a game
-pub some_game_accepted : SheetsAreNumbered → ThreeToSixPlay → EachRoundEnds → SomeGame
-some_game_accepted numbered players ends file accepted =
+pub some_game_accepted : SheetsAreNumbered → ThreeToSixPlay → EachOpeningEnds → EachStockRoundEnds → SomeGame
+some_game_accepted numbered players opening_ends stock_ends file accepted =
     let three = (players file accepted).0 in
-    plays_within ends file numbered (places_left (before_play file).next + 1) zero (before_play file) (omega arith) refl (omega arith)
+    plays_within opening_ends stock_ends file numbered (places_left (before_play file).next + 1) zero (before_play file) (omega arith) refl (omega arith)

@@ -2,7 +2,9 @@
 -- comes to an end.
 use Rattle.std.proofs.Common.{◌≡◌, ℕ, ◌+◌, ◌-◌, ◌<◌, ◌≤◌, Bool, true, false, ◌&&◌, nat_lt, if◌then◌else◌, List, length, is_some, refl, arith, rules}
 use Rattle.std.proofs.lemmas.Bool.{lt-ltb}
+use Rattle.history.specs.declared.event.Event.{Event}
 use Rattle.rounds.proofs.Posted.{posted_each}
+use Rattle.rounds.specs.Gifts.{GiftsWait}
 use Rattle.rounds.specs.Play.{all_posted, is_playable}
 use Rattle.rounds.specs.Sequence.{BankAloneEndsIt, SequenceGoesForward, ends_set, round_after, turn_in_set}
 use Rattle.rounds.specs.declared.following.Next.TheVariants as next
@@ -73,3 +75,15 @@ module _ (numbered : SheetsAreNumbered) (file : List ℕ) (round : Round) (in_se
       let within = before_the_last round small (played_turn round playable) in
       let forward = played_forward some playable posted in
       omega arith
+
+-- a round of a set asks nothing more
+in_either_set : (set number : ℕ) (more : Bool) (events : List Event) → GiftsWait (if more then Operating set (number + 1) else Stock (set + 1)) events
+in_either_set set number true events = tt
+in_either_set set number false events = tt
+
+-- what a round asks holds before the next, if it holds after the one that was played
+pub gifts_go_on : (round : Round) (in_set : ℕ) (all_sold : Bool) (events : List Event) → GiftsWait round events → GiftsWait (round_after round in_set all_sold) events
+gifts_go_on (Opening number) in_set true events waits = tt
+gifts_go_on (Opening number) in_set false events waits = waits
+gifts_go_on (Stock set) in_set all_sold events waits = tt
+gifts_go_on (Operating set number) in_set all_sold events waits = in_either_set set number (nat_lt number in_set) events

@@ -9,7 +9,9 @@ use Rattle.history.specs.declared.event.Event.{Event}
 use Rattle.history.specs.declared.event.Event.TheVariants as event
 use Rattle.privates.specs.Turn.{all_sold}
 use Rattle.rounds.proofs.Forward.{played_forward}
-use Rattle.rounds.proofs.Grows.{Grows, begun_in_both, opening_grows}
+use Rattle.rounds.proofs.Growing.{Grows, begun_in_both}
+use Rattle.rounds.proofs.OpeningGrows.{opening_grows}
+use Rattle.rounds.proofs.StockGrows.{stock_round_grows}
 use Rattle.rounds.specs.Begun.{AreInOrder, BeginWithRound, IsBeforeEach, RoundsFollowInOrder, rounds_begun}
 use Rattle.rounds.specs.Play.{AreRounds, Between, IsPlayed, IsRound, all_posted, before_play, is_playable}
 use Rattle.sheets.specs.File.{players_of}
@@ -66,7 +68,7 @@ module _ (file : List ℕ) where
   -- a round grows by its own ROUND event, and begins no other
   played_grows : (round : Round) (old new : Game) → IsPlayed file round old new → Grows (old.events ++ event.Round round ∷ []) new.events
   played_grows (Opening number) old new played = opening_grows file (Opening number) old new played
-  played_grows (Stock set) old new played = absurd played
+  played_grows (Stock set) old new played = stock_round_grows file (Stock set) old new played
   played_grows (Operating set number) old new played = absurd played
 
   module _ (numbered : SheetsAreNumbered) (some : 0 < length (players_of file)) where

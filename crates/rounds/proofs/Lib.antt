@@ -6,5 +6,8 @@ pub mod SameSheets
 pub mod Causal
 pub mod Arrival
 pub mod Example
-mod Grows
+pub mod StockExample
+mod Growing
+mod OpeningGrows
+mod StockGrows
 mod InOrder

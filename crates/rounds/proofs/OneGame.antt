@@ -6,6 +6,7 @@ use Rattle.privates.specs.Opening.{IsOpeningRound}
 use Rattle.privates.specs.Turn.{all_sold}
 use Rattle.rounds.specs.Play.{AreRounds, Between, IsPlayed, IsRound, OneGame, before_play, can_play, in_set_before}
 use Rattle.rounds.specs.Sequence.{round_after}
+use Rattle.stock_round.specs.StockRound.{IsStockRound}
 use Rattle.tables.specs.declared.round.Round.{Round}
 use Rattle.tables.specs.declared.round.Round.TheVariants.{Opening, Stock, Operating}
 
@@ -13,11 +14,15 @@ use Rattle.tables.specs.declared.round.Round.TheVariants.{Opening, Stock, Operat
 abbrev pub OneOpeningRound : Type 0
 OneOpeningRound = (file : List ℕ) (round : Round) (old a b : Game) → IsOpeningRound file round old a → IsOpeningRound file round old b → a ≡ b
 
-module _ (one_opening : OneOpeningRound) (file : List ℕ) where
+-- nor has a stock round a second
+abbrev pub OneStockRound : Type 0
+OneStockRound = (file : List ℕ) (round : Round) (old a b : Game) → IsStockRound file round old a → IsStockRound file round old b → a ≡ b
+
+module _ (one_opening : OneOpeningRound) (one_stock : OneStockRound) (file : List ℕ) where
   -- so has a round of each kind
   played_once : (round : Round) (old a b : Game) → IsPlayed file round old a → IsPlayed file round old b → a ≡ b
   played_once (Opening number) old a b first second = one_opening file (Opening number) old a b first second
-  played_once (Stock set) old a b first second = absurd first
+  played_once (Stock set) old a b first second = one_stock file (Stock set) old a b first second
   played_once (Operating set number) old a b first second = absurd first
 
   -- two games between rounds are the same if their parts are
@@ -56,12 +61,12 @@ module _ (one_opening : OneOpeningRound) (file : List ℕ) where
       true≢false (sym on.2 ∙ (ap (λ (m : Between). can_play file m.next) (sym same) ∙ stopped))
 
 -- a file has at most one game
-pub game_once : OneOpeningRound → OneGame
-game_once one_opening file a b first second =
+pub game_once : OneOpeningRound → OneStockRound → OneGame
+game_once one_opening one_stock file a b first second =
     elim (cases_order first.rounds second.rounds) [
-      | inl same ↦ rounds_once one_opening file second.rounds (before_play file) a b (subst (λ (m : ℕ). AreRounds file m (before_play file) a) same first.reached) second.reached
+      | inl same ↦ rounds_once one_opening one_stock file second.rounds (before_play file) a b (subst (λ (m : ℕ). AreRounds file m (before_play file) a) same first.reached) second.reached
       | inr apart ↦ elim apart [
-        | inl earlier ↦ absurd (not_more one_opening file first.rounds second.rounds (before_play file) a b first.reached first.stopped second.reached earlier)
-        | inr later ↦ absurd (not_more one_opening file second.rounds first.rounds (before_play file) b a second.reached second.stopped first.reached later)
+        | inl earlier ↦ absurd (not_more one_opening one_stock file first.rounds second.rounds (before_play file) a b first.reached first.stopped second.reached earlier)
+        | inr later ↦ absurd (not_more one_opening one_stock file second.rounds first.rounds (before_play file) b a second.reached second.stopped first.reached later)
       ]
     ]

@@ -11,6 +11,8 @@ use Rattle.privates.specs.Turn.{opening_turns}
 use Rattle.rounds.specs.Play.{Between, IsPlayed, IsRound, all_posted, before_play, can_play, is_playable, rounds_of_new_set}
 use Rattle.sheets.specs.File.{players_of, sheet_of}
 use Rattle.sheets.specs.Part.{Numbered, groups_of, parts_of}
+use Rattle.stock_round.specs.StockRound as stock
+use Rattle.stock_round.specs.Turn.{stock_turns}
 use Rattle.tables.specs.Seat.{seat_at}
 use Rattle.tables.specs.Turns.{InPlay, TurnsEnd}
 use Rattle.tables.specs.declared.round.Round.{Round}
@@ -49,10 +51,33 @@ module _ (first second : List ℕ) where
         after = played.after;
       }
 
+  -- the same sheets have the same standing lines in a stock round
+  same_stock_standing : (round : Round) (events : List Event) (seats : List ℕ) → SameFor round → stock.after_standing first round events seats ≡ stock.after_standing second round events seats
+  same_stock_standing round events [] same = refl
+  same_stock_standing round events (seat ∷ seats) same =
+      ap (λ (sheet : Option (List (List ℕ))). stock.after_standing first round (stock.after_standing_lines (seat_at seat) events (parts_of round (unwrap_or sheet [])).before) seats) (same seat)
+      ∙ same_stock_standing round (stock.after_standing_of second round events seat) seats same
+
+  -- so they open it the same way
+  same_stock_opened : (seats : ℕ) (round : Round) (events : List Event) → SameFor round → stock.opened seats first round events ≡ stock.opened seats second round events
+  same_stock_opened seats round events same =
+      let standing = same_stock_standing round (events ++ event.Round round ∷ []) (range_with_len 0 seats) same in
+      let groups = same_groups seats round same in
+      λ i. in_play (standing i) (priority_of seats events).0 0 (groups i)
+
+  -- a stock round is played alike
+  same_stock_round : (round : Round) (old new : Game) → SameFor round → stock.IsStockRound first round old new → stock.IsStockRound second round old new
+  same_stock_round round old new same played =
+      record {
+        last = played.last;
+        turns = subst (λ (play : InPlay (List Event) Numbered). TurnsEnd (stock_turns old.seats) play played.last) (same_stock_opened old.seats round old.events same) played.turns;
+        after = played.after;
+      }
+
   -- so is a round of each kind
   same_played : (round : Round) (old new : Game) → SameFor round → IsPlayed first round old new → IsPlayed second round old new
   same_played (Opening number) old new same played = same_opening (Opening number) old new same played
-  same_played (Stock set) old new same played = absurd played
+  same_played (Stock set) old new same played = same_stock_round (Stock set) old new same played
   same_played (Operating set number) old new same played = absurd played
 
   -- the same sheets are all posted, or not, in both files

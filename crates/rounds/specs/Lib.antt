@@ -1,4 +1,5 @@
 pub mod Sequence
+pub mod Gifts
 pub mod Play
 pub mod Example
 pub mod Causality

@@ -1,6 +1,6 @@
 -- The one game of a file: whole rounds in their sequence, each with a sheet of every seat, until a seat
--- has none for the next round, or that is of a kind that is not played yet. Of the three kinds, the
--- opening rounds are played; so no set ends, and nothing but an awaited round ends a game.
+-- has none for the next round, or that is of a kind that is not played yet. Opening and stock rounds are
+-- played, and operating rounds are not; so no set ends, and nothing but an awaited round ends a game.
 use Rattle.std.specs.Prelude.{◌≡◌, ℕ, zero, suc, Bool, true, false, ◌&&◌, List, [], length, is_some}
 use Rattle.std.specs.List.{list_all, range_with_len}
 use Rattle.history.specs.LookBack.{Game}
@@ -10,6 +10,7 @@ use Rattle.rounds.specs.Sequence.{round_after}
 use Rattle.rounds.specs.declared.game.End.{End}
 use Rattle.rounds.specs.declared.game.End.TheVariants.{Awaiting}
 use Rattle.sheets.specs.File.{IsAccepted, sheet_of, players_of}
+use Rattle.stock_round.specs.StockRound.{IsStockRound}
 use Rattle.tables.specs.Train.{rounds_in_set_of}
 use Rattle.tables.specs.declared.rolling_stock.Kind.TheVariants.{Two}
 use Rattle.tables.specs.declared.round.Round.{Round}
@@ -48,7 +49,8 @@ all_posted file round = list_all (λ seat. is_some (sheet_of file seat round)) (
 -- rounds of this kind are played
 abbrev pub is_playable : Round → Bool
 is_playable (Opening number) = true
-is_playable other = false
+is_playable (Stock set) = true
+is_playable (Operating set number) = false
 
 -- the round can be played: it is of a kind that is, and has all its sheets
 abbrev pub can_play : List ℕ → Round → Bool
@@ -57,7 +59,7 @@ can_play file round = is_playable round && all_posted file round
 -- the round was played, by its kind
 abbrev pub IsPlayed : List ℕ → Round → Game → Game → Type 0
 IsPlayed file (Opening number) old new = IsOpeningRound file (Opening number) old new
-IsPlayed file (Stock set) old new = ⊥
+IsPlayed file (Stock set) old new = IsStockRound file (Stock set) old new
 IsPlayed file (Operating set number) old new = ⊥
 
 -- one round was played between them

@@ -1,6 +1,6 @@
 ghost use Rattle.std.specs.Prelude.{◌≡◌, true, IfOk, length};
 ghost use Rattle.history.specs.Sound.{IsSound};
-ghost use Rattle.privates.specs.Underway.{BaltimoreWaits, PennsylvaniaWaits};
+ghost use Rattle.rounds.specs.Gifts.{GiftsWait};
 ghost use Rattle.rounds.specs.Play.{IsPlayed, IsTheGame, all_posted, can_play as may_be_played, in_set_before as set_before, is_playable as is_of_played_kind, rounds_of_new_set};
 ghost use Rattle.sheets.specs.File.{players_of};
 
@@ -10,6 +10,7 @@ use privates::play_opening;
 use sheets::{Sheets, sheets_are_numbered};
 use std::alloc::{AllocError, Global};
 use std::marker::Model;
+use stock_round::play_stock;
 use tables::{Kind, Round, Seat, rounds_in_set};
 
 /// Why play stopped.
@@ -89,21 +90,23 @@ pub fn play<'a>(alloc: Global, sheets: &'a Sheets<'a>) -> Result<Game<'a>, Alloc
     })
 }
 
-/// Plays a round of a kind that is played, by its kind: as yet an opening round. An `Err` comes
+/// Plays a round of a kind that is played, by its kind: an opening or a stock round. An `Err` comes
 /// from want of memory alone, and the game is dropped.
 fn play_round(history: History, sheets: &Sheets, round: Round) -> Result<History, AllocError>
     requires sound { IsSound history }
     requires seats { history.seats ≡ length (players_of sheets.now) }
-    requires pennsylvania { PennsylvaniaWaits history.events }
-    requires baltimore { BaltimoreWaits history.events }
+    requires gifts { GiftsWait round history.events }
     requires playable { is_of_played_kind round ≡ true }
     ensures round { IfOk result (IsPlayed sheets.now round history) }
     ensures seats { IfOk result (λ new. new.seats ≡ history.seats) }
     ensures sound { IfOk result IsSound }
-    ensures pennsylvania { IfOk result (λ new. PennsylvaniaWaits new.events) }
-    ensures baltimore { IfOk result (λ new. BaltimoreWaits new.events) }
+    ensures gifts { IfOk result (λ new. GiftsWait round new.events) }
 {
-    play_opening(history, sheets, round)
+    match round {
+        Round::Opening(_) => play_opening(history, sheets, round),
+        Round::Stock(_) => play_stock(history, sheets, round),
+        Round::Operating { .. } => unreachable!(),
+    }
 }
 
 /// How many operating rounds a set has that begins now: in the first phase, since no train has been
@@ -136,7 +139,7 @@ fn can_play(sheets: &Sheets, round: Round) -> bool
 fn is_playable(round: Round) -> bool
     ensures { result ≡ is_of_played_kind round }
 {
-    matches!(round, Round::Opening(_))
+    matches!(round, Round::Opening(_) | Round::Stock(_))
 }
 
 /// Whether every seat has a sheet for a round.

@@ -3,7 +3,7 @@ ghost use Rattle.std.specs.Prelude.{◌≡◌, [], Err};
 ghost use Rattle.rounds.specs.Arrival.{ArrivalChangesNoGame};
 ghost use Rattle.rounds.specs.Begun.{RoundsFollowInOrder};
 ghost use Rattle.rounds.specs.Causality.{LaterSheetsChangeNothing};
-ghost use Rattle.rounds.specs.Example.{first_end, first_file};
+ghost use Rattle.rounds.specs.Example.{first_end, first_file, second_end, second_file};
 ghost use Rattle.rounds.specs.Play.{OneGame, Plays, SomeGame};
 ghost use Rattle.rounds.specs.Sequence.{BankAloneEndsIt, SequenceGoesForward};
 ghost use Rattle.sheets.specs.File.{content_of};
@@ -11,12 +11,14 @@ ghost use Rattle.sheets.specs.declared.fault.FileFault.TheVariants.{Header};
 
 use privates::{one_opening_round, opening_round_ends};
 use sheets::{arrival_changes_nothing, sheets_are_numbered, three_to_six_play};
+use stock_round::{one_stock_round, stock_round_ends};
 
 /// A file has at most one game.
 pub fn one_game()
     ensures { OneGame }
 {
-    one_opening_round()
+    one_opening_round();
+    one_stock_round()
 }
 
 /// Each file that is not refused has a game: each of its rounds comes to an end, and so does their
@@ -26,7 +28,8 @@ pub fn some_game()
 {
     sheets_are_numbered();
     three_to_six_play();
-    opening_round_ends()
+    opening_round_ends();
+    stock_round_ends()
 }
 
 /// The round that follows a round comes later in the order of all rounds.
@@ -69,6 +72,11 @@ pub fn later_sheets_change_nothing()
 /// them.
 pub fn first_example()
     ensures { Plays first_file first_end }
+{}
+
+/// The definitions play the second small file as its events say, through a stock round.
+pub fn second_example()
+    ensures { Plays second_file second_end }
 {}
 
 /// An empty file is refused for its header: computed from the definitions.

@@ -5,11 +5,11 @@ use Rattle.board.proofs.lay.have_stop_in.Goals as goal
 
 pub returns-then-same_hex : goal.returns-then-same_hex
 returns-then-same_hex c =
-    (λ t. hex_found c.hexes_are_told_apart.ensures _ _ _ _ c.loop-stop-test.true (sym c.same_hex.ensures ∙ c.if-same_hex.true), λ has. refl)
+    (λ t. hex_found _ _ _ _ c.loop-stop-test.true (sym c.same_hex.ensures ∙ c.if-same_hex.true), λ has. refl)
 
 pub loop-stop-preserved : goal.loop-stop-preserved
 loop-stop-preserved c =
-    hex_next c.hexes_are_told_apart.ensures _ _ _ _ c.loop-stop-test.true c.loop-stop.invariant (sym c.same_hex.ensures ∙ c.if-same_hex.false)
+    hex_next _ _ _ _ c.loop-stop-test.true c.loop-stop.invariant (sym c.same_hex.ensures ∙ c.if-same_hex.false)
 
 pub returns : goal.returns
 returns c = (

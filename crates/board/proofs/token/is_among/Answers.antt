@@ -6,11 +6,11 @@ use Rattle.board.proofs.token.is_among.Goals as goal
 
 pub returns-then-same_stop : goal.returns-then-same_stop
 returns-then-same_stop c =
-    (λ t. stop_found c.hexes_are_told_apart.ensures _ _ _ _ c.loop-one-test.true (sym c.same_stop.ensures ∙ c.if-same_stop.true), λ among. refl)
+    (λ t. stop_found _ _ _ _ c.loop-one-test.true (sym c.same_stop.ensures ∙ c.if-same_stop.true), λ among. refl)
 
 pub loop-one-preserved : goal.loop-one-preserved
 loop-one-preserved c =
-    stop_next c.hexes_are_told_apart.ensures _ _ _ _ c.loop-one-test.true c.loop-one.invariant (sym c.same_stop.ensures ∙ c.if-same_stop.false)
+    stop_next _ _ _ _ c.loop-one-test.true c.loop-one.invariant (sym c.same_stop.ensures ∙ c.if-same_stop.false)
 
 pub returns : goal.returns
 returns c = (

@@ -2,8 +2,9 @@ use Rattle.std.proofs.Common.{◌≡◌, ◌<◌, Bool, suc, true, is_none, leng
 use Rattle.std.proofs.lemmas.Bool.{and_parts}
 use Rattle.history.specs.LookBack.{cheapest_of}
 use Rattle.privates.specs.Turn.{all_sold}
-use Rattle.rounds.proofs.Forward.{fewer_places, places_left, posted_small}
+use Rattle.rounds.proofs.Forward.{fewer_places, gifts_go_on, places_left, posted_small}
 use Rattle.rounds.proofs.Posted.{missing_from}
+use Rattle.rounds.specs.Gifts.{GiftsWait}
 use Rattle.rounds.specs.Play.{all_posted, can_play, is_playable}
 use Rattle.rounds.specs.Sequence.{round_after}
 use Rattle.sheets.specs.File.{players_of}
@@ -42,7 +43,8 @@ loop-history-preserved c =
         },
       );
       sound = c.in_ok-history.ensures.sound;
-      pennsylvania = c.in_ok-history.ensures.pennsylvania;
-      baltimore = c.in_ok-history.ensures.baltimore;
+      gifts =
+          subst (λ (next : Round). GiftsWait next c.in_ok-history.history.events) (sym c.round_after-upcoming.ensures)
+          (gifts_go_on c.loop-history.upcoming c.loop-history.in_set c.is_none-all_sold.result c.in_ok-history.history.events c.in_ok-history.ensures.gifts);
       seats = c.in_ok-history.ensures.seats ∙ c.loop-history.invariant.seats;
     }

@@ -1,20 +1,19 @@
 use Rattle.std.proofs.Common.{◌≡◌, ℕ, length}
 use Rattle.history.specs.Sound.{IsSound}
-use Rattle.privates.specs.Underway.{BaltimoreWaits, PennsylvaniaWaits}
+use Rattle.rounds.specs.Gifts.{GiftsWait}
 use Rattle.rounds.specs.Play.{AreRounds, before_play}
 use Rattle.rounds.proofs.Forward.{places_left}
 use Rattle.sheets.specs.File.{players_of}
 use Rattle.rounds.proofs.game.play.Given as goal
 
--- some rounds have led here, and the list is a sound one of the file's players, where PRR and BO wait for
--- their privates
+-- some rounds have led here, and the list is a sound one of the file's players, of which the next round can be
+-- played
 abbrev pub invariant-loop-history : goal.invariant-loop-history
 invariant-loop-history l = record {
   rounds : ℕ;
   reached : AreRounds l.sheets rounds (before_play l.sheets) (record { game = l.history; in_set = l.in_set; next = l.upcoming });
   sound : IsSound l.history;
-  pennsylvania : PennsylvaniaWaits l.history.events;
-  baltimore : BaltimoreWaits l.history.events;
+  gifts : GiftsWait l.upcoming l.history.events;
   seats : l.history.seats ≡ length (players_of l.sheets);
 }
 

@@ -1,11 +1,9 @@
 -- Within an opening round the list of events grows, and no event begins another round.
-use Rattle.std.proofs.Common.{◌≡◌, ℕ, zero, suc, ◌+◌, ◌-◌, ◌==◌, Bool, true, false, if◌then◌else◌, List, [], ◌∷◌, ◌++◌, Option, Some, None, refl, sym, ap, subst, ◌∙◌}
+use Rattle.std.proofs.Common.{◌≡◌, ℕ, ◌+◌, ◌-◌, ◌==◌, false, List, [], ◌∷◌, ◌++◌, Option, Some, None, refl, sym, subst}
 use Rattle.std.specs.List.{range_with_len}
-use Rattle.std.proofs.lemmas.List.{append_assoc, append-nil}
+use Rattle.std.proofs.lemmas.List.{append_assoc}
 use Rattle.history.specs.Bids.{bids_on}
-use Rattle.history.specs.Event.{round_of}
 use Rattle.history.specs.LookBack.{Game, cheapest_of, is_sold, owner_of, priority_of, sv_price_of}
-use Rattle.history.specs.Tell.{breaks}
 use Rattle.history.specs.declared.event.Bid.{Bid}
 use Rattle.history.specs.declared.event.Event.{Event}
 use Rattle.history.specs.declared.event.Event.TheVariants as event
@@ -19,57 +17,17 @@ use Rattle.privates.specs.Opening.{IsOpeningRound, after_fall, after_passing, af
 use Rattle.privates.specs.Sale.{after_sale, gifts, settle, settled, settled_by, settled_of}
 use Rattle.privates.specs.Standing.{after_standing, after_standing_line, after_standing_lines, after_standing_of}
 use Rattle.privates.specs.Turn.{InTurn, after_act, after_line, after_lines, after_obeyed, all_sold, opening_turns}
-use Rattle.rounds.specs.Begun.{rounds_begun, with_round}
+use Rattle.rounds.proofs.Growing.{Grows, broken_grows, by_steps, by_turns, further, in_either, quiet_count, stays, told}
+use Rattle.rounds.specs.Begun.{rounds_begun}
 use Rattle.sheets.specs.Part.{Numbered, lines_in_groups, parts_for}
 use Rattle.tables.specs.Roster.{privates, revenue_of}
 use Rattle.tables.specs.Seat.{seat_at}
 use Rattle.tables.specs.Steps.{iterate}
-use Rattle.tables.specs.Turns.{InPlay, after_turn, groups_at, next_group}
+use Rattle.tables.specs.Turns.{InPlay, after_turn}
 use Rattle.tables.specs.declared.roster.Private.{Private}
 use Rattle.tables.specs.declared.roster.Private.TheVariants as private
 use Rattle.tables.specs.declared.round.Round.{Round}
 use Rattle.tables.specs.declared.seat.Seat.{Seat}
-
--- the list grows, and nothing that is new begins a round
-pub record Grows (old new : List Event) : Type 0 where
-  pub more : List Event
-  pub longer : new ≡ old ++ more
-  pub quiet : rounds_begun more ≡ []
-
--- a list that stays as it is
-stays : (events : List Event) → Grows events events
-stays events = record { more = []; longer = sym (append-nil events); quiet = refl }
-
--- a round in front of rounds of two lists
-round_in_front : (round : Option Round) (front back : List Round) → with_round round (front ++ back) ≡ with_round round front ++ back
-round_in_front None front back = refl
-round_in_front (Some round) front back = refl
-
--- rounds of one list after those of another
-pub begun_in_both : (front back : List Event) → rounds_begun (front ++ back) ≡ rounds_begun front ++ rounds_begun back
-begun_in_both [] back = refl
-begun_in_both (event ∷ front) back =
-    ap (with_round (round_of event)) (begun_in_both front back) ∙ round_in_front (round_of event) (rounds_begun front) (rounds_begun back)
-
--- it grows further
-further : (a b c : List Event) → Grows a b → Grows b c → Grows a c
-further a b c first second =
-    record {
-      more = first.more ++ second.more;
-      longer = second.longer ∙ ap (λ (list : List Event). list ++ second.more) first.longer ∙ append_assoc a first.more second.more;
-      quiet = begun_in_both first.more second.more ∙ ap (λ (list : List Round). list ++ rounds_begun second.more) first.quiet ∙ second.quiet;
-    }
-
--- by each of two cases
-in_either : (old one other : List Event) (b : Bool) → Grows old one → Grows old other → Grows old (if b then one else other)
-in_either old one other true first second = first
-in_either old one other false first second = second
-
--- by each step
-by_steps : (step : List Event → List Event) → ((events : List Event) → Grows events (step events)) → (n : ℕ) (events : List Event) → Grows events (iterate step n events)
-by_steps step each zero events = stays events
-by_steps step each (suc n) events =
-    further events (iterate step n events) (step (iterate step n events)) (by_steps step each n events) (each (iterate step n events))
 
 -- by standing lines
 standing_lines_grow : (seat : Seat) (events : List Event) (lines : List Numbered) → Grows events (after_standing_lines seat events lines)
@@ -79,7 +37,7 @@ standing_lines_grow seat events (line ∷ lines) =
     (standing_lines_grow seat (after_standing_line seat events line) lines)
 
 -- by those of each seat
-pub standing_grows : (file : List ℕ) (round : Round) (events : List Event) (seats : List ℕ) → Grows events (after_standing file round events seats)
+standing_grows : (file : List ℕ) (round : Round) (events : List Event) (seats : List ℕ) → Grows events (after_standing file round events seats)
 standing_grows file round events [] = stays events
 standing_grows file round events (seat ∷ seats) =
     further events (after_standing_of file round events seat) _
@@ -141,25 +99,17 @@ lines_grow seats seat turn (line ∷ lines) =
     (further turn.state told next.state (record { more = _; longer = refl; quiet = refl }) (ruling_grows seats seat told ruled))
     (lines_grow seats seat next lines)
 
--- by turns
-pub turns_grow : (seats n : ℕ) (start : InPlay (List Event) Numbered) → Grows start.now (iterate (after_turn (opening_turns seats)) n start).now
-turns_grow seats zero start = stays start.now
-turns_grow seats (suc n) start =
-    let at : InPlay (List Event) Numbered = iterate (after_turn (opening_turns seats)) n start in
-    let lines : List Numbered = next_group (groups_at at.groups at.seat) in
-    let turned : InTurn = after_lines seats (seat_at at.seat) (record { state = at.now; acted = false }) lines in
-    let acts : Grows at.now turned.state = lines_grow seats (seat_at at.seat) (record { state = at.now; acted = false }) lines in
-    further start.now at.now _ (turns_grow seats n start)
-    (in_either at.now turned.state (turned.state ++ event.Passes (seat_at at.seat) ∷ []) turned.acted acts
-    (further at.now turned.state _ acts (record { more = _; longer = refl; quiet = refl })))
+-- by the lines of a turn and by passes
+turns_grow : (seats n : ℕ) (start : InPlay (List Event) Numbered) → Grows start.now (iterate (after_turn (opening_turns seats)) n start).now
+turns_grow seats n start =
+    by_turns (opening_turns seats) (λ seat lines events. lines_grow seats seat (record { state = events; acted = false }) lines) (λ seat events. told events (event.Passes seat) refl) n start
 
 -- by a revenue
 owner_grows : (seats : ℕ) (events : List Event) (private : Private) (owner : Option Holder) → Grows events (paid_to_owner seats events private owner)
 owner_grows seats events private None = stays events
 owner_grows seats events private (Some owner) =
     let paid : List Event = events ++ event.Revenue private owner (revenue_of private) ∷ [] in
-    further events paid _ (record { more = _; longer = refl; quiet = refl })
-    (in_either paid (paid ++ event.Broken ∷ []) paid (breaks seats paid) (record { more = _; longer = refl; quiet = refl }) (stays paid))
+    further events paid _ (told events (event.Revenue private owner (revenue_of private)) refl) (broken_grows seats paid)
 
 -- by the revenues of some privates
 revenues_grow : (seats : ℕ) (events : List Event) (paying : List Private) → Grows events (after_revenues seats events paying)
@@ -177,15 +127,10 @@ fall_grows seats events price holder =
     (record { more = _; longer = refl; quiet = refl })
 
 -- by the close
-pub close_grows : (seats : ℕ) (events : List Event) → Grows events (closed seats events)
+close_grows : (seats : ℕ) (events : List Event) → Grows events (closed seats events)
 close_grows seats events =
     in_either events events (after_passing seats events) (all_sold events) (stays events)
     (in_either events (after_revenues seats events privates) (after_fall seats events (sv_price_of events - 5) (priority_of seats events)) (is_sold events private.SchuylkillValley) (revenues_grow seats events privates) (fall_grows seats events (sv_price_of events - 5) (priority_of seats events)))
-
--- a count of lines that were left begins no round
-quiet_count : (seat : Seat) (count : ℕ) (none : Bool) (events : List Event) → rounds_begun events ≡ [] → rounds_begun (if none then events else event.Left seat count ∷ events) ≡ []
-quiet_count seat count true events quiet = quiet
-quiet_count seat count false events quiet = quiet
 
 -- nor do those of each seat
 quiet_left : (seat : ℕ) (groups : List (List (List Numbered))) → rounds_begun (left_from seat groups) ≡ []

@@ -1,0 +1,166 @@
+-- Within a stock round the list of events grows, and no event begins another round.
+use Rattle.std.proofs.Common.{◌≡◌, ℕ, ◌+◌, ◌*◌, ◌==◌, List, [], ◌∷◌, ◌++◌, Option, Some, None, refl, sym, subst}
+use Rattle.std.specs.Prelude.{unwrap_or}
+use Rattle.std.specs.List.{range_with_len}
+use Rattle.certs.specs.Purchase.{market_price_of}
+use Rattle.history.specs.LookBack.{Game}
+use Rattle.history.specs.Shares.{par_of, president_of, square_of}
+use Rattle.history.specs.declared.event.Event.{Event}
+use Rattle.history.specs.declared.event.Event.TheVariants as event
+use Rattle.history.specs.declared.ruling.Ruling.{Ruling}
+use Rattle.history.specs.declared.ruling.Ruling.TheVariants as ruling
+use Rattle.market.specs.Moves.{fallen, up_of}
+use Rattle.market.specs.OperatingOrder.{operating_order_of}
+use Rattle.order_grammar.specs.declared.order.Order.{Order}
+use Rattle.order_grammar.specs.declared.order.Order.TheVariants as order
+use Rattle.order_grammar.specs.declared.order.ShareSource.{ShareSource}
+use Rattle.rounds.proofs.Growing.{Grows, broken_grows, by_turns, further, in_either, quiet_count, stays, told}
+use Rattle.rounds.specs.Begun.{rounds_begun}
+use Rattle.sheets.specs.Part.{Numbered, lines_in_groups, parts_for}
+use Rattle.stock_round.specs.Act.{after_act, after_exchange, after_purchase, after_sale, bought, exchanged, floated_at, is_to_float, moved_from, same_square, sold, successor_of, with_float, with_president, with_successor}
+use Rattle.stock_round.specs.Judgement.{exchange_source, ruling_of}
+use Rattle.stock_round.specs.StockRound.{IsStockRound, after_standing, after_standing_line, after_standing_lines, after_standing_of, all_risen, closed, finished, is_sold_out, left_from, opened, risen}
+use Rattle.stock_round.specs.Turn.{InTurn, after_line, after_lines, after_obeyed, in_turn, no_deals, stock_turns}
+use Rattle.tables.specs.Seat.{seat_at}
+use Rattle.tables.specs.Steps.{iterate}
+use Rattle.tables.specs.Turns.{InPlay, after_turn}
+use Rattle.tables.specs.declared.roster.Company.{Company}
+use Rattle.tables.specs.declared.roster.Company.TheVariants.{NewYorkCentral}
+use Rattle.tables.specs.declared.round.Round.{Round}
+use Rattle.tables.specs.declared.seat.Seat.{Seat}
+use Rattle.tables.specs.declared.squares.Square.{Square}
+
+-- by standing lines
+standing_lines_grow : (seat : Seat) (events : List Event) (lines : List Numbered) → Grows events (after_standing_lines seat events lines)
+standing_lines_grow seat events [] = stays events
+standing_lines_grow seat events (line ∷ lines) =
+    further events (after_standing_line seat events line) _ (record { more = _; longer = refl; quiet = refl })
+    (standing_lines_grow seat (after_standing_line seat events line) lines)
+
+-- by those of each seat
+standing_grows : (file : List ℕ) (round : Round) (events : List Event) (seats : List ℕ) → Grows events (after_standing file round events seats)
+standing_grows file round events [] = stays events
+standing_grows file round events (seat ∷ seats) =
+    further events (after_standing_of file round events seat) _
+    (standing_lines_grow (seat_at seat) events (parts_for file round seat).before)
+    (standing_grows file round (after_standing_of file round events seat) seats)
+
+-- by the presidency of a company, where it moves from this seat, if any has it
+successor_grows : (seats : ℕ) (events : List Event) (company : Company) (old : Option Seat) → Grows events (with_successor seats events company old)
+successor_grows seats events company None = stays events
+successor_grows seats events company (Some old) =
+    let new : Seat = successor_of seats events company old in
+    in_either events events (events ++ event.President company new ∷ []) (new.0 == old.0) (stays events)
+    (told events (event.President company new) refl)
+
+-- by a presidency that moves
+president_grows : (seats : ℕ) (events : List Event) (company : Company) → Grows events (with_president seats events company)
+president_grows seats events company = successor_grows seats events company (president_of events company)
+
+-- by the float of a company with this par value
+floated_grows : (seats : ℕ) (events : List Event) (company : Company) (par : ℕ) → Grows events (floated_at seats events company par)
+floated_grows seats events company par =
+    further events (events ++ event.Floats company (10 * par) ∷ []) _ (told events (event.Floats company (10 * par)) refl)
+    (broken_grows seats (events ++ event.Floats company (10 * par) ∷ []))
+
+-- by a float
+float_grows : (seats : ℕ) (events : List Event) (company : Company) → Grows events (with_float seats events company)
+float_grows seats events company =
+    in_either events (floated_at seats events company (unwrap_or (par_of events company) 0)) events (is_to_float events company)
+    (floated_grows seats events company (unwrap_or (par_of events company) 0)) (stays events)
+
+-- by the move of a token from this square, if it is on one
+token_grows : (move : Square → Square) (events : List Event) (company : Company) (square : Option Square) → Grows events (moved_from move events company square)
+token_grows move events company None = stays events
+token_grows move events company (Some square) =
+    in_either events events (events ++ event.Moves company (move square) ∷ []) (same_square (move square) square) (stays events)
+    (told events (event.Moves company (move square)) refl)
+
+-- by a purchase
+purchase_grows : (seats : ℕ) (events : List Event) (seat : Seat) (company : Company) (from : ShareSource) → Grows events (after_purchase seats events seat company from)
+purchase_grows seats events seat company from =
+    let paid : List Event = bought events seat company from in
+    let presided : List Event = with_president seats paid company in
+    further events paid _ (record { more = _; longer = refl; quiet = refl })
+    (further paid presided _ (president_grows seats paid company) (float_grows seats presided company))
+
+-- by a sale
+sale_grows : (seats : ℕ) (events : List Event) (seat : Seat) (company : Company) (tenths : ℕ) → Grows events (after_sale seats events seat company tenths)
+sale_grows seats events seat company tenths =
+    let told_so : List Event = events ++ event.Sells company seat tenths (tenths * market_price_of events company) ∷ [] in
+    let paid : List Event = sold seats events seat company tenths in
+    let presided : List Event = with_president seats paid company in
+    further events told_so _ (record { more = _; longer = refl; quiet = refl })
+    (further told_so paid _ (broken_grows seats told_so)
+    (further paid presided _ (president_grows seats paid company) (token_grows (fallen tenths) presided company (square_of presided company))))
+
+-- by an exchange
+exchange_grows : (seats : ℕ) (events : List Event) (seat : Seat) → Grows events (after_exchange seats events seat)
+exchange_grows seats events seat =
+    let done : List Event = exchanged events seat in
+    let presided : List Event = with_president seats done NewYorkCentral in
+    further events done _ (told events (event.Exchanged seat (exchange_source events)) refl)
+    (further done presided _ (president_grows seats done NewYorkCentral) (float_grows seats presided NewYorkCentral))
+
+-- by an order that was obeyed
+act_grows : (seats : ℕ) (seat : Seat) (events : List Event) (done : Order) → Grows events (after_act seats seat events done)
+act_grows seats seat events (order.Par company price) = record { more = _; longer = refl; quiet = refl }
+act_grows seats seat events (order.BuyShare company from) = purchase_grows seats events seat company from
+act_grows seats seat events (order.Sell company tenths) = sale_grows seats events seat company tenths
+act_grows seats seat events order.ExchangeMohawk = exchange_grows seats events seat
+act_grows seats seat events other = stays events
+
+-- by what a ruling brings
+ruling_grows : (seats : ℕ) (seat : Seat) (turn : InTurn) (ruled : Ruling) → Grows turn.events (after_obeyed seats seat turn ruled).events
+ruling_grows seats seat turn (ruling.Obeyed done) = act_grows seats seat turn.events done
+ruling_grows seats seat turn other = stays turn.events
+
+-- by the lines of a turn
+lines_grow : (seats : ℕ) (seat : Seat) (turn : InTurn) (lines : List Numbered) → Grows turn.events (after_lines seats seat turn lines).events
+lines_grow seats seat turn [] = stays turn.events
+lines_grow seats seat turn (line ∷ lines) =
+    let ruled : Ruling = ruling_of seats turn.events seat turn.deals.bought line.reading in
+    let told_so : InTurn = in_turn (turn.events ++ event.Ruled seat line.number ruled ∷ []) turn.deals in
+    let next : InTurn = after_line seats seat turn line in
+    further turn.events next.events (after_lines seats seat next lines).events
+    (further turn.events told_so.events next.events (record { more = _; longer = refl; quiet = refl }) (ruling_grows seats seat told_so ruled))
+    (lines_grow seats seat next lines)
+
+-- by the lines of a turn and by passes
+turns_grow : (seats n : ℕ) (start : InPlay (List Event) Numbered) → Grows start.now (iterate (after_turn (stock_turns seats)) n start).now
+turns_grow seats n start =
+    by_turns (stock_turns seats) (λ seat lines events. lines_grow seats seat (in_turn events no_deals) lines) (λ seat events. told events (event.Passes seat) refl) n start
+
+-- by the rise of a company that is sold out
+rise_grows : (events : List Event) (company : Company) → Grows events (risen events company)
+rise_grows events company =
+    in_either events (moved_from up_of events company (square_of events company)) events (is_sold_out events company)
+    (token_grows up_of events company (square_of events company)) (stays events)
+
+-- by that of some companies
+rises_grow : (events : List Event) (companies : List Company) → Grows events (all_risen events companies)
+rises_grow events [] = stays events
+rises_grow events (company ∷ others) =
+    further events (risen events company) _ (rise_grows events company) (rises_grow (risen events company) others)
+
+-- lines that were left begin no round
+quiet_left : (seat : ℕ) (groups : List (List (List Numbered))) → rounds_begun (left_from seat groups) ≡ []
+quiet_left seat [] = refl
+quiet_left seat (group ∷ groups) =
+    quiet_count (seat_at seat) (lines_in_groups group) (lines_in_groups group == 0) (left_from (seat + 1) groups) (quiet_left (seat + 1) groups)
+
+-- a stock round grows by its own ROUND event, and begins no other round
+pub stock_round_grows : (file : List ℕ) (round : Round) (old new : Game) → IsStockRound file round old new → Grows (old.events ++ event.Round round ∷ []) new.events
+stock_round_grows file round old new played =
+    let begun : List Event = old.events ++ event.Round round ∷ [] in
+    let start : InPlay (List Event) Numbered = opened old.seats file round old.events in
+    let turned : Grows start.now played.last.now =
+    subst (λ (last : InPlay (List Event) Numbered). Grows start.now last.now) played.turns.reached (turns_grow old.seats played.turns.steps start)
+    in
+    let shut : List Event = closed played.last.now in
+    let whole : Grows begun (finished played.last) =
+    further begun start.now _ (standing_grows file round begun (range_with_len 0 old.seats))
+    (further start.now played.last.now _ turned
+    (further played.last.now shut _ (rises_grow played.last.now (operating_order_of played.last.now)) (record { more = _; longer = refl; quiet = quiet_left 0 played.last.groups })))
+    in
+    subst (λ (game : Game). Grows begun game.events) (sym played.after) whole

@@ -1,0 +1,175 @@
+-- What an obeyed order brings keeps a list sound.
+use Rattle.std.proofs.Common.{◌≡◌, ℕ, ◌+◌, ◌*◌, ◌≤◌, ◌<◌, ◌==◌, Bool, true, false, not, ◌&&◌, ◌||◌, if◌then◌else◌, List, [], ◌∷◌, ◌++◌, Option, Some, None, is_some, ℤ, pos, ◌≤ℤ◌, ◌+ℤ◌, refl, sym, subst, ap, ◌∙◌, arith}
+use Rattle.std.proofs.lemmas.Bool.Decides.{nat_tests}
+use Rattle.std.proofs.lemmas.Int.{ints}
+use Rattle.std.specs.Int.Signed.{lt_z}
+use Rattle.certs.proofs.Presidents.{most_le}
+use Rattle.certs.specs.President.{others_from}
+use Rattle.certs.specs.Purchase.{is_none_there, is_short, tenth_price_of}
+use Rattle.certs.specs.Sale.{is_over_five}
+use Rattle.certs.specs.declared.deal.Sale.{Sale}
+use Rattle.history.proofs.Blocks.{float_sound as float_law, move_sound as move_law, succession_sound as succession_law}
+use Rattle.history.proofs.Purchases.{exchange_sound as exchange_law, purchase_sound as purchase_law, start_by_purchase_sound as start_law}
+use Rattle.history.specs.Bids.{free_cash_of}
+use Rattle.history.specs.Event.{place_of_source}
+use Rattle.history.specs.LookBack.{Game, is_closed, is_sold, owner_of, with_event}
+use Rattle.history.specs.Shares.{is_floated, is_par_value, is_started, president_of, shares_of, square_of}
+use Rattle.history.specs.Sound.{IsLed, IsSound, least_offered}
+use Rattle.history.specs.declared.event.Event.{Event}
+use Rattle.history.specs.declared.event.Event.TheVariants as event
+use Rattle.history.specs.declared.event.Holder.{Holder}
+use Rattle.history.specs.declared.event.Holder.TheVariants as holder
+use Rattle.history.specs.declared.event.Shareholder.TheVariants.{InitialOffering, BankPool, Seat as OfSeat}
+use Rattle.order_grammar.specs.declared.order.ShareSource.{ShareSource}
+use Rattle.order_grammar.specs.declared.order.ShareSource.TheVariants as source
+use Rattle.stock_round.proofs.Judged.{holds, is_nothing}
+use Rattle.stock_round.specs.Act.{float_most, is_to_float, moved_from, moved_to, president_tenths, same_square, seat_tenths_of, succeeded, successor_of, with_move, with_president, with_successor}
+use Rattle.stock_round.specs.Allowed.{MayBuy, MayExchange, MaySell, MayStart}
+use Rattle.stock_round.specs.Judgement.{exchange_source, is_no_exchange, is_offered, is_owner, is_pooled}
+use Rattle.tables.specs.Seat.{seat_at}
+use Rattle.tables.specs.declared.roster.Company.{Company}
+use Rattle.tables.specs.declared.roster.Company.TheVariants as company
+use Rattle.tables.specs.declared.roster.Private.TheVariants.{MohawkHudson, CamdenAmboy}
+use Rattle.tables.specs.declared.seat.Seat.{Seat}
+use Rattle.tables.specs.declared.squares.Square.{Square}
+
+-- a game with these seats and events is sound where the record of them is
+pub same_game : (new : Game) (seats : ℕ) (events : List Event) → new.seats ≡ seats → new.events ≡ events → IsSound (record { seats = seats; events = events }) → IsSound new
+same_game new seats events same_seats same_events sound =
+    let game : ℕ → List Event → Game = λ seats events. record { seats = seats; events = events } in
+    subst IsSound (sym (ap (λ (n : ℕ). game n new.events) same_seats ∙ ap (λ (all : List Event). game seats all) same_events)) sound
+
+-- a seat that is not short of a sum has it
+paid : (seats : ℕ) (events : List Event) (seat : Seat) (cost : ℕ) → is_short seats events seat cost ≡ false → pos cost ≤ℤ free_cash_of seats events seat
+unfolding is_short
+paid seats events seat cost may = grind (arith, ints, may)
+
+-- the start of a company
+pub start_sound : (game new : Game) (seat : Seat) (company : Company) (price cost : ℕ) → MayStart game.seats game.events seat company price → seat.0 < game.seats → cost ≡ president_tenths * price → new ≡ with_event (with_event (with_event game (event.Par company price)) (event.Bought company seat 2 source.InitialOffering cost)) (event.President company seat) → IsSound game → IsSound new
+start_sound game new seat company price cost may within is_cost told sound =
+    let pays : pos cost ≤ℤ free_cash_of game.seats game.events seat = subst (λ (n : ℕ). pos n ≤ℤ free_cash_of game.seats game.events seat) (sym is_cost) (paid game.seats game.events seat (president_tenths * price) may.pays) in
+    subst IsSound (sym told) (start_law game company seat price cost (holds (is_par_value price) may.par) (is_nothing (square_of game.events company) may.fresh) within pays sound)
+
+-- a tenth that is not missing is there
+there_is : (events : List Event) (company : Company) (from : ShareSource) → lt_z (shares_of events company (place_of_source from)) (pos 1) ≡ false → pos 1 ≤ℤ shares_of events company (place_of_source from)
+there_is events company from may = grind (arith, ints, may)
+
+-- the purchase of a tenth
+pub purchase_sound : (game new : Game) (seat : Seat) (company : Company) (from : ShareSource) (price : ℕ) → MayBuy game.seats game.events seat company from → seat.0 < game.seats → price ≡ tenth_price_of game.events company from → new ≡ with_event game (event.Bought company seat 1 from price) → IsSound game → IsSound new
+unfolding is_none_there
+purchase_sound game new seat company from price may within is_price told sound =
+    let pays : pos price ≤ℤ free_cash_of game.seats game.events seat = subst (λ (n : ℕ). pos n ≤ℤ free_cash_of game.seats game.events seat) (sym is_price) (paid game.seats game.events seat (tenth_price_of game.events company from) may.pays) in
+    subst IsSound (sym told)
+    (elim (square_of game.events company) as (λ (found : Option Square). square_of game.events company ≡ found → is_some found ≡ true → IsSound (with_event game (event.Bought company seat 1 from price))) [
+      | None ↦ λ is has. absurd (cc)
+      | Some square ↦ λ is has. purchase_law game company seat 1 from price square is within (there_is game.events company from may.there) pays sound
+    ]
+    refl may.started)
+
+-- of some tests none holds
+none_of : (a b c : Bool) → (not a || (not b || c)) ≡ false → (a ≡ true) × (b ≡ true)
+none_of true true c kept = (refl, refl)
+none_of true false c kept = absurd (cc)
+none_of false b c kept = absurd (cc)
+
+-- the seat is the owner
+owns : (seat : Seat) (owner : Option Holder) → is_owner seat owner ≡ true → owner ≡ Some (holder.Seat seat)
+owns seat None is = absurd (cc)
+owns seat (Some (holder.Seat owner)) is = let number : owner.0 ≡ seat.0 = grind (arith, nat_tests, is) in ap (λ (n : ℕ). Some (holder.Seat (seat_at n))) number
+owns seat (Some (holder.Company company)) is = absurd (cc)
+
+-- where a tenth of NYC is there, the exchange takes it from a place that has one
+has_source : (offered pooled : Bool) (there : (from : ShareSource) → ℤ) → (lt_z (pos 0) (there source.InitialOffering) ≡ offered) → (lt_z (pos 0) (there source.BankPool) ≡ pooled) → (offered || pooled) ≡ true → pos 1 ≤ℤ there (if offered then source.InitialOffering else source.BankPool)
+has_source true pooled there is_offered is_pooled some = grind (arith, ints, is_offered)
+has_source false true there is_offered is_pooled some = grind (arith, ints, is_pooled)
+has_source false false there is_offered is_pooled some = absurd (cc)
+
+-- the exchange of MH
+pub exchange_sound : (game new : Game) (seat : Seat) (from : ShareSource) → MayExchange game.events seat → seat.0 < game.seats → from ≡ exchange_source game.events → new ≡ with_event game (event.Exchanged seat from) → IsSound game → IsSound new
+exchange_sound game new seat from may within is_from told sound =
+    let events = game.events in
+    let kept = none_of (is_owner seat (owner_of events MohawkHudson)) (is_offered events || is_pooled events) _ may in
+    let there : pos 1 ≤ℤ shares_of events company.NewYorkCentral (place_of_source (exchange_source events)) = has_source (is_offered events) (is_pooled events) (λ (from : ShareSource). shares_of events company.NewYorkCentral (place_of_source from)) refl refl kept.1 in
+    subst IsSound (sym told)
+    (exchange_law game seat from (owns seat (owner_of events MohawkHudson) kept.0) within (subst (λ (s : ShareSource). pos 1 ≤ℤ shares_of events company.NewYorkCentral (place_of_source s)) (sym is_from) there) sound)
+
+-- a presidency that has moved
+succession_sound : (game : Game) (company : Company) (old : Seat) → president_of game.events company ≡ Some old → IsSound game → IsSound (record { seats = game.seats; events = succeeded game.events company old (successor_of game.seats game.events company old) })
+succession_sound game company old is sound =
+    let new = successor_of game.seats game.events company old in
+    elim (new.0 == old.0) as (λ (b : Bool). IsSound (record { seats = game.seats; events = if b then game.events else game.events ++ event.President company new ∷ [] })) [
+      | true ↦ sound
+      | false ↦ succession_law game company old new is (most_le (seat_tenths_of game.events company) old (others_from game.seats old)) sound
+    ]
+
+-- the presidency that follows from a change
+pub president_sound : (game new : Game) (company : Company) → new.seats ≡ game.seats → new.events ≡ with_president game.seats game.events company → IsSound game → IsSound new
+president_sound game new company seats told sound =
+    let after : IsSound (record { seats = game.seats; events = with_president game.seats game.events company }) =
+    elim (president_of game.events company) as (λ (found : Option Seat). president_of game.events company ≡ found → IsSound (record { seats = game.seats; events = with_successor game.seats game.events company found })) [
+      | None ↦ λ is. sound
+      | Some old ↦ λ is. succession_sound game company old is sound
+    ]
+    refl
+    in
+    same_game new game.seats (with_president game.seats game.events company) seats told after
+
+-- a company that is to float has few tenths left
+few_left : (floated : Bool) (left : ℤ) → (not floated && not (lt_z (pos float_most) left)) ≡ true → left ≤ℤ pos 4
+few_left true left is = absurd (cc)
+few_left false left is = grind (arith, ints, is)
+
+-- at least eight tenths are to stay
+eight_stay : (events : List Event) (its : Company) → 8 ≤ least_offered events its
+eight_stay events company.Pennsylvania = elim (is_sold events CamdenAmboy) as (λ (b : Bool). 8 ≤ (if b then 8 else 9)) [ true ↦ omega arith | false ↦ omega arith ]
+eight_stay events company.NewYorkCentral = elim (is_closed events MohawkHudson) as (λ (b : Bool). 8 ≤ (if b then 8 else 9)) [ true ↦ omega arith | false ↦ omega arith ]
+eight_stay events other = omega arith
+
+-- a company that is to float is led
+pub float_led : (game : Game) (its : Company) → is_to_float game.events its ≡ true → IsSound game → IsLed game.events its
+float_led game its ready sound =
+    elim (square_of game.events its) as (λ (found : Option Square). square_of game.events its ≡ found → IsLed game.events its) [
+      | None ↦ λ is.
+          let stay = sound.offered its is in
+          let eight = eight_stay game.events its in
+          let few = few_left (is_floated game.events its) (shares_of game.events its InitialOffering) ready in
+          let no : 1 ≤ 0 = omega (arith, ints, stay, eight, few) in
+          absurd (omega (arith, no))
+      | Some square ↦ λ is. sound.led its square is
+    ]
+    refl
+
+-- a company that floats
+pub float_sound : (game new : Game) (its : Company) (amount : ℕ) → is_to_float game.events its ≡ true → new ≡ with_event game (event.Floats its amount) → IsSound game → IsSound new
+float_sound game new its amount ready told sound =
+    subst IsSound (sym told) (float_law game its amount (few_left (is_floated game.events its) (shares_of game.events its InitialOffering) ready) sound)
+
+-- a token that has moved
+token_sound : (game : Game) (its : Company) (from to : Square) → square_of game.events its ≡ Some from → IsSound game → IsSound (record { seats = game.seats; events = moved_to game.events its from to })
+token_sound game its from to is sound =
+    elim (same_square to from) as (λ (b : Bool). IsSound (record { seats = game.seats; events = if b then game.events else game.events ++ event.Moves its to ∷ [] })) [
+      | true ↦ sound
+      | false ↦ move_law game its from to is sound
+    ]
+
+-- the move of a token
+pub move_sound : (move : Square → Square) (game new : Game) (its : Company) → new.seats ≡ game.seats → new.events ≡ with_move move game.events its → IsSound game → IsSound new
+move_sound move game new its seats told sound =
+    let after : IsSound (record { seats = game.seats; events = with_move move game.events its }) =
+    elim (square_of game.events its) as (λ (found : Option Square). square_of game.events its ≡ found → IsSound (record { seats = game.seats; events = moved_from move game.events its found })) [
+      | None ↦ λ is. sound
+      | Some square ↦ λ is. token_sound game its square (move square) is sound
+    ]
+    refl
+    in
+    same_game new game.seats (with_move move game.events its) seats told after
+
+-- few tenths come to a pool that has none too few and comes to at most five
+few_come : (pooled : ℤ) (tenths : ℕ) → pos 0 ≤ℤ pooled → lt_z (pos 5) (pooled +ℤ pos tenths) ≡ false → tenths ≤ 5
+few_come pooled tenths some pool = grind (arith, ints, some, pool)
+
+-- a block that may be sold is small
+pub block_small : (game : Game) (seat : Seat) (sale : Sale) → MaySell game.seats game.events seat sale → IsSound game → sale.tenths ≤ 5
+unfolding is_over_five
+block_small game seat sale may sound =
+    few_come (shares_of game.events sale.company BankPool) sale.tenths (sound.held sale.company BankPool) may.pool

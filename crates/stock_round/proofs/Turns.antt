@@ -1,0 +1,89 @@
+-- The turns of a stock round, one after another, until they are over.
+use Rattle.std.proofs.Common.{◌≡◌, ℕ, ◌+◌, ◌<◌, ◌≤◌, min, Bool, true, false, nat_le, if◌then◌else◌, List, [], ◌∷◌, ◌++◌, length, map, drop, get_or, set, Option, Some, None, unwrap_or, option_map, refl, sym, ap, ◌∙◌, arith}
+use Rattle.std.proofs.lemmas.Bool.Decides.{nat_tests}
+use Rattle.std.proofs.lemmas.List.{map-set}
+use Rattle.std.proofs.lemmas.Option.{slice_get-get_or, slice_get-map}
+use Rattle.history.specs.LookBack.{actor_of, last_said, left_of_actor, priority_of}
+use Rattle.history.specs.declared.event.Event.{Event}
+use Rattle.history.specs.declared.event.Event.TheVariants.{Passes}
+use Rattle.stock_round.specs.StockRound.{in_play}
+use Rattle.stock_round.specs.Turn.{InTurn, after_lines, in_turn, no_deals, stock_turns, turned}
+use Rattle.sheets.specs.Part.{Numbered, Parts, groups_of}
+use Rattle.tables.specs.Seat.{left_of, seat_at}
+use Rattle.tables.specs.Turns.{InPlay, IsIdleWithoutLines, Turned, after_turn, groups_at, next_group, turn_over}
+use Rattle.tables.specs.declared.seat.Seat.{Seat}
+
+-- no seat acts without lines
+pub idle : (seats : ℕ) → IsIdleWithoutLines (stock_turns seats)
+idle seats = λ seat events. refl
+
+-- the turns are not over while not all have passed
+pub going_on : (seats passes : ℕ) → passes < seats → nat_le seats passes ≡ false
+going_on seats passes fewer = grind (arith, nat_tests)
+
+-- they are over where all have passed
+pub all_have_passed : (seats passes : ℕ) → seats ≤ passes → nat_le seats passes ≡ true
+all_have_passed seats passes all = grind (arith, nat_tests)
+
+-- a seat's groups are those of what is left of its sheet
+groups_here : (unruled : List Parts) (seat : ℕ) (d : Parts) → seat < length unruled → groups_at (map groups_of unruled) seat ≡ groups_of (get_or unruled seat d)
+groups_here unruled seat d within =
+    ap (λ groups. unwrap_or groups []) (slice_get-map groups_of unruled seat ∙ ap (λ found. option_map groups_of found) (slice_get-get_or unruled seat d within))
+
+-- a round in play after a turn, where the groups have come to these
+abbrev played : ℕ → ℕ → ℕ → Turned (List Event) → List (List (List Numbered)) → InPlay (List Event) Numbered
+played seats seat passes turn groups =
+    record {
+      now = if turn.acted then turn.state else turn.state ++ Passes (seat_at seat) ∷ [];
+      seat = (left_of seats (seat_at seat)).0;
+      passes = if turn.acted then 0 else passes + 1;
+      groups = groups;
+    }
+
+-- a turn that took the next group of a seat's sheet is one turn of the round
+turn_taken : (seats : ℕ) (events : List Event) (seat passes : ℕ) (unruled : List Parts) (d new : Parts) (turn : Turned (List Event)) (taker : Seat) → seat < length unruled → taker ≡ seat_at seat → turn ≡ turned (after_lines seats taker (in_turn events no_deals) (next_group (groups_of (get_or unruled seat d)))) → groups_of new ≡ drop 1 (groups_of (get_or unruled seat d)) → played seats seat passes turn (map groups_of (set unruled seat new)) ≡ after_turn (stock_turns seats) (in_play events seat passes (map groups_of unruled))
+turn_taken seats events seat passes unruled d new turn taker within is_seat taken dropped =
+    let start : InTurn = in_turn events no_deals in
+    let here = groups_here unruled seat d within in
+    let same_turn : turn ≡ turned (after_lines seats (seat_at seat) start (next_group (groups_at (map groups_of unruled) seat))) =
+    taken
+    ∙ ap (λ (s : Seat). turned (after_lines seats s start (next_group (groups_of (get_or unruled seat d))))) is_seat
+    ∙ ap (λ (groups : List (List Numbered)). turned (after_lines seats (seat_at seat) start (next_group groups))) (sym here)
+    in
+    let same_groups : map groups_of (set unruled seat new) ≡ set (map groups_of unruled) seat (drop 1 (groups_at (map groups_of unruled) seat)) =
+    map-set groups_of unruled seat new
+    ∙ ap (λ (groups : List (List Numbered)). set (map groups_of unruled) seat groups) (dropped ∙ ap (λ (groups : List (List Numbered)). drop 1 groups) (sym here))
+    in
+    ap (λ (groups : List (List (List Numbered))). played seats seat passes turn groups) same_groups
+    ∙ ap (λ (turn : Turned (List Event)). turn_over (stock_turns seats) (in_play events seat passes (map groups_of unruled)) turn) same_turn
+
+-- a turn in which the seat acted
+pub turn_acted : (seats : ℕ) (events : List Event) (seat passes : ℕ) (unruled : List Parts) (d new : Parts) (after : List Event) (acted : Bool) (taker : Seat) → seat < length unruled → taker ≡ seat_at seat → acted ≡ true → record { state = after; acted = acted } ≡ turned (after_lines seats taker (in_turn events no_deals) (next_group (groups_of (get_or unruled seat d)))) → groups_of new ≡ drop 1 (groups_of (get_or unruled seat d)) → in_play after (left_of seats (seat_at seat)).0 0 (map groups_of (set unruled seat new)) ≡ after_turn (stock_turns seats) (in_play events seat passes (map groups_of unruled))
+turn_acted seats events seat passes unruled d new after acted taker within is_seat has_acted taken dropped =
+    ap (λ (b : Bool). played seats seat passes (record { state = after; acted = b }) (map groups_of (set unruled seat new))) (sym has_acted)
+    ∙ turn_taken seats events seat passes unruled d new (record { state = after; acted = acted }) taker within is_seat taken dropped
+
+-- a turn in which it passed
+pub turn_passed : (seats : ℕ) (events : List Event) (seat passes : ℕ) (unruled : List Parts) (d new : Parts) (mid after : List Event) (acted : Bool) (taker : Seat) → seat < length unruled → taker ≡ seat_at seat → acted ≡ false → record { state = mid; acted = acted } ≡ turned (after_lines seats taker (in_turn events no_deals) (next_group (groups_of (get_or unruled seat d)))) → groups_of new ≡ drop 1 (groups_of (get_or unruled seat d)) → after ≡ mid ++ Passes (seat_at seat) ∷ [] → in_play after (left_of seats (seat_at seat)).0 (passes + 1) (map groups_of (set unruled seat new)) ≡ after_turn (stock_turns seats) (in_play events seat passes (map groups_of unruled))
+turn_passed seats events seat passes unruled d new mid after acted taker within is_seat not_acted taken dropped told =
+    ap (λ (events : List Event). in_play events (left_of seats (seat_at seat)).0 (passes + 1) (map groups_of (set unruled seat new))) told
+    ∙ ap (λ (b : Bool). played seats seat passes (record { state = mid; acted = b }) (map groups_of (set unruled seat new))) (sym not_acted)
+    ∙ turn_taken seats events seat passes unruled d new (record { state = mid; acted = acted }) taker within is_seat taken dropped
+
+-- the seat at the left of a seat, or the first, is at the table
+pub left_within : (seats : ℕ) (actor : Option Seat) → 0 < seats → (left_of_actor seats actor).0 < seats
+left_within seats None some = some
+left_within seats (Some actor) some = grind (arith, nat_tests)
+
+-- the holder of priority is at the table
+pub priority_within : (seats : ℕ) (events : List Event) → 0 < seats → (priority_of seats events).0 < seats
+priority_within seats events some = left_within seats (last_said actor_of events) some
+
+-- the seat at the left of a seat, or the first, has one of the 256 numbers
+left_at_table : (seats : ℕ) (actor : Option Seat) → 0 < seats → (left_of_actor seats actor).0 < min seats 256
+left_at_table seats None some = omega arith
+left_at_table seats (Some actor) some = grind (arith, nat_tests)
+
+-- so has the holder of priority
+pub priority_at_table : (seats : ℕ) (events : List Event) → 0 < seats → (priority_of seats events).0 < min seats 256
+priority_at_table seats events some = left_at_table seats (last_said actor_of events) some

@@ -1,0 +1,7 @@
+use Rattle.stock_round.proofs.Acts.{president_sound}
+use Rattle.tables.specs.declared.roster.Company.TheVariants.{NewYorkCentral}
+use Rattle.stock_round.proofs.act.exchange.Goals as goal
+
+pub tell_float-requires : goal.tell_float-requires
+tell_float-requires c =
+    president_sound c.give_up_mohawk.new.history c.tell_president.new.history NewYorkCentral c.in_ok-tell_president.ensures.seats c.in_ok-tell_president.ensures.events c.in_ok-give_up_mohawk.ensures.sound

@@ -1,0 +1,18 @@
+use Rattle.std.proofs.Common.{◌≤◌, arith}
+use Rattle.market.specs.Moves.{fallen}
+use Rattle.stock_round.proofs.Acts.{block_small, move_sound}
+use Rattle.stock_round.proofs.Sales.{sold_sound}
+use Rattle.stock_round.proofs.act.sell.Goals as goal
+
+pub overflow_cast-tenths : goal.overflow_cast-tenths
+overflow_cast-tenths c =
+    let small : c.args.tenths ≤ 5 = block_small c.args.history.now c.args.seat _ c.requires.may c.requires.sound in omega arith
+
+pub pay_for_block-requires : goal.pay_for_block-requires
+pay_for_block-requires c =
+    let small : c.args.tenths ≤ 5 = block_small c.args.history.now c.args.seat _ c.requires.may c.requires.sound in omega arith
+
+pub returns-clause-sound : goal.returns-clause-sound
+returns-clause-sound c =
+    move_sound (fallen c.args.tenths) c.tell_president.new.history c.drop_token.new.history c.args.company c.in_ok-drop_token.ensures.seats c.in_ok-drop_token.ensures.events
+    (sold_sound c.args.history.now c.pay_for_block.new.history c.tell_president.new.history c.args.seat (record { company = c.args.company; tenths = c.args.tenths }) c.requires.few c.requires.at_table c.requires.may c.requires.sound c.in_ok-pay_for_block.ensures.seats c.in_ok-pay_for_block.ensures.events c.in_ok-tell_president.ensures.seats c.in_ok-tell_president.ensures.events)

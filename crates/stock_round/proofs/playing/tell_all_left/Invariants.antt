@@ -1,0 +1,13 @@
+use Rattle.std.proofs.Common.{◌≡◌, ◌++◌, drop, map}
+use Rattle.history.specs.Sound.{IsSound}
+use Rattle.sheets.specs.Part.{groups_of}
+use Rattle.stock_round.specs.StockRound.{left_from}
+use Rattle.stock_round.proofs.playing.tell_all_left.Given as goal
+
+-- the seats that are left bring what all bring
+abbrev pub invariant-loop-seat : goal.invariant-loop-seat
+invariant-loop-seat l = record {
+  seats : l.history.seats ≡ l.fn.history.seats;
+  events : l.history.events ++ left_from l.seat (map groups_of (drop l.seat l.unruled)) ≡ l.fn.history.events ++ left_from 0 (map groups_of l.unruled);
+  sound : IsSound l.history;
+}

@@ -1,0 +1,129 @@
+-- What an obeyed order of a stock turn brings, event by event, each on the list that the one before left.
+-- To set a par value is to buy the president's certificate, two tenths, at it. A tenth of the initial
+-- offering costs the par value, one of the pool the market price. So many tenths sold bring so many times the
+-- market price, and the token then moves down as many squares. The presidency passes to a seat that has
+-- strictly more tenths than the president. A company floats once at most four tenths are left in its initial
+-- offering, and has ten times its par value then.
+use Rattle.std.specs.Prelude.{ℕ, ◌*◌, ◌==◌, Bool, true, false, not, ◌&&◌, if◌then◌else◌, List, [], ◌∷◌, ◌++◌, Option, Some, None, unwrap_or, ℤ, pos}
+use Rattle.std.specs.Int.Signed.{lt_z}
+use Rattle.certs.specs.President.{others_from, with_most}
+use Rattle.certs.specs.Purchase.{market_price_of, tenth_price_of}
+use Rattle.history.specs.Shares.{is_floated, par_of, president_of, shares_of, square_of}
+use Rattle.history.specs.Tell.{with_broken}
+use Rattle.history.specs.declared.event.Event.{Event}
+use Rattle.history.specs.declared.event.Event.TheVariants as event
+use Rattle.history.specs.declared.event.Shareholder.TheVariants.{InitialOffering as AtOffering, Seat as OfSeat}
+use Rattle.market.specs.Moves.{fallen}
+use Rattle.order_grammar.specs.declared.order.Order.{Order}
+use Rattle.order_grammar.specs.declared.order.Order.TheVariants.{Par, BuyShare, Sell, ExchangeMohawk}
+use Rattle.order_grammar.specs.declared.order.ShareSource.{ShareSource}
+use Rattle.order_grammar.specs.declared.order.ShareSource.TheVariants.{InitialOffering}
+use Rattle.stock_round.specs.Judgement.{exchange_source}
+use Rattle.tables.specs.declared.roster.Company.{Company}
+use Rattle.tables.specs.declared.roster.Company.TheVariants.{NewYorkCentral}
+use Rattle.tables.specs.declared.seat.Seat.{Seat}
+use Rattle.tables.specs.declared.squares.Square.{Square}
+
+-- the tenths of a president's certificate
+abbrev pub president_tenths : ℕ
+president_tenths = 2
+
+-- the tenths of a company that a seat has
+abbrev pub seat_tenths_of : List Event → Company → Seat → ℤ
+seat_tenths_of events company seat = shares_of events company (OfSeat seat)
+
+-- who presides over a company now, where this seat presided
+abbrev pub successor_of : ℕ → List Event → Company → Seat → Seat
+successor_of seats events company old = with_most (seat_tenths_of events company) old (others_from seats old)
+
+-- with PRESIDENT where this seat now presides in place of another
+abbrev pub succeeded : List Event → Company → Seat → Seat → List Event
+succeeded events company old new = if new.0 == old.0 then events else events ++ event.President company new ∷ []
+
+-- with the presidency of a company moved, where this seat presided, if any did
+abbrev pub with_successor : ℕ → List Event → Company → Option Seat → List Event
+with_successor seats events company None = events
+with_successor seats events company (Some old) = succeeded events company old (successor_of seats events company old)
+
+-- with the presidency of a company moved to the seat that now has it
+abbrev pub with_president : ℕ → List Event → Company → List Event
+with_president seats events company = with_successor seats events company (president_of events company)
+
+-- the most tenths that are left in the initial offering of a company that floats
+abbrev pub float_most : ℕ
+float_most = 4
+
+-- few enough tenths are left in the initial offering, and the company has not floated
+abbrev pub is_to_float : List Event → Company → Bool
+is_to_float events company = not (is_floated events company) && not (lt_z (pos float_most) (shares_of events company AtOffering))
+
+-- with FLOATS for a company with this par value, and BROKEN where that breaks the bank
+abbrev pub floated_at : ℕ → List Event → Company → ℕ → List Event
+floated_at seats events company par = with_broken seats (events ++ event.Floats company (10 * par) ∷ [])
+
+-- with FLOATS where a company floats
+abbrev pub with_float : ℕ → List Event → Company → List Event
+with_float seats events company =
+    if is_to_float events company then floated_at seats events company (unwrap_or (par_of events company) 0) else events
+
+-- two squares are the same
+abbrev pub same_square : Square → Square → Bool
+same_square a b = a.row == b.row && a.column == b.column
+
+-- with MOVES where a company's token comes from one square to another
+abbrev pub moved_to : List Event → Company → Square → Square → List Event
+moved_to events company from to = if same_square to from then events else events ++ event.Moves company to ∷ []
+
+-- with the token of a company moved, where it is on this square, if on any
+abbrev pub moved_from : (Square → Square) → List Event → Company → Option Square → List Event
+moved_from move events company None = events
+moved_from move events company (Some square) = moved_to events company square (move square)
+
+-- with the token of a company moved
+abbrev pub with_move : (Square → Square) → List Event → Company → List Event
+with_move move events company = moved_from move events company (square_of events company)
+
+-- after a seat has set a company's par value, and so bought its president's certificate
+abbrev pub after_start : List Event → Seat → Company → ℕ → List Event
+after_start events seat company price =
+    events
+    ++ event.Par company price
+    ∷ event.Bought company seat president_tenths InitialOffering (president_tenths * price)
+    ∷ event.President company seat
+    ∷ []
+
+-- after a seat has paid for a tenth
+abbrev pub bought : List Event → Seat → Company → ShareSource → List Event
+bought events seat company from = events ++ event.Bought company seat 1 from (tenth_price_of events company from) ∷ []
+
+-- after a seat has bought a tenth, and what follows from it
+abbrev pub after_purchase : ℕ → List Event → Seat → Company → ShareSource → List Event
+after_purchase seats events seat company from =
+    with_float seats (with_president seats (bought events seat company from) company) company
+
+-- after a seat was paid for so many tenths
+abbrev pub sold : ℕ → List Event → Seat → Company → ℕ → List Event
+sold seats events seat company tenths =
+    with_broken seats (events ++ event.Sells company seat tenths (tenths * market_price_of events company) ∷ [])
+
+-- after a seat has sold so many tenths, and what follows from it
+abbrev pub after_sale : ℕ → List Event → Seat → Company → ℕ → List Event
+after_sale seats events seat company tenths =
+    with_move (fallen tenths) (with_president seats (sold seats events seat company tenths) company) company
+
+-- after a seat has given up MH for a tenth of NYC
+abbrev pub exchanged : List Event → Seat → List Event
+exchanged events seat = events ++ event.Exchanged seat (exchange_source events) ∷ []
+
+-- after a seat has done so, and what follows from it
+abbrev pub after_exchange : ℕ → List Event → Seat → List Event
+after_exchange seats events seat =
+    with_float seats (with_president seats (exchanged events seat) NewYorkCentral) NewYorkCentral
+
+-- after what an obeyed order of a seat brings
+abbrev pub after_act : ℕ → Seat → List Event → Order → List Event
+after_act seats seat events (Par company price) = after_start events seat company price
+after_act seats seat events (BuyShare company from) = after_purchase seats events seat company from
+after_act seats seat events (Sell company tenths) = after_sale seats events seat company tenths
+after_act seats seat events ExchangeMohawk = after_exchange seats events seat
+after_act seats seat events other = events

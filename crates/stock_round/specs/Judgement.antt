@@ -1,0 +1,91 @@
+-- The rules of a turn of a stock round. A seat may set a company's par value and so buy its president's
+-- certificate, buy a tenth, or sell tenths, by the rules on certificates; or give up MH for a tenth of NYC,
+-- if it owns MH, the initial offering or the pool has such a tenth, and it would not come to hold over six,
+-- where the zone of NYC's square limits that. There is one purchase a turn, but of a company whose square is
+-- brown there may be several.
+use Rattle.std.specs.Prelude.{ℕ, ◌==◌, Bool, true, false, not, ◌&&◌, ◌||◌, if◌then◌else◌, List, [], ◌∷◌, Option, Some, None, Result, Ok, Err, pos}
+use Rattle.std.specs.Int.Signed.{lt_z}
+use Rattle.certs.specs.Purchase.{is_over_six, purchase_judgement}
+use Rattle.certs.specs.Sale.{sale_judgement}
+use Rattle.certs.specs.declared.deal.Purchase.TheVariants as purchase
+use Rattle.history.specs.LookBack.{owner_of}
+use Rattle.history.specs.Shares.{shares_of}
+use Rattle.history.specs.declared.event.Event.{Event}
+use Rattle.history.specs.declared.event.Holder.{Holder}
+use Rattle.history.specs.declared.event.Holder.TheVariants as holder
+use Rattle.history.specs.declared.event.Shareholder.TheVariants.{InitialOffering, BankPool}
+use Rattle.history.specs.declared.ruling.StockRule.{StockRule}
+use Rattle.history.specs.declared.ruling.StockRule.TheVariants.{NotOfStock, NoExchange}
+use Rattle.history.specs.declared.ruling.Refusal.TheVariants.{Stock}
+use Rattle.history.specs.declared.ruling.Ruling.{Ruling}
+use Rattle.history.specs.declared.ruling.Ruling.TheVariants.{Obeyed, Refused, Faulty}
+use Rattle.order_grammar.specs.declared.fault.Fault.{Fault}
+use Rattle.order_grammar.specs.declared.order.Order.{Order}
+use Rattle.order_grammar.specs.declared.order.Order.TheVariants.{Par, BuyShare, Sell, ExchangeMohawk}
+use Rattle.order_grammar.specs.declared.order.ShareSource.{ShareSource}
+use Rattle.order_grammar.specs.declared.order.ShareSource.TheVariants as source
+use Rattle.sheets.specs.Place.{is_of_file, placed}
+use Rattle.tables.specs.Rules.{Rule, first_broken}
+use Rattle.tables.specs.declared.roster.Company.{Company}
+use Rattle.tables.specs.declared.roster.Company.TheVariants.{NewYorkCentral}
+use Rattle.tables.specs.declared.roster.Private.TheVariants.{MohawkHudson}
+use Rattle.tables.specs.declared.seat.Seat.{Seat}
+
+-- the seat is this owner
+abbrev pub is_owner : Seat → Option Holder → Bool
+is_owner seat None = false
+is_owner seat (Some (holder.Seat owner)) = owner.0 == seat.0
+is_owner seat (Some (holder.Company company)) = false
+
+-- there is a tenth of NYC in the initial offering
+abbrev pub is_offered : List Event → Bool
+is_offered events = lt_z (pos 0) (shares_of events NewYorkCentral InitialOffering)
+
+-- there is one in the bank pool
+abbrev pub is_pooled : List Event → Bool
+is_pooled events = lt_z (pos 0) (shares_of events NewYorkCentral BankPool)
+
+-- where the tenth of NYC for MH comes from: the initial offering first, else the bank pool
+abbrev pub exchange_source : List Event → ShareSource
+exchange_source events = if is_offered events then source.InitialOffering else source.BankPool
+
+-- how many tenths MH brings
+abbrev pub exchange_tenths : ℕ
+exchange_tenths = 1
+
+-- the seat may not give up MH for a tenth of NYC: it does not own MH; neither the initial offering nor the
+-- pool has one; the seat would hold over six tenths
+abbrev pub is_no_exchange : List Event → Seat → Bool
+is_no_exchange events seat =
+    not (is_owner seat (owner_of events MohawkHudson)) || (not (is_offered events || is_pooled events) || is_over_six events seat NewYorkCentral exchange_tenths)
+
+-- the rule that an exchange may break
+abbrev pub exchange_rules : List Event → Seat → List (Rule StockRule)
+exchange_rules events seat = record { code = NoExchange; broken = is_no_exchange events seat } ∷ []
+
+-- the first rule that an order breaks in a turn in which the seat has bought of this company, if it has
+-- bought; any order but these four breaks the first
+abbrev pub judgement_of : ℕ → List Event → Seat → Option Company → Order → Option StockRule
+judgement_of seats events seat bought (Par company price) = purchase_judgement seats events seat (purchase.Par company price) bought
+judgement_of seats events seat bought (BuyShare company from) = purchase_judgement seats events seat (purchase.Share company from) bought
+judgement_of seats events seat bought (Sell company tenths) = sale_judgement seats events seat (record { company = company; tenths = tenths }) None
+judgement_of seats events seat bought ExchangeMohawk = first_broken (exchange_rules events seat)
+judgement_of seats events seat bought other = Some NotOfStock
+
+-- what becomes of an order that breaks this rule first, or none
+abbrev pub judged : Order → Option StockRule → Ruling
+judged order None = Obeyed order
+judged order (Some rule) = Refused (Stock rule) order
+
+-- an order of a group is one of play
+abbrev pub has_place_in_group : Order → Bool
+has_place_in_group order = not (is_of_file order)
+
+-- what becomes of an order that has a place, or of a fault
+abbrev pub placed_ruling : ℕ → List Event → Seat → Option Company → Result Order Fault → Ruling
+placed_ruling seats events seat bought (Err fault) = Faulty fault
+placed_ruling seats events seat bought (Ok order) = judged order (judgement_of seats events seat bought order)
+
+-- what becomes of a line of a group with this reading
+abbrev pub ruling_of : ℕ → List Event → Seat → Option Company → Result Order Fault → Ruling
+ruling_of seats events seat bought reading = placed_ruling seats events seat bought (placed has_place_in_group reading)

@@ -1,0 +1,127 @@
+ghost use Rattle.std.specs.Prelude.{◌≡◌, ◌≤◌, ◌<◌, ◌*◌, OnOk};
+ghost use Rattle.history.specs.LookBack.{with_event};
+ghost use Rattle.history.specs.Sound.{IsSound};
+ghost use Rattle.history.specs.declared.event.Event.TheVariants as event;
+ghost use Rattle.stock_round.specs.Act.{after_act, after_exchange, after_purchase, after_sale, after_start};
+ghost use Rattle.stock_round.specs.Allowed.{MayAct, MayBuy, MayExchange, MaySell, MayStart};
+
+use crate::float::tell_float;
+use crate::payments::{give_up_mohawk, pay_for_block, pay_for_tenth};
+use crate::president::tell_president;
+use crate::token::drop_token;
+use history::{Event, History};
+use order_grammar::{Order, ShareSource};
+use std::alloc::AllocError;
+use tables::{Amount, Company, Seat};
+
+/// The tenths of a president's certificate.
+const PRESIDENT_TENTHS: u8 = 2;
+
+/// Does what a seat orders in its turn, which nothing keeps it from.
+pub(crate) fn act(history: &mut History, seat: Seat, order: &Order) -> Result<(), AllocError>
+    requires few { history.old.seats ≤ 6 }
+    requires at_table { seat.0 < history.old.seats }
+    requires may { MayAct history.old.seats history.old.events seat order.now }
+    requires sound { IsSound history.old }
+    ensures seats { OnOk result (history.new.seats ≡ history.old.seats) }
+    ensures events { OnOk result (history.new.events
+        ≡ after_act history.old.seats seat history.old.events order.now) }
+    ensures sound { OnOk result (IsSound history.new) }
+{
+    match order {
+        Order::Par { company, price } => start(history, seat, *company, *price),
+        Order::BuyShare { company, from } => buy(history, seat, *company, *from),
+        Order::Sell { company, tenths } => sell(history, seat, *company, *tenths),
+        Order::ExchangeMohawk => exchange(history, seat),
+        _ => Ok(()),
+    }
+}
+
+/// A seat sets the par value of a company, and so buys its president's certificate.
+fn start(
+    history: &mut History,
+    seat: Seat,
+    company: Company,
+    price: Amount,
+) -> Result<(), AllocError>
+    requires at_table { seat.0 < history.old.seats }
+    requires may { MayStart history.old.seats history.old.events seat company price }
+    requires sound { IsSound history.old }
+    ensures seats { OnOk result (history.new.seats ≡ history.old.seats) }
+    ensures events { OnOk result (history.new.events
+        ≡ after_start history.old.events seat company price) }
+    ensures sound { OnOk result (IsSound history.new) }
+{
+    history.append(Event::Par { company, price })?;
+    history.append(Event::Bought {
+        company,
+        seat,
+        tenths: PRESIDENT_TENTHS,
+        from: ShareSource::InitialOffering,
+        price: Amount::from(PRESIDENT_TENTHS) * price,
+    })?;
+    history.append(Event::President { company, seat })?;
+    Ok(())
+}
+
+/// A seat buys a tenth of a company.
+fn buy(
+    history: &mut History,
+    seat: Seat,
+    company: Company,
+    from: ShareSource,
+) -> Result<(), AllocError>
+    requires few { history.old.seats ≤ 6 }
+    requires at_table { seat.0 < history.old.seats }
+    requires may { MayBuy history.old.seats history.old.events seat company from }
+    requires sound { IsSound history.old }
+    ensures seats { OnOk result (history.new.seats ≡ history.old.seats) }
+    ensures events { OnOk result (history.new.events
+        ≡ after_purchase history.old.seats history.old.events seat company from) }
+    ensures sound { OnOk result (IsSound history.new) }
+{
+    pay_for_tenth(history, seat, company, from)?;
+    tell_president(history, company)?;
+    tell_float(history, company)
+}
+
+/// A seat sells tenths of a company, as one block.
+fn sell(
+    history: &mut History,
+    seat: Seat,
+    company: Company,
+    tenths: Amount,
+) -> Result<(), AllocError>
+    requires few { history.old.seats ≤ 6 }
+    requires at_table { seat.0 < history.old.seats }
+    requires may { MaySell history.old.seats history.old.events seat
+        (record { company = company; tenths = tenths }) }
+    requires sound { IsSound history.old }
+    ensures seats { OnOk result (history.new.seats ≡ history.old.seats) }
+    ensures events { OnOk result (history.new.events
+        ≡ after_sale history.old.seats history.old.events seat company tenths) }
+    ensures sound { OnOk result (IsSound history.new) }
+{
+    let tenths = tenths as u8;
+    pay_for_block(history, seat, company, tenths)?;
+    tell_president(history, company)?;
+    drop_token(history, company, tenths)?;
+    Ok(())
+}
+
+/// A seat gives up MH for a tenth of NYC.
+fn exchange(history: &mut History, seat: Seat) -> Result<(), AllocError>
+    requires few { history.old.seats ≤ 6 }
+    requires at_table { seat.0 < history.old.seats }
+    requires may { MayExchange history.old.events seat }
+    requires sound { IsSound history.old }
+    ensures seats { OnOk result (history.new.seats ≡ history.old.seats) }
+    ensures events { OnOk result (history.new.events
+        ≡ after_exchange history.old.seats history.old.events seat) }
+    ensures sound { OnOk result (IsSound history.new) }
+{
+    let company = Company::NewYorkCentral;
+    give_up_mohawk(history, seat)?;
+    tell_president(history, company)?;
+    tell_float(history, company)
+}

@@ -1,0 +1,70 @@
+ghost use Rattle.std.specs.Prelude.{◌≡◌, List, OnOk, Some, map};
+ghost use Rattle.history.specs.Sound.{IsSound};
+ghost use Rattle.stock_round.specs.StockRound.{all_risen, closed, is_sold_out as has_sold_out, risen, risen_if};
+ghost use Rattle.tables.specs.declared.roster.Company.{Company};
+
+use crate::token::raise_token;
+use history::{History, Shareholder};
+use market::operating_order;
+use std::alloc::AllocError;
+use tables::Company;
+
+/// The end of the turns: each company that is sold out moves up, in operating order.
+pub(crate) fn close(history: &mut History) -> Result<(), AllocError>
+    requires { IsSound history.old }
+    ensures seats { OnOk result (history.new.seats ≡ history.old.seats) }
+    ensures events { OnOk result (history.new.events ≡ closed history.old.events) }
+    ensures sound { OnOk result (IsSound history.new) }
+{
+    let order = operating_order(history);
+    raise_all(history, order.as_slice())
+}
+
+/// Each of some companies that is sold out moves up, in order.
+fn raise_all(history: &mut History, companies: &[Option<Company>]) -> Result<(), AllocError>
+    requires { IsSound history.old }
+    ensures seats { OnOk result (history.new.seats ≡ history.old.seats) }
+    ensures events { OnOk result ((all : List Company) → companies.now ≡ map Some all
+        → history.new.events ≡ all_risen history.old.events all) }
+    ensures sound { OnOk result (IsSound history.new) }
+{
+    for company in companies {
+        raise_next(history, *company)?;
+    }
+    Ok(())
+}
+
+/// A company, if there is one, moves up, if it is sold out.
+fn raise_next(history: &mut History, company: Option<Company>) -> Result<(), AllocError>
+    requires { IsSound history.old }
+    ensures seats { OnOk result (history.new.seats ≡ history.old.seats) }
+    ensures events { OnOk result (history.new.events ≡ risen_if history.old.events company) }
+    ensures sound { OnOk result (IsSound history.new) }
+{
+    match company {
+        Some(company) => raise_if_sold_out(history, company),
+        None => Ok(()),
+    }
+}
+
+/// A company moves up, if it is sold out.
+fn raise_if_sold_out(history: &mut History, company: Company) -> Result<(), AllocError>
+    requires { IsSound history.old }
+    ensures seats { OnOk result (history.new.seats ≡ history.old.seats) }
+    ensures events { OnOk result (history.new.events ≡ risen history.old.events company) }
+    ensures sound { OnOk result (IsSound history.new) }
+{
+    if !is_sold_out(history, company) {
+        return Ok(());
+    }
+    raise_token(history, company)?;
+    Ok(())
+}
+
+/// Whether all tenths of a company are with players.
+fn is_sold_out(history: &History, company: Company) -> bool
+    ensures { result ≡ has_sold_out history.now.events company }
+{
+    history.shares(company, Shareholder::InitialOffering) == 0
+        && history.shares(company, Shareholder::BankPool) == 0
+}

@@ -1,0 +1,53 @@
+ghost use Rattle.std.specs.Prelude.{◌≡◌, OnOk, true, unwrap_or};
+ghost use Rattle.history.specs.Shares.{par_of};
+ghost use Rattle.history.specs.Sound.{IsSound};
+ghost use Rattle.stock_round.specs.Act.{floated_at, is_to_float as is_ready_to_float, with_float};
+
+use crate::prices::par_value;
+use history::{Event, History, Shareholder, Tenths};
+use std::alloc::AllocError;
+use tables::{Amount, Company};
+
+/// The most tenths that are left in the initial offering of a company that floats.
+const FLOAT_MOST: Tenths = 4;
+
+/// How many times its par value a company has when it floats.
+const TENTHS_OF_COMPANY: Amount = 10;
+
+/// A company floats, where few enough of its tenths are left in the initial offering and it has not
+/// floated yet: the bank pays it ten times its par value.
+pub(crate) fn tell_float(history: &mut History, company: Company) -> Result<(), AllocError>
+    requires { IsSound history.old }
+    ensures seats { OnOk result (history.new.seats ≡ history.old.seats) }
+    ensures events { OnOk result (history.new.events
+        ≡ with_float history.old.seats history.old.events company) }
+    ensures sound { OnOk result (IsSound history.new) }
+{
+    if is_to_float(history, company) {
+        float(history, company)
+    } else {
+        Ok(())
+    }
+}
+
+/// Whether a company is to float.
+fn is_to_float(history: &History, company: Company) -> bool
+    ensures { result ≡ is_ready_to_float history.now.events company }
+{
+    !history.floated(company) && history.shares(company, Shareholder::InitialOffering) <= FLOAT_MOST
+}
+
+/// A company floats.
+fn float(history: &mut History, company: Company) -> Result<(), AllocError>
+    requires ready { is_ready_to_float history.old.events company ≡ true }
+    requires sound { IsSound history.old }
+    ensures seats { OnOk result (history.new.seats ≡ history.old.seats) }
+    ensures events { OnOk result (history.new.events
+        ≡ floated_at history.old.seats history.old.events company
+        (unwrap_or (par_of history.old.events company) 0)) }
+    ensures sound { OnOk result (IsSound history.new) }
+{
+    let amount = TENTHS_OF_COMPANY * par_value(history, company);
+    history.append(Event::Floats { company, amount })?;
+    history.tell_broken()
+}

@@ -1,0 +1,112 @@
+ghost use Rattle.std.specs.Prelude.{◌≡◌, ◌≤◌, ◌<◌, None};
+ghost use Rattle.history.specs.LookBack.{owner_of};
+ghost use Rattle.stock_round.specs.Judgement.{exchange_rules, exchange_source as source_of_exchange, is_no_exchange as may_not_exchange, is_offered as has_offered, is_owner, is_pooled as has_pooled, judgement_of};
+ghost use Rattle.tables.specs.Rules.{first_broken};
+ghost use Rattle.tables.specs.declared.roster.Private.TheVariants.{MohawkHudson};
+
+use certs::{Purchase, Sale, is_over_six, may_buy, may_sell};
+use history::{History, Holder, Shareholder, StockRule};
+use order_grammar::{Order, ShareSource};
+use tables::{Company, Private, Seat};
+
+/// How many tenths MH brings.
+const EXCHANGE_TENTHS: u8 = 1;
+
+/// The first rule that an order of a seat breaks in its turn, in which it has bought of this
+/// company or of none; `None` if it breaks none. There are at most six seats.
+pub(crate) fn judge(
+    history: &History,
+    seat: Seat,
+    order: &Order,
+    bought: Option<Company>,
+) -> Option<StockRule>
+    requires few { history.now.seats ≤ 6 }
+    requires at_table { seat.0 < history.now.seats }
+    ensures { result ≡ judgement_of history.now.seats history.now.events seat bought order.now }
+{
+    match order {
+        Order::Par { company, price } => {
+            let purchase = Purchase::Par {
+                company: *company,
+                price: *price,
+            };
+            may_buy(history, seat, purchase, bought).err()
+        }
+        Order::BuyShare { company, from } => {
+            let purchase = Purchase::Share {
+                company: *company,
+                from: *from,
+            };
+            may_buy(history, seat, purchase, bought).err()
+        }
+        Order::Sell { company, tenths } => {
+            let sale = Sale {
+                company: *company,
+                tenths: *tenths,
+            };
+            may_sell(history, seat, sale, None).err()
+        }
+        Order::ExchangeMohawk => judge_exchange(history, seat),
+        _ => Some(StockRule::NotOfStock),
+    }
+}
+
+/// The rule that an exchange of MH by a seat breaks, if it breaks it.
+fn judge_exchange(history: &History, seat: Seat) -> Option<StockRule>
+    ensures { result ≡ first_broken (exchange_rules history.now.events seat) }
+{
+    if is_no_exchange(history, seat) {
+        return Some(StockRule::NoExchange);
+    }
+    None
+}
+
+/// Whether a seat may not exchange MH: it does not own it, no tenth of NYC is there, or the seat
+/// would come over six.
+fn is_no_exchange(history: &History, seat: Seat) -> bool
+    ensures { result ≡ may_not_exchange history.now.events seat }
+{
+    !owns_mohawk(history, seat)
+        || !(is_offered(history) || is_pooled(history))
+        || is_over_six(
+            &history.now(),
+            seat,
+            Company::NewYorkCentral,
+            EXCHANGE_TENTHS,
+        )
+}
+
+/// Whether a seat owns MH.
+fn owns_mohawk(history: &History, seat: Seat) -> bool
+    ensures { result ≡ is_owner seat (owner_of history.now.events MohawkHudson) }
+{
+    match history.owner(Private::MohawkHudson) {
+        Some(Holder::Seat(owner)) => owner == seat,
+        _ => false,
+    }
+}
+
+/// Whether there is a tenth of NYC in the initial offering.
+fn is_offered(history: &History) -> bool
+    ensures { result ≡ has_offered history.now.events }
+{
+    history.shares(Company::NewYorkCentral, Shareholder::InitialOffering) > 0
+}
+
+/// Whether there is one in the bank pool.
+fn is_pooled(history: &History) -> bool
+    ensures { result ≡ has_pooled history.now.events }
+{
+    history.shares(Company::NewYorkCentral, Shareholder::BankPool) > 0
+}
+
+/// Where the tenth of NYC for MH comes from: the initial offering first, else the bank pool.
+pub(crate) fn exchange_source(history: &History) -> ShareSource
+    ensures { result ≡ source_of_exchange history.now.events }
+{
+    if is_offered(history) {
+        ShareSource::InitialOffering
+    } else {
+        ShareSource::BankPool
+    }
+}

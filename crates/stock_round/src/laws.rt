@@ -1,0 +1,18 @@
+//! Laws of the definitions, each the contract of a function that does nothing.
+ghost use Rattle.std.specs.Prelude.{◌≡◌, ℕ, List};
+ghost use Rattle.history.specs.LookBack.{Game};
+ghost use Rattle.stock_round.specs.StockRound.{EndsSoon, IsStockRound};
+ghost use Rattle.tables.specs.declared.round.Round.{Round};
+
+/// A stock round has at most one outcome: the sheets and the game before it say what the game after
+/// it is.
+pub fn one_stock_round()
+    ensures { (file : List ℕ) (round : Round) (old : Game) (a : Game) (b : Game)
+        → IsStockRound file round old a → IsStockRound file round old b → a ≡ b }
+{}
+
+/// A stock round has an outcome, whatever the sheets say: its turns come to an end, after at most
+/// 513 for each seat.
+pub fn stock_round_ends()
+    ensures { (file : List ℕ) (round : Round) (old : Game) → EndsSoon file round old }
+{}

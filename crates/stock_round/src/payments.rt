@@ -1,0 +1,88 @@
+//! What passes between a seat and the bank in one event.
+ghost use Rattle.std.specs.Prelude.{◌≡◌, ◌≤◌, ◌<◌, OnOk};
+ghost use Rattle.history.specs.Sound.{IsSound};
+ghost use Rattle.history.specs.Tell.{with_broken};
+ghost use Rattle.stock_round.specs.Act.{bought, exchanged, sold};
+ghost use Rattle.stock_round.specs.Allowed.{MayBuy, MayExchange, MaySell};
+
+use crate::judgement::exchange_source;
+use crate::prices::{market_price, tenth_price};
+use history::{Event, History, Party};
+use order_grammar::ShareSource;
+use std::alloc::AllocError;
+use tables::{Amount, Company, Seat};
+
+/// A seat pays for a tenth of a company, and has it.
+pub(crate) fn pay_for_tenth(
+    history: &mut History,
+    seat: Seat,
+    company: Company,
+    from: ShareSource,
+) -> Result<(), AllocError>
+    requires at_table { seat.0 < history.old.seats }
+    requires may { MayBuy history.old.seats history.old.events seat company from }
+    requires sound { IsSound history.old }
+    ensures seats { OnOk result (history.new.seats ≡ history.old.seats) }
+    ensures events { OnOk result (history.new.events
+        ≡ bought history.old.events seat company from) }
+    ensures sound { OnOk result (IsSound history.new) }
+{
+    let price = tenth_price(history, company, from);
+    history.append(Event::Bought {
+        company,
+        seat,
+        tenths: 1,
+        from,
+        price,
+    })?;
+    Ok(())
+}
+
+/// A seat has the price of tenths of a company, and the pool has them.
+pub(crate) fn pay_for_block(
+    history: &mut History,
+    seat: Seat,
+    company: Company,
+    tenths: u8,
+) -> Result<(), AllocError>
+    requires few { tenths ≤ 10 }
+    ensures seats { OnOk result (history.new.seats ≡ history.old.seats) }
+    ensures events { OnOk result (history.new.events
+        ≡ sold history.old.seats history.old.events seat company tenths) }
+{
+    let price = Amount::from(tenths) * market_price(history, company);
+    history.append(Event::Sells {
+        company,
+        seat,
+        tenths,
+        price,
+    })?;
+    break_bank(history)
+}
+
+/// Tells that the bank is broken, where it has just come to that.
+fn break_bank(history: &mut History) -> Result<(), AllocError>
+    ensures seats { OnOk result (history.new.seats ≡ history.old.seats) }
+    ensures events { OnOk result (history.new.events
+        ≡ with_broken history.old.seats history.old.events) }
+{
+    if history.cash(Party::Bank) > 0 || history.broken() {
+        return Ok(());
+    }
+    history.append(Event::Broken)?;
+    Ok(())
+}
+
+/// A seat has a tenth of NYC, and nobody has MH.
+pub(crate) fn give_up_mohawk(history: &mut History, seat: Seat) -> Result<(), AllocError>
+    requires at_table { seat.0 < history.old.seats }
+    requires may { MayExchange history.old.events seat }
+    requires sound { IsSound history.old }
+    ensures seats { OnOk result (history.new.seats ≡ history.old.seats) }
+    ensures events { OnOk result (history.new.events ≡ exchanged history.old.events seat) }
+    ensures sound { OnOk result (IsSound history.new) }
+{
+    let from = exchange_source(history);
+    history.append(Event::Exchanged { seat, from })?;
+    Ok(())
+}

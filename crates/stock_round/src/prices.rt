@@ -1,0 +1,54 @@
+ghost use Rattle.std.specs.Prelude.{◌≡◌, ◌≤◌, pos, unwrap_or};
+ghost use Rattle.std.specs.Int.RustNames.{unsigned_abs};
+ghost use Rattle.history.specs.Shares.{par_of};
+ghost use Rattle.history.specs.Sound.{IsLed};
+ghost use Rattle.certs.specs.Purchase.{market_price_of, tenth_price_of};
+
+use history::History;
+use order_grammar::ShareSource;
+use tables::{Amount, Company, Money, price};
+
+/// What a tenth of a company that is started costs, in dollars: its par value in the initial
+/// offering, the market price in the pool.
+pub(crate) fn tenth_price(history: &History, company: Company, from: ShareSource) -> Amount
+    requires { IsLed history.now.events company }
+    ensures price { result ≡ tenth_price_of history.now.events company from }
+    ensures small { result ≤ 350 }
+{
+    match from {
+        ShareSource::InitialOffering => par_value(history, company),
+        ShareSource::BankPool => market_price(history, company),
+    }
+}
+
+/// The market price of a company, in dollars; 0 where its token has no square.
+pub(crate) fn market_price(history: &History, company: Company) -> Amount
+    ensures price { result ≡ market_price_of history.now.events company }
+    ensures small { result ≤ 350 }
+{
+    match history.square(company) {
+        Some(square) => price(square),
+        None => 0,
+    }
+}
+
+/// The par value of a company that is started, in dollars.
+pub(crate) fn par_value(history: &History, company: Company) -> Amount
+    requires { IsLed history.now.events company }
+    ensures par { result ≡ unwrap_or (par_of history.now.events company) 0 }
+    ensures small { result ≤ 350 }
+{
+    match history.par(company) {
+        Some(par) => amount_of(par),
+        None => 0,
+    }
+}
+
+/// A small sum of money as an amount.
+fn amount_of(sum: Money) -> Amount
+    requires sum { pos (unsigned_abs sum) ≡ sum }
+    requires small { unsigned_abs sum ≤ 350 }
+    ensures { result ≡ unsigned_abs sum }
+{
+    sum as Amount
+}

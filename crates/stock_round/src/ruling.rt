@@ -1,0 +1,44 @@
+//! Telling what becomes of a line.
+ghost use Rattle.std.specs.Prelude.{◌≡◌, OnOk, IfOk};
+ghost use Rattle.history.specs.LookBack.{with_event};
+ghost use Rattle.history.specs.Sound.{IsSound};
+ghost use Rattle.history.specs.declared.event.Event.TheVariants as event;
+ghost use Rattle.stock_round.specs.Judgement.{judged};
+
+use history::{Event, History, Refusal, Ruling, StockRule};
+use order_grammar::Order;
+use sheets::NumberedLine;
+use std::alloc::AllocError;
+use tables::Seat;
+
+/// What becomes of an order that breaks this rule first, or none.
+pub(crate) fn ruling_of(
+    history: &History,
+    order: &Order,
+    broken: Option<StockRule>,
+) -> Result<Ruling, AllocError>
+    ensures { IfOk result (λ ruling. ruling ≡ judged order.now broken) }
+{
+    let kept = history.keep(order)?;
+    Ok(match broken {
+        Some(rule) => Ruling::Refused(Refusal::Stock(rule), kept),
+        None => Ruling::Obeyed(kept),
+    })
+}
+
+/// Tells what becomes of a line.
+pub(crate) fn tell_ruling(
+    history: &mut History,
+    seat: Seat,
+    line: &NumberedLine,
+    ruling: Ruling,
+) -> Result<(), AllocError>
+    requires { IsSound history.old }
+    ensures event { OnOk result (history.new
+        ≡ with_event history.old (event.Ruled seat line.now.number ruling)) }
+    ensures sound { OnOk result (IsSound history.new) }
+{
+    let line = line.number;
+    history.tell(Event::Ruled { seat, line, ruling })?;
+    Ok(())
+}
