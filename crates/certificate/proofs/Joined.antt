@@ -128,7 +128,7 @@ module _ (P : Stop → Type 0) (test : Stop → Bool) (exact : (stop : Stop) →
   such_has (stop ∷ stops) (inl here) = ap (λ b. b || list_any test stops) ((exact stop).1 here)
   such_has (stop ∷ stops) (inr later) = or_with (test stop) (list_any test stops) (such_has stops later)
 
-not_less : (m n : ℕ) → n ≤ m → ltb m n ≡ false
+pub not_less : (m n : ℕ) → n ≤ m → ltb m n ≡ false
 not_less m n le = by_test (ltb m n) refl
   where
     by_test : (b : Bool) → ltb m n ≡ b → b ≡ false

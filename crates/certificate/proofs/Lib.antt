@@ -6,3 +6,5 @@ pub mod Named
 pub mod Joined
 pub mod Lawful
 pub mod Borders
+pub mod Sharing
+pub mod Written

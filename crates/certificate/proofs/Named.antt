@@ -31,12 +31,12 @@ by_first {A = A} test first thing rest true passes later is =
     let same : first ≡ thing = cc in subst (λ (x : A). test x ≡ true) same passes
 by_first test first thing rest false passes later is = later is
 
-found_passes : {A : Type 0} (test : A → Bool) (things : List A) (thing : A) → find test things ≡ Some thing → test thing ≡ true
+pub found_passes : {A : Type 0} (test : A → Bool) (things : List A) (thing : A) → find test things ≡ Some thing → test thing ≡ true
 found_passes test [] thing is = cc
 found_passes test (first ∷ rest) thing is =
     by_first test first thing (find test rest) (test first) refl (found_passes test rest thing) is
 
-hex_found : (hex : Hex) (found : Option Hex) → is_hex hex found ≡ true → found ≡ Some hex
+pub hex_found : (hex : Hex) (found : Option Hex) → is_hex hex found ≡ true → found ≡ Some hex
 hex_found hex None is = cc
 hex_found hex (Some other) is = ap Some (same_index other hex (eqb-true (index_of other) (index_of hex) is))
 

@@ -43,7 +43,7 @@ three false b c h = cc
 three true false c h = cc
 three true true false h = cc
 
-all_three : (a b c : Bool) → a ≡ true → b ≡ true → c ≡ true → (a && (b && c)) ≡ true
+pub all_three : (a b c : Bool) → a ≡ true → b ≡ true → c ≡ true → (a && (b && c)) ≡ true
 all_three a b c first second third = rw (first, second) third
 
 is_false : (b : Bool) → not b ≡ true → b ≡ false

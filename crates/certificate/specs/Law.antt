@@ -1,13 +1,19 @@
 -- What joins the legal runs and the rules: what some places name is a legal run exactly where they break
--- no rule. And what the numbers of borders and the marks of used ones are worth: a number is one border's,
--- and a run adds its borders to the marks and no others.
+-- no rule, and each legal run is named by some. And what the numbers of borders and the marks of used
+-- ones are worth: a number is one border's; a run adds its borders to the marks and no others; a run that
+-- is legal after it shares no border with it.
 use Rattle.std.specs.Prelude.{◌≡◌, ◌↔◌, ◌⊎◌, ℕ, Bool, Some, None, List, length}
+use Rattle.std.specs.List.{AllByRecursion}
 use Rattle.map_tables.specs.Border.{neighbour_of}
 use Rattle.map_tables.specs.declared.hex.Hex.{Hex}
+use Rattle.map_tables.specs.Place.{joined_hex}
 use Rattle.map_tables.specs.declared.place.Place.{Place}
+use Rattle.map_tables.specs.declared.place.StopNumber.TheVariants.{Second}
 use Rattle.map_tables.specs.declared.side.Side.{Side}
-use Rattle.map_tables.specs.declared.track.End.TheVariants.{Side as AtSide}
-use Rattle.reach.specs.Position.{Position, IsAmong}
+use Rattle.map_tables.specs.declared.track.End.TheVariants.{Side as AtSide, Stop as AtStop}
+use Rattle.map_tables.specs.declared.track.Link.{Link}
+use Rattle.reach.specs.Lawful.{IsLawful}
+use Rattle.reach.specs.Position.{Position, IsAmong, links_of}
 use Rattle.reach.specs.Walk.{across, spot_at}
 use Rattle.reach.specs.declared.walk.Spot.{Spot}
 use Rattle.reach.specs.declared.walk.Step.{Step}
@@ -43,3 +49,22 @@ abbrev pub CrossedBordersAreUsed : Type 0
 CrossedBordersAreUsed =
     (used : List Bool) (steps : List Step) (border : ℕ) → length used ≡ 279 →
     IsUsed (marked used (crossed steps)) border ↔ (IsUsed used border ⊎ IsAmong border (crossed steps))
+
+-- a run that is legal after another shares no border with it
+abbrev pub RunsShareNoBorder : Type 0
+RunsShareNoBorder =
+    (position : Position) (company : Company) (kind : Kind) (used : List Bool) (first second : List Step) → length used ≡ 279 →
+    IsLegalRun position company kind (marked used (crossed first)) second →
+    AllByRecursion (λ border. ¬ IsAmong border (crossed first)) (crossed second)
+
+-- a hex that is part of another's stop has one stop: no track of it leads to a second
+abbrev pub PartsHaveOneStop : Position → Type 0
+PartsHaveOneStop position =
+    (hex : Hex) (link : Link) → IsAmong link (links_of position hex) → link.b ≡ AtStop Second → joined_hex hex ≡ hex
+
+-- each legal run can be written out: some places name it
+abbrev pub EachLegalRunIsNamed : Type 0
+EachLegalRunIsNamed =
+    (position : Position) (company : Company) (kind : Kind) (used : List Bool) (steps : List Step) →
+    IsLawful position → PartsHaveOneStop position → IsLegalRun position company kind used steps →
+    (places : List Place) × (walk_named position places ≡ Some steps)

@@ -2,7 +2,9 @@
 ghost use Rattle.certificate.specs.Law.{
   BordersAreToldApart,
   CrossedBordersAreUsed,
+  EachLegalRunIsNamed,
   LegalWhereNoRuleIsBroken,
+  RunsShareNoBorder,
 };
 
 use map_tables::neighbours_pair;
@@ -24,4 +26,15 @@ pub fn borders_are_told_apart()
 /// After a run those borders are used that were used before it, and those that it crosses.
 pub fn crossed_borders_are_used()
     ensures { CrossedBordersAreUsed }
+{}
+
+/// A run that is legal once the borders of another are used shares no border with it.
+pub fn runs_share_no_border()
+    ensures { RunsShareNoBorder }
+{}
+
+/// Each legal run can be written out: some places name it. A hex that is a part of another's stop
+/// must have that stop alone, as it has on the map.
+pub fn each_legal_run_is_named()
+    ensures { EachLegalRunIsNamed }
 {}

@@ -1,5 +1,5 @@
 -- What the position of an example has in a hex and at a stop.
-use Rattle.std.proofs.Common.{◌≡◌, ◌↔◌, ℕ, ◌<◌, ◌≤◌, Bool, true, false, ◌&&◌, ◌⊎◌, inl, inr, not, ltb, if◌then◌else◌, Option, Some, None, List, [], ◌∷◌, length, get_or, refl, ap, sym, ◌∙◌, subst, arith, lit<, find}
+use Rattle.std.proofs.Common.{◌≡◌, ◌↔◌, ℕ, ◌<◌, ◌≤◌, Bool, true, false, ◌&&◌, not, ltb, if◌then◌else◌, Option, Some, None, List, [], ◌∷◌, length, get_or, refl, ap, sym, ◌∙◌, subst, arith, lit<, find}
 use Rattle.std.specs.List.{list_any, count_by}
 use Rattle.std.proofs.lemmas.Bool.{ltb-true, ltb-false, lt-ltb}
 use Rattle.std.proofs.lemmas.List.{get_or-map}
@@ -15,7 +15,7 @@ use Rattle.map_tables.specs.declared.place.Stop.{Stop}
 use Rattle.map_tables.specs.declared.place.StopNumber.{StopNumber}
 use Rattle.map_tables.specs.declared.place.StopNumber.TheVariants.{First, Second}
 use Rattle.reach.specs.Lawful.{IsLawful}
-use Rattle.reach.specs.Position.{Position, AtStop, InHex, HasToken, IsAmong, IsFull, at_stop, empty_hex, in_hex, links_of, no_stop, value_of}
+use Rattle.reach.specs.Position.{Position, AtStop, InHex, IsAmong, IsFull, at_stop, empty_hex, in_hex, links_of, no_stop, value_of}
 use Rattle.reach_tests.specs.Example.{has_stop, has_token, hex_in, is_at, is_full_for, is_red_kind, is_red_there, lay_on, lies_at, links_with, position_of, slots_with, stop_in, tokens_at, worth_with}
 use Rattle.reach_tests.specs.declared.example.Example.{Example}
 use Rattle.reach_tests.proofs.Tokens.{length_at, found_at, among_at}

@@ -1,7 +1,7 @@
 use crate::boards::{first, laid, once_turned, run, stop, through, token};
 use crate::example::{Example, Token};
 use certificate::{RunFault, Used, check_run};
-use map_tables::{Hex, Lay, Place, Rotation, TileNo};
+use map_tables::{Hex, Lay, Place, RUN_LEAST, RUN_MOST, Rotation, TileNo};
 use tables::{Company, Kind, Money};
 
 const PRR: Company = Company::Pennsylvania;
@@ -179,4 +179,25 @@ fn a_run_that_no_track_carries_is_none(rt: HostRuntime) {
     assert_eq!(rt; checked(&lays, &tokens, Kind::Two, &places), bad);
     assert_eq!(rt; RunFault::NoTrack.code(), "R3");
     assert_eq!(rt; first(Hex::H12).place(), stop(Hex::H12));
+}
+
+#[test]
+fn a_run_may_have_280_places(rt: HostRuntime) {
+    let lays = [(Hex::H10, TileNo::T57)].map(once_turned);
+    let tokens = [(PRR, Hex::H12)].map(token);
+    let board = Example {
+        lays: &lays,
+        tokens: &tokens,
+    };
+    let mut to_and_fro = run(&[stop(Hex::H12), stop(Hex::H10)]);
+    for number in RUN_LEAST..RUN_MOST {
+        if !to_and_fro.is_full() {
+            to_and_fro.push(stop(if number % 2 == 0 { Hex::H12 } else { Hex::H10 }));
+        }
+    }
+    assert_eq!(rt; to_and_fro.as_slice().len(), RUN_MOST);
+    let ruled = check_run(&board, PRR, Kind::Diesel, &to_and_fro, &mut Used::new());
+    assert_eq!(rt; ruled, Err(RunFault::StopTwice));
+    let ruled = check_run(&board, PRR, Kind::Six, &to_and_fro, &mut Used::new());
+    assert_eq!(rt; ruled, Err(RunFault::WrongNumber));
 }

@@ -1,5 +1,5 @@
 -- Full by the tokens at the stop that names it.
-use Rattle.std.proofs.Common.{◌≡◌, true, ap, sym, ◌∙◌}
+use Rattle.std.proofs.Common.{ap, sym, ◌∙◌}
 use Rattle.reach_tests.specs.Example.{is_full_for}
 use Rattle.reach_tests.proofs.Positions.{full_is}
 use Rattle.reach_tests.proofs.example.ExampleNetwork.full.Goals as goal

@@ -1,5 +1,5 @@
 -- The links of the tile, or those of the print.
-use Rattle.std.proofs.Common.{◌≡◌, ap, sym, ◌∙◌}
+use Rattle.std.proofs.Common.{ap, sym, ◌∙◌}
 use Rattle.reach_tests.specs.Example.{links_with}
 use Rattle.reach_tests.proofs.Positions.{in_hex_is}
 use Rattle.reach_tests.proofs.example.ExampleNetwork.links.Goals as goal

@@ -1,5 +1,5 @@
 -- Red by the print of the stop that names it.
-use Rattle.std.proofs.Common.{◌≡◌, ap, sym, ◌∙◌}
+use Rattle.std.proofs.Common.{ap, sym, ◌∙◌}
 use Rattle.map_tables.specs.Place.{joined_stop_of}
 use Rattle.reach_tests.specs.Example.{is_red_there}
 use Rattle.reach_tests.proofs.Positions.{at_stop_is, red_is}

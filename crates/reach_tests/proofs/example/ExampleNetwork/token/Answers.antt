@@ -1,5 +1,5 @@
 -- A token at the stop that names it.
-use Rattle.std.proofs.Common.{◌≡◌, true, ap, sym, ◌∙◌, subst}
+use Rattle.std.proofs.Common.{ap, sym, ◌∙◌, subst}
 use Rattle.map_tables.specs.Place.{joined_stop_of}
 use Rattle.reach.specs.Position.{AtStop, IsAmong}
 use Rattle.reach_tests.specs.Example.{has_token}

@@ -1,5 +1,5 @@
 -- The value of the stop that names it.
-use Rattle.std.proofs.Common.{◌≡◌, ap, sym, ◌∙◌}
+use Rattle.std.proofs.Common.{ap, sym, ◌∙◌}
 use Rattle.reach_tests.specs.Example.{stop_in}
 use Rattle.reach_tests.proofs.Positions.{at_stop_is}
 use Rattle.reach_tests.proofs.example.ExampleNetwork.value.Goals as goal
