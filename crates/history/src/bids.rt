@@ -11,7 +11,7 @@ use arrayvec::ArrayVec;
 use tables::{Amount, Money, PLAYERS_MOST, Private, Seat};
 
 impl Past<'_> {
-    /// A seat's standing bid on a private.
+    /// A seat's standing bid on a private, in dollars.
     pub fn bid(&self, private: Private, seat: Seat) -> Option<Money>
         ensures { result ≡ option_map pos (bid_of self.now.events.now private seat) }
     {
@@ -66,7 +66,7 @@ impl Past<'_> {
         last_said(&ParOrdered(seat), self.events)
     }
 
-    /// The sum of a seat's standing bids.
+    /// The sum of a seat's standing bids, in dollars.
     pub fn bids_of(&self, seat: Seat) -> Money
         ensures sum { result ≡ pos (bids_of self.now.events.now seat) }
         ensures within { bids_of self.now.events.now seat < 2 ^ 35 }
@@ -91,14 +91,15 @@ impl Past<'_> {
         tied
     }
 
-    /// What a seat can spend on a private: its cash less its standing bids on the others.
+    /// What a seat can spend on a private, in dollars: its cash less its standing bids on the
+    /// others.
     pub fn free_for(&self, seat: Seat, private: Private) -> Money
         ensures { result ≡ free_for self.now.seats self.now.events.now seat private }
     {
         self.cash(Party::Holder(Holder::Seat(seat))) - self.bids_elsewhere(seat, private)
     }
 
-    /// The sum of a seat's standing bids on other privates than one.
+    /// The sum of a seat's standing bids on other privates than one, in dollars.
     pub fn bids_elsewhere(&self, seat: Seat, private: Private) -> Money
         ensures sum { result ≡ pos (bids_elsewhere_of self.now.events.now seat private) }
         ensures within { bids_elsewhere_of self.now.events.now seat private < 2 ^ 35 }
@@ -106,7 +107,7 @@ impl Past<'_> {
         self.bids_of(seat) - Money::from(self.tied_on(seat, private))
     }
 
-    /// A seat's cash less its standing bids.
+    /// A seat's cash less its standing bids, in dollars.
     pub fn free_cash(&self, seat: Seat) -> Money
         ensures { result ≡ free_cash_of self.now.seats self.now.events.now seat }
     {
