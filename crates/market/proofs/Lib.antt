@@ -1,4 +1,3 @@
 mod Chart
 mod Orders
 mod Operating
-mod Ranked

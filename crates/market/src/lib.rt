@@ -10,6 +10,6 @@ mod laws;
 mod moves;
 mod order;
 
-pub use laws::{floated_companies_in_order, moves_stay_on_chart};
+pub use laws::{first_there_operates_first, floated_companies_in_order, moves_stay_on_chart};
 pub use moves::{down, fall, left, right, up};
-pub use order::{InOrder, operating_order};
+pub use order::operating_order;

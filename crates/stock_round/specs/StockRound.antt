@@ -2,7 +2,7 @@
 -- place, the turns from the holder of priority to the left until all have passed, the moves of the companies
 -- that are sold out, and what was left. A company is sold out where all its tenths are with players; its token
 -- then moves up. These companies move in operating order, as it is when the turns are over.
-use Rattle.std.specs.Prelude.{◌≡◌, ℕ, ◌+◌, ◌*◌, ◌≤◌, Bool, false, ◌&&◌, if◌then◌else◌, List, [], ◌∷◌, ◌++◌, map, Option, Some, None, Result, Ok, Err, pos}
+use Rattle.std.specs.Prelude.{◌≡◌, ℕ, ◌+◌, ◌*◌, ◌≤◌, Bool, false, ◌&&◌, if◌then◌else◌, List, [], ◌∷◌, ◌++◌, map, Result, Ok, Err, pos}
 use Rattle.std.specs.List.{range_with_len}
 use Rattle.std.specs.Ordering.{int_eq}
 use Rattle.history.specs.LookBack.{Game, priority_of}
@@ -71,11 +71,6 @@ is_sold_out events company =
 -- after a company has moved up, if it is sold out
 abbrev pub risen : List Event → Company → List Event
 risen events company = if is_sold_out events company then with_move up_of events company else events
-
--- after a company, if there is one, has moved up, if it is sold out
-abbrev pub risen_if : List Event → Option Company → List Event
-risen_if events None = events
-risen_if events (Some company) = risen events company
 
 -- after some companies have, in order
 abbrev pub all_risen : List Event → List Company → List Event

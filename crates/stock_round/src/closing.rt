@@ -1,7 +1,6 @@
-ghost use Rattle.std.specs.Prelude.{◌≡◌, List, OnOk, Some, map};
+ghost use Rattle.std.specs.Prelude.{◌≡◌, OnOk};
 ghost use Rattle.history.specs.Sound.{IsSound};
-ghost use Rattle.stock_round.specs.StockRound.{all_risen, closed, is_sold_out as has_sold_out, risen, risen_if};
-ghost use Rattle.tables.specs.declared.roster.Company.{Company};
+ghost use Rattle.stock_round.specs.StockRound.{all_risen, closed, is_sold_out as has_sold_out, risen};
 
 use crate::token::raise_token;
 use history::{History, Shareholder};
@@ -21,30 +20,17 @@ pub(crate) fn close(history: &mut History) -> Result<(), AllocError>
 }
 
 /// Each of some companies that is sold out moves up, in order.
-fn raise_all(history: &mut History, companies: &[Option<Company>]) -> Result<(), AllocError>
+fn raise_all(history: &mut History, companies: &[Company]) -> Result<(), AllocError>
     requires { IsSound history.old }
     ensures seats { OnOk result (history.new.seats ≡ history.old.seats) }
-    ensures events { OnOk result ((all : List Company) → companies.now ≡ map Some all
-        → history.new.events ≡ all_risen history.old.events all) }
+    ensures events { OnOk result (history.new.events
+        ≡ all_risen history.old.events companies.now) }
     ensures sound { OnOk result (IsSound history.new) }
 {
     for company in companies {
-        raise_next(history, *company)?;
+        raise_if_sold_out(history, *company)?;
     }
     Ok(())
-}
-
-/// A company, if there is one, moves up, if it is sold out.
-fn raise_next(history: &mut History, company: Option<Company>) -> Result<(), AllocError>
-    requires { IsSound history.old }
-    ensures seats { OnOk result (history.new.seats ≡ history.old.seats) }
-    ensures events { OnOk result (history.new.events ≡ risen_if history.old.events company) }
-    ensures sound { OnOk result (IsSound history.new) }
-{
-    match company {
-        Some(company) => raise_if_sold_out(history, company),
-        None => Ok(()),
-    }
 }
 
 /// A company moves up, if it is sold out.

@@ -3,10 +3,11 @@ ghost use Rattle.tables.specs.Roster.{code_of_company, code_of_private, face_of,
 
 use crate::seat::Amount;
 
-/// A share company, in roster order.
-#[derive(Clone, Copy, Debug, PartialEq, Eq, Hash)]
+/// A share company, in roster order. The default is the first of them.
+#[derive(Clone, Copy, Debug, PartialEq, Eq, Hash, Default)]
 pub enum Company {
     /// PRR, the Pennsylvania.
+    #[default]
     Pennsylvania,
     /// NYC, the New York Central.
     NewYorkCentral,

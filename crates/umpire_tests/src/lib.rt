@@ -6,7 +6,7 @@
 //!
 //! Reading order: `support` (games built event by event; readers and writers that give and take as
 //! they are told), and then a module for each library: `chart`, `lines`, `sheets_of_a_file`,
-//! `looking_back`, `payments`, `certificates`, `shares` (what may be bought and sold), `openings`,
+//! `looking_back`, `payments`, `certificates`, `shares` (what may be bought and sold), `openings`, `stock_rounds`,
 //! `sequence`, `texts`, `watching`, `running`.
 #![tactic(auto)]
 
@@ -30,6 +30,8 @@ mod sequence;
 mod shares;
 #[cfg(test)]
 mod sheets_of_a_file;
+#[cfg(test)]
+mod stock_rounds;
 #[cfg(test)]
 mod support;
 #[cfg(test)]

@@ -107,13 +107,11 @@ fn after_two(alloc: Global, sheets: &Sheets) -> Result<History, AllocError> {
 
 /// How many lines are refused by this rule.
 fn refused_by(history: &History, broken: StockRule) -> usize {
-    let mut count = 0;
-    for event in history.events() {
-        if is_refused_by(event, broken) {
-            count += 1;
-        }
-    }
-    count
+    history
+        .events()
+        .iter()
+        .filter(|event| is_refused_by(event, broken))
+        .count()
 }
 
 /// Whether an event refuses a line by this rule.
@@ -129,13 +127,11 @@ fn is_refused_by(event: &Event, broken: StockRule) -> bool {
 
 /// How many turns were passes.
 fn passes(history: &History) -> usize {
-    let mut count = 0;
-    for event in history.events() {
-        if matches!(event, Event::Passes(_)) {
-            count += 1;
-        }
-    }
-    count
+    history
+        .events()
+        .iter()
+        .filter(|event| matches!(event, Event::Passes(_)))
+        .count()
 }
 
 #[test]
