@@ -79,8 +79,8 @@ impl Past<'_> {
         Money::from(sum)
     }
 
-    /// What a seat's standing bid on each private ties, by the private's place in the roster, by one
-    /// look over the list.
+    /// What a seat's standing bid on each private ties, by the private's place in the roster, by
+    /// one look over the list.
     fn tied_by(&self, seat: Seat) -> [Amount; 6]
         ensures { AreTied self.now.events.now seat result }
     {

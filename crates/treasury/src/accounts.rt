@@ -46,8 +46,8 @@ impl Accounts {
         }
     }
 
-    /// What a party has, in dollars; the bank's cash may be under 0. Of the seats the first six have
-    /// accounts.
+    /// What a party has, in dollars; the bank's cash may be under 0. Of the seats the first six
+    /// have accounts.
     pub fn cash(&self, party: Party) -> Money
         requires { HasAccount party }
         ensures { result ≡ cash_in self.now party }
@@ -59,8 +59,8 @@ impl Accounts {
         }
     }
 
-    /// Pays a sum of 0 to 1,000,000 dollars from one party to another. `Short` comes where the payer
-    /// is a player or a company and has less; then nothing changes.
+    /// Pays a sum of 0 to 1,000,000 dollars from one party to another. `Short` comes where the
+    /// payer is a player or a company and has less; then nothing changes.
     pub fn pay(&mut self, from: Party, to: Party, sum: Money) -> Result<(), Short>
         requires from { HasAccount from }
         requires to { HasAccount to }

@@ -6,8 +6,8 @@
 //!
 //! Reading order: `support` (games built event by event; readers and writers that give and take as
 //! they are told), and then a module for each library: `chart`, `lines`, `sheets_of_a_file`,
-//! `looking_back`, `payments`, `certificates`, `shares` (what may be bought and sold), `openings`, `stock_rounds`,
-//! `sequence`, `texts`, `watching`, `running`.
+//! `looking_back`, `payments`, `certificates`, `shares` (what may be bought and sold), `openings`,
+//! `stock_rounds`, `sequence`, `texts`, `watching`, `running`.
 #![tactic(auto)]
 
 #[cfg(test)]

@@ -31,8 +31,8 @@ fn played(alloc: Global, sheets: &Sheets) -> Result<(End, usize, usize), AllocEr
 
 #[test]
 fn plays_as_far_as_the_sheets_go(rt: HostRuntime) -> Result<(), Fail> {
-    // An event for each line of the report that is no statement: in the first game ROUND to REVENUE,
-    // in the second four rounds of ROUND, three passes and PRICE, and the gift.
+    // An event for each line of the report that is no statement: in the first game ROUND to
+    // REVENUE, in the second four rounds of ROUND, three passes and PRICE, and the gift.
     for (file, awaited, events) in [(FIRST, 2, 7), (GIFT, 5, 21)] {
         let sheets = collect(rt.alloc(), file.as_bytes())?;
         let found = played(rt.alloc(), &sheets)?;
