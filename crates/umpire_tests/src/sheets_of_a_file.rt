@@ -4,8 +4,26 @@ use std::alloc::{AllocError, Global};
 use std::test::Fail;
 use tables::{Round, Seat};
 
-const FILE: &[u8] =
-    b"\n# a game\nGAME 1830 1\r\nplayers Ann Bob cy\nHELLO\nSHEET ann PR1\nTURN\n\nBUY SV\nSHEET BOB pr1\r\nTURN\r\n\r\n  # none\r\nBUY XX\r\nSHEET DAN PR1\nTURN\nSHEET ANN PR1\nBUY DH\r";
+/// Sheets of ANN and BOB among lines that are unread. Some lines end in a CR and an LF, the last in
+/// a CR alone.
+const FILE: &[u8] = b"
+# a game
+GAME 1830 1\r
+players Ann Bob cy
+HELLO
+SHEET ann PR1
+TURN
+
+BUY SV
+SHEET BOB pr1\r
+TURN\r
+\r
+  # none\r
+BUY XX\r
+SHEET DAN PR1
+TURN
+SHEET ANN PR1
+BUY DH\r";
 
 /// A line's private, by its code, or its fault; `-` for another order.
 fn code_of(line: &NumberedLine) -> &'static str {
