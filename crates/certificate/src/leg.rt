@@ -7,8 +7,8 @@ ghost use Rattle.certificate.specs.Named.{is_hex, leg_to, same_link, side_toward
 use map_tables::{End, Hex, Link, Place, Side, neighbour, sides_and_rotations_are_all};
 use reach::{Network, Spot, Step};
 
-/// What leads from where a train stands to its next place: a step to the border between their hexes,
-/// and where the place has a stop, a step on to it.
+/// What leads from where a train stands to its next place: a step to the border between their
+/// hexes, and where the place has a stop, a step on to it.
 #[derive(Clone, Copy)]
 pub(crate) struct Leg {
     pub(crate) first: Step,

@@ -9,8 +9,9 @@ use history::{Holder, Shareholder, Tenths};
 use tables::{Company, Private, Seat, Zone, zone};
 
 impl Holdings {
-    /// How many certificates of a seat count against the limit: its privates, and of each company whose
-    /// square lies in no zone, or that has no square, its tenths, less one if the seat presides.
+    /// How many certificates of a seat count against the limit: its privates, and of each company
+    /// whose square lies in no zone, or that has no square, its tenths, less one if the seat
+    /// presides.
     pub fn counted(&self, seat: Seat) -> Tenths
         ensures { result ≡ counted_in self.now seat }
     {

@@ -7,8 +7,8 @@ use tables::{Amount, Company};
 /// What a seat buys in a stock round.
 #[derive(Clone, Copy, Debug, PartialEq, Eq)]
 pub enum Purchase {
-    /// The president's certificate of a company that is not started, two tenths, at twice the par value that
-    /// the seat sets, in dollars.
+    /// The president's certificate of a company that is not started, two tenths, at twice the par
+    /// value that the seat sets, in dollars.
     Par { company: Company, price: Amount },
     /// A tenth of a company that is started.
     Share { company: Company, from: ShareSource },

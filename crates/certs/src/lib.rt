@@ -1,13 +1,15 @@
-//! The certificates: who holds how many tenths of each company, who presides, how many certificates of a
-//! player count against the limit, and what a player may buy and sell.
+//! The certificates: who holds how many tenths of each company, who presides, how many certificates
+//! of a player count against the limit, and what a player may buy and sell.
 //!
-//! The holdings are a small table that is made by looking back over the events of a game. A transfer
-//! moves tenths and nothing else; then the table answers who presides. The rules of a purchase and of a sale
-//! are looked at in the order of their numbers, and the first that is broken is the answer.
+//! The holdings are a small table that is made by looking back over the events of a game. A
+//! transfer moves tenths and nothing else; then the table answers who presides. The rules of a
+//! purchase and of a sale are looked at in the order of their numbers, and the first that is broken
+//! is the answer.
 //!
-//! Reading order: `holdings`, `notes` (the tables that they are made of), `rows` (the tenths of one company),
-//! `president`, `counted` (the certificates that count), `deal` (what is bought and sold), `purchase`, `sale`,
-//! `laws` (what the presidency goes by, and what counts by the events of a game).
+//! Reading order: `holdings`, `notes` (the tables that they are made of), `rows` (the tenths of one
+//! company), `president`, `counted` (the certificates that count), `deal` (what is bought and
+//! sold), `purchase`, `sale`, `laws` (what the presidency goes by, and what counts by the events of
+//! a game).
 #![tactic(auto)]
 
 mod counted;

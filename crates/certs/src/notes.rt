@@ -54,8 +54,8 @@ fn note_transfer(rows: &mut [Row; 8], event: &Event)
     }
 }
 
-/// A row after tenths came to the place with this index, or went from it where they are under 0. A seat past
-/// the sixth has no place in a row: it is passed over.
+/// A row after tenths came to the place with this index, or went from it where they are under 0. A
+/// seat past the sixth has no place in a row: it is passed over.
 fn changed(mut row: Row, index: usize, change: Tenths) -> Row
     requires near { IsNear (2 ^ 71) row }
     requires few { IsChange change }

@@ -6,9 +6,9 @@ use history::Shareholder;
 use tables::{Company, Seat};
 
 impl Holdings {
-    /// Who presides over a company; `None` where nobody has its president's certificate. The president as
-    /// it was said last stays unless some seat has strictly more tenths; then it is the seat with most,
-    /// among equals the first to the president's left.
+    /// Who presides over a company; `None` where nobody has its president's certificate. The
+    /// president as it was said last stays unless some seat has strictly more tenths; then it is
+    /// the seat with most, among equals the first to the president's left.
     pub fn president(&self, company: Company) -> Option<Seat>
         ensures { result ≡ presiding_in self.now company }
     {

@@ -15,8 +15,8 @@ use tables::{Amount, Company, Money, Seat, Zone, certificate_limit, par_square, 
 /// The most tenths of a company that a seat may hold where no zone lifts that.
 const TENTHS_MOST: Tenths = 6;
 
-/// Whether a seat at a table of at most six may buy, in a turn in which it has bought of a company, if it
-/// has bought. An `Err` is the first rule that the purchase breaks, of S6 to S13.
+/// Whether a seat at a table of at most six may buy, in a turn in which it has bought of a company,
+/// if it has bought. An `Err` is the first rule that the purchase breaks, of S6 to S13.
 pub fn may_buy(
     history: &History,
     seat: Seat,
@@ -118,7 +118,8 @@ fn cost(now: &Past, purchase: Purchase) -> Money
     }
 }
 
-/// What a tenth of a company costs: the par value in the initial offering, the market price in the pool.
+/// What a tenth of a company costs: the par value in the initial offering, the market price in the
+/// pool.
 pub fn tenth_price(now: &Past, company: Company, from: ShareSource) -> Money
     ensures { result ≡ pos (tenth_price_of now.now.events.now company from) }
 {
@@ -177,8 +178,8 @@ fn has_full_hand(now: &Past, seat: Seat) -> bool
     Holdings::at(now).counted(seat) >= certificate_limit(now.seats) as Tenths
 }
 
-/// Whether with so many tenths more a seat would have over six of a company, where the zone of the company's
-/// square does not lift that.
+/// Whether with so many tenths more a seat would have over six of a company, where the zone of the
+/// company's square does not lift that.
 #[tactic(auto, unfolding(crate::specs::Purchase::is_over_six))]
 pub fn is_over_six(now: &Past, seat: Seat, company: Company, tenths: u8) -> bool
     ensures { result ≡ over_six now.now.events.now seat company tenths }
@@ -203,7 +204,8 @@ fn would_have(now: &Past, seat: Seat, company: Company, tenths: u8) -> Tenths
     now.shares(company, Shareholder::Seat(seat)) + Tenths::from(tenths)
 }
 
-/// Whether a seat has bought already in its turn, and a purchase of a company is not one of several.
+/// Whether a seat has bought already in its turn, and a purchase of a company is not one of
+/// several.
 #[tactic(auto, unfolding(crate::specs::Purchase::is_second))]
 fn is_second(now: &Past, company: Company, bought: Option<Company>) -> bool
     ensures { result ≡ second_purchase now.now.events.now company bought }

@@ -5,8 +5,8 @@ ghost use Rattle.history.specs.declared.event.Shareholder.{Shareholder};
 use history::{Shareholder, Tenths};
 use tables::Seat;
 
-/// The tenths of a company by their places: the initial offering's, the bank pool's, and those of each
-/// of six seats.
+/// The tenths of a company by their places: the initial offering's, the bank pool's, and those of
+/// each of six seats.
 pub(crate) type Row = [Tenths; 8];
 
 /// The index of a place in a row.

@@ -4,6 +4,7 @@ pub mod Places
 pub mod Words
 pub mod Standing
 pub mod BidWords
+pub mod Tied
 pub mod Acts
 pub mod Soundness
 pub mod Tenths

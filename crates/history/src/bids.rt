@@ -1,17 +1,17 @@
 //! Standing bids, and what the standing orders of a seat say.
 ghost use Rattle.std.specs.Prelude.{◌≡◌, ◌^◌, ◌<◌, ◌≤◌, option_map, pos};
 ghost use Rattle.history.specs.Orders.{limit_of, par_ordered_of};
-ghost use Rattle.history.specs.Bids.{bid_of, bids_elsewhere_of, bids_of, bids_on, free_cash_of, free_for, tied_on};
+ghost use Rattle.history.specs.Bids.{AreStanding, AreTied, NotesBid, NotesBidOn, bid_of, bids_elsewhere_of, bids_of, bids_on, free_cash_of, free_for, tied_on};
 
 use crate::aspect::{InRound, last_said};
-use crate::event::{Bid, Holder, Party};
+use crate::event::{Bid, Bidding, Event, Holder, Party};
 use crate::look_back::Past;
 use crate::topics::{BidOn, LimitOn, ParOrdered};
 use arrayvec::ArrayVec;
 use tables::{Amount, Money, PLAYERS_MOST, Private, Seat};
 
 impl Past<'_> {
-    /// A seat's standing bid on a private.
+    /// A seat's standing bid on a private, in dollars.
     pub fn bid(&self, private: Private, seat: Seat) -> Option<Money>
         ensures { result ≡ option_map pos (bid_of self.now.events.now private seat) }
     {
@@ -30,14 +30,26 @@ impl Past<'_> {
         requires { self.now.seats ≤ 6 }
         ensures { result.items ≡ bids_on self.now.seats self.now.events.now private }
     {
+        let standing = self.standing_by_seat(private);
         let mut bids = ArrayVec::new();
         for number in 0..self.seats {
             let seat = Seat::at(number);
-            if let Some(amount) = self.standing_bid(private, seat) {
+            if let Some(amount) = standing[number] {
                 bids.push(Bid { seat, amount });
             }
         }
         bids
+    }
+
+    /// The standing bid of each of six seats on a private, by one look over the list.
+    fn standing_by_seat(&self, private: Private) -> [Option<Amount>; PLAYERS_MOST]
+        ensures { AreStanding self.now.events.now private result }
+    {
+        let mut standing = [None; PLAYERS_MOST];
+        for event in self.events {
+            note_bid_on(&mut standing, private, event);
+        }
+        standing
     }
 
     /// How far a seat goes in an auction of a private, by its last obeyed LIMIT line of this round.
@@ -54,26 +66,40 @@ impl Past<'_> {
         last_said(&ParOrdered(seat), self.events)
     }
 
-    /// The sum of a seat's standing bids.
+    /// The sum of a seat's standing bids, in dollars.
     pub fn bids_of(&self, seat: Seat) -> Money
         ensures sum { result ≡ pos (bids_of self.now.events.now seat) }
         ensures within { bids_of self.now.events.now seat < 2 ^ 35 }
     {
+        let tied = self.tied_by(seat);
         let mut sum: u64 = 0;
         for private in Private::ALL {
-            sum += u64::from(self.tied_on(seat, private));
+            sum += u64::from(tied[private.place()]);
         }
         Money::from(sum)
     }
 
-    /// What a seat can spend on a private: its cash less its standing bids on the others.
+    /// What a seat's standing bid on each private ties, by the private's place in the roster, by
+    /// one look over the list.
+    fn tied_by(&self, seat: Seat) -> [Amount; 6]
+        ensures { AreTied self.now.events.now seat result }
+    {
+        let mut tied = [0; 6];
+        for event in self.events {
+            note_bid(&mut tied, seat, event);
+        }
+        tied
+    }
+
+    /// What a seat can spend on a private, in dollars: its cash less its standing bids on the
+    /// others.
     pub fn free_for(&self, seat: Seat, private: Private) -> Money
         ensures { result ≡ free_for self.now.seats self.now.events.now seat private }
     {
         self.cash(Party::Holder(Holder::Seat(seat))) - self.bids_elsewhere(seat, private)
     }
 
-    /// The sum of a seat's standing bids on other privates than one.
+    /// The sum of a seat's standing bids on other privates than one, in dollars.
     pub fn bids_elsewhere(&self, seat: Seat, private: Private) -> Money
         ensures sum { result ≡ pos (bids_elsewhere_of self.now.events.now seat private) }
         ensures within { bids_elsewhere_of self.now.events.now seat private < 2 ^ 35 }
@@ -81,7 +107,7 @@ impl Past<'_> {
         self.bids_of(seat) - Money::from(self.tied_on(seat, private))
     }
 
-    /// A seat's cash less its standing bids.
+    /// A seat's cash less its standing bids, in dollars.
     pub fn free_cash(&self, seat: Seat) -> Money
         ensures { result ≡ free_cash_of self.now.seats self.now.events.now seat }
     {
@@ -93,5 +119,40 @@ impl Past<'_> {
         ensures { result ≡ tied_on self.now.events.now seat private }
     {
         self.standing_bid(private, seat).unwrap_or(0)
+    }
+}
+
+/// Notes what an event says of a seat's bids in a table of what they tie.
+fn note_bid(tied: &mut [Amount; 6], seat: Seat, event: &Event)
+    ensures { NotesBid seat event.now tied.old tied.new }
+{
+    match event.bidding() {
+        Some(Bidding::Made(private, bid)) => {
+            if bid.seat == seat {
+                tied[private.place()] = bid.amount;
+            }
+        }
+        Some(Bidding::Ended(private)) => tied[private.place()] = 0,
+        None => {}
+    }
+}
+
+/// Notes what an event says of the bids on a private in a table of the seats' standing bids.
+fn note_bid_on(standing: &mut [Option<Amount>; PLAYERS_MOST], private: Private, event: &Event)
+    ensures { NotesBidOn private event.now standing.old standing.new }
+{
+    match event.bidding() {
+        Some(Bidding::Made(other, bid)) => {
+            let number = bid.seat.number();
+            if other == private && number < PLAYERS_MOST {
+                standing[number] = Some(bid.amount);
+            }
+        }
+        Some(Bidding::Ended(other)) => {
+            if other == private {
+                *standing = [None; PLAYERS_MOST];
+            }
+        }
+        None => {}
     }
 }

@@ -90,7 +90,7 @@ impl History {
         }
     }
 
-    /// What a party has; the bank's cash may be under 0.
+    /// What a party has, in dollars; the bank's cash may be under 0.
     pub fn cash(&self, party: Party) -> Money
         ensures sum { result ≡ cash_of self.now.seats self.now.events party }
         ensures within { IsModerate result }
@@ -167,7 +167,7 @@ impl History {
         self.now().owners()
     }
 
-    /// A seat's standing bid on a private.
+    /// A seat's standing bid on a private, in dollars.
     pub fn bid(&self, private: Private, seat: Seat) -> Option<Money>
         ensures { result ≡ option_map pos (bid_of self.now.events private seat) }
     {
@@ -210,7 +210,7 @@ impl History {
         self.now().arrival(company)
     }
 
-    /// A company's par value; `None` while it has none.
+    /// A company's par value in dollars; `None` while it has none.
     pub fn par(&self, company: Company) -> Option<Money>
         ensures { result ≡ option_map pos (par_of self.now.events company) }
     {
@@ -267,7 +267,7 @@ impl History {
         self.now().rulings_in_round(seat)
     }
 
-    /// A seat's cash less its standing bids.
+    /// A seat's cash less its standing bids, in dollars.
     pub fn free_cash(&self, seat: Seat) -> Money
         ensures { result ≡ free_cash_of self.now.seats self.now.events seat }
     {

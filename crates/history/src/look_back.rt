@@ -17,7 +17,8 @@ pub struct Past<'a> {
 }
 
 impl Past<'_> {
-    /// What a party has: its start money, plus all that came in, less all that went out.
+    /// What a party has, in dollars: its start money, plus all that came in, less all that went
+    /// out.
     pub fn cash(&self, party: Party) -> Money
         ensures sum { result ≡ cash_of self.now.seats self.now.events.now party }
         ensures within { IsModerate result }

@@ -21,7 +21,7 @@ impl Past<'_> {
         balance(&Shares(company, place), start_tenths(place), self.events)
     }
 
-    /// A company's par value; `None` while it has none.
+    /// A company's par value in dollars; `None` while it has none.
     pub fn par(&self, company: Company) -> Option<Money>
         ensures { result ≡ option_map pos (par_of self.now.events.now company) }
     {

@@ -1,6 +1,6 @@
--- What the roster says of the map: the stop where each company's first token is placed, how many
--- tokens it has and what they cost, and the hexes of each private.
-use Rattle.std.specs.Prelude.{ℕ, zero, suc, List, [], ◌∷◌}
+-- What the roster says of the map: the stop where each company's first token is placed, and the hexes
+-- of each private.
+use Rattle.std.specs.Prelude.{List, [], ◌∷◌}
 use Rattle.tables.specs.declared.roster.Company.{Company}
 use Rattle.tables.specs.declared.roster.Company.TheVariants.{Pennsylvania, NewYorkCentral, CanadianPacific, BaltimoreOhio, ChesapeakeOhio, Erie, NewHaven, BostonMaine}
 use Rattle.tables.specs.declared.roster.Private.{Private}
@@ -21,23 +21,6 @@ home_of ChesapeakeOhio = stop_at F6 First
 home_of Erie = stop_at E11 First
 home_of NewHaven = stop_at G19 First
 home_of BostonMaine = stop_at E23 First
-
--- how many tokens it has, that one included
-abbrev pub tokens_of : Company → ℕ
-tokens_of Pennsylvania = 4
-tokens_of NewYorkCentral = 4
-tokens_of CanadianPacific = 4
-tokens_of BaltimoreOhio = 3
-tokens_of ChesapeakeOhio = 3
-tokens_of Erie = 3
-tokens_of NewHaven = 2
-tokens_of BostonMaine = 2
-
--- what the next token costs when so many are placed: the first is free, the second costs 40
-abbrev pub token_price_of : ℕ → ℕ
-token_price_of zero = 0
-token_price_of (suc zero) = 40
-token_price_of (suc (suc n)) = 100
 
 -- the hexes of a private
 abbrev pub hexes_of_private : Private → List Hex

@@ -276,7 +276,8 @@ fn guess(row: u8, column: u8) -> Option<Hex>
     }
 }
 
-/// The first hex of a row, which has no gap between it and the column. Row A has a gap in the middle.
+/// The first hex of a row, which has no gap between it and the column. Row A has a gap in the
+/// middle.
 fn first_of_row(row: u8, column: u8) -> Option<Hex>
     ensures { result ≡ first_at row column }
 {

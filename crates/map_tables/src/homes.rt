@@ -1,9 +1,9 @@
 ghost use Rattle.std.specs.Prelude.{◌≡◌};
-ghost use Rattle.map_tables.specs.Home.{hexes_of_private, home_of, token_price_of, tokens_of};
+ghost use Rattle.map_tables.specs.Home.{hexes_of_private, home_of};
 
 use crate::hex::Hex;
 use crate::place::{Stop, StopNumber};
-use tables::{Amount, Company, Private};
+use tables::{Company, Private};
 
 /// Where a company's first token is placed.
 pub fn home(company: Company) -> Stop
@@ -22,29 +22,6 @@ pub fn home(company: Company) -> Stop
     Stop {
         hex,
         number: StopNumber::First,
-    }
-}
-
-/// How many tokens a company has, the one at its home included.
-pub fn tokens(company: Company) -> usize
-    ensures { result ≡ tokens_of company }
-{
-    match company {
-        Company::Pennsylvania | Company::NewYorkCentral | Company::CanadianPacific => 4,
-        Company::BaltimoreOhio | Company::ChesapeakeOhio | Company::Erie => 3,
-        Company::NewHaven | Company::BostonMaine => 2,
-    }
-}
-
-/// What a company pays for its next token when it has placed so many: nothing for the home token, 40
-/// for the second, 100 for each later one.
-pub fn token_price(placed: usize) -> Amount
-    ensures { result ≡ token_price_of placed }
-{
-    match placed {
-        0 => 0,
-        1 => 40,
-        _ => 100,
     }
 }
 

@@ -22,13 +22,14 @@ use crate::hex::Hex;
 use crate::side::{Rotation, Side};
 use crate::tiles::TileNo;
 
-/// Borders pair: the neighbour of a hex over a side has that hex as its neighbour over the facing side;
-/// so a closed border is closed from both its hexes.
+/// Borders pair: the neighbour of a hex over a side has that hex as its neighbour over the facing
+/// side; so a closed border is closed from both its hexes.
 pub fn neighbours_pair()
     ensures { NeighboursPair }
 {}
 
-/// Each hex stands once in the list of hexes, at its index, and is the one hex of its row and column.
+/// Each hex stands once in the list of hexes, at its index, and is the one hex of its row and
+/// column.
 pub fn hexes_stand_once()
     ensures all { Hex.ALL ≡ hexes }
     ensures once { HexesStandOnce }
@@ -66,14 +67,14 @@ pub fn turns_add_up()
     ensures { TurnsAddUp }
 {}
 
-/// The links of each print stand in order without repeats; of each the first end comes first, and it is
-/// a side.
+/// The links of each print stand in order without repeats; of each the first end comes first, and
+/// it is a side.
 pub fn printed_links_are_in_order()
     ensures { PrintedLinksAreInOrder }
 {}
 
-/// The links of each tile, however it lies, stand in order without repeats; of each the first end comes
-/// first, and it is a side.
+/// The links of each tile, however it lies, stand in order without repeats; of each the first end
+/// comes first, and it is a side.
 pub fn laid_links_are_in_order()
     ensures { LaidLinksAreInOrder }
 {}

@@ -25,7 +25,7 @@ mod track;
 
 pub use border::neighbour;
 pub use hex::{HEXES, Hex};
-pub use homes::{home, private_hexes, token_price, tokens};
+pub use homes::{home, private_hexes};
 pub use laws::{
     hexes_are_told_apart, hexes_stand_once, homes_take_tokens, laid_links_are_in_order,
     neighbours_pair, printed_links_are_in_order, prints_stand_once, red_areas_are_joined,

@@ -72,8 +72,8 @@ impl Place {
     }
 }
 
-/// The stop that a stop is: the Gulf is one stop, named J2.0, and its part in I1 is that stop too; the
-/// Canadian West is A11.0, and its part in A9 is that stop too. Every other stop is itself.
+/// The stop that a stop is: the Gulf is one stop, named J2.0, and its part in I1 is that stop too;
+/// the Canadian West is A11.0, and its part in A9 is that stop too. Every other stop is itself.
 pub fn joined_stop(stop: Stop) -> Stop
     ensures { result ≡ joined_stop_of stop }
 {

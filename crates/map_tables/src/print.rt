@@ -40,7 +40,8 @@ pub fn terrain_cost(hex: Hex) -> Amount
     print(hex).cost
 }
 
-/// The colour of a hex on which no tile lies. Grey and red hexes, on which none ever does, are white.
+/// The colour of a hex on which no tile lies. Grey and red hexes, on which none ever does, are
+/// white.
 pub fn printed_colour(hex: Hex) -> Colour
     ensures { result ≡ (print_of hex).colour }
 {

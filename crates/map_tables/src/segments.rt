@@ -1,5 +1,5 @@
-//! Each piece of track that may lie in a hex, by its two ends: a side and a farther side, or a side and
-//! stop 0 or 1.
+//! Each piece of track that may lie in a hex, by its two ends: a side and a farther side, or a side
+//! and stop 0 or 1.
 
 use crate::place::StopNumber;
 use crate::side::Side;

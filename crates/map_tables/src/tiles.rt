@@ -8,8 +8,8 @@ use crate::segments::{
 use crate::track::Segment;
 use tables::Amount;
 
-/// The colour of a hex. It begins white, or yellow where the map prints it so, and takes the colour of
-/// the tile that lies on it.
+/// The colour of a hex. It begins white, or yellow where the map prints it so, and takes the colour
+/// of the tile that lies on it.
 #[derive(Clone, Copy, Debug, PartialEq, Eq, Hash)]
 pub enum Colour {
     White,

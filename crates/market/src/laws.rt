@@ -14,14 +14,14 @@ pub fn moves_stay_on_chart()
     ensures fall { (squares : ℕ) → StaysOnChart (fallen squares) }
 {}
 
-/// The operating order has each floated company with a square once, and no other, and each comes before all
-/// that stand behind it.
+/// The operating order has each floated company with a square once, and no other, and each comes
+/// before all that stand behind it.
 pub fn floated_companies_in_order()
     ensures { (events : List Event) → IsOperatingOrder events (operating_order_of events) }
 {}
 
-/// Of two companies on one square that which came there first operates first: BO before PRR, where BO was
-/// started first at the same par value.
+/// Of two companies on one square that which came there first operates first: BO before PRR, where
+/// BO was started first at the same par value.
 pub fn first_there_operates_first()
     ensures { operating_order_of both_at_67 ≡ BaltimoreOhio ∷ Pennsylvania ∷ [] }
 {}

@@ -1,7 +1,8 @@
-//! The stock market: how a company's token moves over the chart, and the order in which companies operate.
+//! The stock market: how a company's token moves over the chart, and the order in which companies
+//! operate.
 //!
-//! A move answers the square to which a token comes. A move for which the chart has no square is not
-//! made: the token stays. The order is that of the floated companies by their squares.
+//! A move answers the square to which a token comes. A move for which the chart has no square is
+//! not made: the token stays. The order is that of the floated companies by their squares.
 //!
 //! Reading order: `moves`, `order`, `laws` (a token on the chart stays on it; the order is one).
 #![tactic(auto)]

@@ -3,16 +3,16 @@ ghost use Rattle.market.specs.Moves.{above, at_left, at_right, below, down_of, f
 
 use tables::{Square, square};
 
-/// Where a token comes that moves right: to the next square of its row, and from the right end of the
-/// row up.
+/// Where a token comes that moves right: to the next square of its row, and from the right end of
+/// the row up.
 pub fn right(from: Square) -> Square
     ensures { result ≡ right_of from }
 {
     square_at_right(from).unwrap_or(up(from))
 }
 
-/// Where a token comes that moves left: to the square before it in its row, and from the left end of
-/// the row down.
+/// Where a token comes that moves left: to the square before it in its row, and from the left end
+/// of the row down.
 pub fn left(from: Square) -> Square
     ensures { result ≡ left_of from }
 {

@@ -5,7 +5,7 @@ ghost use Rattle.history.specs.LookBack.{cheapest_in};
 ghost use Rattle.privates.specs.Judgement.{bid_rules, is_near as is_near_one_of, is_the, is_too_low as is_too_low_for, judgement_of, price_of as asked_price, purchase_rules};
 ghost use Rattle.tables.specs.Rules.{first_broken};
 
-use history::{Bid, OpeningRule, Owners, Past};
+use history::{Bid, History, OpeningRule, Owners, Past};
 use order_grammar::Order;
 use tables::{Amount, Money, Private, Seat, face};
 
@@ -24,13 +24,14 @@ pub(crate) fn price_of(past: &Past, private: Private) -> Amount
 
 /// The first rule that an order of a seat breaks in its turn, which is used or not; `None` if it
 /// breaks none. There are at most six seats.
-pub fn judge(past: &Past, seat: Seat, order: &Order, turn_used: bool) -> Option<OpeningRule>
-    requires { past.now.seats ≤ 6 }
-    ensures { result ≡ judgement_of past.now.seats past.now.events.now seat turn_used order.now }
+pub fn judge(history: &History, seat: Seat, order: &Order, turn_used: bool) -> Option<OpeningRule>
+    requires { history.now.seats ≤ 6 }
+    ensures { result ≡ judgement_of history.now.seats history.now.events seat turn_used order.now }
 {
+    let now = history.now();
     match order {
-        Order::BuyPrivate(private) => judge_purchase(past, seat, *private, turn_used),
-        Order::Bid { private, amount } => judge_bid(past, seat, *private, *amount, turn_used),
+        Order::BuyPrivate(private) => judge_purchase(&now, seat, *private, turn_used),
+        Order::Bid { private, amount } => judge_bid(&now, seat, *private, *amount, turn_used),
         _ => Some(OpeningRule::NotOfOpening),
     }
 }
@@ -106,8 +107,10 @@ fn is_too_low(past: &Past, private: Private, amount: Amount) -> bool
     requires { past.now.seats ≤ 6 }
     ensures { result ≡ is_too_low_for past.now.seats past.now.events.now private amount }
 {
-    let bids = past.bids_on(private);
-    u64::from(amount) < u64::from(face(private)) + STEP || is_near(amount, bids.as_slice())
+    if u64::from(amount) < u64::from(face(private)) + STEP {
+        return true;
+    }
+    is_near(amount, past.bids_on(private).as_slice())
 }
 
 /// Whether a sum is less than the step over one of these bids.

@@ -114,7 +114,7 @@ fn rule_order(
         (judgement_of history.old.seats history.old.events seat turn_used order.now))) }
     ensures underway { OnOk result (IsUnderway history.new) }
 {
-    let broken = judge(&history.now(), seat, order, turn_used);
+    let broken = judge(history, seat, order, turn_used);
     let obeyed = broken.is_none();
     let ruling = ruling_of(history, order, broken)?;
     tell_ruling(history, seat, line, ruling)?;

@@ -63,8 +63,8 @@ pub struct NumberedLine<'a> {
 impl<'a> NumberedLine<'a> {
     /// The order of the line where it stands in its sheet.
     ///
-    /// `PastLastLine`: its number is over `LINES_MOST`, whatever it says; else the first fault that it has by
-    /// itself.
+    /// `PastLastLine`: its number is over `LINES_MOST`, whatever it says; else the first fault that
+    /// it has by itself.
     pub fn order(&self) -> Result<&Order, Fault>
         ensures { MatchResult result
             (λ order. (line_read self.now).reading ≡ Ok order.now)

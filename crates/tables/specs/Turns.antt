@@ -63,16 +63,20 @@ TurnsEnd play start last = Ends (after_turn play) (turns_over play) start last
 abbrev pub IsIdleWithoutLines : {State Line : Type 0} → Play State Line → Type 0
 IsIdleWithoutLines {State} play = (seat : Seat) (state : State) → (play.turn seat [] state).acted ≡ false
 
--- turns can begin here: the seat is at the table, if there is one, and no seat has over 512 groups
+-- the most groups of a seat, each of which begins with a line of its sheet
+abbrev pub groups_most : ℕ
+groups_most = 512
+
+-- turns can begin here: the seat is at the table, if there is one, and no seat has more groups than there can be
 pub record CanBegin {State Line : Type 0} (play : Play State Line) (start : InPlay State Line) : Type 0 where
   pub at_table : 0 < play.seats → start.seat < min play.seats 256
-  pub few_groups : (seat : ℕ) → length (groups_at start.groups seat) ≤ 512
+  pub few_groups : (seat : ℕ) → length (groups_at start.groups seat) ≤ groups_most
 
--- the turns end, after at most 513 for each seat
+-- the turns end, after at most one for each group and a pass for each seat, which is 513 a seat
 pub record EndSoon {State Line : Type 0} (play : Play State Line) (start : InPlay State Line) : Type 0 where
   pub last : InPlay State Line
   pub ends : TurnsEnd play start last
-  pub few_turns : ends.steps ≤ 513 * play.seats
+  pub few_turns : ends.steps ≤ (groups_most + 1) * play.seats
 
 -- how many groups are still to come
 abbrev pub groups_left : {State Line : Type 0} → InPlay State Line → ℕ

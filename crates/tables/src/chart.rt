@@ -51,8 +51,8 @@ struct Entry {
     zone: Zone,
 }
 
-/// What a mark and a price on the chart stand for: `y`, `o` and `b` a zone, `p` a par value, `w` none
-/// of these, and `x` no square.
+/// What a mark and a price on the chart stand for: `y`, `o` and `b` a zone, `p` a par value, `w`
+/// none of these, and `x` no square.
 macro_rules! entry {
     (w $price:literal) => { Some(Entry { price: $price, zone: Zone::White }) };
     (p $price:literal) => { entry!(w $price) };

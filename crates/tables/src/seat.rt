@@ -2,11 +2,11 @@ ghost use Rattle.std.specs.Prelude.{◌≡◌, ◌<◌};
 ghost use Rattle.tables.specs.Roster.{bank_start_of, certificate_limit_of, start_money_of};
 ghost use Rattle.tables.specs.Seat.{left_of, seat_at};
 
-/// Money that is added up: wide enough for every list of events that memory can hold.
+/// Dollars that are added up: wide enough for every list of events that memory can hold.
 /// The bank's may be under 0.
 pub type Money = i128;
 
-/// A sum of money as a table, an order or an event names it, never under 0.
+/// A sum of dollars as a table, an order or an event names it, never under 0.
 pub type Amount = u32;
 
 /// A seat at the table, numbered from 0 in the order of the players line.

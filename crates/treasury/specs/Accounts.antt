@@ -1,13 +1,17 @@
 -- The accounts of a game: the bank's, one for each of six seats, and the companies'. Each holds what its
 -- party has. A payment moves its sum from one party to another and leaves all others as they were; one
 -- that is not the bank, and has less than the sum, is short and pays nothing.
-use Rattle.std.specs.Prelude.{◌≡◌, ◌<◌, ℤ, pos, ◌+ℤ◌, ◌-ℤ◌, ◌≤ℤ◌, Bool, false, if◌then◌else◌, slice_index_or}
+use Rattle.std.specs.Prelude.{◌≡◌, ℕ, ◌<◌, List, ℤ, pos, ◌+ℤ◌, ◌-ℤ◌, ◌≤ℤ◌, Bool, false, if◌then◌else◌, slice_index_or}
 use lib.Signed.{lt_z}
+use Rattle.history.specs.Event.{party_at}
 use Rattle.history.specs.LookBack.{Game, IsModerate, cash_of, same_party}
+use Rattle.history.specs.declared.event.Event.{Event}
 use Rattle.history.specs.declared.event.Holder.TheVariants as holder
 use Rattle.history.specs.declared.event.Party.{Party}
 use Rattle.history.specs.declared.event.Party.TheVariants as party
 use Rattle.tables.specs.Roster.{place_of_company}
+use Rattle.tables.specs.Seat.{seat_at}
+use Rattle.tables.specs.declared.roster.Company.{Company}
 use Rattle.treasury.specs.declared.accounts.Accounts.{Accounts}
 
 -- the party has an account: a seat is one of six
@@ -49,3 +53,26 @@ ArePaid old new from to sum =
 -- a sum that an event can name
 abbrev pub IsSum : ℤ → Type 0
 IsSum sum = (pos 0 ≤ℤ sum) × (sum ≤ℤ pos 1000000)
+
+-- a change is added to what a party has, and all others have what they had
+abbrev pub IsAdded : Accounts → Accounts → Party → ℤ → Type 0
+IsAdded old new party change =
+    (other : Party) → HasAccount other → cash_in new other ≡ cash_in old other +ℤ part_of party other change
+
+-- the cash of each of six seats
+abbrev pub AreOfSeats : ℕ → List Event → List ℤ → Type 0
+AreOfSeats seats events cash =
+    (number : ℕ) → number < 6 → slice_index_or cash number (pos 0) ≡ cash_of seats events (party_at (seat_at number))
+
+-- none of the six seats has, or owes, more than 2 ^ 100
+abbrev pub AreModerateForSeats : List ℤ → Type 0
+AreModerateForSeats cash = (number : ℕ) → number < 6 → IsModerate (slice_index_or cash number (pos 0))
+
+-- the cash of each company
+abbrev pub AreOfCompanies : ℕ → List Event → List ℤ → Type 0
+AreOfCompanies seats events cash =
+    (company : Company) → slice_index_or cash (place_of_company company) (pos 0) ≡ cash_of seats events (party.Holder (holder.Company company))
+
+-- no company has, or owes, more than 2 ^ 100
+abbrev pub AreModerateForCompanies : List ℤ → Type 0
+AreModerateForCompanies cash = (company : Company) → IsModerate (slice_index_or cash (place_of_company company) (pos 0))

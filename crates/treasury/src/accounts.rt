@@ -1,14 +1,21 @@
-ghost use Rattle.std.specs.Prelude.{◌≡◌, ◌<◌, ◌↔◌, ◌+ℤ◌, ℕ, FitsSigned, IsErr, OnErr, OnOk, pos, slice_index_or, true};
+ghost use Rattle.std.specs.Prelude.{◌≡◌, ◌↔◌, ◌+ℤ◌, FitsSigned, IsErr, OnErr, OnOk, true};
 ghost use Rattle.std.specs.Int.{w128};
-ghost use Rattle.history.specs.Event.{party_at};
-ghost use Rattle.history.specs.LookBack.{IsModerate, cash_of};
-ghost use Rattle.history.specs.declared.event.Holder.TheVariants as holder;
-ghost use Rattle.history.specs.declared.event.Party.{Party};
+ghost use Rattle.history.specs.LookBack.{IsModerate};
 ghost use Rattle.history.specs.declared.event.Party.TheVariants as party;
-ghost use Rattle.tables.specs.Roster.{place_of_company};
-ghost use Rattle.tables.specs.Seat.{seat_at};
-ghost use Rattle.tables.specs.declared.roster.Company.{Company};
-ghost use Rattle.treasury.specs.Accounts.{AreAccountsOf, AreModerate, ArePaid, HasAccount, IsSum, cash_in, is_short, part_of};
+ghost use Rattle.treasury.specs.Accounts.{
+  AreAccountsOf,
+  AreModerate,
+  AreModerateForCompanies,
+  AreModerateForSeats,
+  AreOfCompanies,
+  AreOfSeats,
+  ArePaid,
+  HasAccount,
+  IsAdded,
+  IsSum,
+  cash_in,
+  is_short,
+};
 
 use history::{History, Holder, Party, Past};
 use tables::{Company, Money, PLAYERS_MOST, Seat};
@@ -39,7 +46,8 @@ impl Accounts {
         }
     }
 
-    /// What a party has; the bank's cash may be under 0. Of the seats the first six have accounts.
+    /// What a party has, in dollars; the bank's cash may be under 0. Of the seats the first six
+    /// have accounts.
     pub fn cash(&self, party: Party) -> Money
         requires { HasAccount party }
         ensures { result ≡ cash_in self.now party }
@@ -51,8 +59,8 @@ impl Accounts {
         }
     }
 
-    /// Pays a sum of 0 to 1,000,000 from one party to another. `Short` comes where the payer is a player
-    /// or a company and has less; then nothing changes.
+    /// Pays a sum of 0 to 1,000,000 dollars from one party to another. `Short` comes where the
+    /// payer is a player or a company and has less; then nothing changes.
     pub fn pay(&mut self, from: Party, to: Party, sum: Money) -> Result<(), Short>
         requires from { HasAccount from }
         requires to { HasAccount to }
@@ -75,7 +83,7 @@ impl Accounts {
     fn add(&mut self, party: Party, change: Money)
         requires account { HasAccount party }
         requires fits { FitsSigned w128 (cash_in self.old party +ℤ change) }
-        ensures { (other : Party) → HasAccount other → cash_in self.new other ≡ cash_in self.old other +ℤ part_of party other change }
+        ensures { IsAdded self.old self.new party change }
     {
         match party {
             Party::Bank => self.bank += change,
@@ -87,7 +95,7 @@ impl Accounts {
     fn add_to_holder(&mut self, holder: Holder, change: Money)
         requires account { HasAccount (party.Holder holder) }
         requires fits { FitsSigned w128 (cash_in self.old (party.Holder holder) +ℤ change) }
-        ensures { (other : Party) → HasAccount other → cash_in self.new other ≡ cash_in self.old other +ℤ part_of (party.Holder holder) other change }
+        ensures { IsAdded self.old self.new (party.Holder holder) change }
     {
         match holder {
             Holder::Seat(seat) => self.seats[seat.number()] += change,
@@ -98,8 +106,8 @@ impl Accounts {
 
 /// What each seat has, by its number.
 fn cash_of_seats(now: &Past) -> [Money; PLAYERS_MOST]
-    ensures cash { (number : ℕ) → number < 6 → slice_index_or result number (pos 0) ≡ cash_of now.now.seats now.now.events.now (party_at (seat_at number)) }
-    ensures moderate { (number : ℕ) → number < 6 → IsModerate (slice_index_or result number (pos 0)) }
+    ensures cash { AreOfSeats now.now.seats now.now.events.now result }
+    ensures moderate { AreModerateForSeats result }
 {
     let mut cash = [0; PLAYERS_MOST];
     for number in 0..PLAYERS_MOST {
@@ -110,8 +118,8 @@ fn cash_of_seats(now: &Past) -> [Money; PLAYERS_MOST]
 
 /// What each company has, by its place in the roster.
 fn cash_of_companies(now: &Past) -> [Money; 8]
-    ensures cash { (company : Company) → slice_index_or result (place_of_company company) (pos 0) ≡ cash_of now.now.seats now.now.events.now (party.Holder (holder.Company company)) }
-    ensures moderate { (company : Company) → IsModerate (slice_index_or result (place_of_company company) (pos 0)) }
+    ensures cash { AreOfCompanies now.now.seats now.now.events.now result }
+    ensures moderate { AreModerateForCompanies result }
 {
     let mut cash = [0; 8];
     for (place, company) in Company::ALL.iter().enumerate() {

@@ -44,7 +44,7 @@ fn judges_by_the_first_rule_broken(rt: HostRuntime) -> Result<(), Fail> {
         (Private::ChamplainStLawrence, false, None),
     ] {
         let order = Order::BuyPrivate(private);
-        let found = judge(&history.now(), ann, &order, turn_used);
+        let found = judge(&history, ann, &order, turn_used);
         assert_eq!(rt; found, broken, "at {private:?}");
     }
     Ok(())

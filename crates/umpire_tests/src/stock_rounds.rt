@@ -14,8 +14,8 @@ const ANN: Seat = Seat(0);
 
 const BOB: Seat = Seat(1);
 
-/// ANN starts PRR at 100 and comes to five tenths, BOB to one, so that PRR floats. In the second round
-/// ANN sells three, and may not sell more, since nobody else could preside.
+/// ANN starts PRR at 100 and comes to five tenths, BOB to one, so that PRR floats. In the second
+/// round ANN sells three, and may not sell more, since nobody else could preside.
 const BLOCK: &str = "GAME 1830 1
 PLAYERS ANN BOB CYD
 SHEET ANN SR1
@@ -39,8 +39,8 @@ SHEET BOB SR2
 SHEET CYD SR2
 ";
 
-/// BOB starts PRR at 67 and comes to six tenths, ANN to two. In the second round BOB sells four, and then
-/// ANN may not sell.
+/// BOB starts PRR at 67 and comes to six tenths, ANN to two. In the second round BOB sells four,
+/// and then ANN may not sell.
 const POOL: &str = "GAME 1830 1
 PLAYERS ANN BOB CYD
 SHEET ANN SR1

@@ -4,4 +4,4 @@ use Rattle.history.proofs.look_back.Past.bids_on.Given as goal
 
 abbrev pub invariant-loop-number : goal.invariant-loop-number
 invariant-loop-number l =
-    (l.bids.items ≡ bids_on l.number l.self.events.now l.private) × (length l.bids.items ≤ l.number)
+    (l.bids.items ≡ bids_on l.number l.fn.self.events.now l.fn.private) × (length l.bids.items ≤ l.number)
