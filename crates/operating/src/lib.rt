@@ -14,6 +14,7 @@
 mod asker;
 mod ground;
 mod home;
+mod laws;
 mod lay;
 mod operator;
 mod playing;
@@ -24,5 +25,6 @@ mod token;
 mod turn;
 mod withholding;
 
+pub use laws::{company_operates, one_company_turn, turn_only_adds};
 pub use playing::play_company;
 pub use standing::rule_standing_lines;
