@@ -1,9 +1,8 @@
 -- What runs earn, by the borders that they use: a run visits at most one stop more than it crosses borders, and no
 -- stop is worth more than 80 dollars.
-use Rattle.std.proofs.Common.{◌≡◌, ℕ, zero, suc, ◌+◌, ◌*◌, ◌<◌, ◌≤◌, Bool, true, false, if◌then◌else◌, List, [], ◌∷◌, ◌++◌, Option, Some, length, get_or, set, refl, sym, subst, ap, ◌∙◌, arith}
+use Rattle.std.proofs.Common.{◌≡◌, ℕ, zero, suc, ◌+◌, ◌*◌, ◌<◌, ◌≤◌, Bool, true, false, List, [], ◌∷◌, ◌++◌, length, get_or, set, refl, sym, subst, ap, ◌∙◌, arith}
 use Rattle.std.specs.List.{AllByRecursion}
 use Rattle.map_tables.specs.declared.hex.Hex.{Hex}
-use Rattle.map_tables.specs.declared.place.Place.{Place}
 use Rattle.map_tables.specs.declared.place.Stop.{Stop}
 use Rattle.map_tables.specs.declared.place.StopNumber.{StopNumber}
 use Rattle.map_tables.specs.declared.track.End.{End}
@@ -21,7 +20,6 @@ use Rattle.certificate.proofs.Written.{ordered, stop_to_stop}
 use Rattle.certificate.specs.Fault.{has_border_twice, is_taken, marked, named_steps, steps_of}
 use Rattle.certificate.specs.Law.{NameLegalRun, RunsEarnByBorders, if_unused, unused}
 use Rattle.certificate.specs.Legal.{IsLegalRun, border_at, crossed, earned, listed, visited, worth}
-use Rattle.certificate.specs.Named.{walk_named}
 
 -- no stop is worth more than 80 dollars
 worth_low : (position : Position) → IsLawful position → (stops : List Stop) → worth position stops ≤ 80 * length stops
