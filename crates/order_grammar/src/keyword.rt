@@ -15,9 +15,12 @@ pub(crate) enum Keyword {
     Sell,
     Exchange,
     Company,
+    Lay,
+    Token,
     InitialOffering,
     Pool,
     Mohawk,
+    Swap,
 }
 
 impl Keyword {
@@ -37,9 +40,12 @@ impl Keyword {
             Keyword::Sell => b"SELL",
             Keyword::Exchange => b"EXCHANGE",
             Keyword::Company => b"COMPANY",
+            Keyword::Lay => b"LAY",
+            Keyword::Token => b"TOKEN",
             Keyword::InitialOffering => b"IPO",
             Keyword::Pool => b"POOL",
             Keyword::Mohawk => b"MH",
+            Keyword::Swap => b"SWAP",
         }
     }
 }
