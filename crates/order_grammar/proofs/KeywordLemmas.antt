@@ -34,6 +34,7 @@ same_keyword keyword.Limit keyword.Limit same = refl
 same_keyword keyword.Par keyword.Par same = refl
 same_keyword keyword.Sell keyword.Sell same = refl
 same_keyword keyword.Exchange keyword.Exchange same = refl
+same_keyword keyword.Company keyword.Company same = refl
 same_keyword keyword.InitialOffering keyword.InitialOffering same = refl
 same_keyword keyword.Pool keyword.Pool same = refl
 same_keyword keyword.Mohawk keyword.Mohawk same = refl

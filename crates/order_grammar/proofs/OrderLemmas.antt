@@ -9,7 +9,7 @@ use Rattle.order_grammar.specs.Spells.{IsWord, IsNumber, IsName, IsRoundOfLine, 
 use Rattle.order_grammar.specs.declared.keyword.Keyword.{Keyword}
 use Rattle.order_grammar.specs.declared.keyword.Keyword.TheVariants as keyword
 use Rattle.order_grammar.specs.declared.order.Order.{Order}
-use Rattle.order_grammar.specs.declared.order.Order.TheVariants.{Blank, Game, Players, Sheet, Turn, BuyPrivate, Bid, Limit, Par, BuyShare, Sell, ExchangeMohawk}
+use Rattle.order_grammar.specs.declared.order.Order.TheVariants.{Blank, Game, Players, Sheet, Turn, BuyPrivate, Bid, Limit, Par, BuyShare, Sell, ExchangeMohawk, Company as CompanyTurn}
 use Rattle.order_grammar.specs.declared.order.Parts.{Parts}
 use Rattle.order_grammar.specs.declared.order.ShareSource.TheVariants.{InitialOffering, BankPool}
 use Rattle.order_grammar.specs.declared.order.Tail.{Tail}
@@ -37,6 +37,7 @@ formed keyword.Buy ((value.Company company) ∷ (value.Word keyword.InitialOffer
 formed keyword.Buy ((value.Company company) ∷ (value.Word keyword.Pool) ∷ []) tail.Nothing h = record { order = BuyShare company BankPool; made = refl; parts = refl }
 formed keyword.Sell ((value.Company company) ∷ (value.Number tenths) ∷ []) tail.Nothing h = record { order = Sell company tenths; made = refl; parts = refl }
 formed keyword.Exchange ((value.Word keyword.Mohawk) ∷ []) tail.Nothing h = record { order = ExchangeMohawk; made = refl; parts = refl }
+formed keyword.Company ((value.Company company) ∷ []) tail.Nothing h = record { order = CompanyTurn company; made = refl; parts = refl }
 formed k values t h = absurd (false≢true h)
 
 -- an order is made again of its parts

@@ -49,6 +49,7 @@ forms =
     ∷ row keyword.Par (class.Company ∷ class.Number ∷ []) repeated.Nothing
     ∷ row keyword.Sell (class.Company ∷ class.Number ∷ []) repeated.Nothing
     ∷ row keyword.Exchange (class.Word keyword.Mohawk ∷ []) repeated.Nothing
+    ∷ row keyword.Company (class.Company ∷ []) repeated.Nothing
     ∷ []
 
 -- names, at least and at most so many

@@ -5,7 +5,7 @@ use Rattle.order_grammar.specs.Keyword.{text_of_keyword}
 use Rattle.order_grammar.specs.declared.keyword.Keyword.{Keyword}
 use Rattle.order_grammar.specs.declared.keyword.Keyword.TheVariants as keyword
 use Rattle.order_grammar.specs.declared.order.Order.{Order}
-use Rattle.order_grammar.specs.declared.order.Order.TheVariants.{Blank, Game, Players, Sheet, Turn, BuyPrivate, Bid, Limit, Par, BuyShare, Sell, ExchangeMohawk}
+use Rattle.order_grammar.specs.declared.order.Order.TheVariants.{Blank, Game, Players, Sheet, Turn, BuyPrivate, Bid, Limit, Par, BuyShare, Sell, ExchangeMohawk, Company as CompanyTurn}
 use Rattle.order_grammar.specs.declared.order.Parts.{Parts}
 use Rattle.order_grammar.specs.declared.order.ShareSource.{ShareSource}
 use Rattle.order_grammar.specs.declared.order.ShareSource.TheVariants.{InitialOffering, BankPool}
@@ -41,6 +41,7 @@ parts_of (Par company price) = made_of keyword.Par (value.Company company ∷ va
 parts_of (BuyShare company from) = made_of keyword.Buy (value.Company company ∷ value.Word (keyword_of_source from) ∷ []) tail.Nothing
 parts_of (Sell company tenths) = made_of keyword.Sell (value.Company company ∷ value.Number tenths ∷ []) tail.Nothing
 parts_of ExchangeMohawk = made_of keyword.Exchange (value.Word keyword.Mohawk ∷ []) tail.Nothing
+parts_of (CompanyTurn company) = made_of keyword.Company (value.Company company ∷ []) tail.Nothing
 
 -- the order of these parts, where there is one
 abbrev pub order_from : Keyword → List Value → Tail → Option Order
@@ -57,4 +58,5 @@ order_from keyword.Limit ((value.Private private) ∷ (value.Number amount) ∷ 
 order_from keyword.Par ((value.Company company) ∷ (value.Number price) ∷ []) tail.Nothing = Some (Par company price)
 order_from keyword.Sell ((value.Company company) ∷ (value.Number tenths) ∷ []) tail.Nothing = Some (Sell company tenths)
 order_from keyword.Exchange ((value.Word keyword.Mohawk) ∷ []) tail.Nothing = Some ExchangeMohawk
+order_from keyword.Company ((value.Company company) ∷ []) tail.Nothing = Some (CompanyTurn company)
 order_from other values tail = None

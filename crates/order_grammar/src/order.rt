@@ -35,6 +35,8 @@ pub enum Order {
     Sell { company: Company, tenths: Amount },
     /// `EXCHANGE MH`: give up the private MH for one tenth of NYC.
     ExchangeMohawk,
+    /// `COMPANY co`: a group of lines for the turn of a company begins.
+    Company(Company),
 }
 
 /// Where a tenth is bought that is no seat's.
@@ -183,6 +185,11 @@ impl Order {
                 &[Value::Word(Keyword::Mohawk)],
                 Tail::Nothing,
             )),
+            Order::Company(company) => Some(Parts::of(
+                Keyword::Company,
+                &[Value::Company(*company)],
+                Tail::Nothing,
+            )),
         }
     }
 }
@@ -269,6 +276,10 @@ fn order_of_values(keyword: Keyword, values: &[Value]) -> Option<Order>
         },
         Keyword::Exchange => match values {
             [Value::Word(Keyword::Mohawk)] => Some(Order::ExchangeMohawk),
+            _ => None,
+        },
+        Keyword::Company => match values {
+            [Value::Company(company)] => Some(Order::Company(*company)),
             _ => None,
         },
         Keyword::InitialOffering | Keyword::Pool | Keyword::Mohawk => None,
