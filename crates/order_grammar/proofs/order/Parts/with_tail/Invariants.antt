@@ -1,5 +1,5 @@
 use Rattle.std.proofs.Common.{◌≡◌, ◌≤◌, length, take}
-use Rattle.order_grammar.proofs.order.Parts.of.Given as goal
+use Rattle.order_grammar.proofs.order.Parts.with_tail.Given as goal
 
 -- the values so far
 abbrev pub invariant-loop-value : goal.invariant-loop-value
