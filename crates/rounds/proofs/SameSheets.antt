@@ -1,19 +1,21 @@
 -- A round is played from its own sheets alone: in two files with the same sheets for it, it is played
 -- alike.
-use Rattle.std.proofs.Common.{◌≡◌, ℕ, ◌-◌, List, [], length, map, is_some, unwrap_or, refl, sym, ap, subst, ◌∙◌, ◌∷◌, ◌++◌, Option}
+use Rattle.std.proofs.Common.{◌≡◌, ℕ, ◌-◌, List, [], length, map, is_some, unwrap_or, refl, sym, ap, subst, ◌∙◌, ◌∷◌, ◌++◌, Option, Some, None}
 use Rattle.std.specs.List.{list_all, range_with_len}
 use Rattle.history.specs.LookBack.{Game, priority_of}
 use Rattle.history.specs.Operating.{rulings_in_round}
+use Rattle.history.specs.Shares.{president_of}
 use Rattle.history.specs.Tell.{revenues_told, with_left}
 use Rattle.history.specs.declared.event.Event.{Event}
 use Rattle.history.specs.declared.event.Event.TheVariants as event
 use Rattle.operating.specs.Standing as rules
-use Rattle.operating.specs.Turn.{IsCompanyTurn}
+use Rattle.operating.specs.Turn.{BlockLeads, InTurn, IsCompanyTurn, LinesLead, begun}
 use Rattle.privates.specs.Opening.{IsOpeningRound, groups_for, in_play, opened}
 use Rattle.privates.specs.Standing as opening
 use Rattle.privates.specs.Turn.{opening_turns}
 use Rattle.rounds.specs.OperatingRound as operating
 use Rattle.rounds.specs.Play.{Between, IsPlayed, IsRound, all_posted, before_play, rounds_of_new_set}
+use Rattle.sheets.specs.Block.{block_in}
 use Rattle.sheets.specs.File.{players_of, sheet_of}
 use Rattle.sheets.specs.Part.{Numbered, groups_of, lines_in, parts_of}
 use Rattle.sheets.specs.Taken.{after_all_before, after_each, after_lines_before}
@@ -81,9 +83,20 @@ module _ (first second : List ℕ) where
       ap (λ (events : List Event). revenues_told (record { seats = old.seats; events = events }))
       (same_standing rules.after_standing_line round (old.events ++ event.Round round ∷ []) (range_with_len 0 old.seats) same)
 
+  -- the block of a company leads to the same
+  same_block : (round : Round) (company : Company) (turn new : InTurn) (president : Option Seat) → SameFor round → BlockLeads first round company turn president new → BlockLeads second round company turn president new
+  same_block round company turn new None same leads = leads
+  same_block round company turn new (Some seat) same leads =
+      subst (λ (sheet : Option (List (List ℕ))). LinesLead (record { company = company; president = seat }) turn (block_in company (parts_of round (unwrap_or sheet [])).opened) new) (same seat.0) leads
+
   -- a company takes its turn alike
   same_turn : (round : Round) (company : Company) (old new : Game) → SameFor round → IsCompanyTurn first round company old new → IsCompanyTurn second round company old new
-  same_turn round company old new same turn = record { after = turn.after }
+  same_turn round company old new same turn =
+      record {
+        last = turn.last;
+        block = same_block round company (begun old company) turn.last (president_of old.events company) same turn.block;
+        after = turn.after;
+      }
 
   -- so do companies one after another
   same_turns : (round : Round) (companies : List Company) (old new : Game) → SameFor round → operating.TakeTurns first round companies old new → operating.TakeTurns second round companies old new
