@@ -11,7 +11,7 @@
 //! event of a line), `answers` (questions about a game) and `games` (what readers say, the chart,
 //! presidents, what counts, what may be bought and sold). Then a module for each further topic:
 //! `lines`, `sheets_of_a_file`, `looking_back`, `payments`, `certificates`, `openings`,
-//! `stock_rounds`, `sequence`, `texts`, `watching`, `running`.
+//! `stock_rounds`, `operating_rounds`, `sequence`, `texts`, `watching`, `running`.
 #![tactic(auto)]
 
 #[cfg(test)]
@@ -26,6 +26,8 @@ mod lines;
 mod looking_back;
 #[cfg(test)]
 mod openings;
+#[cfg(test)]
+mod operating_rounds;
 #[cfg(test)]
 mod payments;
 #[cfg(test)]
