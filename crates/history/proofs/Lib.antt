@@ -16,6 +16,8 @@ pub mod Settled
 pub mod Blocks
 pub mod Arrivals
 pub mod Money
+pub mod AllTrains
+pub mod Rolling
 pub mod Payments
 pub mod InOrder
 pub mod Revenues

@@ -79,4 +79,4 @@ withholding_sound game company amount sound =
 -- a home token says nothing of what parties have
 pub home_sound : HomeKeepsSound
 home_sound game company place sound =
-    quiet_sound game (Home company place) (record { payment = refl; ownership = refl; bidding = refl; transfer = refl; par = refl; square = refl; office = refl; float = refl; sv_price = refl }) sound
+    quiet_sound game (Home company place) (record { payment = refl; ownership = refl; bidding = refl; transfer = refl; par = refl; square = refl; office = refl; float = refl; sv_price = refl; train = refl }) sound

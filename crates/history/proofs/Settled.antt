@@ -71,6 +71,7 @@ broken_quiet =
       office = refl;
       float = refl;
       sv_price = refl;
+      train = refl;
     }
 
 -- a list says the same as itself
@@ -90,6 +91,7 @@ same_itself events =
       president = λ company. refl;
       floated = λ company. refl;
       sv_price = refl;
+      trains = λ place kind. refl;
     }
 
 -- the word that the bank is broken changes nothing of what parties have and own

@@ -13,6 +13,8 @@ use Rattle.history.specs.declared.event.Event.TheVariants.{Bids, Sold, Price, Re
 use Rattle.history.specs.declared.event.Holder.{Holder}
 use Rattle.history.specs.declared.event.Holder.TheVariants as holder
 use Rattle.history.specs.declared.event.Party.{Party}
+use Rattle.history.specs.Trains.{trains_at}
+use Rattle.history.specs.declared.event.TrainPlace.{TrainPlace}
 use Rattle.history.specs.declared.event.Shareholder.{Shareholder}
 use Rattle.history.specs.declared.event.Shareholder.TheVariants.{InitialOffering, Seat as OfSeat}
 use Rattle.map_tables.specs.declared.lay.Lay.{Lay}
@@ -20,6 +22,7 @@ use Rattle.map_tables.specs.declared.place.Place.{Place}
 use Rattle.order_grammar.specs.declared.order.ShareSource.{ShareSource}
 use Rattle.order_grammar.specs.declared.order.ShareSource.TheVariants as source
 use Rattle.tables.specs.Roster.{face_of}
+use Rattle.tables.specs.declared.rolling_stock.Kind.{Kind}
 use Rattle.tables.specs.declared.roster.Company.{Company}
 use Rattle.tables.specs.declared.roster.Company.TheVariants.{Pennsylvania, NewYorkCentral}
 use Rattle.tables.specs.declared.roster.Private.{Private}
@@ -54,6 +57,7 @@ pub record SaysTheSame (before after : List Event) : Type 0 where
   pub president : (company : Company) → president_of after company ≡ president_of before company
   pub floated : (company : Company) → is_floated after company ≡ is_floated before company
   pub sv_price : sv_price_of after ≡ sv_price_of before
+  pub trains : (place : TrainPlace) (kind : Kind) → trains_at after place kind ≡ trains_at before place kind
 
 -- a game after the bank has paid a seat for tenths of a company; perhaps that breaks the bank
 abbrev pub block_sold : Game → Company → Seat → ℕ → ℕ → Game

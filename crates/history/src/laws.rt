@@ -1,6 +1,7 @@
 //! Laws of games: each function does nothing, and its contract is the law.
 
 ghost use Rattle.history.specs.Money.{AllMoneyStays};
+ghost use Rattle.history.specs.Trains.{AllTrainsStay};
 ghost use Rattle.history.specs.Laws.{ArrivalIsLast, ArrivalsDiffer, BidKeepsSound, BlockKeepsSound, BlockWithSuccessionKeepsSound, CaIsSoldWithItsGift, CashMoves, ExchangeKeepsSound, FirstIsCheapest, FloatKeepsSound, GiftKeepsSound, HomeKeepsSound, LastWordIsLast, LayKeepsSound, LaysGrow, MoveKeepsSound, PriceKeepsSound, PurchaseKeepsSound, QuietKeepsSound, QuietSaysTheSame, RevenueKeepsSound, RulingsAreCounted, SaleKeepsSound, StartByPurchaseKeepsSound, StartKeepsSound, SuccessionKeepsSound, SvIsGivenAway, TokenKeepsSound, TokensGrow, WithholdingKeepsSound};
 
 /// What was said last of a thing is what the last event says, or else what was said before it.
@@ -17,6 +18,12 @@ pub fn cash_moves()
 /// money goes only between them.
 pub fn all_money_stays()
     ensures { AllMoneyStays }
+{}
+
+/// The trains of a kind that the bank has sold are those of the bank pool and the companies, and
+/// those that have left play.
+pub fn all_trains_stay()
+    ensures { AllTrainsStay }
 {}
 
 /// An event that says nothing of what parties have and own, or of SV's price, changes none of it.
