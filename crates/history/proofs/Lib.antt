@@ -1,10 +1,12 @@
 pub mod Choices
 pub mod EventAtEnd
+pub mod Rolling
 pub mod Places
 pub mod Words
 pub mod Standing
 pub mod BidWords
 pub mod Tied
+pub mod Owned
 pub mod Acts
 pub mod Soundness
 pub mod Tenths
@@ -17,8 +19,8 @@ pub mod Blocks
 pub mod Arrivals
 pub mod Money
 pub mod AllTrains
-pub mod Rolling
 pub mod Payments
+pub mod TrainActs
 pub mod InOrder
 pub mod Revenues
 pub mod Cheapest

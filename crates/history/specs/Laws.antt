@@ -4,17 +4,20 @@ use Rattle.std.specs.Option.{option_or}
 use Rattle.history.specs.Event.{IsQuiet, party_at, party_of_company, payment_of, place_of_source, square_set}
 use Rattle.history.specs.LookBack.{Game, cash_of, cheapest_of, is_sold, last_said, owner_of, paid_by, paid_to, sv_price_of, with_event}
 use Rattle.history.specs.Bids.{bid_of, bids_elsewhere_of, bids_of, bids_on as the_bids_on, free_cash_of}
+use Rattle.history.specs.Money.{IsParty, cash_together, parties}
 use Rattle.history.specs.Operating.{lays_of, rulings_in_round, rulings_then, tokens_of}
 use Rattle.history.specs.Shares.{arrival_of, is_floated, is_par_value, par_of, president_of, shares_of, square_of, square_said}
 use Rattle.history.specs.Sound.{IsSound, IsSvPrice, least_offered}
 use Rattle.history.specs.Tell.{broken_told}
 use Rattle.history.specs.declared.event.Event.{Event}
-use Rattle.history.specs.declared.event.Event.TheVariants.{Bids, Sold, Price, Revenue, Given, Par, President, Bought, Sells, Exchanged, Floats, Moves, Home, Laid, Token, Withheld}
+use Rattle.history.specs.declared.event.Event.TheVariants.{Bids, Sold, Price, Revenue, Given, Par, President, Bought, Sells, Exchanged, Floats, Moves, Home, Laid, Token, Withheld, Runs, Dividend, Traded, Train, Phase, Rusted, Discarded, Closed}
 use Rattle.history.specs.declared.event.Holder.{Holder}
 use Rattle.history.specs.declared.event.Holder.TheVariants as holder
 use Rattle.history.specs.declared.event.Party.{Party}
-use Rattle.history.specs.Trains.{trains_at}
+use Rattle.history.specs.Trains.{IsThere, trains_at, trains_held}
 use Rattle.history.specs.declared.event.TrainPlace.{TrainPlace}
+use Rattle.history.specs.declared.event.TrainSeller.{TrainSeller}
+use Rattle.history.specs.declared.event.Party.TheVariants as party
 use Rattle.history.specs.declared.event.Shareholder.{Shareholder}
 use Rattle.history.specs.declared.event.Shareholder.TheVariants.{InitialOffering, Seat as OfSeat}
 use Rattle.map_tables.specs.declared.lay.Lay.{Lay}
@@ -63,6 +66,17 @@ pub record SaysTheSame (before after : List Event) : Type 0 where
 abbrev pub block_sold : Game → Company → Seat → ℕ → ℕ → Game
 block_sold game company seat tenths price = broken_told (with_event game (Sells company seat tenths price))
 
+-- the bank, the seats at the table and the companies have 12,000 together in a sound list
+abbrev pub SoundMoneyStays : Type 0
+SoundMoneyStays =
+    (game : Game) → IsSound game → cash_together game.seats game.events (parties game.seats) ≡ pos 12000
+
+-- a private's owner is a seat at the table, or a company
+abbrev pub OwnersAreParties : Type 0
+OwnersAreParties =
+    (game : Game) (private : Private) (owner : Holder) →
+    IsSound game → owner_of game.events private ≡ Some owner → IsParty game.seats (party.Holder owner)
+
 -- a quiet event changes none of it
 abbrev pub QuietSaysTheSame : Type 0
 QuietSaysTheSame =
@@ -79,16 +93,18 @@ BidKeepsSound =
     (game : Game) (private : Private) (seat : Seat) (amount : ℕ) →
     amount ≤ 99999 → seat.0 < game.seats → ((other : Seat) → bid_of game.events private other ≡ Some amount → other ≡ seat) → pos amount ≤ℤ (cash_of game.seats game.events (party_at seat) -ℤ pos (bids_elsewhere_of game.events seat private)) → IsSound game → IsSound (with_event game (Bids private seat amount))
 
--- a sale of an unsold private keeps a list sound, where the seat has the price free of its other bids
+-- a sale of an unsold private to a seat at the table keeps a list sound, where the seat has the price free of
+-- its other bids
 abbrev pub SaleKeepsSound : Type 0
 SaleKeepsSound =
     (game : Game) (private : Private) (seat : Seat) (price : ℕ) →
-    is_sold game.events private ≡ false → pos price ≤ℤ (cash_of game.seats game.events (party_at seat) -ℤ pos (bids_elsewhere_of game.events seat private)) → IsSound game → IsSound (with_event game (Sold private seat price))
+    is_sold game.events private ≡ false → seat.0 < game.seats → pos price ≤ℤ (cash_of game.seats game.events (party_at seat) -ℤ pos (bids_elsewhere_of game.events seat private)) → IsSound game → IsSound (with_event game (Sold private seat price))
 
--- a revenue of the bank keeps a list sound
+-- a revenue of the bank to the owner of a private keeps a list sound
 abbrev pub RevenueKeepsSound : Type 0
 RevenueKeepsSound =
-    (game : Game) (private : Private) (owner : Holder) (amount : ℕ) → IsSound game → IsSound (with_event game (Revenue private owner amount))
+    (game : Game) (private : Private) (owner : Holder) (amount : ℕ) →
+    owner_of game.events private ≡ Some owner → IsSound game → IsSound (with_event game (Revenue private owner amount))
 
 -- a price of SV keeps a list sound; it is 0 only once SV is sold
 abbrev pub PriceKeepsSound : Type 0
@@ -96,11 +112,11 @@ PriceKeepsSound =
     (game : Game) (price : ℕ) →
     IsSvPrice price → (price ≡ 0 → is_sold game.events SchuylkillValley ≡ true) → IsSound game → IsSound (with_event game (Price price))
 
--- or it comes to 0, and SV is given away
+-- or it comes to 0, and SV is given away to a seat at the table
 abbrev pub SvIsGivenAway : Type 0
 SvIsGivenAway =
     (game : Game) (seat : Seat) →
-    is_sold game.events SchuylkillValley ≡ false → IsSound game → IsSound (with_event (with_event game (Price 0)) (Sold SchuylkillValley seat 0))
+    is_sold game.events SchuylkillValley ≡ false → seat.0 < game.seats → IsSound game → IsSound (with_event (with_event game (Price 0)) (Sold SchuylkillValley seat 0))
 
 -- a gift to a seat at the table keeps a list sound, where the initial offering has so many tenths, and
 -- of a company without a square enough are left
@@ -194,6 +210,49 @@ LayKeepsSound =
 abbrev pub WithholdingKeepsSound : Type 0
 WithholdingKeepsSound =
     (game : Game) (company : Company) (amount : ℕ) → IsSound game → IsSound (with_event game (Withheld company amount))
+
+-- a run keeps a list sound
+abbrev pub RunKeepsSound : Type 0
+RunKeepsSound =
+    (game : Game) (company : Company) (revenue : ℕ) → IsSound game → IsSound (with_event game (Runs company revenue))
+
+-- a dividend of the bank to a party of the game keeps a list sound
+abbrev pub DividendKeepsSound : Type 0
+DividendKeepsSound =
+    (game : Game) (company : Company) (paid : Holder) (amount : ℕ) →
+    IsParty game.seats (party.Holder paid) → IsSound game → IsSound (with_event game (Dividend company paid amount))
+
+-- a train that is there keeps a list sound where it is bought by a company that can pay it
+abbrev pub TrainPurchaseKeepsSound : Type 0
+TrainPurchaseKeepsSound =
+    (game : Game) (company : Company) (kind : Kind) (from : TrainSeller) (price : ℕ) →
+    IsThere game.events from kind → pos price ≤ℤ cash_of game.seats game.events (party_of_company company) → IsSound game → IsSound (with_event game (Train company kind from price))
+
+-- a train that a company has keeps a list sound where it is traded in
+abbrev pub TradeKeepsSound : Type 0
+TradeKeepsSound =
+    (game : Game) (company : Company) (kind : Kind) →
+    pos 1 ≤ℤ trains_held game.events (Some company) kind → IsSound game → IsSound (with_event game (Traded company kind))
+
+-- so does one that it discards
+abbrev pub DiscardKeepsSound : Type 0
+DiscardKeepsSound =
+    (game : Game) (company : Company) (kind : Kind) →
+    pos 1 ≤ℤ trains_held game.events (Some company) kind → IsSound game → IsSound (with_event game (Discarded company kind))
+
+-- and one of a company or the pool that rusts
+abbrev pub RustingKeepsSound : Type 0
+RustingKeepsSound =
+    (game : Game) (owner : Option Company) (kind : Kind) →
+    pos 1 ≤ℤ trains_held game.events owner kind → IsSound game → IsSound (with_event game (Rusted owner kind))
+
+-- a phase that begins keeps a list sound
+abbrev pub PhaseKeepsSound : Type 0
+PhaseKeepsSound = (game : Game) (kind : Kind) → IsSound game → IsSound (with_event game (Phase kind))
+
+-- and a private that closes
+abbrev pub ClosingKeepsSound : Type 0
+ClosingKeepsSound = (game : Game) (private : Private) → IsSound game → IsSound (with_event game (Closed private))
 
 -- a tile that the event at the end lays is the last
 abbrev pub LaysGrow : Type 0

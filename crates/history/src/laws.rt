@@ -1,8 +1,8 @@
 //! Laws of games: each function does nothing, and its contract is the law.
 
 ghost use Rattle.history.specs.Money.{AllMoneyStays};
+ghost use Rattle.history.specs.Laws.{ArrivalIsLast, ArrivalsDiffer, BidKeepsSound, BlockKeepsSound, BlockWithSuccessionKeepsSound, CaIsSoldWithItsGift, CashMoves, ClosingKeepsSound, DiscardKeepsSound, DividendKeepsSound, ExchangeKeepsSound, FirstIsCheapest, FloatKeepsSound, GiftKeepsSound, HomeKeepsSound, LastWordIsLast, LayKeepsSound, LaysGrow, MoveKeepsSound, OwnersAreParties, PhaseKeepsSound, PriceKeepsSound, PurchaseKeepsSound, QuietKeepsSound, QuietSaysTheSame, RevenueKeepsSound, RulingsAreCounted, RunKeepsSound, RustingKeepsSound, SaleKeepsSound, SoundMoneyStays, StartByPurchaseKeepsSound, StartKeepsSound, SuccessionKeepsSound, SvIsGivenAway, TokenKeepsSound, TokensGrow, TradeKeepsSound, TrainPurchaseKeepsSound, WithholdingKeepsSound};
 ghost use Rattle.history.specs.Trains.{AllTrainsStay};
-ghost use Rattle.history.specs.Laws.{ArrivalIsLast, ArrivalsDiffer, BidKeepsSound, BlockKeepsSound, BlockWithSuccessionKeepsSound, CaIsSoldWithItsGift, CashMoves, ExchangeKeepsSound, FirstIsCheapest, FloatKeepsSound, GiftKeepsSound, HomeKeepsSound, LastWordIsLast, LayKeepsSound, LaysGrow, MoveKeepsSound, PriceKeepsSound, PurchaseKeepsSound, QuietKeepsSound, QuietSaysTheSame, RevenueKeepsSound, RulingsAreCounted, SaleKeepsSound, StartByPurchaseKeepsSound, StartKeepsSound, SuccessionKeepsSound, SvIsGivenAway, TokenKeepsSound, TokensGrow, WithholdingKeepsSound};
 
 /// What was said last of a thing is what the last event says, or else what was said before it.
 pub fn last_word_is_last<T>()
@@ -26,6 +26,13 @@ pub fn all_trains_stay()
     ensures { AllTrainsStay }
 {}
 
+/// So it is in each sound list: what its parties have together is 12,000, and who owns a private is
+/// one of them.
+pub fn money_of_sound_lists()
+    ensures together { SoundMoneyStays }
+    ensures owners { OwnersAreParties }
+{}
+
 /// An event that says nothing of what parties have and own, or of SV's price, changes none of it.
 pub fn quiet_says_the_same()
     ensures { QuietSaysTheSame }
@@ -42,18 +49,19 @@ pub fn bid_keeps_sound()
     ensures { BidKeepsSound }
 {}
 
-/// A sale of an unsold private keeps a list sound, where the seat has the price free of its other
-/// bids.
+/// A sale of an unsold private to a seat at the table keeps a list sound, where the seat has the
+/// price free of its other bids.
 pub fn sale_keeps_sound()
     ensures { SaleKeepsSound }
 {}
 
-/// A revenue keeps a list sound.
+/// A revenue to the owner of a private keeps a list sound.
 pub fn revenue_keeps_sound()
     ensures { RevenueKeepsSound }
 {}
 
-/// A price that SV may have keeps a list sound, and so does 0 with the gift of SV.
+/// A price that SV may have keeps a list sound, and so does 0 with the gift of SV to a seat at the
+/// table.
 pub fn price_keeps_sound()
     ensures price { PriceKeepsSound }
     ensures gift { SvIsGivenAway }
@@ -121,6 +129,28 @@ pub fn token_keeps_sound()
 /// A company that withholds what it earned keeps a list sound.
 pub fn withholding_keeps_sound()
     ensures { WithholdingKeepsSound }
+{}
+
+/// A run keeps a list sound, and so does a dividend of the bank to a party of the game.
+pub fn dividend_keeps_sound()
+    ensures run { RunKeepsSound }
+    ensures dividend { DividendKeepsSound }
+{}
+
+/// The purchase of a train that is there keeps a list sound, where the company can pay it; so does
+/// a train of the company that is traded in.
+pub fn train_purchase_keeps_sound()
+    ensures purchase { TrainPurchaseKeepsSound }
+    ensures trade { TradeKeepsSound }
+{}
+
+/// What a new phase brings keeps a list sound: that it begins, that trains rust, that privates
+/// close, and that companies discard trains.
+pub fn phase_keeps_sound()
+    ensures phase { PhaseKeepsSound }
+    ensures rusting { RustingKeepsSound }
+    ensures closing { ClosingKeepsSound }
+    ensures discard { DiscardKeepsSound }
 {}
 
 /// A tile that is laid is the last of those that were, and a token that is placed is the last.

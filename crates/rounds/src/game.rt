@@ -70,6 +70,7 @@ impl<'a> Game<'a> {
 pub fn play<'a>(alloc: Global, sheets: &'a Sheets<'a>) -> Result<Game<'a>, AllocError>
     ensures file { IfOk result (λ game. game.file ≡ sheets.now) }
     ensures game { IfOk result IsTheGame }
+    ensures sound { IfOk result (λ game. IsSound game.game) }
 {
     let mut history = History::start(alloc, sheets.seats());
     let mut in_set = rounds_of_new_set();
