@@ -4,7 +4,7 @@ use Rattle.std.proofs.lemmas.Int.{ints}
 use Rattle.std.proofs.lemmas.List.Sums.{sum_by-cons}
 use Rattle.history.proofs.Choices.{truth}
 use Rattle.history.specs.Event.{place_of_seller, stable_of, train_moved}
-use Rattle.history.specs.Trains.{AllTrainsStay, same_train_place, stables, train_comes, train_goes, trains_at, trains_in_play, trains_sold, trains_together}
+use Rattle.history.specs.Trains.{AllTrainsStay, one_if, same_train_place, stables, train_comes, train_goes, trains_at, trains_in_play, trains_sold, trains_together}
 use Rattle.history.specs.declared.event.Event.{Event}
 use Rattle.history.specs.declared.event.Event.TheVariants as event
 use Rattle.history.specs.declared.event.TrainMove.{TrainMove}
@@ -17,10 +17,10 @@ use Rattle.tables.specs.declared.roster.Company.TheVariants.{Pennsylvania, NewYo
 -- how often a place is among some
 abbrev times_among : TrainPlace → List TrainPlace → ℕ
 times_among at [] = 0
-times_among at (one ∷ others) = (if same_train_place at one then 1 else 0) + times_among at others
+times_among at (one ∷ others) = one_if (same_train_place at one) + times_among at others
 
 -- a place is once among the bank, the stables, and the place of those out of play
-once_among : (at : TrainPlace) → (if same_train_place at place.Bank then 1 else 0) + (times_among at stables + (if same_train_place at place.OutOfPlay then 1 else 0)) ≡ 1
+once_among : (at : TrainPlace) → one_if (same_train_place at place.Bank) + (times_among at stables + one_if (same_train_place at place.OutOfPlay)) ≡ 1
 once_among place.Bank = refl
 once_among place.BankPool = refl
 once_among (place.Company Pennsylvania) = refl
@@ -34,19 +34,19 @@ once_among (place.Company BostonMaine) = refl
 once_among place.OutOfPlay = refl
 
 -- the trains at a place with an event in front
-trains_in_front : (event : Event) (events : List Event) (place : TrainPlace) (kind : Kind) → trains_at (event ∷ events) place kind ≡ (trains_at events place kind +ℤ pos (if train_comes place kind (train_moved event) then 1 else 0)) -ℤ pos (if train_goes place kind (train_moved event) then 1 else 0)
+trains_in_front : (event : Event) (events : List Event) (place : TrainPlace) (kind : Kind) → trains_at (event ∷ events) place kind ≡ (trains_at events place kind +ℤ pos (one_if (train_comes place kind (train_moved event)))) -ℤ pos (one_if (train_goes place kind (train_moved event)))
 trains_in_front event events place kind =
-    omega (arith, ints, sum_by-cons (λ e. if train_comes place kind (train_moved e) then 1 else 0) event events, sum_by-cons (λ e. if train_goes place kind (train_moved e) then 1 else 0) event events)
+    omega (arith, ints, sum_by-cons (λ e. one_if (train_comes place kind (train_moved e))) event events, sum_by-cons (λ e. one_if (train_goes place kind (train_moved e))) event events)
 
 -- how many trains an event brings to some places
 abbrev come_to : Kind → Option TrainMove → List TrainPlace → ℕ
 come_to kind move [] = 0
-come_to kind move (one ∷ others) = (if train_comes one kind move then 1 else 0) + come_to kind move others
+come_to kind move (one ∷ others) = one_if (train_comes one kind move) + come_to kind move others
 
 -- and how many it takes from them
 abbrev go_from : Kind → Option TrainMove → List TrainPlace → ℕ
 go_from kind move [] = 0
-go_from kind move (one ∷ others) = (if train_goes one kind move then 1 else 0) + go_from kind move others
+go_from kind move (one ∷ others) = one_if (train_goes one kind move) + go_from kind move others
 
 -- the trains at some places with an event in front
 together_in_front : (event : Event) (events : List Event) (some : List TrainPlace) (kind : Kind) → trains_together (event ∷ events) some kind ≡ (trains_together events some kind +ℤ pos (come_to kind (train_moved event) some)) -ℤ pos (go_from kind (train_moved event) some)
@@ -67,25 +67,25 @@ none_go kind (one ∷ others) = omega (arith, none_go kind others)
 come_of : (kind : Kind) (move : TrainMove) (some : List TrainPlace) → same_kind move.kind kind ≡ true → come_to kind (Some move) some ≡ times_among move.to some
 come_of kind move [] same = refl
 come_of kind move (one ∷ others) same =
-    omega (arith, ap (λ (is : Bool). if is && same_train_place move.to one then 1 else 0) same, come_of kind move others same)
+    omega (arith, ap (λ (is : Bool). one_if (is && same_train_place move.to one)) same, come_of kind move others same)
 
 -- and goes from those
 go_of : (kind : Kind) (move : TrainMove) (some : List TrainPlace) → same_kind move.kind kind ≡ true → go_from kind (Some move) some ≡ times_among move.from some
 go_of kind move [] same = refl
 go_of kind move (one ∷ others) same =
-    omega (arith, ap (λ (is : Bool). if is && same_train_place move.from one then 1 else 0) same, go_of kind move others same)
+    omega (arith, ap (λ (is : Bool). one_if (is && same_train_place move.from one)) same, go_of kind move others same)
 
 -- one of another kind comes to none
 come_of_other : (kind : Kind) (move : TrainMove) (some : List TrainPlace) → same_kind move.kind kind ≡ false → come_to kind (Some move) some ≡ 0
 come_of_other kind move [] other = refl
 come_of_other kind move (one ∷ others) other =
-    omega (arith, ap (λ (is : Bool). if is && same_train_place move.to one then 1 else 0) other, come_of_other kind move others other)
+    omega (arith, ap (λ (is : Bool). one_if (is && same_train_place move.to one)) other, come_of_other kind move others other)
 
 -- and goes from none
 go_of_other : (kind : Kind) (move : TrainMove) (some : List TrainPlace) → same_kind move.kind kind ≡ false → go_from kind (Some move) some ≡ 0
 go_of_other kind move [] other = refl
 go_of_other kind move (one ∷ others) other =
-    omega (arith, ap (λ (is : Bool). if is && same_train_place move.from one then 1 else 0) other, go_of_other kind move others other)
+    omega (arith, ap (λ (is : Bool). one_if (is && same_train_place move.from one)) other, go_of_other kind move others other)
 
 -- no train comes to the bank
 abbrev ComesFromBankAlone : Option TrainMove → Type 0
@@ -125,7 +125,7 @@ none_to_bank (event.Closed private) = tt
 none_to_bank event.Broken = tt
 
 -- what comes to the stables and to the place of those out of play went from there, or from the bank
-balanced : (kind : Kind) (move : Option TrainMove) → ComesFromBankAlone move → come_to kind move stables + (if train_comes place.OutOfPlay kind move then 1 else 0) ≡ (go_from kind move stables + (if train_goes place.OutOfPlay kind move then 1 else 0)) + (if train_goes place.Bank kind move then 1 else 0)
+balanced : (kind : Kind) (move : Option TrainMove) → ComesFromBankAlone move → come_to kind move stables + one_if (train_comes place.OutOfPlay kind move) ≡ (go_from kind move stables + one_if (train_goes place.OutOfPlay kind move)) + one_if (train_goes place.Bank kind move)
 balanced kind None apart = refl
 balanced kind (Some move) apart =
     elim (truth (same_kind move.kind kind)) [
@@ -134,10 +134,10 @@ balanced kind (Some move) apart =
             arith,
             come_of kind move stables same,
             go_of kind move stables same,
-            ap (λ (is : Bool). if is && same_train_place move.to place.OutOfPlay then 1 else 0) same,
-            ap (λ (is : Bool). if is && same_train_place move.from place.OutOfPlay then 1 else 0) same,
-            ap (λ (is : Bool). if is && same_train_place move.from place.Bank then 1 else 0) same,
-            ap (λ (is : Bool). if is then 1 else 0) apart,
+            ap (λ (is : Bool). one_if (is && same_train_place move.to place.OutOfPlay)) same,
+            ap (λ (is : Bool). one_if (is && same_train_place move.from place.OutOfPlay)) same,
+            ap (λ (is : Bool). one_if (is && same_train_place move.from place.Bank)) same,
+            ap one_if apart,
             once_among move.to,
             once_among move.from,
           )
@@ -146,15 +146,15 @@ balanced kind (Some move) apart =
             arith,
             come_of_other kind move stables other,
             go_of_other kind move stables other,
-            ap (λ (is : Bool). if is && same_train_place move.to place.OutOfPlay then 1 else 0) other,
-            ap (λ (is : Bool). if is && same_train_place move.from place.OutOfPlay then 1 else 0) other,
-            ap (λ (is : Bool). if is && same_train_place move.from place.Bank then 1 else 0) other,
+            ap (λ (is : Bool). one_if (is && same_train_place move.to place.OutOfPlay)) other,
+            ap (λ (is : Bool). one_if (is && same_train_place move.from place.OutOfPlay)) other,
+            ap (λ (is : Bool). one_if (is && same_train_place move.from place.Bank)) other,
           )
     ]
 
 -- how many the bank has sold, with an event in front
-sold_in_front : (event : Event) (events : List Event) (kind : Kind) → trains_sold (event ∷ events) kind ≡ (if train_goes place.Bank kind (train_moved event) then 1 else 0) + trains_sold events kind
-sold_in_front event events kind = sum_by-cons (λ e. if train_goes place.Bank kind (train_moved e) then 1 else 0) event events
+sold_in_front : (event : Event) (events : List Event) (kind : Kind) → trains_sold (event ∷ events) kind ≡ one_if (train_goes place.Bank kind (train_moved event)) + trains_sold events kind
+sold_in_front event events kind = sum_by-cons (λ e. one_if (train_goes place.Bank kind (train_moved e))) event events
 
 -- the trains that the bank has sold are in play or have left it
 pub trains_stay : AllTrainsStay

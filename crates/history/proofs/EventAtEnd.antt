@@ -11,7 +11,7 @@ use Rattle.history.specs.Event.{bidding_of, floated_by, office_of, ownership_of,
 use Rattle.history.specs.Laws.{CashMoves, LastWordIsLast, QuietSaysTheSame}
 use Rattle.history.specs.LookBack.{balance, cash_of, first_unsold, is_closed, is_sold, last_said, now_said, owner_of, owner_said, paid_by, paid_to, sv_price_of}
 use Rattle.history.specs.Shares.{brought_to, float_said, is_floated, par_of, par_said, president_of, president_said, shares_of, square_of, square_said, taken_from}
-use Rattle.history.specs.Trains.{train_comes, train_goes, trains_at}
+use Rattle.history.specs.Trains.{one_if, train_comes, train_goes, trains_at}
 use Rattle.history.specs.declared.event.Event.{Event}
 use Rattle.history.specs.declared.event.Holder.{Holder}
 use Rattle.history.specs.declared.event.Party.{Party}
@@ -164,14 +164,14 @@ is_floated_before events event company none =
     ap is_some (last_said_before (λ e. float_said company (floated_by e)) _ events event refl (ap (float_said company) none))
 
 -- the trains of a kind at a place: one that the event brings is added, and one that it takes is taken off
-pub trains_at_end : (events : List Event) (event : Event) (place : TrainPlace) (kind : Kind) → trains_at (events ++ event ∷ []) place kind ≡ (trains_at events place kind +ℤ pos (if train_comes place kind (train_moved event) then 1 else 0)) -ℤ pos (if train_goes place kind (train_moved event) then 1 else 0)
+pub trains_at_end : (events : List Event) (event : Event) (place : TrainPlace) (kind : Kind) → trains_at (events ++ event ∷ []) place kind ≡ (trains_at events place kind +ℤ pos (one_if (train_comes place kind (train_moved event)))) -ℤ pos (one_if (train_goes place kind (train_moved event)))
 trains_at_end events event place kind =
-    balance_at_end 0 (λ e. if train_comes place kind (train_moved e) then 1 else 0) (λ e. if train_goes place kind (train_moved e) then 1 else 0) events event
+    balance_at_end 0 (λ e. one_if (train_comes place kind (train_moved e))) (λ e. one_if (train_goes place kind (train_moved e))) events event
 
 -- where an event moves no train, they lie as before
 pub trains_at_before : (events : List Event) (event : Event) (place : TrainPlace) (kind : Kind) → train_moved event ≡ None → trains_at (events ++ event ∷ []) place kind ≡ trains_at events place kind
 trains_at_before events event place kind none =
-    balance_before 0 (λ e. if train_comes place kind (train_moved e) then 1 else 0) (λ e. if train_goes place kind (train_moved e) then 1 else 0) events event (ap (λ move. if train_comes place kind move then 1 else 0) none) (ap (λ move. if train_goes place kind move then 1 else 0) none)
+    balance_before 0 (λ e. one_if (train_comes place kind (train_moved e))) (λ e. one_if (train_goes place kind (train_moved e))) events event (ap (λ move. one_if (train_comes place kind move)) none) (ap (λ move. one_if (train_goes place kind move)) none)
 
 -- a quiet event changes nothing of what parties have and own
 pub quiet_same : QuietSaysTheSame

@@ -20,14 +20,14 @@ use Rattle.tables.specs.declared.seat.Seat.{Seat}
 
 -- an event says nothing, but perhaps of money and of a train
 pub record OnlyPays (event : Event) : Type 0 where
-  no_owner : ownership_of event ≡ None
-  no_bid : bidding_of event ≡ None
-  no_transfer : transfer_of event ≡ None
-  no_par : par_set event ≡ None
-  no_square : square_set event ≡ None
-  no_office : office_of event ≡ None
-  no_float : floated_by event ≡ None
-  no_price : sv_price_set event ≡ None
+  pub no_owner : ownership_of event ≡ None
+  pub no_bid : bidding_of event ≡ None
+  pub no_transfer : transfer_of event ≡ None
+  pub no_par : par_set event ≡ None
+  pub no_square : square_set event ≡ None
+  pub no_office : office_of event ≡ None
+  pub no_float : floated_by event ≡ None
+  pub no_price : sv_price_set event ≡ None
 
 -- no seat pays by an event
 abbrev pub NoSeatPays : Event → Type 0

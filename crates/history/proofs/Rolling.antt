@@ -7,7 +7,7 @@ use Rattle.std.proofs.lemmas.List.Sums.{sum_by_push}
 use Rattle.history.proofs.Choices.{same_company_is, truth}
 use Rattle.history.proofs.EventAtEnd.{trains_at_before, trains_at_end}
 use Rattle.history.specs.Event.{stable_of, train_moved}
-use Rattle.history.specs.Trains.{IsThere, TrainsAreHeld, same_train_place, train_comes, train_goes, trains_at, trains_held, trains_sold}
+use Rattle.history.specs.Trains.{IsThere, TrainsAreHeld, one_if, same_train_place, train_comes, train_goes, trains_at, trains_held, trains_sold}
 use Rattle.history.specs.declared.event.Event.{Event}
 use Rattle.history.specs.declared.event.TrainMove.{TrainMove}
 use Rattle.history.specs.declared.event.TrainPlace.{TrainPlace}
@@ -62,15 +62,15 @@ both true false is = absurd cc
 both false b is = absurd cc
 
 -- how many the bank has sold, once one more event stands at the end
-pub sold_at_end : (events : List Event) (event : Event) (kind : Kind) → trains_sold (events ++ event ∷ []) kind ≡ trains_sold events kind + (if train_goes place.Bank kind (train_moved event) then 1 else 0)
-sold_at_end events event kind = sum_by_push (λ e. if train_goes place.Bank kind (train_moved e) then 1 else 0) events event
+pub sold_at_end : (events : List Event) (event : Event) (kind : Kind) → trains_sold (events ++ event ∷ []) kind ≡ trains_sold events kind + one_if (train_goes place.Bank kind (train_moved event))
+sold_at_end events event kind = sum_by_push (λ e. one_if (train_goes place.Bank kind (train_moved e))) events event
 
 -- an event that moves no train leaves all trains where they lie
 pub trains_kept : (events : List Event) (event : Event) → train_moved event ≡ None → TrainsAreHeld events → TrainsAreHeld (events ++ event ∷ [])
 trains_kept events event none before =
     record {
       held = λ owner kind. subst (λ (trains : ℤ). pos 0 ≤ℤ trains) (sym (trains_at_before events event (stable_of owner) kind none)) (before.held owner kind);
-      sold = λ kind number there. let few = before.sold kind number there in omega (arith, sold_at_end events event kind, ap (λ move. if train_goes place.Bank kind move then 1 else 0) none);
+      sold = λ kind number there. let few = before.sold kind number there in omega (arith, sold_at_end events event kind, ap (λ move. one_if (train_goes place.Bank kind move)) none);
     }
 
 -- a place keeps no fewer than none where the train that goes is one that is there
@@ -80,9 +80,9 @@ still_held events event move place kind is there before =
       | inl goes ↦
           let same = both (same_kind move.kind kind) (same_train_place move.from place) goes in
           let here : pos 1 ≤ℤ trains_at events place kind = subst (λ (at : TrainPlace). pos 1 ≤ℤ trains_at events at kind) (same_train_place_is move.from place same.1) (subst (λ (of : Kind). pos 1 ≤ℤ trains_at events move.from of) (same_kind_is move.kind kind same.0) there) in
-          omega (arith, ints, trains_at_end events event place kind, ap (λ m. if train_goes place kind m then 1 else 0) is, ap (λ (test : Bool). if test then 1 else 0) goes)
+          omega (arith, ints, trains_at_end events event place kind, ap (λ m. one_if (train_goes place kind m)) is, ap one_if goes)
       | inr stays ↦
-          omega (arith, ints, trains_at_end events event place kind, ap (λ m. if train_goes place kind m then 1 else 0) is, ap (λ (test : Bool). if test then 1 else 0) stays)
+          omega (arith, ints, trains_at_end events event place kind, ap (λ m. one_if (train_goes place kind m)) is, ap one_if stays)
     ]
 
 -- a train that leaves a stable is none that the bank sells
@@ -96,7 +96,7 @@ trains_after_move events event owner kind to is there before =
     let move : TrainMove = record { kind = kind; from = stable_of owner; to = to } in
     record {
       held = λ other of. still_held events event move (stable_of other) of is there (before.held other of);
-      sold = λ of number has. let few = before.sold of number has in omega (arith, sold_at_end events event of, ap (λ m. if train_goes place.Bank of m then 1 else 0) is, ap (λ (test : Bool). if test then 1 else 0) (never_of_bank owner of kind to));
+      sold = λ of number has. let few = before.sold of number has in omega (arith, sold_at_end events event of, ap (λ m. one_if (train_goes place.Bank of m)) is, ap one_if (never_of_bank owner of kind to));
     }
 
 -- the bank is no stable
@@ -109,15 +109,15 @@ pub trains_after_sale : (events : List Event) (event : Event) (kind : Kind) (to 
 trains_after_sale events event kind to is left before =
     let move : TrainMove = record { kind = kind; from = place.Bank; to = to } in
     record {
-      held = λ other of. let had = before.held other of in omega (arith, ints, trains_at_end events event (stable_of other) of, ap (λ m. if train_goes (stable_of other) of m then 1 else 0) is, ap (λ (test : Bool). if test then 1 else 0) (none_from_stable other of kind to));
+      held = λ other of. let had = before.held other of in omega (arith, ints, trains_at_end events event (stable_of other) of, ap (λ m. one_if (train_goes (stable_of other) of m)) is, ap one_if (none_from_stable other of kind to));
       sold = λ of number has. elim (truth (same_kind kind of)) [
         | inl same ↦
             let fewer = left number (ap (λ k. (manifest_of k).number) (same_kind_is kind of same) ∙ has) in
             let sold = subst (λ k. trains_sold events k < number) (same_kind_is kind of same) fewer in
-            omega (arith, sold_at_end events event of, ap (λ m. if train_goes place.Bank of m then 1 else 0) is, ap (λ (test : Bool). if test && true then 1 else 0) same)
+            omega (arith, sold_at_end events event of, ap (λ m. one_if (train_goes place.Bank of m)) is, ap (λ (test : Bool). one_if (test && true)) same)
         | inr other ↦
             let few = before.sold of number has in
-            omega (arith, sold_at_end events event of, ap (λ m. if train_goes place.Bank of m then 1 else 0) is, ap (λ (test : Bool). if test && true then 1 else 0) other)
+            omega (arith, sold_at_end events event of, ap (λ m. one_if (train_goes place.Bank of m)) is, ap (λ (test : Bool). one_if (test && true)) other)
       ];
     }
 

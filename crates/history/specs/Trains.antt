@@ -1,7 +1,7 @@
 -- Trains: where they lie, how many of a kind the bank has sold, and the phase. The bank's own trains have never
 -- been sold; those of the bank pool were given back by companies; a train that rusts leaves play. The game
 -- begins in phase 2, and the first train of a later kind from the bank begins the next phase.
-use Rattle.std.specs.Prelude.{◌≡◌, ℕ, Bool, true, false, ◌&&◌, if◌then◌else◌, List, [], ◌∷◌, map, Option, Some, None, ℤ, pos, ◌+ℤ◌, ◌≤ℤ◌, ◌≤◌, ◌<◌, unwrap_or}
+use Rattle.std.specs.Prelude.{◌≡◌, ℕ, Bool, true, false, ◌&&◌, if◌then◌else◌, List, [], ◌∷◌, map, Option, Some, None, ℤ, pos, negsuc, ◌+ℤ◌, ◌≤ℤ◌, ◌≤◌, ◌<◌, unwrap_or}
 use Rattle.std.specs.List.{count_by}
 use Rattle.history.specs.Event.{phase_set, stable_of, train_moved}
 use Rattle.history.specs.LookBack.{balance, last_said}
@@ -35,15 +35,24 @@ abbrev pub train_goes : TrainPlace → Kind → Option TrainMove → Bool
 train_goes place kind None = false
 train_goes place kind (Some move) = same_kind move.kind kind && same_train_place move.from place
 
+-- 1 where a test holds, and 0 where not
+abbrev pub one_if : Bool → ℕ
+one_if test = if test then 1 else 0
+
 -- the trains of a kind at a place: what came there less what went. The bank's own are fewer than none by those
 -- that it has sold
 abbrev pub trains_at : List Event → TrainPlace → Kind → ℤ
 trains_at events place kind =
-    balance 0 (λ event. if train_comes place kind (train_moved event) then 1 else 0) (λ event. if train_goes place kind (train_moved event) then 1 else 0) events
+    balance 0 (λ event. one_if (train_comes place kind (train_moved event))) (λ event. one_if (train_goes place kind (train_moved event))) events
 
 -- the trains of a kind that a company has, or the bank pool where there is none
 abbrev pub trains_held : List Event → Option Company → Kind → ℤ
 trains_held events owner kind = trains_at events (stable_of owner) kind
+
+-- as many as a number says, and none where it is under 0
+abbrev pub so_many : ℤ → ℕ
+so_many (pos n) = n
+so_many (negsuc n) = 0
 
 -- how many trains of a kind the bank has sold
 abbrev pub trains_sold : List Event → Kind → ℕ

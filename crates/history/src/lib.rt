@@ -51,4 +51,4 @@ pub use ruling::{
     TrainRule,
 };
 pub use shares::Tenths;
-pub use trains::TrainCount;
+pub use trains::{TrainCount, so_many};

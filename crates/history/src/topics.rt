@@ -5,8 +5,7 @@ ghost use Rattle.history.specs.LookBack.{actor_of, owner_said, paid_by, paid_to}
 ghost use Rattle.history.specs.Operating.{turn_said};
 ghost use Rattle.history.specs.Orders.{limit_in, par_of_baltimore_in, said_by};
 ghost use Rattle.history.specs.Shares.{brought_to, float_said, par_said, president_said, sale_said, square_said, taken_from};
-ghost use Rattle.history.specs.Trains.{train_comes, train_goes};
-ghost use Rattle.std.specs.Prelude.{if◌then◌else◌};
+ghost use Rattle.history.specs.Trains.{one_if, train_comes, train_goes};
 
 use crate::aspect::{Account, Topic};
 use crate::event::{Bidding, Event, Holder, Party, Shareholder, TrainPlace};
@@ -325,9 +324,9 @@ impl Topic for RoundPlayed {
 pub(crate) struct TrainsAt(pub TrainPlace, pub Kind);
 
 impl Account for TrainsAt {
-    ghost brings = { λ a event. if train_comes a.0 a.1 (train_moved event) then 1 else 0 };
+    ghost brings = { λ a event. one_if (train_comes a.0 a.1 (train_moved event)) };
 
-    ghost takes = { λ a event. if train_goes a.0 a.1 (train_moved event) then 1 else 0 };
+    ghost takes = { λ a event. one_if (train_goes a.0 a.1 (train_moved event)) };
 
     fn brings(&self, event: &Event) -> Amount {
         match event.train() {

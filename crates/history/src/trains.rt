@@ -1,7 +1,7 @@
 //! Trains: who has which, how many the bank has sold, and the phase.
 ghost use Rattle.std.specs.Prelude.{◌≡◌};
 ghost use Rattle.history.specs.LookBack.{IsModerate};
-ghost use Rattle.history.specs.Trains.{phase_of, train_goes, trains_held, trains_sold};
+ghost use Rattle.history.specs.Trains.{phase_of, so_many, train_goes, trains_at, trains_held, trains_sold};
 ghost use Rattle.history.specs.Event.{train_moved};
 ghost use Rattle.history.specs.declared.event.TrainPlace.TheVariants.{Bank};
 
@@ -20,7 +20,15 @@ impl Past<'_> {
         ensures sum { result ≡ trains_held self.now.events.now owner kind }
         ensures within { IsModerate result }
     {
-        balance(&TrainsAt(TrainPlace::of_owner(owner), kind), 0, self.events)
+        self.trains_at(TrainPlace::of_owner(owner), kind)
+    }
+
+    /// The trains of a kind at a place.
+    fn trains_at(&self, place: TrainPlace, kind: Kind) -> TrainCount
+        ensures sum { result ≡ trains_at self.now.events.now place kind }
+        ensures within { IsModerate result }
+    {
+        balance(&TrainsAt(place, kind), 0, self.events)
     }
 
     /// How many trains of a kind the bank has sold.
@@ -49,4 +57,11 @@ fn is_sale(event: &Event, kind: Kind) -> bool
         Some(train) => train.kind == kind && train.from == TrainPlace::Bank,
         None => false,
     }
+}
+
+/// As many as a count says, and none where it is under 0.
+pub fn so_many(count: TrainCount) -> u128
+    ensures { result ≡ so_many count }
+{
+    if count > 0 { count as u128 } else { 0 }
 }

@@ -1,5 +1,5 @@
 -- The statement after a round: what each player holds, what each started company has, and the bank's cash.
-use Rattle.std.specs.Prelude.{◌≡◌, ℕ, zero, suc, ℤ, pos, negsuc, Bool, false, if◌then◌else◌, List, [], ◌∷◌, ◌++◌, codes, decimal, Option, Some, None}
+use Rattle.std.specs.Prelude.{◌≡◌, ℕ, zero, suc, Bool, false, if◌then◌else◌, List, [], ◌∷◌, ◌++◌, codes, decimal, Option, Some, None}
 use Rattle.certs.specs.Counted.{counted_of}
 use Rattle.std.specs.List.{flat_map, range_with_len}
 use Rattle.std.specs.Fmt.{signed_decimal}
@@ -7,7 +7,7 @@ use Rattle.history.specs.Event.{party_at}
 use Rattle.history.specs.LookBack.{cash_of, owner_in, owner_of, same_holder}
 use Rattle.history.specs.Operating.{tokens_placed}
 use Rattle.history.specs.Shares.{president_of, shares_of, square_of}
-use Rattle.history.specs.Trains.{trains_held}
+use Rattle.history.specs.Trains.{so_many, trains_held}
 use Rattle.history.specs.declared.event.Event.{Event}
 use Rattle.history.specs.declared.event.Holder.{Holder}
 use Rattle.history.specs.declared.event.Holder.TheVariants as holder
@@ -92,11 +92,6 @@ company_figures seats events company square =
 -- the same, as a game stood
 abbrev pub company_figures_at : Past → Company → Square → List ℕ
 company_figures_at past company square = company_figures past.seats past.events.now company square
-
--- as many as a number says, and none where it is under 0
-abbrev pub so_many : ℤ → ℕ
-so_many (pos n) = n
-so_many (negsuc n) = 0
 
 -- a kind after a space, so many times
 abbrev pub codes_of_kind : Kind → ℕ → List ℕ

@@ -4,13 +4,13 @@ ghost use Rattle.certs.specs.Holdings.{AreHoldingsAt};
 ghost use Rattle.certs.specs.Rows.{HasPlace};
 ghost use Rattle.history.specs.LookBack.{owner_in};
 ghost use Rattle.report.specs.Column.{Adds};
-ghost use Rattle.report.specs.Statement.{AreOwnersIn, bank_line_at, cash_column_at, code_owned, codes_owned, company_figures_at, company_line_at, company_lines_at, counted_column, holdings, codes_of_kind, codes_of_trains, is_seat, player_line_at, player_lines_at, president_name, so_many, started_line_at, statement_at, tenths_column, trains_text};
+ghost use Rattle.report.specs.Statement.{AreOwnersIn, bank_line_at, cash_column_at, code_owned, codes_owned, company_figures_at, company_line_at, company_lines_at, counted_column, holdings, codes_of_kind, codes_of_trains, is_seat, player_line_at, player_lines_at, president_name, started_line_at, statement_at, tenths_column, trains_text};
 ghost use Rattle.sheets.specs.File.{players_of};
 
 use crate::column::{push_left, push_right};
 use crate::line::{name, push_name};
 use certs::{Holdings, counted_by_the_game};
-use history::{Holder, Owners, Party, Past, Shareholder, Tenths, TrainCount};
+use history::{Holder, Owners, Party, Past, Shareholder, Tenths, so_many};
 use order_grammar::NAME_MOST;
 use sheets::Sheets;
 use std::alloc::AllocError;
@@ -310,12 +310,12 @@ fn push_trains_of_kind(
     ensures { OnOk result
         (Adds out.old out.new (codes_of_trains standing.now.past.events.now company kind)) }
 {
-    push_kind(out, kind, standing.past.trains(Some(company), kind))
+    push_kind(out, kind, so_many(standing.past.trains(Some(company), kind)))
 }
 
-/// Adds a kind after a space so many times, and not at all for a count under 0.
-fn push_kind(out: &mut Vec<u8>, kind: Kind, count: TrainCount) -> Result<(), AllocError>
-    ensures { OnOk result (Adds out.old out.new (codes_of_kind kind (so_many count))) }
+/// Adds a kind after a space so many times.
+fn push_kind(out: &mut Vec<u8>, kind: Kind, count: u128) -> Result<(), AllocError>
+    ensures { OnOk result (Adds out.old out.new (codes_of_kind kind count)) }
 {
     for _ in 0..count {
         out.push(b' ')?;
