@@ -3,3 +3,7 @@ pub mod Allowed
 pub mod Once
 pub mod Adding
 pub mod Operated
+pub mod Found
+pub mod Decided
+pub mod Ends
+pub mod Answered

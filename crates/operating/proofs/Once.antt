@@ -30,12 +30,12 @@ use Rattle.tables.specs.declared.seat.Seat.{Seat}
 same_tests : {P : Type 0} (a b : Bool) → IsTrue a ↔ P → IsTrue b ↔ P → a ≡ b
 same_tests true true first second = refl
 same_tests false false first second = refl
-same_tests true false first second = absurd (second.1 (first.0 tt))
-same_tests false true first second = absurd (first.1 (second.0 tt))
+same_tests true false first second = let wrong : false ≡ true = second.1 (first.0 refl) in cc
+same_tests false true first second = let wrong : false ≡ true = first.1 (second.0 refl) in cc
 
 -- a table that goes on by a test breaks one rule first, where the test is one once the first rules are kept
 same_break : {Code : Type 0} (first : List (Rule Code)) (later : Bool → List (Rule Code)) (a b : Bool) → (first_broken first ≡ None → a ≡ b) → first_broken (first ++ later a) ≡ first_broken (first ++ later b)
-same_break first later a b same =
+same_break {Code} first later a b same =
     elim (first_broken first) as (λ (found : Option Code). first_broken first ≡ found → first_broken (first ++ later a) ≡ first_broken (first ++ later b)) [
       | None ↦ λ is. ap (λ (test : Bool). first_broken (first ++ later test)) (same is)
       | Some code ↦ λ is. earlier first (later a) code is ∙ sym (earlier first (later b) code is)
@@ -91,8 +91,8 @@ one_line by turn number (Ok its) a b first second = one_order by turn number its
 one_way : (by : Operator) (turn : InTurn) (lines : List Numbered) (a b : InTurn) → LinesLead by turn lines a → LinesLead by turn lines b → a ≡ b
 one_way by turn [] a b first second = first ∙ sym second
 one_way by turn (line ∷ lines) a b first second =
-    let same : first.0 ≡ second.0 = one_line by turn line.number line.reading first.0 second.0 first.1.0 second.1.0 in
-    one_way by second.0 lines a b (subst (λ (next : InTurn). LinesLead by next lines a) same first.1.1) second.1.1
+    let same : first.0 ≡ second.0 = one_line by turn line.number line.reading first.0 second.0 first.1 second.1 in
+    one_way by second.0 lines a b (subst (λ (next : InTurn). LinesLead by next lines a) same first.2) second.2
 
 -- a block does
 one_block : (file : List ℕ) (round : Round) (company : Company) (turn : InTurn) (president : Option Seat) (a b : InTurn) → BlockLeads file round company turn president a → BlockLeads file round company turn president b → a ≡ b

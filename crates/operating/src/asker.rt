@@ -26,7 +26,7 @@ pub(crate) fn asker(history: &History, company: Company, progress: Progress) -> 
 
 /// Which privates a company owns, by their places in the roster.
 fn of_company(owners: &Owners, company: Company) -> [bool; 6]
-    ensures { result.items
+    ensures { result
         ≡ map (λ private. companys_own company (owner_in owners.now private)) privates }
 {
     [
@@ -41,7 +41,7 @@ fn of_company(owners: &Owners, company: Company) -> [bool; 6]
 
 /// Which privates players own, by their places in the roster.
 fn of_players(owners: &Owners) -> [bool; 6]
-    ensures { result.items ≡ map (λ private. players_own (owner_in owners.now private)) privates }
+    ensures { result ≡ map (λ private. players_own (owner_in owners.now private)) privates }
 {
     [
         is_players(owners.owner(Private::SchuylkillValley)),

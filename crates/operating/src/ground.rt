@@ -1,10 +1,10 @@
-ghost use Rattle.std.specs.Prelude.{◌≡◌, IfErr, IfOk};
+ghost use Rattle.std.specs.Prelude.{◌≡◌, ◌++◌, ◌∷◌, [], IfOk, OnOk};
 ghost use Rattle.board.specs.declared.fault.BoardFault.TheVariants.{Memory};
 ghost use Rattle.history.specs.Operating.{lays_of, tokens_of};
 ghost use Rattle.operating.specs.Ground.{GroundFits, ground_now};
 
 use board::{Board, BoardFault};
-use history::History;
+use history::{Event, History};
 use map_tables::{Lay, Place};
 use std::alloc::{AllocError, Global};
 use tables::{Company, Kind};
@@ -34,12 +34,21 @@ fn lays(alloc: Global, history: &History) -> Result<Vec<Lay>, AllocError>
     ensures { IfOk result (λ lays. lays.items ≡ lays_of history.now.events) }
 {
     let mut lays = Vec::new(alloc);
-    for event in history.events() {
-        if let Some(lay) = event.lay() {
-            lays.push(lay)?;
-        }
+    let events = history.events();
+    for event in events {
+        push_lay(&mut lays, event)?;
     }
     Ok(lays)
+}
+
+/// Adds the tile that an event lays, if it lays one.
+fn push_lay(lays: &mut Vec<Lay>, event: &Event) -> Result<(), AllocError>
+    ensures { OnOk result (lays.new.items ≡ lays.old.items ++ lays_of (event.now ∷ [])) }
+{
+    if let Some(lay) = event.lay() {
+        lays.push(lay)?;
+    }
+    Ok(())
 }
 
 /// The tokens that were placed, oldest first, those of homes among them.
@@ -47,10 +56,19 @@ fn tokens(alloc: Global, history: &History) -> Result<Vec<(Place, Company)>, All
     ensures { IfOk result (λ tokens. tokens.items ≡ tokens_of history.now.events) }
 {
     let mut tokens = Vec::new(alloc);
-    for event in history.events() {
-        if let Some(token) = event.token() {
-            tokens.push(token)?;
-        }
+    let events = history.events();
+    for event in events {
+        push_token(&mut tokens, event)?;
     }
     Ok(tokens)
+}
+
+/// Adds the token that an event places, if it places one.
+fn push_token(tokens: &mut Vec<(Place, Company)>, event: &Event) -> Result<(), AllocError>
+    ensures { OnOk result (tokens.new.items ≡ tokens.old.items ++ tokens_of (event.now ∷ [])) }
+{
+    if let Some(token) = event.token() {
+        tokens.push(token)?;
+    }
+    Ok(())
 }

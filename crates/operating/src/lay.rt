@@ -4,6 +4,7 @@ ghost use Rattle.operating.specs.Judgement.{rule_of_lay};
 ghost use Rattle.operating.specs.Turn.{LayLeads, in_turn};
 
 use crate::asker::asker;
+use crate::cost::amount_of;
 use crate::ground::board;
 use crate::operator::Operator;
 use crate::progress::Progress;
@@ -13,7 +14,6 @@ use history::{Event, History, LayRule, Refusal, Ruling};
 use map_tables::Lay;
 use order_grammar::Order;
 use std::alloc::{AllocError, Global};
-use tables::Amount;
 
 /// Rules a LAY of a line with this number, and lays the tile if it is obeyed. Answers how far the
 /// turn has come then.
@@ -36,7 +36,7 @@ pub(crate) fn rule_lay(
         Ok(cost) => {
             tell_ruling(history, by.president, line, Ruling::Obeyed(order))?;
             let company = by.company;
-            let cost = cost as Amount;
+            let cost = amount_of(cost);
             history.append(Event::Laid { company, lay, cost })?;
             Ok(progress.with_lay())
         }

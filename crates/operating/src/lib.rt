@@ -7,11 +7,12 @@
 //!
 //! Reading order: `operator` (whose turn it is), `progress` (how far the turn has come), `ground`
 //! (what lies on the map), `asker` (the company as the rules of the board see it), `ruling`, `home`,
-//! `lay` and `token` (what orders do), `withholding`, `turn` (the lines of a block), `playing`,
+//! `lay` and `token` (what orders do) with `cost`, `withholding`, `turn` (the lines of a block), `playing`,
 //! `standing` (the lines before the first block), `laws` (what holds of every turn).
 #![tactic(auto)]
 
 mod asker;
+mod cost;
 mod ground;
 mod home;
 mod laws;
@@ -25,6 +26,6 @@ mod token;
 mod turn;
 mod withholding;
 
-pub use laws::{company_operates, one_company_turn, turn_only_adds};
+pub use laws::{company_operates, company_turn_ends, one_company_turn, turn_only_adds};
 pub use playing::play_company;
 pub use standing::rule_standing_lines;

@@ -4,6 +4,7 @@ ghost use Rattle.operating.specs.Judgement.{rule_of_token};
 ghost use Rattle.operating.specs.Turn.{TokenLeads, in_turn};
 
 use crate::asker::asker;
+use crate::cost::amount_of;
 use crate::ground::board;
 use crate::operator::Operator;
 use crate::progress::Progress;
@@ -13,7 +14,6 @@ use history::{Event, History, Refusal, Ruling, TokenRule};
 use map_tables::Place;
 use order_grammar::Order;
 use std::alloc::{AllocError, Global};
-use tables::Amount;
 
 /// Rules a TOKEN of a line with this number, and places the token if it is obeyed. Answers how far
 /// the turn has come then.
@@ -36,7 +36,7 @@ pub(crate) fn rule_token(
         Ok(cost) => {
             tell_ruling(history, by.president, line, Ruling::Obeyed(order))?;
             let company = by.company;
-            let cost = cost as Amount;
+            let cost = amount_of(cost);
             history.append(Event::Token { company, place, cost })?;
             Ok(progress.with_token())
         }
