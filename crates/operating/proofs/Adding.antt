@@ -34,7 +34,8 @@ use Rattle.operating.specs.Act.{moved_left, with_home, withheld}
 use Rattle.operating.specs.Ground.{ground_now}
 use Rattle.operating.specs.Judgement.{asker_of, rule_of_lay, rule_of_token}
 use Rattle.operating.specs.Laws.{BeginsNoRound, CompanyOperates, OnlyAdds, TurnOnlyAdds}
-use Rattle.operating.specs.Turn.{BlockLeads, InTurn, IsCompanyTurn, LayLeads, LinesLead, OrderLeads, ReadingLeads, TokenLeads, at_start, begun, in_turn, is_unpaid, lay_answered, lay_refused, pay_done, settled, token_answered, token_done, token_refused}
+use Rattle.operating.specs.InTurn.{InTurn, at_start, in_turn, is_unpaid, pay_done, token_done}
+use Rattle.operating.specs.Turn.{BlockLeads, IsCompanyTurn, LayLeads, LinesLead, OrderLeads, ReadingLeads, TokenLeads, begun, lay_answered, lay_refused, settled, token_answered, token_refused}
 use Rattle.operating.specs.declared.operator.Operator.{Operator}
 use Rattle.operating.specs.declared.progress.Progress.{Progress}
 use Rattle.order_grammar.specs.declared.fault.Fault.{Fault}

@@ -7,3 +7,6 @@ pub mod Found
 pub mod Decided
 pub mod Ends
 pub mod Answered
+pub mod Dividends
+pub mod PaidOut
+pub mod Judged

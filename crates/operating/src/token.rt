@@ -1,7 +1,8 @@
 ghost use Rattle.std.specs.Prelude.{◌≡◌, IfOk, OnOk, Some};
 ghost use Rattle.operating.specs.Ground.{IsPlayable};
 ghost use Rattle.operating.specs.Judgement.{rule_of_token};
-ghost use Rattle.operating.specs.Turn.{TokenLeads, in_turn};
+ghost use Rattle.operating.specs.InTurn.{in_turn};
+ghost use Rattle.operating.specs.Turn.{TokenLeads};
 
 use crate::asker::asker;
 use crate::cost::amount_of;
@@ -37,7 +38,11 @@ pub(crate) fn rule_token(
             tell_ruling(history, by.president, line, Ruling::Obeyed(order))?;
             let company = by.company;
             let cost = amount_of(cost);
-            history.append(Event::Token { company, place, cost })?;
+            history.append(Event::Token {
+                company,
+                place,
+                cost,
+            })?;
             Ok(progress.with_token())
         }
         Err(fault) => {
