@@ -3,8 +3,8 @@
 -- used. It then earns what its stops are worth; the train has run, its borders are used, and the turn is past its
 -- token. What all runs earn is the revenue of the turn.
 use Rattle.std.specs.Prelude.{◌≡◌, ℕ, ◌+◌, ◌*◌, ◌≤◌, ◌^◌, Bool, nat_lt, List, [], ◌∷◌, Option, Some, None, option_map, Result, Ok, Err, ℤ, pos, ◌+ℤ◌, ◌≤ℤ◌, slice_index_or, slice_set}
-use Rattle.std.specs.Int.Signed.{le_z}
 use Rattle.std.specs.Option.{option_or}
+use lib.Signed.{le_z}
 use Rattle.board.specs.Ground.{position_of}
 use Rattle.board.specs.Turn.{place_of_step}
 use Rattle.board.specs.declared.asker.TurnStep.TheVariants as step
@@ -109,10 +109,12 @@ with_ran runs ran = record {
 abbrev pub run_done : Progress → Ran → Progress
 run_done progress ran = record progress { pointer = step.Run; runs = with_ran progress.runs ran }
 
--- a train may still do this: few of its kind have run, and it earns at most 160 dollars for each border that it uses
+-- a train may still do this: few of its kind have run, and it earns at most 160 dollars for each border that it
+-- uses, so that it earns little
 pub record IsCounted (runs : Runs) (ran : Ran) : Type 0 where
   pub few : has_run runs ran.kind ≤ℤ pos (2 ^ 100)
   pub bounded : ran.earned + 160 * unused ran.borders ≤ 160 * unused runs.borders
+  pub small : ran.earned ≤ 44640
 
 -- after the order of the line with this number, by which a train has run or which broke a rule
 abbrev pub run_ruled : Operator → InTurn → ℕ → Order → Result Ran RunRule → InTurn
