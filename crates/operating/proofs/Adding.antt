@@ -32,8 +32,9 @@ use Rattle.operating.proofs.Operated.{operated_more, operates_by, operates_in, o
 use Rattle.operating.specs.Act.{moved_left, with_home, withheld}
 use Rattle.operating.specs.Ground.{ground_now}
 use Rattle.operating.specs.Judgement.{asker_of, rule_of_lay, rule_of_token}
+use Rattle.operating.specs.InTurn.{InTurn, in_turn, is_unpaid, pay_done}
 use Rattle.operating.specs.Laws.{BeginsNoRound, CompanyOperates, TurnOnlyAdds}
-use Rattle.operating.specs.Turn.{BlockLeads, InTurn, IsCompanyTurn, LinesLead, OrderLeads, ReadingLeads, begun, in_turn, is_unpaid, lay_answered, lay_refused, pay_done, settled, token_answered, token_refused}
+use Rattle.operating.specs.Turn.{BlockLeads, IsCompanyTurn, LinesLead, OrderLeads, ReadingLeads, begun, lay_answered, lay_refused, settled, token_answered, token_refused}
 use Rattle.operating.specs.declared.operator.Operator.{Operator}
 use Rattle.operating.specs.declared.progress.Progress.{Progress}
 use Rattle.order_grammar.specs.declared.fault.Fault.{Fault}

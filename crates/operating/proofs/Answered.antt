@@ -32,7 +32,8 @@ use Rattle.operating.proofs.Allowed.{lay_allowed, token_allowed}
 use Rattle.operating.proofs.Fitting.{lay_fits, same_ground, token_fits}
 use Rattle.operating.specs.Ground.{IsPlayable, ground_now}
 use Rattle.operating.specs.Judgement.{asker_of, rule_of_lay, rule_of_token}
-use Rattle.operating.specs.Turn.{InTurn, in_turn, lay_answered, lay_done, lay_refused, token_answered, token_done, token_refused}
+use Rattle.operating.specs.InTurn.{InTurn, in_turn, lay_done, token_done}
+use Rattle.operating.specs.Turn.{lay_answered, lay_refused, token_answered, token_refused}
 use Rattle.operating.specs.declared.operator.Operator.{Operator}
 use Rattle.operating.specs.declared.progress.Progress.{Progress}
 use Rattle.order_grammar.specs.declared.order.Order.{Order}

@@ -11,6 +11,7 @@ use Rattle.board.specs.TokenRules.{slot_rules}
 use Rattle.board.specs.declared.asker.Asker.{Asker}
 use Rattle.history.proofs.InOrder.{lays_grow, tokens_grow}
 use Rattle.history.proofs.Payments.{withholding_sound}
+use Rattle.history.proofs.Settled.{broken_quiet}
 use Rattle.history.proofs.Soundness.{quiet_sound}
 use Rattle.history.specs.LookBack.{Game, with_event}
 use Rattle.history.specs.Operating.{lays_of, tokens_of, tokens_placed}
@@ -124,12 +125,12 @@ pub fits_after : (game new : Game) (event : Event) → new ≡ with_event game e
 fits_after game new event told no_lay no_token fits = subst GroundFits (sym told) (same_fits game event no_lay no_token fits)
 
 -- a game goes on once it is told whether the bank is broken
-broken_playable : (game : Game) → IsPlayable game → IsPlayable (broken_told game)
+pub broken_playable : (game : Game) → IsPlayable game → IsPlayable (broken_told game)
 broken_playable game playable =
     elim (breaks game.seats game.events) as (λ (b : Bool). IsPlayable (record { seats = game.seats; events = if b then game.events ++ event.Broken ∷ [] else game.events })) [
       | true ↦
           record {
-            sound = quiet_sound game event.Broken (record { payment = refl; ownership = refl; bidding = refl; transfer = refl; par = refl; square = refl; office = refl; float = refl; sv_price = refl }) playable.sound;
+            sound = quiet_sound game event.Broken broken_quiet playable.sound;
             ground = same_fits game event.Broken refl refl playable.ground;
           }
       | false ↦ playable

@@ -8,3 +8,6 @@ pub mod Decided
 pub mod Ends
 pub mod Answered
 pub mod Played
+pub mod Dividends
+pub mod PaidOut
+pub mod Judged

@@ -2,5 +2,8 @@ pub mod Ground
 pub mod Standing
 pub mod Judgement
 pub mod Act
+pub mod InTurn
+pub mod Runs
+pub mod Dividend
 pub mod Turn
 pub mod Laws

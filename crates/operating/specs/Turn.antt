@@ -23,6 +23,7 @@ use Rattle.map_tables.specs.declared.lay.Lay.{Lay}
 use Rattle.map_tables.specs.declared.place.Place.{Place}
 use Rattle.operating.specs.Act.{after_lay, after_token, with_home, withheld}
 use Rattle.operating.specs.Ground.{ground_now}
+use Rattle.operating.specs.InTurn.{InTurn, at_start, in_turn, is_unpaid, lay_done, pay_done, token_done, told}
 use Rattle.operating.specs.Judgement.{asker_of, rule_of_lay, rule_of_token}
 use Rattle.operating.specs.declared.operator.Operator.{Operator}
 use Rattle.operating.specs.declared.progress.Progress.{Progress}
@@ -35,39 +36,6 @@ use Rattle.sheets.specs.Part.{Numbered}
 use Rattle.tables.specs.declared.roster.Company.{Company}
 use Rattle.tables.specs.declared.round.Round.{Round}
 use Rattle.tables.specs.declared.seat.Seat.{Seat}
-
--- how far a turn has come that has just begun
-abbrev pub at_start : Progress
-at_start = record { pointer = step.Lay; lay_used = false }
-
--- once a tile is laid
-abbrev pub lay_done : Progress → Progress
-lay_done progress = record progress { lay_used = true }
-
--- once a token is placed
-abbrev pub token_done : Progress → Progress
-token_done progress = record progress { pointer = step.Run }
-
--- once the company has paid or withheld
-abbrev pub pay_done : Progress → Progress
-pay_done progress = record progress { pointer = step.Trains }
-
--- the turn is not past its pay
-abbrev pub is_unpaid : Progress → Bool
-is_unpaid progress = nat_lt (place_of_step progress.pointer) (place_of_step step.Trains)
-
--- in a turn: the game so far, and how far the turn has come
-pub record InTurn : Type 0 where
-  pub game : Game
-  pub progress : Progress
-
--- in a turn with this game, which has come so far
-abbrev pub in_turn : Game → Progress → InTurn
-in_turn game progress = record { game = game; progress = progress }
-
--- after the ruling of the line with this number
-abbrev pub told : Operator → InTurn → ℕ → Ruling → InTurn
-told by turn number ruling = in_turn (with_event turn.game (event.Ruled by.president number ruling)) turn.progress
 
 -- after a lay with this number was obeyed, or refused by this rule
 abbrev pub lay_refused : Operator → InTurn → ℕ → Lay → Option LayRule → InTurn
@@ -132,7 +100,7 @@ BlockLeads file round company turn (Some seat) new =
 -- with what the company withholds by itself, where the turn is not past its pay
 abbrev pub settled : Company → InTurn → InTurn
 settled company turn =
-    if is_unpaid turn.progress then in_turn (withheld turn.game company 0) (pay_done turn.progress) else turn
+    if is_unpaid turn.progress then in_turn (withheld turn.game company turn.progress.runs.revenue) (pay_done turn.progress) else turn
 
 -- the turn once its home token lies
 abbrev pub begun : Game → Company → InTurn

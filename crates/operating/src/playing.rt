@@ -1,7 +1,8 @@
 ghost use Rattle.std.specs.Prelude.{◌≡◌, IfOk, OnOk};
 ghost use Rattle.history.specs.Sound.{IsSound};
 ghost use Rattle.operating.specs.Ground.{GroundFits, IsPlayable};
-ghost use Rattle.operating.specs.Turn.{BlockLeads, IsCompanyTurn, at_start, in_turn};
+ghost use Rattle.operating.specs.InTurn.{at_start, in_turn};
+ghost use Rattle.operating.specs.Turn.{BlockLeads, IsCompanyTurn};
 
 use crate::home::place_home;
 use crate::operator::Operator;

@@ -1,6 +1,7 @@
 ghost use Rattle.std.specs.Prelude.{◌≡◌, IfOk, OnOk};
 ghost use Rattle.operating.specs.Ground.{IsPlayable};
-ghost use Rattle.operating.specs.Turn.{LineLeads, LinesLead, OrderLeads, at_start, in_turn};
+ghost use Rattle.operating.specs.InTurn.{at_start, in_turn};
+ghost use Rattle.operating.specs.Turn.{LineLeads, LinesLead, OrderLeads};
 ghost use Rattle.sheets.specs.Part.{line_read};
 
 use crate::lay::rule_lay;

@@ -1,5 +1,6 @@
 use Rattle.std.proofs.Common.{List, ap, sym, subst}
-use Rattle.operating.specs.Turn.{LinesLead, in_turn}
+use Rattle.operating.specs.InTurn.{in_turn}
+use Rattle.operating.specs.Turn.{LinesLead}
 use Rattle.sheets.specs.Part.{Numbered, Parts}
 use Rattle.operating.proofs.turn.rule_lines.Goals as goal
 

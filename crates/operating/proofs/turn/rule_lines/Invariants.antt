@@ -1,6 +1,7 @@
 use Rattle.std.proofs.Common.{length}
 use Rattle.operating.specs.Ground.{IsPlayable}
-use Rattle.operating.specs.Turn.{InTurn, LinesLead, at_start, in_turn}
+use Rattle.operating.specs.InTurn.{InTurn, at_start, in_turn}
+use Rattle.operating.specs.Turn.{LinesLead}
 use Rattle.operating.proofs.turn.rule_lines.Given as goal
 
 -- where the lines that are left lead from here, all lead from the start
