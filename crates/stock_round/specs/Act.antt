@@ -4,7 +4,7 @@
 -- market price, and the token then moves down as many squares. The presidency passes to a seat that has
 -- strictly more tenths than the president. A company floats once at most four tenths are left in its initial
 -- offering, and has ten times its par value then.
-use Rattle.std.specs.Prelude.{ℕ, ◌*◌, ◌==◌, Bool, true, false, not, ◌&&◌, if◌then◌else◌, List, [], ◌∷◌, ◌++◌, Option, Some, None, unwrap_or, ℤ, pos}
+use Rattle.std.specs.Prelude.{ℕ, ◌*◌, ◌==◌, Bool, not, ◌&&◌, if◌then◌else◌, List, [], ◌∷◌, ◌++◌, Option, Some, None, unwrap_or, ℤ, pos}
 use Rattle.std.specs.Int.Signed.{lt_z}
 use Rattle.certs.specs.President.{others_from, with_most}
 use Rattle.certs.specs.Purchase.{market_price_of, tenth_price_of}

@@ -2,7 +2,7 @@
 -- place, the turns from the holder of priority to the left until all have passed, the moves of the companies
 -- that are sold out, and what was left. A company is sold out where all its tenths are with players; its token
 -- then moves up. These companies move in operating order, as it is when the turns are over.
-use Rattle.std.specs.Prelude.{◌≡◌, ℕ, ◌*◌, ◌≤◌, Bool, false, ◌&&◌, if◌then◌else◌, List, [], ◌∷◌, ◌++◌, Result, Ok, Err, pos}
+use Rattle.std.specs.Prelude.{◌≡◌, ℕ, ◌*◌, ◌≤◌, Bool, ◌&&◌, if◌then◌else◌, List, [], ◌∷◌, ◌++◌, Result, Ok, Err, pos}
 use Rattle.std.specs.List.{range_with_len}
 use Rattle.std.specs.Ordering.{int_eq}
 use Rattle.history.specs.LookBack.{Game, priority_of}
