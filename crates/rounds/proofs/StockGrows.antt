@@ -11,13 +11,14 @@ use Rattle.history.specs.declared.ruling.Ruling.{Ruling}
 use Rattle.history.specs.declared.ruling.Ruling.TheVariants as ruling
 use Rattle.market.specs.Moves.{fallen, up_of}
 use Rattle.market.specs.OperatingOrder.{operating_order_of}
+use Rattle.market.specs.Token.{moved_from, same_square}
 use Rattle.order_grammar.specs.declared.order.Order.{Order}
 use Rattle.order_grammar.specs.declared.order.Order.TheVariants as order
 use Rattle.order_grammar.specs.declared.order.ShareSource.{ShareSource}
 use Rattle.rounds.proofs.Growing.{Grows, broken_grows, by_turns, further, in_either, quiet_count, stays, told}
 use Rattle.rounds.specs.Begun.{rounds_begun}
 use Rattle.sheets.specs.Part.{Numbered, lines_in_groups, parts_for}
-use Rattle.stock_round.specs.Act.{after_act, after_exchange, after_purchase, after_sale, bought, exchanged, floated_at, is_to_float, moved_from, same_square, sold, successor_of, with_float, with_president, with_successor}
+use Rattle.stock_round.specs.Act.{after_act, after_exchange, after_purchase, after_sale, bought, exchanged, floated_at, is_to_float, sold, successor_of, with_float, with_president, with_successor}
 use Rattle.stock_round.specs.Judgement.{exchange_source, ruling_of}
 use Rattle.stock_round.specs.StockRound.{IsStockRound, after_standing, after_standing_line, after_standing_lines, after_standing_of, all_risen, closed, finished, is_sold_out, left_from, opened, risen}
 use Rattle.stock_round.specs.Turn.{InTurn, after_line, after_lines, after_obeyed, in_turn, no_deals, stock_turns}
