@@ -1,4 +1,5 @@
 ghost use Rattle.std.specs.Prelude.{◌≡◌, ◌++◌, IfOk, OnErr, OnOk};
+ghost use Rattle.map_tables.specs.Text.{text_of_place};
 ghost use Rattle.order_grammar.specs.Print.{AddsFront, places_text, spaced, values_text, spelling_of, text_of_round, text_of_value};
 
 use crate::name::Name;
@@ -66,9 +67,17 @@ fn print_places(text: &mut Vec<u8>, places: &[Place]) -> Result<(), AllocError>
 {
     for place in places {
         text.push(b' ')?;
-        text.extend_from_slice(place.text().as_slice())?;
+        print_place(text, *place)?;
     }
     Ok(())
+}
+
+/// Adds a place. At want of memory the text is as it was.
+fn print_place(text: &mut Vec<u8>, place: Place) -> Result<(), AllocError>
+    ensures ok { OnOk result (text.new.items ≡ text.old.items ++ text_of_place place) }
+    ensures err { OnErr result (text.new.items ≡ text.old.items) }
+{
+    text.extend_from_slice(place.text().as_slice())
 }
 
 /// Adds the word of a value. At want of memory a front of that may have been added.

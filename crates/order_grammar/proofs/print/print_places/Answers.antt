@@ -1,15 +1,26 @@
-use Rattle.std.proofs.Common.{rules, ◌≡◌, ◌++◌, IfOk, OnErr, OnOk, ℕ, ◌+◌, ◌-◌, ◌*◌, ◌<◌, ◌≤◌, length, ◌/◌, ◌%◌, Bool, true, false, nat_eq, nat_lt, List, [], ◌∷◌, slice_index_or, slice_set, bit_and, bit_or, Fits, w8, w32, w64, Bor, MutBor}
-use Rattle.order_grammar.specs.Print.{AddsFront, places_text, spaced, values_text, spelling_of, text_of_round, text_of_value}
+use Rattle.std.proofs.Common.{◌∙◌, [], map, sym, ap, arith}
+use Rattle.std.proofs.lemmas.List.{length-map, get_or-map}
+use Rattle.map_tables.specs.Text.{text_of_place}
+use Rattle.order_grammar.proofs.FrontLemmas.{at_error, none_added, words_front, words_and_front, words_more}
 use Rattle.order_grammar.proofs.print.print_places.Goals as goal
 
--- src/print.rt:68:9
 pub returns-in_err-push-clause-err : goal.returns-in_err-push-clause-err
-returns-in_err-push-clause-err c = ?
+returns-in_err-push-clause-err c =
+    at_error c.from_residual.result (words_front _ _ (map text_of_place c.args.places.now) c.loop-place.place-index (c.in_err-push.ensures.items ∙ c.loop-place.invariant))
 
--- src/print.rt:69:9
-pub returns-in_err-extend_from_slice-clause-err : goal.returns-in_err-extend_from_slice-clause-err
-returns-in_err-extend_from_slice-clause-err c = ?
+pub returns-in_err-print_place-clause-err : goal.returns-in_err-print_place-clause-err
+returns-in_err-print_place-clause-err c =
+    let places = c.args.places.now in
+    let i = c.loop-place.place-index in
+    let place = c.place-item.result in
+    at_error c.from_residual-in_err-print_place.result
+    (words_and_front _ c.loop-place.text.items c.push.new.self.items _ (map text_of_place places) i (text_of_place place) (omega (arith, length-map places text_of_place, c.loop-place-test.true)) (ap text_of_place c.place-item.is ∙ sym (get_or-map text_of_place places i place [] c.loop-place-test.true)) c.loop-place.invariant c.in_ok-push.ensures.items
+    (none_added _ _ _ c.in_err-print_place.ensures.err))
 
--- src/print.rt:67:5
 pub loop-place-preserved : goal.loop-place-preserved
-loop-place-preserved c = ?
+loop-place-preserved c =
+    let places = c.args.places.now in
+    let i = c.loop-place.place-index in
+    let place = c.place-item.result in
+    words_more _ c.loop-place.text.items c.push.new.self.items _ (map text_of_place places) i (text_of_place place) (omega (arith, length-map places text_of_place, c.loop-place-test.true)) (ap text_of_place c.place-item.is ∙ sym (get_or-map text_of_place places i place [] c.loop-place-test.true)) c.loop-place.invariant c.in_ok-push.ensures.items
+    c.in_ok-print_place.ensures.ok
