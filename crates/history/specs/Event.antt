@@ -183,10 +183,10 @@ token_placed (Home company place) = Some (place, company)
 token_placed (Token company place cost) = Some (place, company)
 token_placed other = None
 
--- the company that has operated by an event: it withholds what it earned, or its tenths are paid for
+-- the company that has operated by an event: one of its trains has run, or it withholds what it earned
 abbrev pub operated_by : Event → Option Company
+operated_by (Runs company revenue) = Some company
 operated_by (Withheld company amount) = Some company
-operated_by (Dividend company holder amount) = Some company
 operated_by other = None
 
 -- the train that an event moves: one that is bought comes to the company, one that is traded in or discarded

@@ -616,12 +616,12 @@ impl Event {
         }
     }
 
-    /// The company that has operated by it.
+    /// The company that has operated by it: its train has run, or it withholds.
     pub fn operated(&self) -> Option<Company>
         ensures { result ≡ operated_by self.now }
     {
         match self {
-            Event::Withheld { company, .. } | Event::Dividend { company, .. } => Some(*company),
+            Event::Runs { company, .. } | Event::Withheld { company, .. } => Some(*company),
             _ => None,
         }
     }

@@ -1,33 +1,38 @@
 //! Operating rounds: the turn of a company.
 //!
 //! At its first turn a company places its home token. Then the block is ruled that its president
-//! has for it: it may lay a tile, place a token, run its trains, and pay out or withhold what they
-//! earned. The steps of the turn stand in order, and a pointer goes over them; an order for a step
+//! has for it: it may lay a tile, place a token, run its trains, pay out or withhold what they
+//! earned, and buy trains. The steps of the turn stand in order, and a pointer goes over them; an order for a step
 //! that is past is refused. At the end a company that has done neither withholds, and its token on
 //! the chart moves left.
 //!
 //! Reading order: `operator` (whose turn it is), `runs` (what its trains have done), `progress` (how
 //! far the turn has come), `ground` (what lies on the map), `asker` (the company as the rules of the
 //! board see it), `ruling`, `home`, `lay` and `token` (what orders do) with `cost`, `running`,
-//! `withholding`, `dividend`, `turn` (the lines of a block), `playing`, `standing` (the lines before
-//! the first block), `laws` (what holds of every turn).
+//! `withholding`, `dividend`, `purchase` (the rules of trains), `discards`, `phases` (what a train
+//! brings), `train`, `turn` (the lines of a block), `playing`, `standing` (the lines before the first
+//! block), `laws` (what holds of every turn).
 #![tactic(auto)]
 
 mod asker;
 mod cost;
+mod discards;
 mod dividend;
 mod ground;
 mod home;
 mod laws;
 mod lay;
 mod operator;
+mod phases;
 mod playing;
 mod progress;
+mod purchase;
 mod ruling;
 mod running;
 mod runs;
 mod standing;
 mod token;
+mod train;
 mod turn;
 mod withholding;
 
