@@ -1,6 +1,8 @@
 pub mod Fitting
 pub mod Allowed
 pub mod Once
+pub mod Adds
+pub mod TrainsAdd
 pub mod Adding
 pub mod Operated
 pub mod Found
