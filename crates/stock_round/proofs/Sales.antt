@@ -19,7 +19,7 @@ use Rattle.history.specs.Tell.{breaks, with_broken}
 use Rattle.history.specs.declared.event.Event.{Event}
 use Rattle.history.specs.declared.event.Event.TheVariants as event
 use Rattle.history.specs.declared.event.Shareholder.TheVariants.{Seat as OfSeat}
-use Rattle.stock_round.proofs.Acts.{same_game}
+use Rattle.market.proofs.Tokens.{same_game}
 use Rattle.stock_round.proofs.Others.{another_leads}
 use Rattle.stock_round.specs.Act.{seat_tenths_of, sold, succeeded, successor_of, with_president, with_successor}
 use Rattle.stock_round.specs.Allowed.{MaySell}

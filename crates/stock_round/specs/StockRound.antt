@@ -14,13 +14,13 @@ use Rattle.history.specs.declared.event.Shareholder.TheVariants.{InitialOffering
 use Rattle.history.specs.declared.ruling.Ruling.TheVariants.{Faulty}
 use Rattle.market.specs.Moves.{up_of}
 use Rattle.market.specs.OperatingOrder.{operating_order_of}
+use Rattle.market.specs.Token.{with_move}
 use Rattle.order_grammar.specs.declared.fault.Fault.{Fault}
 use Rattle.order_grammar.specs.declared.fault.Fault.TheVariants.{OutOfPlace}
 use Rattle.order_grammar.specs.declared.order.Order.{Order}
 use Rattle.sheets.specs.Part.{Numbered}
 pub use Rattle.sheets.specs.Taken.{groups_for, in_play}
 use Rattle.sheets.specs.Taken.{after_all_before, after_each, after_lines_before, told_of_left}
-use Rattle.stock_round.specs.Act.{with_move}
 use Rattle.stock_round.specs.Turn.{stock_turns}
 use Rattle.tables.specs.Turns.{InPlay, TurnsEnd}
 use Rattle.tables.specs.declared.roster.Company.{Company}
