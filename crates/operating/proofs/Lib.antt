@@ -8,3 +8,11 @@ pub mod Decided
 pub mod Ends
 pub mod Answered
 pub mod Played
+pub mod Folding
+pub mod PhaseLemmas
+pub mod Buying
+pub mod TrainSteps
+pub mod Rust
+pub mod Complete
+pub mod Sales
+pub mod Fleet

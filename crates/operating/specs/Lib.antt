@@ -4,3 +4,7 @@ pub mod Judgement
 pub mod Act
 pub mod Turn
 pub mod Laws
+pub mod Trains
+pub mod Discards
+pub mod Phases
+pub mod TrainLaws

@@ -7,25 +7,32 @@
 //!
 //! Reading order: `operator` (whose turn it is), `progress` (how far the turn has come), `ground`
 //! (what lies on the map), `asker` (the company as the rules of the board see it), `ruling`, `home`,
-//! `lay` and `token` (what orders do) with `cost`, `withholding`, `turn` (the lines of a block), `playing`,
-//! `standing` (the lines before the first block), `laws` (what holds of every turn).
+//! `lay` and `token` (what orders do) with `cost`, `withholding`, `turn` (the lines of a block),
+//! `playing`, `standing` (the lines before the first block), `laws` (what holds of every turn). No
+//! order buys a train yet; `purchase` (its rules and price), `phases` (what it brings), `discards`
+//! (trains over the limit) and `train_laws` stand ready for it.
 #![tactic(auto)]
 
 mod asker;
 mod cost;
+mod discards;
 mod ground;
 mod home;
 mod laws;
 mod lay;
 mod operator;
+mod phases;
 mod playing;
 mod progress;
+mod purchase;
 mod ruling;
 mod standing;
 mod token;
+mod train_laws;
 mod turn;
 mod withholding;
 
 pub use laws::{company_operates, company_turn_ends, one_company_turn, turn_only_adds};
 pub use playing::play_company;
 pub use standing::rule_standing_lines;
+pub use train_laws::{all_trains_are_there, phases_go_on};
