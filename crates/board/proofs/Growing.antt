@@ -90,7 +90,7 @@ not_false true e = refl
 not_false false e = cc
 
 -- so the print of a tile's hex has its kind
-kind_is : (lay : Lay) → is_wrong_kind lay ≡ false → (print_of lay.hex).kind ≡ Open (entry_of lay.tile).kind
+pub kind_is : (lay : Lay) → is_wrong_kind lay ≡ false → (print_of lay.hex).kind ≡ Open (entry_of lay.tile).kind
 unfolding is_wrong_kind
 kind_is lay right =
     let hex = (print_of lay.hex).kind in
@@ -108,7 +108,7 @@ find_right p test (x ∷ xs) lay none found =
     ]) found
 
 -- where no tile is of a wrong kind, that which lies on a hex is not
-lying_right : (lays : List Lay) (hex : Hex) (lay : Lay) → list_any is_wrong_kind lays ≡ false → tile_on lays hex ≡ Some lay → is_wrong_kind lay ≡ false
+pub lying_right : (lays : List Lay) (hex : Hex) (lay : Lay) → list_any is_wrong_kind lays ≡ false → tile_on lays hex ≡ Some lay → is_wrong_kind lay ≡ false
 unfolding tile_on
 lying_right lays hex lay right lies =
     find_right is_wrong_kind (λ l. same_hex l.hex hex) (reverse lays) lay (sym (list_any-IsPermutation is_wrong_kind lays (reverse lays) (IsPermutation-reverse lays)) ∙ right) lies

@@ -7,12 +7,13 @@ use Rattle.std.specs.List.{count_by, filter, list_any}
 use Rattle.board.specs.Ground.{Ground, has_token, is_part_of, is_stop, names, same_stop, slots_at, slots_on, taken_at}
 use Rattle.board.specs.Homes.{home_token, homes_to_come}
 use Rattle.board.specs.TokenRules.{is_full_at, is_kept_for, kept_at}
-use Rattle.board.proofs.Same.{company_is_same, or_true, stop_is, stop_is_same}
+use Rattle.board.proofs.Same.{or_true, stop_is, stop_is_same}
 use Rattle.map_tables.specs.Home.{home_of}
 use Rattle.map_tables.specs.Place.{joined_stop_of, stop_of}
 use Rattle.map_tables.specs.declared.place.Place.{Place}
 use Rattle.map_tables.specs.declared.place.Stop.{Stop}
 use Rattle.reach.specs.Position.{IsAmong}
+use Rattle.tables.proofs.Companies.{company_is_same}
 use Rattle.tables.specs.Roster.{companies, same_company}
 use Rattle.tables.specs.declared.roster.Company.{Company}
 use Rattle.tables.specs.declared.roster.Company.TheVariants.{Pennsylvania, NewYorkCentral, CanadianPacific, BaltimoreOhio, ChesapeakeOhio, Erie, NewHaven, BostonMaine}

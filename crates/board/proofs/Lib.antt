@@ -12,4 +12,5 @@ pub mod Growing
 pub mod FitLaws
 pub mod KeptHomes
 pub mod Stocked
+pub mod Parts
 pub mod Examples

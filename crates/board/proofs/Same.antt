@@ -1,5 +1,5 @@
--- Hexes, stops and companies that pass for one are one.
-use Rattle.std.proofs.Common.{◌≡◌, ◌∙◌, ap, sym, refl, Bool, true, false, ◌&&◌, ◌||◌, get_or}
+-- Hexes and stops that pass for one are one.
+use Rattle.std.proofs.Common.{◌≡◌, ◌∙◌, ap, sym, refl, Bool, true, false, ◌&&◌, ◌||◌}
 use Rattle.std.proofs.lemmas.Bool.{and_parts, eq-eqb, eqb-true}
 use Rattle.std.specs.Prelude.{◌==◌}
 use Rattle.board.specs.Ground.{same_stop}
@@ -9,9 +9,6 @@ use Rattle.map_tables.specs.declared.hex.Hex.{Hex}
 use Rattle.map_tables.specs.declared.place.Stop.{Stop}
 use Rattle.map_tables.specs.declared.place.StopNumber.{StopNumber}
 use Rattle.reach.proofs.Hexes.{same_index, same_stop_index}
-use Rattle.tables.specs.Roster.{companies, place_of_company, same_company}
-use Rattle.tables.specs.declared.roster.Company.{Company}
-use Rattle.tables.specs.declared.roster.Company.TheVariants.{Pennsylvania}
 
 -- hexes that pass for one are one
 pub hex_is : (a b : Hex) → same_hex a b ≡ true → a ≡ b
@@ -33,20 +30,6 @@ pub stop_is_same : (a b : Stop) → a ≡ b → same_stop a b ≡ true
 stop_is_same a b is =
     ap (λ h. h && (stop_index_of a.number == stop_index_of b.number)) (hex_is_same a.hex b.hex (ap (λ (s : Stop). s.hex) is))
     ∙ eq-eqb (stop_index_of a.number) (stop_index_of b.number) (ap (λ (s : Stop). stop_index_of s.number) is)
-
--- a company stands at its place in the roster
-at_place : (company : Company) → get_or companies (place_of_company company) Pennsylvania ≡ company
-at_place Pennsylvania = refl
-at_place company = refl
-
--- companies with one place are one
-pub company_is : (a b : Company) → same_company a b ≡ true → a ≡ b
-company_is a b same =
-    sym (at_place a) ∙ ap (λ n. get_or companies n Pennsylvania) (eqb-true (place_of_company a) (place_of_company b) same) ∙ at_place b
-
--- and one has one place
-pub company_is_same : (a b : Company) → a ≡ b → same_company a b ≡ true
-company_is_same a b is = eq-eqb (place_of_company a) (place_of_company b) (ap place_of_company is)
 
 -- a test or true
 pub or_true : (b : Bool) → (b || true) ≡ true

@@ -4,10 +4,11 @@ use Rattle.std.proofs.lemmas.List.{length-map}
 use Rattle.std.proofs.lemmas.List.Sums.{length-filter}
 use Rattle.std.specs.List.{count_by, filter}
 use Rattle.board.specs.Ground.{has_token, names, tokens_at}
-use Rattle.board.proofs.Same.{company_is, company_is_same, or_true}
+use Rattle.board.proofs.Same.{or_true}
 use Rattle.map_tables.specs.declared.place.Place.{Place}
 use Rattle.map_tables.specs.declared.place.Stop.{Stop}
 use Rattle.reach.specs.Position.{IsAmong}
+use Rattle.tables.proofs.Companies.{company_is, company_is_same}
 use Rattle.tables.specs.Roster.{same_company}
 use Rattle.tables.specs.declared.roster.Company.{Company}
 

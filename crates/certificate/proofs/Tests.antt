@@ -1,27 +1,13 @@
 -- The tests of tokens and of full cities are exact.
-use Rattle.std.proofs.Common.{◌≡◌, ◌↔◌, ℕ, ◌<◌, ◌≤◌, Bool, true, false, ◌&&◌, not, ltb, List, length, get_or, refl, ap, sym, ◌∙◌, arith}
-use Rattle.std.proofs.lemmas.Bool.{eqb-true, eq-eqb, ltb-true, ltb-false, lt-ltb}
+use Rattle.std.proofs.Common.{◌≡◌, ◌↔◌, ℕ, ◌<◌, ◌≤◌, Bool, true, false, ◌&&◌, not, ltb, List, length, refl, ap, sym, ◌∙◌, arith}
+use Rattle.std.proofs.lemmas.Bool.{ltb-true, ltb-false, lt-ltb}
 use Rattle.map_tables.specs.declared.place.Stop.{Stop}
 use Rattle.reach.specs.Position.{Position, HasToken, IsFull, at_stop}
 use Rattle.reach.proofs.Lists.{among_found, found_among}
-use Rattle.tables.specs.Roster.{companies, place_of_company, same_company}
+use Rattle.tables.proofs.Companies.{company_is, company_is_same}
+use Rattle.tables.specs.Roster.{same_company}
 use Rattle.tables.specs.declared.roster.Company.{Company}
-use Rattle.tables.specs.declared.roster.Company.TheVariants.{Pennsylvania}
 use Rattle.certificate.specs.Fault.{has_token, is_full}
-
--- a company stands at its place in the roster
-at_place : (company : Company) → get_or companies (place_of_company company) Pennsylvania ≡ company
-at_place Pennsylvania = refl
-at_place _ = refl
-
--- companies that pass for one are one
-same_is_one : (a b : Company) → same_company a b ≡ true → a ≡ b
-same_is_one a b same =
-    sym (at_place a) ∙ ap (λ n. get_or companies n Pennsylvania) (eqb-true (place_of_company a) (place_of_company b) same) ∙ at_place b
-
--- one company passes for itself
-one_is_same : (a b : Company) → a ≡ b → same_company a b ≡ true
-one_is_same a b is = eq-eqb (place_of_company a) (place_of_company b) (ap place_of_company is)
 
 -- two tests of one fact agree
 pub tests_agree : {P : Type 0} (a b : Bool) → (a ≡ true) ↔ P → (b ≡ true) ↔ P → a ≡ b
@@ -33,8 +19,8 @@ tests_agree false true first second = first.1 (second.0 refl)
 -- the test of a token is exact
 pub has_token_is : (position : Position) (company : Company) (stop : Stop) → (has_token position company stop ≡ true) ↔ HasToken position stop company
 has_token_is position company stop = (
-  among_found same_company same_is_one (at_stop position stop).tokens company,
-  found_among same_company one_is_same (at_stop position stop).tokens company,
+  among_found same_company company_is (at_stop position stop).tokens company,
+  found_among same_company company_is_same (at_stop position stop).tokens company,
 )
 
 three : (a b c : Bool) → (a && (b && c)) ≡ true → (a ≡ true) × (b ≡ true) × (c ≡ true)

@@ -20,7 +20,7 @@ use Rattle.map_tables.specs.declared.side.Side.TheVariants.{SouthWest, West, Nor
 use Rattle.map_tables.specs.declared.track.End.{End}
 use Rattle.map_tables.specs.declared.track.End.TheVariants.{Side as AtSide, Stop as AtStop}
 use Rattle.map_tables.specs.declared.track.Link.{Link}
-use Rattle.reach.specs.Lawful.{IsLawful}
+use Rattle.reach.specs.Lawful.{IsLawful, PartsHaveOneStop}
 use Rattle.reach.specs.Position.{Position, IsAmong, links_of, is_red}
 use Rattle.reach.specs.Walk.{AreJoined, BeginsAt, IsTrack, IsWalk, PassesOnly, entered_at, left_at, spot_at, stop_of}
 use Rattle.reach.specs.declared.walk.Spot.{Spot}
@@ -28,7 +28,7 @@ use Rattle.reach.specs.declared.walk.Step.{Step}
 use Rattle.reach.proofs.Lists.{found_among}
 use Rattle.certificate.specs.Legal.{border_at, crossed}
 use Rattle.certificate.specs.Named.{arrived, is_hex, leg_by_stop, leg_from, leg_over, leg_to, same_link, side_towards, step_between, step_over, taken, travelled, walk_named, with_leg}
-use Rattle.certificate.specs.Law.{AreItsPlaces, EachLegalRunIsNamed, PartsHaveOneStop}
+use Rattle.certificate.specs.Law.{AreItsPlaces, EachLegalRunIsNamed}
 use Rattle.certificate.specs.declared.leg.Leg.{Leg}
 use Rattle.certificate.proofs.Counting.{no_more}
 use Rattle.certificate.proofs.Joined.{not_less}

@@ -6,14 +6,11 @@ use Rattle.std.specs.Prelude.{◌≡◌, ◌↔◌, ◌+◌, ◌*◌, ◌≤◌,
 use Rattle.std.specs.List.{AllByRecursion}
 use Rattle.map_tables.specs.Border.{neighbour_of}
 use Rattle.map_tables.specs.declared.hex.Hex.{Hex}
-use Rattle.map_tables.specs.Place.{joined_hex}
 use Rattle.map_tables.specs.declared.place.Place.{Place}
-use Rattle.map_tables.specs.declared.place.StopNumber.TheVariants.{Second}
 use Rattle.map_tables.specs.declared.side.Side.{Side}
-use Rattle.map_tables.specs.declared.track.End.TheVariants.{Side as AtSide, Stop as AtStop}
-use Rattle.map_tables.specs.declared.track.Link.{Link}
-use Rattle.reach.specs.Lawful.{IsLawful}
-use Rattle.reach.specs.Position.{Position, IsAmong, links_of}
+use Rattle.map_tables.specs.declared.track.End.TheVariants.{Side as AtSide}
+use Rattle.reach.specs.Lawful.{IsLawful, PartsHaveOneStop}
+use Rattle.reach.specs.Position.{Position, IsAmong}
 use Rattle.reach.specs.Walk.{across, spot_at}
 use Rattle.reach.specs.declared.walk.Spot.{Spot}
 use Rattle.reach.specs.declared.walk.Step.{Step}
@@ -73,11 +70,6 @@ RunsEarnByBorders =
     (position : Position) (company : Company) (kind : Kind) (used : List Bool) (places : List Place) → length used ≡ 279 →
     IsLawful position → run_fault position company kind used places ≡ None →
     earned position (named_steps position places) + 160 * unused (marked used (crossed (named_steps position places))) ≤ 160 * unused used
-
--- a hex that is part of another's stop has one stop: no track of it leads to a second
-abbrev pub PartsHaveOneStop : Position → Type 0
-PartsHaveOneStop position =
-    (hex : Hex) (link : Link) → IsAmong link (links_of position hex) → link.b ≡ AtStop Second → joined_hex hex ≡ hex
 
 -- these places name a walk, and are as many as a run may have
 pub record AreItsPlaces (position : Position) (steps : List Step) (places : List Place) : Type 0 where

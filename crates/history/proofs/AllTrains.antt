@@ -34,7 +34,7 @@ once_among (place.Company BostonMaine) = refl
 once_among place.OutOfPlay = refl
 
 -- the trains at a place with an event in front
-trains_in_front : (event : Event) (events : List Event) (place : TrainPlace) (kind : Kind) → trains_at (event ∷ events) place kind ≡ (trains_at events place kind +ℤ pos (one_if (train_comes place kind (train_moved event)))) -ℤ pos (one_if (train_goes place kind (train_moved event)))
+pub trains_in_front : (event : Event) (events : List Event) (place : TrainPlace) (kind : Kind) → trains_at (event ∷ events) place kind ≡ (trains_at events place kind +ℤ pos (one_if (train_comes place kind (train_moved event)))) -ℤ pos (one_if (train_goes place kind (train_moved event)))
 trains_in_front event events place kind =
     omega (arith, ints, sum_by-cons (λ e. one_if (train_comes place kind (train_moved e))) event events, sum_by-cons (λ e. one_if (train_goes place kind (train_moved e))) event events)
 

@@ -19,6 +19,7 @@ pub mod Blocks
 pub mod Arrivals
 pub mod Money
 pub mod AllTrains
+pub mod Stables
 pub mod Payments
 pub mod TrainActs
 pub mod InOrder

@@ -12,7 +12,7 @@ use Rattle.history.specs.declared.event.TrainPlace.TheVariants as place
 use Rattle.history.specs.declared.event.TrainSeller.{TrainSeller}
 use Rattle.history.specs.declared.event.TrainSeller.TheVariants as seller
 use Rattle.tables.specs.Roster.{companies, same_company}
-use Rattle.tables.specs.Train.{same_kind, trains_of as manifest_of}
+use Rattle.tables.specs.Train.{kinds, same_kind, trains_of as manifest_of}
 use Rattle.tables.specs.declared.rolling_stock.Kind.{Kind}
 use Rattle.tables.specs.declared.rolling_stock.Kind.TheVariants.{Two}
 use Rattle.tables.specs.declared.roster.Company.{Company}
@@ -35,6 +35,16 @@ abbrev pub train_goes : TrainPlace → Kind → Option TrainMove → Bool
 train_goes place kind None = false
 train_goes place kind (Some move) = same_kind move.kind kind && same_train_place move.from place
 
+-- a train of any kind comes to a company, or to the bank pool where there is none
+abbrev pub any_comes : Option Company → Option TrainMove → Bool
+any_comes owner None = false
+any_comes owner (Some move) = same_train_place move.to (stable_of owner)
+
+-- or goes from it
+abbrev pub any_goes : Option Company → Option TrainMove → Bool
+any_goes owner None = false
+any_goes owner (Some move) = same_train_place move.from (stable_of owner)
+
 -- 1 where a test holds, and 0 where not
 abbrev pub one_if : Bool → ℕ
 one_if test = if test then 1 else 0
@@ -48,6 +58,15 @@ trains_at events place kind =
 -- the trains of a kind that a company has, or the bank pool where there is none
 abbrev pub trains_held : List Event → Option Company → Kind → ℤ
 trains_held events owner kind = trains_at events (stable_of owner) kind
+
+-- the trains of some kinds that a company has, or the bank pool where there is none
+abbrev pub trains_of_kinds : List Event → Option Company → List Kind → ℤ
+trains_of_kinds events owner [] = pos 0
+trains_of_kinds events owner (kind ∷ others) = trains_held events owner kind +ℤ trains_of_kinds events owner others
+
+-- how many trains it has
+abbrev pub stable_size : List Event → Option Company → ℤ
+stable_size events owner = trains_of_kinds events owner kinds
 
 -- as many as a number says, and none where it is under 0
 abbrev pub so_many : ℤ → ℕ

@@ -12,8 +12,8 @@
 //!
 //! Reading order: `event` (events and their aspects), `ruling` (what became of a line), `aspect`
 //! (the ways of looking back), `topics` (what is looked for), `look_back`, `owners`, `bids`,
-//! `shares`, `operating` and `trains` (the readers of `Past`), `list` (`History`), `tell` (events that follow
-//! from the list alone), `laws`.
+//! `shares`, `operating` and `trains` (the readers of `Past`), `list` (`History`), `tell` (events
+//! that follow from the list alone), `laws`.
 #![tactic(auto)]
 
 mod aspect;

@@ -5,7 +5,7 @@ ghost use Rattle.history.specs.LookBack.{actor_of, owner_said, paid_by, paid_to}
 ghost use Rattle.history.specs.Operating.{turn_said};
 ghost use Rattle.history.specs.Orders.{limit_in, par_of_baltimore_in, said_by};
 ghost use Rattle.history.specs.Shares.{brought_to, float_said, par_said, president_said, sale_said, square_said, taken_from};
-ghost use Rattle.history.specs.Trains.{one_if, train_comes, train_goes};
+ghost use Rattle.history.specs.Trains.{any_comes, any_goes, one_if, train_comes, train_goes};
 
 use crate::aspect::{Account, Topic};
 use crate::event::{Bidding, Event, Holder, Party, Shareholder, TrainPlace};
@@ -338,6 +338,30 @@ impl Account for TrainsAt {
     fn takes(&self, event: &Event) -> Amount {
         match event.train() {
             Some(train) if train.kind == self.1 && train.from == self.0 => 1,
+            _ => 0,
+        }
+    }
+}
+
+/// The trains of a company, or of the bank pool where there is none.
+#[derive(Clone, Copy)]
+pub(crate) struct AllTrainsAt(pub Option<Company>);
+
+impl Account for AllTrainsAt {
+    ghost brings = { λ a event. one_if (any_comes a.0 (train_moved event)) };
+
+    ghost takes = { λ a event. one_if (any_goes a.0 (train_moved event)) };
+
+    fn brings(&self, event: &Event) -> Amount {
+        match event.train() {
+            Some(train) if train.to == TrainPlace::of_owner(self.0) => 1,
+            _ => 0,
+        }
+    }
+
+    fn takes(&self, event: &Event) -> Amount {
+        match event.train() {
+            Some(train) if train.from == TrainPlace::of_owner(self.0) => 1,
             _ => 0,
         }
     }

@@ -1,14 +1,14 @@
 //! Trains: who has which, how many the bank has sold, and the phase.
 ghost use Rattle.std.specs.Prelude.{◌≡◌};
 ghost use Rattle.history.specs.LookBack.{IsModerate};
-ghost use Rattle.history.specs.Trains.{phase_of, so_many, train_goes, trains_at, trains_held, trains_sold};
+ghost use Rattle.history.specs.Trains.{phase_of, so_many, stable_size, train_goes, trains_at, trains_held, trains_sold};
 ghost use Rattle.history.specs.Event.{train_moved};
 ghost use Rattle.history.specs.declared.event.TrainPlace.TheVariants.{Bank};
 
 use crate::aspect::{balance, last_said};
 use crate::event::{Event, TrainPlace};
 use crate::look_back::Past;
-use crate::topics::{PhaseBegun, TrainsAt};
+use crate::topics::{AllTrainsAt, PhaseBegun, TrainsAt};
 use tables::{Company, Kind};
 
 /// A number of trains: what came in less what went out, at least 0 in a sound game.
@@ -29,6 +29,15 @@ impl Past<'_> {
         ensures within { IsModerate result }
     {
         balance(&TrainsAt(place, kind), 0, self.events)
+    }
+
+    /// How many trains a company has, or the bank pool where there is none.
+    #[tactic(auto, using(crate::proofs::Stables::size_is))]
+    pub fn stable_size(&self, owner: Option<Company>) -> TrainCount
+        ensures sum { result ≡ stable_size self.now.events.now owner }
+        ensures within { IsModerate result }
+    {
+        balance(&AllTrainsAt(owner), 0, self.events)
     }
 
     /// How many trains of a kind the bank has sold.

@@ -10,6 +10,7 @@ use Rattle.history.proofs.Rolling.{never_of_bank, same_kind_is, sold_at_end}
 use Rattle.history.proofs.TrainActs.{closing_sound, phase_sound, trade_sound, train_purchase_sound}
 use Rattle.history.specs.Event.{party_of_company, train_moved}
 use Rattle.history.specs.LookBack.{Game, cash_of, owner_of, with_event}
+use Rattle.history.specs.Sound.{IsSound}
 use Rattle.history.specs.Trains.{IsThere, one_if, train_comes, train_goes, trains_held, trains_sold}
 use Rattle.history.specs.declared.event.Event.{Event}
 use Rattle.history.specs.declared.event.Event.TheVariants as event
@@ -30,17 +31,17 @@ use Rattle.tables.specs.declared.roster.Company.{Company}
 use Rattle.tables.specs.declared.roster.Private.{Private}
 
 -- what is not so is so where its contrary is not
-so : (test : Bool) → not test ≡ false → test ≡ true
+pub so : (test : Bool) → not test ≡ false → test ≡ true
 so true kept = refl
 so false kept = absurd (cc)
 
 -- one of two tests holds where one or the other does
-either : (a b : Bool) → (a || b) ≡ true → (a ≡ true) ⊎ (b ≡ true)
+pub either : (a b : Bool) → (a || b) ≡ true → (a ≡ true) ⊎ (b ≡ true)
 either true b is = inl refl
 either false b is = inr is
 
 -- both of two tests
-both : (a b : Bool) → (a && b) ≡ true → (a ≡ true) × (b ≡ true)
+pub both : (a b : Bool) → (a && b) ≡ true → (a ≡ true) × (b ≡ true)
 both true true is = (refl, refl)
 both true false is = absurd (cc)
 both false b is = absurd (cc)
@@ -102,13 +103,14 @@ may_buy game company purchase none =
     }
 
 -- a train that is traded in goes from the company
-pub traded_playable : (game : Game) (company : Company) (trade_in : Option Kind) → ((old : Kind) → trade_in ≡ Some old → pos 1 ≤ℤ trains_held game.events (Some company) old) → IsPlayable game → IsPlayable (with_trade game company trade_in)
-traded_playable game company None has playable = playable
-traded_playable game company (Some kind) has playable =
-    record {
-      sound = trade_sound game company kind (has kind refl) playable.sound;
-      ground = same_fits game (event.Traded company kind) refl refl playable.ground;
-    }
+traded_sound : (game : Game) (company : Company) (trade_in : Option Kind) → ((old : Kind) → trade_in ≡ Some old → pos 1 ≤ℤ trains_held game.events (Some company) old) → IsSound game → IsSound (with_trade game company trade_in)
+traded_sound game company None has sound = sound
+traded_sound game company (Some kind) has sound = trade_sound game company kind (has kind refl) sound
+
+-- what lies fits then
+traded_fits : (game : Game) (company : Company) (trade_in : Option Kind) → GroundFits game → GroundFits (with_trade game company trade_in)
+traded_fits game company None fits = fits
+traded_fits game company (Some kind) fits = same_fits game (event.Traded company kind) refl refl fits
 
 -- no train leaves the pool where one is traded in
 pool_keeps : (company : Company) (old kind : Kind) → train_goes place.BankPool kind (train_moved (event.Traded company old)) ≡ false
@@ -131,17 +133,21 @@ cash_traded : (game : Game) (company : Company) (trade_in : Option Kind) (party 
 cash_traded game company None party = refl
 cash_traded game company (Some old) party = cash_of_before game.seats game.events (event.Traded company old) party refl
 
--- so the game can be played on once the train has come to the company
-pub train_playable : (game : Game) (company : Company) (purchase : Purchase) → train_judgement game company purchase ≡ None → IsPlayable game → IsPlayable (with_event (with_trade game company purchase.trade_in) (event.Train company purchase.kind purchase.from (price_of_train purchase.kind purchase.trade_in)))
-train_playable game company purchase none playable =
+-- so the list is sound once the train has come to the company
+pub train_sound : (game : Game) (company : Company) (purchase : Purchase) → train_judgement game company purchase ≡ None → IsSound game → IsSound (with_event (with_trade game company purchase.trade_in) (event.Train company purchase.kind purchase.from (price_of_train purchase.kind purchase.trade_in)))
+train_sound game company purchase none sound =
     let may = may_buy game company purchase none in
     let traded = with_trade game company purchase.trade_in in
-    let before = traded_playable game company purchase.trade_in may.trades playable in
     let price = price_of_train purchase.kind purchase.trade_in in
     let enough : pos price ≤ℤ cash_of traded.seats traded.events (party_of_company company) = subst (λ cash. pos price ≤ℤ cash) (sym (cash_traded game company purchase.trade_in (party_of_company company))) may.pays in
+    train_purchase_sound traded company purchase.kind purchase.from price (there_traded game company purchase.trade_in purchase.from purchase.kind may.there) enough (traded_sound game company purchase.trade_in may.trades sound)
+
+-- and the game can be played on
+pub train_playable : (game : Game) (company : Company) (purchase : Purchase) → train_judgement game company purchase ≡ None → IsPlayable game → IsPlayable (with_event (with_trade game company purchase.trade_in) (event.Train company purchase.kind purchase.from (price_of_train purchase.kind purchase.trade_in)))
+train_playable game company purchase none playable =
     record {
-      sound = train_purchase_sound traded company purchase.kind purchase.from price (there_traded game company purchase.trade_in purchase.from purchase.kind may.there) enough before.sound;
-      ground = same_fits traded (event.Train company purchase.kind purchase.from price) refl refl before.ground;
+      sound = train_sound game company purchase none playable.sound;
+      ground = same_fits (with_trade game company purchase.trade_in) (event.Train company purchase.kind purchase.from (price_of_train purchase.kind purchase.trade_in)) refl refl (traded_fits game company purchase.trade_in playable.ground);
     }
 
 -- a private that closes

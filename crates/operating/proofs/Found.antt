@@ -5,7 +5,7 @@ use Rattle.std.proofs.lemmas.Bool.Decides.{nat_tests}
 use Rattle.std.proofs.lemmas.List.{length-replicate, length-set}
 use Rattle.std.proofs.lemmas.List.Sums.{count_by-le-length}
 use Rattle.std.specs.List.{list_any}
-use Rattle.board.proofs.Same.{company_is}
+use Rattle.tables.proofs.Companies.{company_is}
 use Rattle.map_tables.specs.Hex.{hexes, index_of}
 use Rattle.map_tables.specs.Place.{joined_stop_of, stop_at}
 use Rattle.map_tables.specs.declared.hex.Hex.{Hex}

@@ -13,3 +13,11 @@ pub mod Played
 pub mod Dividends
 pub mod PaidOut
 pub mod Judged
+pub mod Folding
+pub mod PhaseLemmas
+pub mod Buying
+pub mod TrainSteps
+pub mod Rust
+pub mod Complete
+pub mod Sales
+pub mod Fleet

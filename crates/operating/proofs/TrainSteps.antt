@@ -44,7 +44,7 @@ abbrev pub OfDiscards : (Game → Game → Type 0) → Type 0
 OfDiscards R = (game : Game) (company : Company) (kind : Kind) → R game (with_event game (event.Discarded company kind))
 
 -- of steps for each of a list
-of_fold : {X : Type 0} (R : Game → Game → Type 0) (step : Game → X → Game) → IsPassedOn R → ((game : Game) (x : X) → R game (step game x)) → (game : Game) (xs : List X) → R game (fold step game xs)
+pub of_fold : {X : Type 0} (R : Game → Game → Type 0) (step : Game → X → Game) → IsPassedOn R → ((game : Game) (x : X) → R game (step game x)) → (game : Game) (xs : List X) → R game (fold step game xs)
 of_fold R step on each game [] = on.same game
 of_fold R step on each game (x ∷ xs) =
     on.both game (step game x) (fold step (step game x) xs) (each game x) (of_fold R step on each (step game x) xs)
@@ -56,7 +56,7 @@ of_iterate R step on each (suc n) game =
     on.both game (iterate step n game) (iterate step (suc n) game) (of_iterate R step on each n game) (each (iterate step n game))
 
 -- of a choice between two
-of_choice : (R : Game → Game → Type 0) (test : Bool) (game a b : Game) → R game a → R game b → R game (if test then a else b)
+pub of_choice : (R : Game → Game → Type 0) (test : Bool) (game a b : Game) → R game a → R game b → R game (if test then a else b)
 of_choice R true game a b first second = first
 of_choice R false game a b first second = second
 
@@ -128,7 +128,7 @@ same_phase_on : IsPassedOn SamePhase
 same_phase_on = record { same = λ game. refl; both = λ a b c first second. second ∙ first }
 
 -- a purchase by itself begins none
-phase_bought : (game : Game) (buyer : Company) (purchase : Purchase) → SamePhase game (bought game buyer purchase)
+pub phase_bought : (game : Game) (buyer : Company) (purchase : Purchase) → SamePhase game (bought game buyer purchase)
 phase_bought game buyer purchase =
     let traded = with_trade game buyer purchase.trade_in in
     let price = price_of_train purchase.kind purchase.trade_in in
@@ -142,6 +142,12 @@ phase_begun : (game : Game) (kind : Kind) → phase_of (with_event game (event.P
 phase_begun game kind =
     ap (λ (said : Option Kind). unwrap_or said Two) (last_said_at_end phase_set game.events (event.Phase kind))
 
+-- and it is the phase after all that follows
+pub phase_then : (game : Game) (phase : Kind) → phase_of (with_phase game phase).events ≡ phase
+phase_then game phase =
+    of_phase SamePhase same_phase_on (λ now private. phase_before now (event.Closed private) refl) (λ kind now owner. phase_before now (event.Rusted owner kind) refl) (λ now company kind. phase_before now (event.Discarded company kind) refl) game phase
+    ∙ phase_begun game phase
+
 -- both of two tests
 both_of : (a b : Bool) → (a && b) ≡ true → (a ≡ true) × (b ≡ true)
 both_of true true is = (refl, refl)
@@ -149,7 +155,7 @@ both_of true false is = absurd (cc)
 both_of false b is = absurd (cc)
 
 -- one that a purchase begins is later
-later_begins : (events : List Event) (from : TrainSeller) (kind : Kind) → begins_phase events from kind ≡ true → place_of_kind (phase_of events) < place_of_kind kind
+pub later_begins : (events : List Event) (from : TrainSeller) (kind : Kind) → begins_phase events from kind ≡ true → place_of_kind (phase_of events) < place_of_kind kind
 later_begins events seller.Bank kind begins =
     let both_hold = both_of (trains_sold events kind == 0) (nat_lt (place_of_kind (phase_of events)) (place_of_kind kind)) begins in
     grind (arith, nat_tests, both_hold.1)
@@ -159,7 +165,7 @@ later_begins events seller.BankPool kind begins = absurd (cc)
 phase_after : (game : Game) (buyer : Company) (purchase : Purchase) (begins : Bool) → begins_phase game.events purchase.from purchase.kind ≡ begins → place_of_kind (phase_of game.events) ≤ place_of_kind (phase_of (if begins then with_phase (bought game buyer purchase) purchase.kind else bought game buyer purchase).events)
 phase_after game buyer purchase true begins =
     let there = bought game buyer purchase in
-    let is : phase_of (with_phase there purchase.kind).events ≡ purchase.kind = of_phase SamePhase same_phase_on (λ now private. phase_before now (event.Closed private) refl) (λ kind now owner. phase_before now (event.Rusted owner kind) refl) (λ now company kind. phase_before now (event.Discarded company kind) refl) there purchase.kind ∙ phase_begun there purchase.kind in
+    let is = phase_then there purchase.kind in
     let later = later_begins game.events purchase.from purchase.kind begins in
     omega (arith, ap place_of_kind is)
 phase_after game buyer purchase false begins =

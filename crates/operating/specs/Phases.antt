@@ -6,13 +6,13 @@
 use Rattle.std.specs.Prelude.{ℕ, ◌==◌, Bool, false, ◌&&◌, nat_lt, if◌then◌else◌, List, Option, Some, None, is_some, pos, ◌-ℤ◌}
 use Rattle.std.specs.List.{fold}
 use Rattle.history.specs.LookBack.{Game, owner_of, with_event}
-use Rattle.history.specs.Trains.{phase_of, so_many, trains_held, trains_sold}
+use Rattle.history.specs.Trains.{phase_of, so_many, stable_size, trains_held, trains_sold}
 use Rattle.history.specs.declared.event.Event.{Event}
 use Rattle.history.specs.declared.event.Event.TheVariants as event
 use Rattle.history.specs.declared.event.TrainSeller.{TrainSeller}
 use Rattle.history.specs.declared.event.TrainSeller.TheVariants as seller
 use Rattle.operating.specs.Discards.{next_discard}
-use Rattle.operating.specs.Trains.{price_of_train, stable_size}
+use Rattle.operating.specs.Trains.{price_of_train}
 use Rattle.operating.specs.declared.purchase.Purchase.{Purchase}
 use Rattle.tables.specs.Roster.{companies, privates, same_company}
 use Rattle.tables.specs.Steps.{iterate}
@@ -87,7 +87,7 @@ with_next_discarded company game = with_discarded game company (next_discard gam
 
 -- how many trains a company has over the limit of the phase
 abbrev pub excess_of : Game → Company → ℕ
-excess_of game company = so_many (stable_size game.events company -ℤ pos (limit_of (phase_of game.events)))
+excess_of game company = so_many (stable_size game.events (Some company) -ℤ pos (limit_of (phase_of game.events)))
 
 -- with DISCARDED of each train that a company has over the limit
 abbrev pub with_limit_kept : Game → Company → Game

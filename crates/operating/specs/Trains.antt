@@ -1,11 +1,11 @@
 -- The purchase of a train. The bank sells the least kind of 2 to 6 of which some are left, and from the first 6
 -- that it has sold also a D, of which there is any number; the bank pool sells what lies in it. A 4, 5 or 6 that
 -- the company has may be traded in for a D of the bank, which is cheaper then.
-use Rattle.std.specs.Prelude.{ℕ, Bool, true, false, not, ◌&&◌, ◌||◌, nat_lt, if◌then◌else◌, List, [], ◌∷◌, Option, Some, None, is_some, ℤ, pos, neg_ℤ, ◌^◌, ◌≤ℤ◌, ◌+ℤ◌, ◌-ℤ◌}
+use Rattle.std.specs.Prelude.{ℕ, Bool, true, false, not, ◌&&◌, ◌||◌, nat_lt, if◌then◌else◌, List, [], ◌∷◌, Option, Some, None, pos, ◌-ℤ◌}
 use Rattle.std.specs.Int.Signed.{lt_z}
 use Rattle.history.specs.Event.{party_of_company}
 use Rattle.history.specs.LookBack.{Game, cash_of}
-use Rattle.history.specs.Trains.{phase_of, trains_held, trains_sold}
+use Rattle.history.specs.Trains.{phase_of, stable_size, trains_held, trains_sold}
 use Rattle.history.specs.declared.event.Event.{Event}
 use Rattle.history.specs.declared.event.TrainSeller.{TrainSeller}
 use Rattle.history.specs.declared.event.TrainSeller.TheVariants as seller
@@ -13,7 +13,7 @@ use Rattle.history.specs.declared.ruling.TrainRule.{TrainRule}
 use Rattle.history.specs.declared.ruling.TrainRule.TheVariants.{NotOnSale, TrainLimit, CashTooSmall, NoTradeIn}
 use Rattle.operating.specs.declared.purchase.Purchase.{Purchase}
 use Rattle.tables.specs.Rules.{Rule, first_broken}
-use Rattle.tables.specs.Train.{kinds, limit_of, may_be_traded, price_for_trade, same_kind, trains_of as manifest_of}
+use Rattle.tables.specs.Train.{limit_of, same_kind, trains_of as manifest_of}
 use Rattle.tables.specs.declared.rolling_stock.Kind.{Kind}
 use Rattle.tables.specs.declared.rolling_stock.Kind.TheVariants.{Two, Three, Four, Five, Six, Diesel}
 use Rattle.tables.specs.declared.roster.Company.{Company}
@@ -58,21 +58,6 @@ abbrev pub is_on_sale : List Event → TrainSeller → Kind → Bool
 is_on_sale events seller.Bank kind = sells events kind
 is_on_sale events seller.BankPool kind = lt_z (pos 0) (trains_held events None kind)
 
--- the trains of some kinds that a company has
-abbrev pub trains_of_kinds : List Event → Company → List Kind → ℤ
-trains_of_kinds events company [] = pos 0
-trains_of_kinds events company (kind ∷ others) =
-    trains_held events (Some company) kind +ℤ trains_of_kinds events company others
-
--- how many trains a company has
-abbrev pub stable_size : List Event → Company → ℤ
-stable_size events company = trains_of_kinds events company kinds
-
--- so few that a few more or less can be told
-pub record IsFewTrains (count : ℤ) : Type 0 where
-  pub not_under : neg_ℤ (pos (2 ^ 103)) ≤ℤ count
-  pub not_over : count ≤ℤ pos (2 ^ 103)
-
 -- how many are traded in
 abbrev pub traded_count : Option Kind → ℕ
 traded_count None = 0
@@ -82,7 +67,21 @@ traded_count (Some kind) = 1
 -- the company has it or not
 abbrev pub is_full : List Event → Company → Option Kind → Bool
 is_full events company trade_in =
-    not (lt_z (stable_size events company -ℤ pos (traded_count trade_in)) (pos (limit_of (phase_of events))))
+    not (lt_z (stable_size events (Some company) -ℤ pos (traded_count trade_in)) (pos (limit_of (phase_of events))))
+
+-- the price of a train of a kind for a company that trades a train in: a D is cheaper then
+abbrev pub price_for_trade : Kind → ℕ
+price_for_trade Diesel = 800
+price_for_trade other = (manifest_of other).price
+
+-- a train of the kind may be traded in for a D
+abbrev pub may_be_traded : Kind → Bool
+may_be_traded Two = false
+may_be_traded Three = false
+may_be_traded Four = true
+may_be_traded Five = true
+may_be_traded Six = true
+may_be_traded Diesel = false
 
 -- what a train costs
 abbrev pub price_of_train : Kind → Option Kind → ℕ

@@ -1,7 +1,8 @@
 //! Trains that a company discards: by the lines of its president, or else the least that it has.
 ghost use Rattle.std.specs.Prelude.{◌≡◌, OnOk, IfOk, []};
-ghost use Rattle.operating.specs.Discards.{Lines, discard_judgement, discarded_by as discarded_kind, first_held as the_first_held, has_train as company_has, is_no_discard as no_discard, is_president as is_the_president, line_of as kind_of_line, lines_of, next_discard, without};
-ghost use Rattle.history.specs.Event.{obeyed_of};
+ghost use Rattle.operating.specs.Discards.{discard_in as kind_in_order, discard_judgement, discarded_by as discarded_kind, first_held as the_first_held, has_train as company_has, is_no_discard as no_discard, is_president as is_the_president, kinds_then, line_of as kind_of_line, lines_of, next_discard, presides_then, without_first};
+ghost use Rattle.history.specs.Event.{obeyed_of, office_of};
+ghost use Rattle.history.specs.Shares.{president_said};
 
 use history::{Event, History, Past, Ruling, TrainRule};
 use order_grammar::Order;
@@ -141,15 +142,16 @@ fn kind_ordered(event: &Event, seat: Seat, company: Company) -> Option<Kind>
             seat: by,
             ruling: Ruling::Obeyed(order),
             ..
-        } if *by == seat => match order.order() {
-            Order::Discard {
-                company: other,
-                kind,
-            } if other == company => Some(kind),
-            _ => None,
-        },
+        } if *by == seat => discard_in(&order.order(), company),
         _ => None,
     }
+}
+
+/// The kind of which an order says that a company is to discard.
+fn discard_in(_order: &Order, _company: Company) -> Option<Kind>
+    ensures { result ≡ kind_in_order _company _order.now }
+{
+    None
 }
 
 /// The kind of which a company discards by an event.

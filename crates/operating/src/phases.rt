@@ -9,8 +9,8 @@ ghost use Rattle.std.specs.List.{fold};
 ghost use Rattle.tables.specs.Roster.{companies};
 
 use crate::discards::next_discard;
-use crate::purchase::{Purchase, trains_of};
-use history::{Event, History, TrainCount, TrainSeller};
+use crate::purchase::Purchase;
+use history::{Event, History, TrainCount, TrainSeller, so_many};
 use std::alloc::{AllocError, Global};
 use tables::{Company, Kind, Private, limit, rusts};
 
@@ -47,11 +47,7 @@ fn begins_phase(history: &History, from: TrainSeller, kind: Kind) -> bool
 }
 
 /// A train comes to a company, for its price and the train that is traded in.
-fn take_train(
-    history: &mut History,
-    company: Company,
-    purchase: Purchase,
-) -> Result<(), AllocError>
+fn take_train(history: &mut History, company: Company, purchase: Purchase) -> Result<(), AllocError>
     requires may { train_judgement history.old company purchase ≡ None }
     requires playable { IsPlayable history.old }
     ensures after { OnOk result (history.new ≡ bought history.old company purchase) }
@@ -68,11 +64,7 @@ fn take_train(
 }
 
 /// A company trades a train in, if it is to.
-fn trade_in(
-    history: &mut History,
-    company: Company,
-    kind: Option<Kind>,
-) -> Result<(), AllocError>
+fn trade_in(history: &mut History, company: Company, kind: Option<Kind>) -> Result<(), AllocError>
     ensures { OnOk result (history.new ≡ with_trade history.old company kind) }
 {
     if let Some(kind) = kind {
@@ -99,9 +91,10 @@ fn close(history: &mut History, private: Private) -> Result<(), AllocError>
     ensures after { OnOk result (history.new ≡ with_closed history.old private) }
     ensures playable { OnOk result (IsPlayable history.new) }
 {
-    if history.owner(private).is_some() {
-        history.append(Event::Closed(private))?;
+    if history.owner(private).is_none() {
+        return Ok(());
     }
+    history.append(Event::Closed(private))?;
     Ok(())
 }
 
@@ -156,16 +149,12 @@ fn rust_of_companies(history: &mut History, kind: Kind) -> Result<(), AllocError
 }
 
 /// The trains of a kind rust that a company has, or the pool where there is none.
-fn rust_stable(
-    history: &mut History,
-    owner: Option<Company>,
-    kind: Kind,
-) -> Result<(), AllocError>
+fn rust_stable(history: &mut History, owner: Option<Company>, kind: Kind) -> Result<(), AllocError>
     requires { IsPlayable history.old }
     ensures after { OnOk result (history.new ≡ with_stable_rusted owner kind history.old) }
     ensures playable { OnOk result (IsPlayable history.new) }
 {
-    for _ in 0..history.trains(owner, kind) {
+    for _ in 0..so_many(history.trains(owner, kind)) {
         history.append(Event::Rusted { owner, kind })?;
     }
     Ok(())
@@ -213,7 +202,7 @@ fn keep_limit(alloc: Global, history: &mut History, company: Company) -> Result<
     ensures after { OnOk result (history.new ≡ with_limit_kept history.old company) }
     ensures playable { OnOk result (IsPlayable history.new) }
 {
-    for _ in 0..excess(history, company) {
+    for _ in 0..so_many(excess(history, company)) {
         discard(alloc, history, company)?;
     }
     Ok(())
@@ -223,7 +212,7 @@ fn keep_limit(alloc: Global, history: &mut History, company: Company) -> Result<
 fn excess(history: &History, company: Company) -> TrainCount
     ensures { excess_of history.now company ≡ so_many result }
 {
-    trains_of(&history.now(), company) - limit(history.phase()) as TrainCount
+    history.now().stable_size(Some(company)) - limit(history.phase()) as TrainCount
 }
 
 /// A company discards a train, if it has one.
@@ -232,8 +221,9 @@ fn discard(alloc: Global, history: &mut History, company: Company) -> Result<(),
     ensures after { OnOk result (history.new ≡ with_next_discarded company history.old) }
     ensures playable { OnOk result (IsPlayable history.new) }
 {
-    if let Some(kind) = next_discard(alloc, history, company)? {
-        history.append(Event::Discarded { company, kind })?;
-    }
+    let Some(kind) = next_discard(alloc, history, company)? else {
+        return Ok(());
+    };
+    history.append(Event::Discarded { company, kind })?;
     Ok(())
 }

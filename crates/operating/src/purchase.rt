@@ -1,10 +1,9 @@
 //! The purchase of a train: what is on sale, what it costs, and the rules.
-ghost use Rattle.std.specs.Prelude.{◌≡◌, ◌≤◌, ◌≤ℤ◌, ◌*◌, ◌^◌, neg_ℤ, pos};
-ghost use Rattle.operating.specs.Trains.{IsFewTrains, are_left, first_left as the_first_left, is_full as would_be_full, is_left as has_left, is_no_trade_in as no_trade_in, is_on_sale as on_sale, is_too_dear as too_dear, may_trade as may_be_had_for, price_of_train, sells as bank_sells, sells_diesels as bank_sells_diesels, stable_size, traded_count as count_of_trade, train_judgement};
-ghost use Rattle.tables.specs.Train.{trains_of as manifest_of};
+ghost use Rattle.std.specs.Prelude.{◌≡◌, ◌≤◌, pos};
+ghost use Rattle.operating.specs.Trains.{first_left as the_first_left, is_full as would_be_full, is_left as has_left, is_no_trade_in as no_trade_in, is_on_sale as on_sale, is_too_dear as too_dear, may_be_traded as may_be_given, may_trade as may_be_had_for, price_for_trade as price_with_trade, price_of_train, sells as bank_sells, sells_diesels as bank_sells_diesels, traded_count as count_of_trade, train_judgement};
 
 use history::{History, Party, Past, TrainCount, TrainRule, TrainSeller};
-use tables::{Amount, Company, Kind, Money, limit, may_be_traded, price_for_trade, train};
+use tables::{Amount, Company, Kind, Money, limit, train};
 
 /// The purchase of a train that is no other company's.
 #[derive(Clone, Copy, Debug, PartialEq, Eq)]
@@ -31,13 +30,7 @@ impl Purchase {
 }
 
 /// The kinds of which the bank sells only the least that is left.
-const NUMBERED: [Kind; 5] = [
-    Kind::Two,
-    Kind::Three,
-    Kind::Four,
-    Kind::Five,
-    Kind::Six,
-];
+const NUMBERED: [Kind; 5] = [Kind::Two, Kind::Three, Kind::Four, Kind::Five, Kind::Six];
 
 /// The first rule that a purchase by a company breaks; `None` if it breaks none.
 pub(crate) fn judge_purchase(
@@ -109,24 +102,30 @@ fn is_left(past: &Past, kind: Kind) -> bool
     }
 }
 
-/// How many trains a company has.
-pub(crate) fn trains_of(past: &Past, company: Company) -> TrainCount
-    ensures size { result ≡ stable_size past.now.events.now company }
-    ensures few { IsFewTrains result }
-{
-    let mut count = 0;
-    for kind in Kind::ALL {
-        count += past.trains(Some(company), kind);
-    }
-    count
-}
-
 /// Whether a company would have more trains than the phase allows. One that is to be traded in is
 /// not counted, whether the company has it or not.
 fn is_full(past: &Past, company: Company, trade_in: Option<Kind>) -> bool
     ensures { result ≡ would_be_full past.now.events.now company trade_in }
 {
-    trains_of(past, company) - traded_count(trade_in) >= limit(past.phase()) as TrainCount
+    past.stable_size(Some(company)) - traded_count(trade_in) >= limit(past.phase()) as TrainCount
+}
+
+/// What a train of a kind costs a company that trades a train in: a D is cheaper then.
+fn price_for_trade(kind: Kind) -> Amount
+    ensures price { result ≡ price_with_trade kind }
+    ensures small { result ≤ 1100 }
+{
+    match kind {
+        Kind::Diesel => 800,
+        other => train(other).price,
+    }
+}
+
+/// Whether a train of a kind may be traded in for a D.
+fn may_be_traded(kind: Kind) -> bool
+    ensures { result ≡ may_be_given kind }
+{
+    matches!(kind, Kind::Four | Kind::Five | Kind::Six)
 }
 
 /// How many trains are traded in.

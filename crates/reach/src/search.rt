@@ -110,7 +110,8 @@ fn follow<N: Network>(network: &N, company: Company, step: Step, marks: &mut Mar
     requires lawful { IsLawful (N.position network.now) }
     requires track { IsTrack (N.position network.now) step }
     ensures { let position = N.position network.now in
-        Follows position company (λ (taken : Step). taken ≡ step) marks.old.marks marks.new.marks result }
+        let takes = λ (taken : Step). taken ≡ step in
+        Follows position company takes marks.old.marks marks.new.marks result }
 {
     let left = step.left();
     if marks.has(left) {

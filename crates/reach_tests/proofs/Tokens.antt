@@ -1,29 +1,14 @@
 -- The tokens at a stop, as tests over all tokens find and count them.
-use Rattle.std.proofs.Common.{◌≡◌, ◌+◌, Bool, true, false, ◌&&◌, ◌||◌, cond, if◌then◌else◌, ◌⊎◌, inl, inr, List, [], ◌∷◌, length, get_or, refl, ap, sym, ◌∙◌, arith}
+use Rattle.std.proofs.Common.{◌≡◌, ◌+◌, Bool, true, false, ◌&&◌, ◌||◌, cond, if◌then◌else◌, ◌⊎◌, inl, inr, List, [], ◌∷◌, length, refl, ap, sym, ◌∙◌, arith}
 use Rattle.std.specs.List.{list_any, count_by}
-use Rattle.std.proofs.lemmas.Bool.{eqb-true, eq-eqb}
 use Rattle.std.proofs.lemmas.List.Recursion.{is_count_by}
 use Rattle.reach.specs.Position.{IsAmong}
 use Rattle.reach_tests.specs.Example.{lies_at, is_at, tokens_at}
 use Rattle.reach_tests.specs.declared.example.Token.{Token}
 use Rattle.map_tables.specs.declared.place.Stop.{Stop}
-use Rattle.tables.specs.Roster.{companies, place_of_company, same_company}
+use Rattle.tables.proofs.Companies.{company_is, company_is_same}
+use Rattle.tables.specs.Roster.{same_company}
 use Rattle.tables.specs.declared.roster.Company.{Company}
-use Rattle.tables.specs.declared.roster.Company.TheVariants.{Pennsylvania}
-
--- a company stands at its place in the roster
-at_place : (company : Company) → get_or companies (place_of_company company) Pennsylvania ≡ company
-at_place Pennsylvania = refl
-at_place _ = refl
-
--- companies that pass for one are one
-same_is_one : (a b : Company) → same_company a b ≡ true → a ≡ b
-same_is_one a b same =
-    sym (at_place a) ∙ ap (λ n. get_or companies n Pennsylvania) (eqb-true (place_of_company a) (place_of_company b) same) ∙ at_place b
-
--- one company passes for itself
-one_is_same : (a b : Company) → a ≡ b → same_company a b ≡ true
-one_is_same a b is = eq-eqb (place_of_company a) (place_of_company b) (ap place_of_company is)
 
 or_parts : (x y : Bool) → (x || y) ≡ true → (x ≡ true) ⊎ (y ≡ true)
 or_parts true y h = inl refl
@@ -48,7 +33,7 @@ length_at stop =
 found_with : (here : Bool) (of company : Company) (any : Bool) (rest : List Company) → ((here && same_company of company) || any) ≡ true → (any ≡ true → IsAmong company rest) → IsAmong company (if here then of ∷ rest else rest)
 found_with false of company any rest h later = later h
 found_with true of company any rest h later =
-    elim (or_parts (same_company of company) any h) [ inl same ↦ inl (same_is_one of company same) | inr h ↦ inr (later h) ]
+    elim (or_parts (same_company of company) any h) [ inl same ↦ inl (company_is of company same) | inr h ↦ inr (later h) ]
 
 -- a token that is found is among those at the stop
 pub found_at : (stop : Stop) (company : Company) (tokens : List Token) → list_any (is_at stop company) tokens ≡ true → IsAmong company (tokens_at stop tokens)
@@ -58,7 +43,7 @@ found_at stop company (token ∷ tokens) h =
 
 among_with : (here : Bool) (of company : Company) (any : Bool) (rest : List Company) → IsAmong company (if here then of ∷ rest else rest) → (IsAmong company rest → any ≡ true) → ((here && same_company of company) || any) ≡ true
 among_with false of company any rest h later = later h
-among_with true of company any rest (inl is) later = ap (λ b. b || any) (one_is_same of company is)
+among_with true of company any rest (inl is) later = ap (λ b. b || any) (company_is_same of company is)
 among_with true of company any rest (inr h) later = or_second (same_company of company) any (later h)
 
 -- and what is among them is found

@@ -287,12 +287,9 @@ fn push_president(
 
 /// Adds the trains of a company, least first, each as its kind after a space.
 #[tactic(auto, unfolding(crate::specs::Statement::trains_text))]
-fn push_trains(
-    out: &mut Vec<u8>,
-    standing: &Standing,
-    company: Company,
-) -> Result<(), AllocError>
-    ensures { OnOk result (Adds out.old out.new (trains_text standing.now.past.events.now company)) }
+fn push_trains(out: &mut Vec<u8>, standing: &Standing, company: Company) -> Result<(), AllocError>
+    ensures { OnOk result
+        (Adds out.old out.new (trains_text standing.now.past.events.now company)) }
 {
     for kind in &Kind::ALL {
         push_trains_of_kind(out, standing, company, *kind)?;
@@ -310,7 +307,11 @@ fn push_trains_of_kind(
     ensures { OnOk result
         (Adds out.old out.new (codes_of_trains standing.now.past.events.now company kind)) }
 {
-    push_kind(out, kind, so_many(standing.past.trains(Some(company), kind)))
+    push_kind(
+        out,
+        kind,
+        so_many(standing.past.trains(Some(company), kind)),
+    )
 }
 
 /// Adds a kind after a space so many times.

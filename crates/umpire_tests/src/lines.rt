@@ -1,4 +1,4 @@
-use order_grammar::{LINE_MOST, Order, print_line, print_order, print_round, read_line};
+use order_grammar::{LINE_MOST, Order, Token, print_line, print_order, print_round, read_line};
 use std::alloc::{AllocError, Global};
 use std::test::Fail;
 use tables::{Private, Round};
@@ -11,146 +11,128 @@ fn answer(alloc: Global, line: &[u8]) -> Result<Vec<u8>, AllocError> {
     }
 }
 
-/// Lines, each with the spelling of its order or the code of its fault.
-const FILE_LINES: [(&str, &str); 24] = [
-    ("", ""),
-    ("     ", ""),
-    ("# a line of only a comment", ""),
-    ("   # \t and what is in it", ""),
-    ("GAME 1 2", "GAME 1 2"),
-    ("game 1 2", "GAME 1 2"),
-    ("  GAME   1   2  ", "GAME 1 2"),
-    ("GAME 007 0", "GAME 7 0"),
-    ("GAME 99999 0000000000000000000099999", "GAME 99999 99999"),
-    ("GAME 1 99999", "GAME 1 99999"),
-    ("GAME 1 100000", "G5"),
-    ("GAME 100000 1", "G5"),
-    ("GAME 1 99999999999999999999999999", "G5"),
-    ("GAME X 100000", "G4"),
-    ("GAME 100000 X", "G4"),
-    ("GAME 1", "G4"),
-    ("GAME 1 2 3", "G4"),
-    ("GAME 1 -2", "G4"),
-    ("PLAYERS Ann Bob Cy", "PLAYERS ANN BOB CY"),
-    ("players a b2 c d", "PLAYERS A B2 C D"),
-    ("PLAYERS A B C D E", "PLAYERS A B C D E"),
-    ("PLAYERS A B C D E F # six", "PLAYERS A B C D E F"),
-    ("PLAYERS A B C D E F G", "G4"),
-    ("PLAYERS A B", "G4"),
-];
-
-/// More of them.
-const SHEET_LINES: [(&str, &str); 22] = [
-    ("PLAYERS A B LONGNAME", "PLAYERS A B LONGNAME"),
-    ("PLAYERS A B LONGNAMES", "G4"),
-    ("PLAYERS A B 2C", "G4"),
-    ("PLAYERS A B C_D", "G4"),
-    ("SHEET Ann pr1", "SHEET ANN PR1"),
-    ("SHEET ann PR99999", "SHEET ANN PR99999"),
-    ("SHEET Ann PR0", "G4"),
-    ("SHEET Ann PR01", "G4"),
-    ("SHEET Ann PR", "G4"),
-    ("SHEET Ann sr1", "SHEET ANN SR1"),
-    ("SHEET Ann PR100000", "G5"),
-    ("SHEET Ann", "G4"),
-    ("TURN", "TURN"),
-    ("turn#1", "TURN"),
-    ("TURN 1", "G4"),
-    ("BUY SV", "BUY SV"),
-    ("Buy cs", "BUY CS"),
-    ("BUY dH", "BUY DH"),
-    ("BUY MH#", "BUY MH"),
-    ("BUY ca", "BUY CA"),
-    ("BUY BOP", "BUY BOP"),
-    ("BUY BO", "G4"),
-];
-
-/// More of them.
-const PLAY_LINES: [(&str, &str); 20] = [
-    ("BUY#SV", "G4"),
-    ("BUY", "G4"),
-    ("bid cs 0045", "BID CS 45"),
-    ("BID CS", "G4"),
-    ("BID CS X", "G4"),
-    ("BID CS 45 50", "G4"),
-    ("BID CS 100000", "G5"),
-    ("LIMIT CS 60", "LIMIT CS 60"),
-    ("limit bop 99999", "LIMIT BOP 99999"),
-    ("LIMIT BO 60", "G4"),
-    ("LIMITS CS 60", "G3"),
-    ("par bo 67", "PAR BO 67"),
-    ("PAR PRR 0", "PAR PRR 0"),
-    ("PAR NYNH 99999", "PAR NYNH 99999"),
-    ("PAR ERIE 100000", "G5"),
-    ("PAR BOP 67", "G4"),
-    ("TURNS", "G3"),
-    ("BUY\tSV", "G2"),
-    ("TURN\r", "G2"),
-    ("LIMIT \u{7F}", "G2"),
-];
-
-/// More of them.
-const STOCK_LINES: [(&str, &str); 28] = [
-    ("SHEET Ann SR99999", "SHEET ANN SR99999"),
-    ("SHEET Ann SR100000", "G5"),
-    ("SHEET Ann SR0", "G4"),
-    ("SHEET Ann SR01", "G4"),
-    ("SHEET Ann SR", "G4"),
-    ("SHEET Ann OR1.1", "G4"),
-    ("SHEET Ann XR1", "G4"),
-    ("buy prr ipo", "BUY PRR IPO"),
-    ("BUY BO POOL # BO, not BOP", "BUY BO POOL"),
-    ("BUY BOP IPO", "G4"),
-    ("BUY SV IPO", "G4"),
-    ("BUY PRR", "G4"),
-    ("BUY PRR BANK", "G4"),
-    ("BUY PRR IPO POOL", "G4"),
-    ("BUY IPO PRR", "G4"),
-    ("sell nyc 003", "SELL NYC 3"),
-    ("SELL NYC 0", "SELL NYC 0"),
-    ("SELL BM 99999", "SELL BM 99999"),
-    ("SELL BM 100000", "G5"),
-    ("SELL BM", "G4"),
-    ("SELL SV 1", "G4"),
-    ("SELL BM ONE", "G4"),
-    ("exchange mh", "EXCHANGE MH"),
-    ("EXCHANGE", "G4"),
-    ("EXCHANGE CA", "G4"),
-    ("EXCHANGE MH NYC", "G4"),
-    ("IPO PRR", "G3"),
-    ("MH", "G3"),
-];
-
-#[test]
-fn lines_of_files_are_read_and_printed(rt: HostRuntime) -> Result<(), Fail> {
-    for (line, want) in FILE_LINES {
-        let text = answer(rt.alloc(), line.as_bytes())?;
-        assert_eq!(rt; text.as_slice(), want.as_bytes(), "at {line}");
-    }
-    Ok(())
-}
-
-#[test]
-fn lines_of_sheets_are_read_and_printed(rt: HostRuntime) -> Result<(), Fail> {
-    for (line, want) in SHEET_LINES {
-        let text = answer(rt.alloc(), line.as_bytes())?;
-        assert_eq!(rt; text.as_slice(), want.as_bytes(), "at {line}");
-    }
-    Ok(())
-}
+/// Lines, each with `|` and the spelling of its order or the code of its fault behind it.
+const LINES: &str = "|
+     |
+# a line of only a comment|
+   # \t and what is in it|
+GAME 1 2|GAME 1 2
+game 1 2|GAME 1 2
+  GAME   1   2  |GAME 1 2
+GAME 007 0|GAME 7 0
+GAME 99999 0000000000000000000099999|GAME 99999 99999
+GAME 1 99999|GAME 1 99999
+GAME 1 100000|G5
+GAME 100000 1|G5
+GAME 1 99999999999999999999999999|G5
+GAME X 100000|G4
+GAME 100000 X|G4
+GAME 1|G4
+GAME 1 2 3|G4
+GAME 1 -2|G4
+PLAYERS Ann Bob Cy|PLAYERS ANN BOB CY
+players a b2 c d|PLAYERS A B2 C D
+PLAYERS A B C D E|PLAYERS A B C D E
+PLAYERS A B C D E F # six|PLAYERS A B C D E F
+PLAYERS A B C D E F G|G4
+PLAYERS A B|G4
+PLAYERS A B LONGNAME|PLAYERS A B LONGNAME
+PLAYERS A B LONGNAMES|G4
+PLAYERS A B 2C|G4
+PLAYERS A B C_D|G4
+SHEET Ann pr1|SHEET ANN PR1
+SHEET ann PR99999|SHEET ANN PR99999
+SHEET Ann PR0|G4
+SHEET Ann PR01|G4
+SHEET Ann PR|G4
+SHEET Ann sr1|SHEET ANN SR1
+SHEET Ann PR100000|G5
+SHEET Ann|G4
+TURN|TURN
+turn#1|TURN
+TURN 1|G4
+BUY SV|BUY SV
+Buy cs|BUY CS
+BUY dH|BUY DH
+BUY MH#|BUY MH
+BUY ca|BUY CA
+BUY BOP|BUY BOP
+BUY BO|G4
+BUY#SV|G4
+BUY|G4
+bid cs 0045|BID CS 45
+BID CS|G4
+BID CS X|G4
+BID CS 45 50|G4
+BID CS 100000|G5
+LIMIT CS 60|LIMIT CS 60
+limit bop 99999|LIMIT BOP 99999
+LIMIT BO 60|G4
+LIMITS CS 60|G3
+par bo 67|PAR BO 67
+PAR PRR 0|PAR PRR 0
+PAR NYNH 99999|PAR NYNH 99999
+PAR ERIE 100000|G5
+PAR BOP 67|G4
+TURNS|G3
+BUY\tSV|G2
+TURN\r|G2
+LIMIT \u{7F}|G2
+SHEET Ann SR99999|SHEET ANN SR99999
+SHEET Ann SR100000|G5
+SHEET Ann SR0|G4
+SHEET Ann SR01|G4
+SHEET Ann SR|G4
+SHEET Ann or1.1|SHEET ANN OR1.1
+SHEET Ann OR99999.3|SHEET ANN OR99999.3
+SHEET Ann OR1.4|G4
+SHEET Ann OR1.0|G4
+SHEET Ann OR1|G4
+SHEET Ann OR01.1|G4
+SHEET Ann OR100000.1|G5
+SHEET Ann XR1|G4
+buy prr ipo|BUY PRR IPO
+BUY BO POOL # BO, not BOP|BUY BO POOL
+BUY BOP IPO|G4
+BUY SV IPO|G4
+BUY PRR|G4
+BUY PRR BANK|G4
+BUY PRR IPO POOL|G4
+BUY IPO PRR|G4
+sell nyc 003|SELL NYC 3
+SELL NYC 0|SELL NYC 0
+SELL BM 99999|SELL BM 99999
+SELL BM 100000|G5
+SELL BM|G4
+SELL SV 1|G4
+SELL BM ONE|G4
+exchange mh|EXCHANGE MH
+EXCHANGE|G4
+EXCHANGE CA|G4
+EXCHANGE MH NYC|G4
+company prr|COMPANY PRR
+COMPANY|G4
+COMPANY SV|G4
+COMPANY PRR 1|G4
+lay 57 h10 1|LAY 57 H10 1
+LAY 59 e11 0 swap|LAY 59 E11 0 SWAP
+LAY 57 H10|G4
+LAY 57 H10 6|G4
+LAY 60 H10 1|G4
+LAY 57 H11 1|G4
+LAY 57 H10 1 TURN|G4
+token h10.0|TOKEN H10.0
+TOKEN G19.1|TOKEN G19.1
+TOKEN H10|TOKEN H10
+TOKEN H10.2|G4
+TOKEN|G4
+IPO PRR|G3
+MH|G3";
 
 #[test]
-fn lines_of_play_are_read_and_printed(rt: HostRuntime) -> Result<(), Fail> {
-    for (line, want) in PLAY_LINES {
-        let text = answer(rt.alloc(), line.as_bytes())?;
-        assert_eq!(rt; text.as_slice(), want.as_bytes(), "at {line}");
-    }
-    Ok(())
-}
-
-#[test]
-fn lines_of_stock_rounds_are_read_and_printed(rt: HostRuntime) -> Result<(), Fail> {
-    for (line, want) in STOCK_LINES {
+fn lines_are_read_and_printed(rt: HostRuntime) -> Result<(), Fail> {
+    for row in LINES.split('\n') {
+        let (line, want) = row.split_once('|').ok_or("a row")?;
         let text = answer(rt.alloc(), line.as_bytes())?;
         assert_eq!(rt; text.as_slice(), want.as_bytes(), "at {line}");
     }
@@ -171,19 +153,25 @@ fn a_line_has_at_most_1024_bytes(rt: HostRuntime) -> Result<(), Fail> {
     Ok(())
 }
 
-#[test]
-fn words_stand_where_they_are_written(rt: HostRuntime) -> Result<(), Fail> {
-    let read = read_line(b"  Buy  sV # a comment")?;
-    let mut words = read.words;
-    for (text, start, end) in [(b"Buy".as_slice(), 2, 5), (b"sV", 7, 9)] {
-        let word = words.next().ok_or("a word")?;
-        assert_eq!(rt; word.text, text);
-        assert_eq!(rt; (word.span.start, word.span.end), (start, end));
+/// Whether a word has this text, and stands from one place to another.
+fn stands(word: Option<Token>, text: &[u8], start: usize, end: usize) -> bool {
+    match word {
+        Some(word) => word.text == text && word.span.start == start && word.span.end == end,
+        None => false,
     }
+}
+
+#[test]
+fn words_stand_where_they_are_written(rt: HostRuntime) {
+    let Ok(read) = read_line(b"  Buy  sV # a comment") else {
+        panic!(rt; "a fault")
+    };
+    let mut words = read.words;
+    assert!(rt; stands(words.next(), b"Buy", 2, 5));
+    assert!(rt; stands(words.next(), b"sV", 7, 9));
     assert!(rt; words.next().is_none());
     let again = read.order.duplicate();
-    assert_eq!(rt; again, Order::BuyPrivate(Private::SchuylkillValley));
-    Ok(())
+    assert!(rt; again == Order::BuyPrivate(Private::SchuylkillValley));
 }
 
 #[test]

@@ -1,26 +1,19 @@
-use crate::support::FIRST;
+use crate::answers::ask;
+use crate::support::{FIRST, collected};
 use history::{Event, History, OpeningRule, Party};
 use order_grammar::Order;
 use privates::{auction, judge, play_opening};
-use sheets::collect;
+use std::alloc::AllocError;
 use std::test::Fail;
 use tables::{Private, Round, Seat};
 
 #[test]
-fn plays_one_round(rt: HostRuntime) -> Result<(), Fail> {
-    let sheets = collect(rt.alloc(), FIRST.as_bytes())?;
+fn plays_one_round(rt: HostRuntime) -> Result<(), AllocError> {
+    let sheets = collected(&rt, rt.alloc(), FIRST);
     let start = History::start(rt.alloc(), sheets.seats());
     let played = play_opening(start, &sheets, Round::Opening(1))?;
-    assert_eq!(rt; played.events().len(), 7);
-    assert!(rt;
-        matches!(
-            played.events().first(),
-            Some(Event::Round(Round::Opening(1)))
-        )
-    );
-    assert_eq!(rt; played.cash(Party::of_seat(Seat(0))), 785);
-    assert_eq!(rt; played.now().priority().0, 1);
-    Ok(())
+    let wanted = "EVENTS = 7\nCASH ANN = 785\nPRIORITY = BOB\nROUND = PR1";
+    ask(&rt, rt.alloc(), &played, wanted)
 }
 
 #[test]

@@ -1,8 +1,7 @@
-use crate::support::{FIRST, GIFT};
+use crate::support::{FIRST, GIFT, collected};
 use rounds::{End, Next, next, play};
-use sheets::{Sheets, collect};
+use sheets::Sheets;
 use std::alloc::{AllocError, Global};
-use std::test::Fail;
 use tables::Round;
 
 #[test]
@@ -30,11 +29,11 @@ fn played(alloc: Global, sheets: &Sheets) -> Result<(End, usize, usize), AllocEr
 }
 
 #[test]
-fn plays_as_far_as_the_sheets_go(rt: HostRuntime) -> Result<(), Fail> {
+fn plays_as_far_as_the_sheets_go(rt: HostRuntime) -> Result<(), AllocError> {
     // An event for each line of the report that is no statement: in the first game ROUND to
     // REVENUE, in the second four rounds of ROUND, three passes and PRICE, and the gift.
     for (file, awaited, events) in [(FIRST, 2, 7), (GIFT, 5, 21)] {
-        let sheets = collect(rt.alloc(), file.as_bytes())?;
+        let sheets = collected(&rt, rt.alloc(), file);
         let found = played(rt.alloc(), &sheets)?;
         let end = End::Awaiting(Round::Opening(awaited));
         assert_eq!(rt; found, (end, events, 3));

@@ -1,12 +1,13 @@
-use order_grammar::{Fault, Order};
-use sheets::{FILE_MOST, FileFault, NumberedLine, SHEETS_MOST, Sheet, Sheets, collect};
+use crate::support::collected;
+use order_grammar::Order;
+use sheets::{FILE_MOST, NumberedLine, SHEETS_MOST, Sheet, Sheets, collect};
 use std::alloc::{AllocError, Global};
 use std::test::Fail;
 use tables::{Round, Seat};
 
 /// Sheets of ANN and BOB among lines that are unread. Some lines end in a CR and an LF, the last in
 /// a CR alone.
-const FILE: &[u8] = b"
+const FILE: &str = "
 # a game
 GAME 1830 1\r
 players Ann Bob cy
@@ -34,12 +35,17 @@ fn code_of(line: &NumberedLine) -> &'static str {
     }
 }
 
+/// Adds the code of a line and a space.
+fn add_code(text: &mut String, line: &NumberedLine) -> Result<(), AllocError> {
+    text.push_str(code_of(line))?;
+    text.push(' ')
+}
+
 /// The lines of a sheet by their codes, each with a space behind it.
 fn spelled(alloc: Global, sheet: &Sheet) -> Result<String, AllocError> {
     let mut text = String::new(alloc);
     for line in sheet.lines() {
-        text.push_str(code_of(&line))?;
-        text.push(' ')?;
+        add_code(&mut text, &line)?;
     }
     Ok(text)
 }
@@ -58,27 +64,9 @@ fn orders_of(
 }
 
 #[test]
-fn names_the_players(rt: HostRuntime) -> Result<(), Fail> {
-    let sheets = collect(rt.alloc(), FILE)?;
+fn collects_the_last_sheets(rt: HostRuntime) -> Result<(), Fail> {
+    let sheets = collected(&rt, rt.alloc(), FILE);
     assert_eq!(rt; sheets.seats(), 3);
-    for (seat, name) in [(0, b"ANN".as_slice()), (1, b"BOB"), (2, b"CY")] {
-        assert_eq!(rt; sheets.name(Seat(seat)), Some(name));
-    }
-    assert_eq!(rt; sheets.name(Seat(3)), None);
-    Ok(())
-}
-
-#[test]
-fn keeps_the_unread_lines(rt: HostRuntime) -> Result<(), Fail> {
-    let sheets = collect(rt.alloc(), FILE)?;
-    let unread = [Fault::UnknownWord, Fault::UnknownPlayer, Fault::OutOfPlace];
-    assert_eq!(rt; sheets.unread(), unread.as_slice());
-    Ok(())
-}
-
-#[test]
-fn keeps_the_last_sheet_for_a_round(rt: HostRuntime) -> Result<(), Fail> {
-    let sheets = collect(rt.alloc(), FILE)?;
     for (seat, round, orders) in [
         (0, Round::Opening(1), "G2 "),
         (1, Round::Opening(1), "- G4 "),
@@ -92,22 +80,61 @@ fn keeps_the_last_sheet_for_a_round(rt: HostRuntime) -> Result<(), Fail> {
     Ok(())
 }
 
-#[test]
-fn refused(rt: HostRuntime) {
-    for (file, code) in [
-        (b"".as_slice(), "F1"),
-        (b"GAME 1830 2\nPLAYERS A B C\n", "F1"),
-        (b"GAME 1830 1", "F2"),
-        (b"GAME 1830 1\nPLAYERS A B a\n", "F2"),
-        (b"GAME 1830 1\nTURN\nPLAYERS A B C\n", "F2"),
-        (b"GAME 01830 1 # ok\nPLAYERS A B\n", "F2"),
-    ] {
-        let found = match collect(rt.alloc(), file) {
-            Ok(_) => "none",
-            Err(fault) => fault.code(),
-        };
-        assert_eq!(rt; found, code);
+/// Whether a seat's player has this name.
+fn is_named(sheets: &Sheets, seat: u8, name: &str) -> bool {
+    match sheets.name(Seat(seat)) {
+        Some(found) => found == name.as_bytes(),
+        None => name.is_empty(),
     }
+}
+
+/// The code of an unread line, by its number among them from 0.
+fn unread_code(sheets: &Sheets, number: usize) -> &'static str {
+    match sheets.unread().get(number) {
+        Some(fault) => fault.code(),
+        None => "none",
+    }
+}
+
+#[test]
+fn keeps_names_and_unread_lines(rt: HostRuntime) -> Result<(), Fail> {
+    let sheets = collected(&rt, rt.alloc(), FILE);
+    assert!(rt; is_named(&sheets, 0, "ANN") && is_named(&sheets, 1, "BOB"));
+    assert!(rt; is_named(&sheets, 2, "CY") && is_named(&sheets, 3, ""));
+    assert_eq!(rt; unread_code(&sheets, 0), "G3");
+    assert_eq!(rt; unread_code(&sheets, 1), "G7");
+    assert_eq!(rt; unread_code(&sheets, 2), "G6");
+    assert_eq!(rt; unread_code(&sheets, 3), "none");
+    Ok(())
+}
+
+/// Files, each behind the code by which it is refused.
+const REFUSED: &str = "F1:;F1:GAME 1830 2
+PLAYERS A B C
+;F2:GAME 1830 1;F2:GAME 1830 1
+PLAYERS A B a
+;F2:GAME 1830 1
+TURN
+PLAYERS A B C
+;F2:GAME 01830 1 # ok
+PLAYERS A B
+";
+
+/// The code by which a file is refused; `none` where it is not.
+fn refusal(alloc: Global, file: &[u8]) -> &'static str {
+    match collect(alloc, file) {
+        Ok(_) => "none",
+        Err(fault) => fault.code(),
+    }
+}
+
+#[test]
+fn refuses_files(rt: HostRuntime) -> Result<(), Fail> {
+    for row in REFUSED.split(';') {
+        let (code, file) = row.split_once(':').ok_or("a row")?;
+        assert_eq!(rt; refusal(rt.alloc(), file.as_bytes()), code, "at {file}");
+    }
+    Ok(())
 }
 
 /// A file with this many good SHEET lines, filled up with LFs to a length.
@@ -125,16 +152,15 @@ fn large_file(rt: HostRuntime, sheets: usize, length: usize) -> Result<Vec<u8>, 
 
 #[test]
 fn limits(rt: HostRuntime) -> Result<(), Fail> {
-    for (sheets, length, fault) in [
-        (0, FILE_MOST, None),
-        (0, FILE_MOST + 1, Some(FileFault::TooLong)),
-        (SHEETS_MOST, 0, None),
-        (SHEETS_MOST + 1, 0, Some(FileFault::TooManySheets)),
-        (SHEETS_MOST + 1, FILE_MOST + 1, Some(FileFault::TooLong)),
+    for (sheets, length, code) in [
+        (0, FILE_MOST, "none"),
+        (0, FILE_MOST + 1, "F3"),
+        (SHEETS_MOST, 0, "none"),
+        (SHEETS_MOST + 1, 0, "F4"),
+        (SHEETS_MOST + 1, FILE_MOST + 1, "F3"),
     ] {
         let file = large_file(rt, sheets, length)?;
-        let found = collect(rt.alloc(), file.as_slice()).err();
-        assert_eq!(rt; found, fault);
+        assert_eq!(rt; refusal(rt.alloc(), file.as_slice()), code);
     }
     Ok(())
 }
@@ -157,15 +183,18 @@ fn gives_second_twice<'a>(sheet: &Sheet<'a>) -> bool {
     }
 }
 
+/// Whether the third seat's sheet for the first opening round gives its second line twice.
+fn duplicates_lines(sheets: &Sheets) -> bool {
+    match sheets.sheet(Seat(2), &Round::Opening(1)) {
+        Some(sheet) => gives_second_twice(sheet),
+        None => false,
+    }
+}
+
 #[test]
 fn lines_once_more(rt: HostRuntime) -> Result<(), Fail> {
-    let file = b"GAME 1830 1\nPLAYERS A B C\nSHEET C PR1\nTURN\n#\nBUY CS\n";
-    let sheets = collect(rt.alloc(), file)
-        .ok()
-        .ok_or("the file is collected")?;
-    let sheet = sheets
-        .sheet(Seat(2), &Round::Opening(1))
-        .ok_or("C sent a sheet")?;
-    assert!(rt; gives_second_twice(sheet));
+    let file = "GAME 1830 1\nPLAYERS A B C\nSHEET C PR1\nTURN\n#\nBUY CS\n";
+    let sheets = collected(&rt, rt.alloc(), file);
+    assert!(rt; duplicates_lines(&sheets));
     Ok(())
 }

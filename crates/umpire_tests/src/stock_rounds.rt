@@ -1,18 +1,11 @@
-use history::{Event, History, Party, Refusal, Ruling, Shareholder, StockRule};
+use crate::answers::ask;
+use crate::support::collected;
+use history::History;
 use privates::play_opening;
-use sheets::{Sheets, collect};
+use sheets::Sheets;
 use std::alloc::{AllocError, Global};
-use std::test::Fail;
 use stock_round::play_stock;
-use tables::{Company, Private, Round, Seat, Square};
-
-const PRR: Company = Company::Pennsylvania;
-
-const NYC: Company = Company::NewYorkCentral;
-
-const ANN: Seat = Seat(0);
-
-const BOB: Seat = Seat(1);
+use tables::Round;
 
 /// ANN starts PRR at 100 and comes to five tenths, BOB to one, so that PRR floats. In the second
 /// round ANN sells three, and may not sell more, since nobody else could preside.
@@ -105,76 +98,49 @@ fn after_two(alloc: Global, sheets: &Sheets) -> Result<History, AllocError> {
     play_stock(first, sheets, Round::Stock(2))
 }
 
-/// How many lines are refused by this rule.
-fn refused_by(history: &History, broken: StockRule) -> usize {
-    history
-        .events()
-        .iter()
-        .filter(|event| is_refused_by(event, broken))
-        .count()
+/// The game after an opening and a stock round.
+fn after_opening(alloc: Global, sheets: &Sheets) -> Result<History, AllocError> {
+    let start = History::start(alloc, sheets.seats());
+    let opened = play_opening(start, sheets, Round::Opening(1))?;
+    play_stock(opened, sheets, Round::Stock(1))
 }
 
-/// Whether an event refuses a line by this rule.
-fn is_refused_by(event: &Event, broken: StockRule) -> bool {
-    match event {
-        Event::Ruled {
-            ruling: Ruling::Refused(Refusal::Stock(rule), _),
-            ..
-        } => *rule == broken,
-        _ => false,
-    }
-}
+/// ANN has 800 less 500 for five tenths at 100, and 300 for the block at the price before its fall.
+const AFTER_BLOCK: &str = "FLOATED PRR = true
+CASH PRR = 1000
+CASH ANN = 600
+SQUARE PRR = D7
+TENTHS PRR = 4 3 2 1 0
+PRESIDENT PRR = ANN
+PRIORITY = BOB
+REFUSED S5 = 1";
 
-/// How many turns were passes.
-fn passes(history: &History) -> usize {
-    history
-        .events()
-        .iter()
-        .filter(|event| matches!(event, Event::Passes(_)))
-        .count()
-}
+/// MH's exchange is a pass, of which there are three, and leaves the priority, which CYD's purchase of
+/// BOP gave to ANN.
+const AFTER_EXCHANGE: &str = "TENTHS NYC = 9 0 1 0 0
+OWNER MH = -
+SQUARE NYC = -
+PRIORITY = ANN
+REFUSED S14 = 1
+PASSES = 3";
 
 #[test]
-fn sells_a_block_at_the_price_before(rt: HostRuntime) -> Result<(), Fail> {
-    let sheets = collect(rt.alloc(), BLOCK.as_bytes())?;
+fn sells_a_block_at_the_price_before(rt: HostRuntime) -> Result<(), AllocError> {
+    let sheets = collected(&rt, rt.alloc(), BLOCK);
     let played = after_two(rt.alloc(), &sheets)?;
-    assert!(rt; played.floated(PRR));
-    assert_eq!(rt; played.cash(Party::of_company(PRR)), 1000);
-    assert_eq!(rt; played.cash(Party::of_seat(ANN)), 800 - 500 + 300);
-    assert_eq!(rt; played.square(PRR), Some(Square { row: 3, column: 7 }));
-    assert_eq!(rt; played.shares(PRR, Shareholder::BankPool), 3);
-    assert_eq!(rt; played.president(PRR), Some(ANN));
-    assert_eq!(rt; played.priority(), BOB);
-    Ok(())
+    ask(&rt, rt.alloc(), &played, AFTER_BLOCK)
 }
 
 #[test]
-fn refuses_sales_by_the_first_rule(rt: HostRuntime) -> Result<(), Fail> {
-    for (text, rule) in [
-        (BLOCK, StockRule::PresidentMustStay),
-        (POOL, StockRule::PoolFull),
-        (POOL, StockRule::NotHeld),
-    ] {
-        let sheets = collect(rt.alloc(), text.as_bytes())?;
-        let played = after_two(rt.alloc(), &sheets)?;
-        assert_eq!(rt; refused_by(&played, rule), 1, "{rule:?}");
-    }
-    Ok(())
+fn fills_the_pool_no_further_than_five_tenths(rt: HostRuntime) -> Result<(), AllocError> {
+    let sheets = collected(&rt, rt.alloc(), POOL);
+    let played = after_two(rt.alloc(), &sheets)?;
+    ask(&rt, rt.alloc(), &played, "REFUSED S4 = 1\nREFUSED S3 = 1")
 }
 
 #[test]
-fn exchange_is_a_pass(rt: HostRuntime) -> Result<(), Fail> {
-    let sheets = collect(rt.alloc(), EXCHANGE.as_bytes())?;
-    let start = History::start(rt.alloc(), sheets.seats());
-    let opened = play_opening(start, &sheets, Round::Opening(1))?;
-    let priority = opened.priority();
-    let played = play_stock(opened, &sheets, Round::Stock(1))?;
-    assert_eq!(rt; played.shares(NYC, Shareholder::Seat(ANN)), 1);
-    assert_eq!(rt; played.shares(NYC, Shareholder::InitialOffering), 9);
-    assert_eq!(rt; played.owner(Private::MohawkHudson), None);
-    assert_eq!(rt; played.square(NYC), None);
-    assert_eq!(rt; played.priority(), priority);
-    assert_eq!(rt; refused_by(&played, StockRule::NoExchange), 1);
-    assert_eq!(rt; passes(&played), 3);
-    Ok(())
+fn exchange_is_a_pass(rt: HostRuntime) -> Result<(), AllocError> {
+    let sheets = collected(&rt, rt.alloc(), EXCHANGE);
+    let played = after_opening(rt.alloc(), &sheets)?;
+    ask(&rt, rt.alloc(), &played, AFTER_EXCHANGE)
 }

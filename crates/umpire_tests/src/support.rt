@@ -1,17 +1,20 @@
 //! Games built event by event, two order files with their reports, and readers and writers over
 //! memory that give and take as they are told and count what they saw.
 
-use history::{Event, History, Party};
+use history::{Event, History};
+use sheets::{Sheets, collect};
 use std::alloc::{AllocError, Global};
 use std::io;
 use std::io::{Read, Write};
 use std::process::Abort;
-use tables::Seat;
 use umpire::{Fault, Watched, run};
 
-/// The player of a seat, who pays and is paid.
-pub(crate) fn player(seat: u8) -> Party {
-    Party::of_seat(Seat(seat))
+/// The sheets of a file that is not refused.
+pub(crate) fn collected<'a>(rt: &impl Abort, alloc: Global, file: &'a str) -> Sheets<'a> {
+    match collect(alloc, file.as_bytes()) {
+        Ok(sheets) => sheets,
+        Err(_) => panic!(rt; "refused: {file}"),
+    }
 }
 
 /// Adds an event, for which there is room.

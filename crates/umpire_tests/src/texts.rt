@@ -1,9 +1,8 @@
-use crate::support::{FIRST, FIRST_REPORT, GIFT};
+use crate::support::{FIRST, FIRST_REPORT, GIFT, collected};
 use report::{refusal_text, report, round_text};
 use rounds::play;
-use sheets::{FileFault, Sheets, collect};
+use sheets::{FileFault, Sheets};
 use std::alloc::{AllocError, Global};
-use std::test::Fail;
 use tables::Round;
 
 /// The third round of the game in which nobody buys.
@@ -31,16 +30,16 @@ fn of_round(alloc: Global, sheets: &Sheets, round: Round) -> Result<Vec<u8>, All
 }
 
 #[test]
-fn tells_a_whole_game(rt: HostRuntime) -> Result<(), Fail> {
-    let sheets = collect(rt.alloc(), FIRST.as_bytes())?;
+fn tells_a_whole_game(rt: HostRuntime) -> Result<(), AllocError> {
+    let sheets = collected(&rt, rt.alloc(), FIRST);
     let text = whole(rt.alloc(), &sheets)?;
     assert_eq!(rt; text.as_slice(), FIRST_REPORT.as_bytes());
     Ok(())
 }
 
 #[test]
-fn tells_one_round(rt: HostRuntime) -> Result<(), Fail> {
-    let sheets = collect(rt.alloc(), GIFT.as_bytes())?;
+fn tells_one_round(rt: HostRuntime) -> Result<(), AllocError> {
+    let sheets = collected(&rt, rt.alloc(), GIFT);
     let third = of_round(rt.alloc(), &sheets, Round::Opening(3))?;
     assert_eq!(rt; third.as_slice(), THIRD_ROUND.as_bytes());
     for round in [Round::Opening(5), Round::Opening(0), Round::Stock(1)] {
@@ -51,7 +50,7 @@ fn tells_one_round(rt: HostRuntime) -> Result<(), Fail> {
 }
 
 #[test]
-fn tells_that_a_file_is_refused(rt: HostRuntime) -> Result<(), Fail> {
+fn tells_that_a_file_is_refused(rt: HostRuntime) -> Result<(), AllocError> {
     let text = refusal_text(rt.alloc(), FileFault::TooManySheets)?;
     assert_eq!(rt; text.as_slice(), b"FILE REFUSED F4\n".as_slice());
     Ok(())
