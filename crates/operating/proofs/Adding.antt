@@ -103,7 +103,7 @@ named company other =
     ]
 
 -- by a withholding the company operates
-withheld_adds : (game : Game) (company : Company) (amount : ℕ) → Adds (same_company company) game (withheld game company amount)
+pub withheld_adds : (game : Game) (company : Company) (amount : ℕ) → Adds (same_company company) game (withheld game company amount)
 withheld_adds game company amount =
     let paid = with_event game (event.Withheld company amount) in
     then_nobody (same_company company) game (broken_told paid) (withheld game company amount)
@@ -233,7 +233,7 @@ seats_paid_add company revenue game (seat ∷ others) =
     then_nobody nobody game next (paid_to_seats company revenue game (seat ∷ others)) (dividend_adds company (holder.Seat seat) _ game) (seats_paid_add company revenue next others)
 
 -- by all that is paid out
-paid_out_adds : (game : Game) (company : Company) (revenue : ℕ) → Adds nobody game (paid_out game company revenue)
+pub paid_out_adds : (game : Game) (company : Company) (revenue : ℕ) → Adds nobody game (paid_out game company revenue)
 paid_out_adds game company revenue =
     let seats = paid_to_seats company revenue game (all_seats game.seats) in
     let all = all_paid company revenue game in
@@ -337,11 +337,6 @@ begun_comes old company =
       past = λ past. cc;
       earned = λ some. cc;
     }
-
--- a line leaves the seats as they are
-pub line_seats : (by : Operator) (turn : InTurn) (number : ℕ) (reading : Result Order Fault) (new : InTurn) → ReadingLeads by turn number reading new → Comes by.company turn.game turn → new.game.seats ≡ turn.game.seats
-line_seats by turn number reading new leads here =
-    ap (λ (game : Game). game.seats) (line_comes by turn.game turn number reading new here leads).adds.added
 
 -- a whole turn
 turn_adds : (file : List ℕ) (round : Round) (company : Company) (old new : Game) → IsCompanyTurn file round company old new → Adds (same_company company) old new

@@ -4,6 +4,7 @@ pub mod Once
 pub mod Adds
 pub mod TrainsAdd
 pub mod Adding
+pub mod Seats
 pub mod Operated
 pub mod Found
 pub mod Decided
