@@ -22,3 +22,4 @@ pub mod Rust
 pub mod Complete
 pub mod Sales
 pub mod Fleet
+pub mod Still
