@@ -129,7 +129,7 @@ broken_playable game playable =
     elim (breaks game.seats game.events) as (λ (b : Bool). IsPlayable (record { seats = game.seats; events = if b then game.events ++ event.Broken ∷ [] else game.events })) [
       | true ↦
           record {
-            sound = quiet_sound game event.Broken (record { payment = refl; ownership = refl; bidding = refl; transfer = refl; par = refl; square = refl; office = refl; float = refl; sv_price = refl }) playable.sound;
+            sound = quiet_sound game event.Broken (record { payment = refl; ownership = refl; bidding = refl; transfer = refl; par = refl; square = refl; office = refl; float = refl; sv_price = refl; train = refl }) playable.sound;
             ground = same_fits game event.Broken refl refl playable.ground;
           }
       | false ↦ playable
