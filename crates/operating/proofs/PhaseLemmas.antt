@@ -26,6 +26,9 @@ pub phase_playable : (game : Game) (kind : Kind) → IsPlayable game → IsPlaya
 phase_playable game kind playable =
     record { sound = phase_sound game kind playable.sound; ground = same_fits game (event.Phase kind) refl refl playable.ground }
 
+leaves_company : (company : Company) (kind : Kind) → train_goes (stable_of (Some company)) kind (train_moved (event.Rusted (Some company) kind)) ≡ true
+leaves_company company kind = grind arith
+
 -- a train that rusts leaves its place
 leaves : (owner : Option Company) (kind : Kind) → train_goes (stable_of owner) kind (train_moved (event.Rusted owner kind)) ≡ true
 leaves None Two = refl
@@ -35,9 +38,6 @@ leaves None Five = refl
 leaves None Six = refl
 leaves None Diesel = refl
 leaves (Some company) kind = leaves_company company kind
-
-leaves_company : (company : Company) (kind : Kind) → train_goes (stable_of (Some company)) kind (train_moved (event.Rusted (Some company) kind)) ≡ true
-leaves_company company kind = grind arith
 
 -- and comes to no other that is in play
 comes_nowhere : (owner : Option Company) (kind : Kind) → train_comes (stable_of owner) kind (train_moved (event.Rusted owner kind)) ≡ false
