@@ -11,7 +11,7 @@
 //! event of a line), `answers` (questions about a game) and `games` (what readers say, the chart,
 //! presidents, what counts, what may be bought and sold). Then a module for each further topic:
 //! `lines`, `sheets_of_a_file`, `looking_back`, `payments`, `certificates`, `openings`,
-//! `stock_rounds`, `operating_rounds`, `sequence`, `texts`, `watching`, `running`.
+//! `stock_rounds`, `operating_rounds`, `runs`, `sequence`, `texts`, `watching`, `running`.
 #![tactic(auto)]
 
 #[cfg(test)]
@@ -32,6 +32,8 @@ mod operating_rounds;
 mod payments;
 #[cfg(test)]
 mod running;
+#[cfg(test)]
+mod runs;
 #[cfg(test)]
 mod sequence;
 #[cfg(test)]
