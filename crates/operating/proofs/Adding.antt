@@ -1,7 +1,6 @@
 -- What a company's turn adds to the list: no event that begins a round, and one by which the company operates
 -- once the turn is past its pay.
-use Rattle.std.proofs.Common.{◌≡◌, ℕ, ◌+◌, ◌<◌, Bool, true, false, nat_lt, not, ◌==◌, ◌||◌, ◌&&◌, if◌then◌else◌, List, [], ◌∷◌, ◌++◌, Option, Some, None, Result, Ok, Err, ℤ, is_some, refl, sym, ap, subst, ◌∙◌, arith}
-use Rattle.std.proofs.lemmas.Bool.Decides.{nat_tests}
+use Rattle.std.proofs.Common.{◌≡◌, ℕ, Bool, true, false, nat_lt, not, ◌==◌, ◌||◌, ◌&&◌, if◌then◌else◌, List, [], ◌∷◌, ◌++◌, Option, Some, None, Result, Ok, Err, ℤ, is_some, refl, sym, ap, subst, ◌∙◌}
 use Rattle.std.proofs.lemmas.List.{append_assoc, append-nil}
 use Rattle.std.proofs.lemmas.List.Folds.{list_any-append}
 use Rattle.std.specs.List.{list_any}
@@ -12,7 +11,7 @@ use Rattle.board.specs.declared.asker.TurnStep.{TurnStep}
 use Rattle.board.specs.declared.asker.TurnStep.TheVariants as step
 use Rattle.board.specs.declared.fault.LayFault.{LayFault}
 use Rattle.board.specs.declared.fault.TokenFault.{TokenFault}
-use Rattle.history.specs.Event.{operated_by, round_of}
+use Rattle.history.specs.Event.{round_of}
 use Rattle.history.specs.LookBack.{Game, with_event}
 use Rattle.history.specs.Operating.{has_operated, tokens_placed, turn_said}
 use Rattle.history.specs.Shares.{president_of, square_of}
@@ -33,8 +32,8 @@ use Rattle.operating.proofs.Operated.{operated_more, operates_by, operates_in, o
 use Rattle.operating.specs.Act.{moved_left, with_home, withheld}
 use Rattle.operating.specs.Ground.{ground_now}
 use Rattle.operating.specs.Judgement.{asker_of, rule_of_lay, rule_of_token}
-use Rattle.operating.specs.Laws.{BeginsNoRound, CompanyOperates, OnlyAdds, TurnOnlyAdds}
-use Rattle.operating.specs.Turn.{BlockLeads, InTurn, IsCompanyTurn, LayLeads, LinesLead, OrderLeads, ReadingLeads, TokenLeads, at_start, begun, in_turn, is_unpaid, lay_answered, lay_refused, pay_done, settled, token_answered, token_done, token_refused}
+use Rattle.operating.specs.Laws.{BeginsNoRound, CompanyOperates, TurnOnlyAdds}
+use Rattle.operating.specs.Turn.{BlockLeads, InTurn, IsCompanyTurn, LinesLead, OrderLeads, ReadingLeads, begun, in_turn, is_unpaid, lay_answered, lay_refused, pay_done, settled, token_answered, token_refused}
 use Rattle.operating.specs.declared.operator.Operator.{Operator}
 use Rattle.operating.specs.declared.progress.Progress.{Progress}
 use Rattle.order_grammar.specs.declared.fault.Fault.{Fault}

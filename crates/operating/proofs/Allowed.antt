@@ -1,6 +1,6 @@
 -- What a lay or a token that the rules of the board allow is: no rule is broken, its cost is that of the
 -- board, and the company has it.
-use Rattle.std.proofs.Common.{◌≡◌, ℕ, ◌≤◌, ◌==◌, Bool, true, false, if◌then◌else◌, leb, List, [], ◌∷◌, ◌++◌, Option, Some, None, Result, Ok, Err, ℤ, pos, ◌≤ℤ◌, refl, sym, ap, subst, ◌∙◌, arith}
+use Rattle.std.proofs.Common.{◌≡◌, ℕ, ◌≤◌, ◌==◌, Bool, true, false, if◌then◌else◌, leb, List, ◌++◌, Option, Some, None, Ok, ℤ, pos, ◌≤ℤ◌, refl, sym, subst, ◌∙◌, arith}
 use Rattle.std.proofs.lemmas.Bool.{leb-true}
 use Rattle.std.proofs.lemmas.Int.{ints}
 use Rattle.std.specs.Int.RustNames.{unsigned_abs}
@@ -12,8 +12,6 @@ use Rattle.board.specs.Ground.{Ground, by_tile, tile_on}
 use Rattle.board.specs.LayRules.{IsLayAnswer, cost_or, ground_rules, lay_cost_of, reach_rules as lay_reach_rules}
 use Rattle.board.specs.TokenRules.{IsTokenAnswer, laid_by, reach_rules as token_reach_rules, slot_rules, token_cost_of}
 use Rattle.board.specs.declared.asker.Asker.{Asker}
-use Rattle.board.specs.declared.fault.LayFault.{LayFault}
-use Rattle.board.specs.declared.fault.TokenFault.{TokenFault}
 use Rattle.map_tables.specs.Hex.{index_of}
 use Rattle.map_tables.specs.Print.{groups, plain_hexes, print_of}
 use Rattle.map_tables.specs.declared.hex.Hex.{Hex}

@@ -34,9 +34,9 @@ use Rattle.tables.specs.declared.roster.Company.{Company}
 -- what is the same as something decided is decided
 decided_by : (P Q : Type 0) → (P → Q) → (Q → P) → Decided P → Decided Q
 decided_by P Q there back (inl is) = inl (there is)
-decided_by P Q there back (inr not) = inr (λ is. not (back is))
+decided_by P Q there back (inr off) = inr (λ is. off (back is))
 
-module _ (position : Position) (company : Company) (lawful : IsLawful position) (search : Search position company lawful) where
+module _ (position : Position) (company : Company) (lawful : IsLawful position) (search : Search position company) where
   -- a link may be taken
   take_decided : (link : Link) → Decided (CanTake position company search.marks link)
   take_decided link =
@@ -69,10 +69,10 @@ module _ (position : Position) (company : Company) (lawful : IsLawful position) 
   one_link (link ∷ links) =
       elim (link_decided link) [
         | inl reached ↦ inl (link, inl refl, reached)
-        | inr not ↦ elim (one_link links) [
+        | inr off ↦ elim (one_link links) [
           | inl later ↦ inl (later.0, inr later.1, later.2)
           | inr none ↦ inr (λ any. elim any.1 [
-            | inl here ↦ not (subst (ReachesLink position company) (sym here) any.2)
+            | inl here ↦ off (subst (ReachesLink position company) (sym here) any.2)
             | inr there ↦ none (any.0, there, any.2)
           ])
         ]
@@ -88,9 +88,9 @@ module _ (position : Position) (company : Company) (lawful : IsLawful position) 
   one_stop hex =
       elim (stop_decided (stop_at hex First)) [
         | inl reached ↦ inl (First, reached)
-        | inr not ↦ elim (stop_decided (stop_at hex Second)) [
+        | inr off ↦ elim (stop_decided (stop_at hex Second)) [
           | inl reached ↦ inl (Second, reached)
-          | inr neither ↦ inr (λ any. no_stop hex not neither any.0 any.1)
+          | inr neither ↦ inr (λ any. no_stop hex off neither any.0 any.1)
         ]
       ]
 
@@ -122,24 +122,34 @@ record IsTested (P : Type 0) : Type 0 where
 -- what is decided has a test
 tested : (P : Type 0) → Decided P → IsTested P
 tested P (inl is) = record { test = true; exact = (λ yes. is, λ yes. refl) }
-tested P (inr not) = record { test = false; exact = (λ (yes : false ≡ true). cc, λ is. absurd (not is)) }
+tested P (inr off) = record { test = false; exact = (λ (yes : false ≡ true). cc, λ is. absurd (off is)) }
 
 -- the position of each ground is lawful
 abbrev pub AllLawful : Type 0
 AllLawful = (laid : Ground) → IsLawful (position_of laid)
 
+-- the answer to a lay, where it is known whether some piece of the tile is reached
+lay_answer_by : (laid : Ground) (asker : Asker) (lay : Lay) → IsTested (IsConnected (position_of (with_lay laid lay)) asker.company lay) → (answer : Result ℤ LayFault) × IsLayAnswer laid asker lay answer
+lay_answer_by laid asker lay reached =
+    (cost_or (lay_cost_of laid.lays lay.hex) (first_broken (lay_rules laid asker lay reached.test)), record { reached = reached.test; exact = λ none. reached.exact; given = refl })
+
 -- a lay has an answer
 pub lay_answer : AllLawful → (laid : Ground) (asker : Asker) (lay : Lay) → (answer : Result ℤ LayFault) × IsLayAnswer laid asker lay answer
 lay_answer all laid asker lay =
-    let position = position_of (with_lay laid lay) in
-    let lawful = all (with_lay laid lay) in
-    let reached = tested (IsConnected position asker.company lay) (piece_decided position asker.company lawful (found position asker.company lawful) lay) in
-    (cost_or (lay_cost_of laid.lays lay.hex) (first_broken (lay_rules laid asker lay reached.test)), record { reached = reached.test; exact = λ none. reached.exact; given = refl })
+    let position : Position = position_of (with_lay laid lay) in
+    let lawful : IsLawful position = all (with_lay laid lay) in
+    lay_answer_by laid asker lay
+    (tested (IsConnected position asker.company lay) (piece_decided position asker.company lawful (found position asker.company lawful) lay))
+
+-- the answer to a token, where it is known whether the stop is reached
+token_answer_by : (laid : Ground) (asker : Asker) (place : Place) → IsTested (IsReachedPlace (position_of laid) asker.company place) → (answer : Result ℤ TokenFault) × IsTokenAnswer laid asker place answer
+token_answer_by laid asker place reached =
+    (cost_or (token_cost_of laid.tokens asker.company) (first_broken (token_rules laid asker place reached.test)), record { reached = reached.test; exact = λ none. reached.exact; given = refl })
 
 -- a token has one
 pub token_answer : AllLawful → (laid : Ground) (asker : Asker) (place : Place) → (answer : Result ℤ TokenFault) × IsTokenAnswer laid asker place answer
 token_answer all laid asker place =
-    let position = position_of laid in
-    let lawful = all laid in
-    let reached = tested (IsReachedPlace position asker.company place) (place_decided position asker.company lawful (found position asker.company lawful) place) in
-    (cost_or (token_cost_of laid.tokens asker.company) (first_broken (token_rules laid asker place reached.test)), record { reached = reached.test; exact = λ none. reached.exact; given = refl })
+    let position : Position = position_of laid in
+    let lawful : IsLawful position = all laid in
+    token_answer_by laid asker place
+    (tested (IsReachedPlace position asker.company place) (place_decided position asker.company lawful (found position asker.company lawful) place))

@@ -1,10 +1,10 @@
 -- What lies on the map by a list still fits after an event of a company's turn.
-use Rattle.std.proofs.Common.{◌≡◌, ℕ, ◌+◌, ◌<◌, ◌==◌, Bool, true, false, ◌&&◌, ◌||◌, if◌then◌else◌, List, [], ◌∷◌, ◌++◌, length, take, get_or, Option, Some, None, refl, sym, subst, ap, ◌∙◌, arith}
+use Rattle.std.proofs.Common.{◌≡◌, ℕ, ◌+◌, ◌<◌, Bool, true, false, ◌&&◌, ◌||◌, if◌then◌else◌, List, [], ◌∷◌, ◌++◌, length, take, get_or, Option, Some, None, refl, sym, subst, ap, ◌∙◌, arith}
 use Rattle.std.proofs.lemmas.List.{append-nil, take_more}
 use Rattle.std.proofs.lemmas.List.Sums.{sum_by-cons}
-use Rattle.std.specs.List.{count_by, list_any}
+use Rattle.std.specs.List.{count_by}
 use Rattle.board.proofs.FitLaws.{home_keeps_fit, lay_keeps_fit, token_keeps_fit}
-use Rattle.board.specs.Ground.{Ground, ground_of, has_token, names, with_lay, with_token}
+use Rattle.board.specs.Ground.{ground_of, has_token, names, with_lay, with_token}
 use Rattle.board.specs.Homes.{Fits}
 use Rattle.board.specs.LayRules.{ground_rules}
 use Rattle.board.specs.TokenRules.{slot_rules}

@@ -1,17 +1,16 @@
 -- What a company reaches in a lawful position can be found out: links are followed from its tokens until
 -- nothing is added.
-use Rattle.std.proofs.Common.{◌≡◌, ℕ, zero, suc, ◌+◌, ◌*◌, ◌-◌, ◌<◌, ◌≤◌, Bool, true, false, not, ◌||◌, ◌⊎◌, inl, inr, Option, Some, None, List, [], ◌∷◌, length, get_or, set, replicate, nat_le, refl, sym, ap, subst, ◌∙◌, arith}
+use Rattle.std.proofs.Common.{◌≡◌, ℕ, zero, suc, ◌+◌, ◌*◌, ◌<◌, ◌≤◌, Bool, true, false, not, ◌||◌, ◌⊎◌, inl, inr, Option, Some, None, List, [], ◌∷◌, length, get_or, set, replicate, nat_le, refl, sym, ap, subst, ◌∙◌, arith}
 use Rattle.std.proofs.lemmas.Bool.Decides.{nat_tests}
 use Rattle.std.proofs.lemmas.List.{length-replicate, length-set}
 use Rattle.std.proofs.lemmas.List.Sums.{count_by-le-length}
 use Rattle.std.specs.List.{list_any}
 use Rattle.board.proofs.Same.{company_is}
 use Rattle.map_tables.specs.Hex.{hexes, index_of}
-use Rattle.map_tables.specs.Place.{joined_stop_of, stop_at, stop_index_of}
+use Rattle.map_tables.specs.Place.{joined_stop_of, stop_at}
 use Rattle.map_tables.specs.declared.hex.Hex.{Hex}
 use Rattle.map_tables.specs.declared.hex.Hex.TheVariants.{A9}
 use Rattle.map_tables.specs.declared.place.Stop.{Stop}
-use Rattle.map_tables.specs.declared.place.StopNumber.{StopNumber}
 use Rattle.map_tables.specs.declared.place.StopNumber.TheVariants.{First, Second}
 use Rattle.map_tables.specs.declared.track.End.{End}
 use Rattle.map_tables.specs.declared.track.End.TheVariants.{Side as AtSide, Stop as AtStop}
@@ -27,7 +26,7 @@ use Rattle.reach.specs.Search.{AllArrive, CanEnter, CanEnterAt, Follows, HasAllT
 use Rattle.reach.specs.Walk.{IsTrack, across_end, entered_at, left_at, spot_at}
 use Rattle.reach.specs.declared.walk.Spot.{Spot}
 use Rattle.reach.specs.declared.walk.Step.{Step}
-use Rattle.tables.specs.Roster.{same_company}
+use Rattle.tables.specs.Roster.{place_of_company, same_company}
 use Rattle.tables.specs.declared.roster.Company.{Company}
 
 -- something is so, or is not
@@ -61,7 +60,7 @@ among_decided same exact alike thing things =
 
 -- a company compares alike with itself
 company_alike : (a b : Company) → a ≡ b → same_company a b ≡ true
-company_alike a b is = grind (arith, nat_tests, is)
+company_alike a b is = let number : place_of_company a ≡ place_of_company b = ap place_of_company is in grind (arith, nat_tests, number)
 
 -- a company has a token at a stop
 token_decided : (position : Position) (stop : Stop) (company : Company) → Decided (HasToken position stop company)
@@ -72,7 +71,7 @@ under_decided : (a b : ℕ) → Decided (a < b)
 under_decided a b =
     elim (test_decided (nat_le (suc a) b)) [
       | inl is ↦ inl (grind (arith, nat_tests, is))
-      | inr not ↦ inr (λ is. not (grind (arith, nat_tests, is)))
+      | inr over ↦ inr (λ is. over (grind (arith, nat_tests, is)))
     ]
 
 -- one number is at most another
@@ -80,7 +79,7 @@ most_decided : (a b : ℕ) → Decided (a ≤ b)
 most_decided a b =
     elim (test_decided (nat_le a b)) [
       | inl is ↦ inl (grind (arith, nat_tests, is))
-      | inr not ↦ inr (λ is. not (grind (arith, nat_tests, is)))
+      | inr over ↦ inr (λ is. over (grind (arith, nat_tests, is)))
     ]
 
 -- a city is not full for a company
@@ -88,14 +87,14 @@ not_full_decided : (position : Position) (stop : Stop) (company : Company) → D
 not_full_decided position stop company =
     let there = at_stop position stop in
     elim (under_decided 0 there.slots) [
-      | inr none ↦ inl (λ full. none full.is_city)
       | inl city ↦ elim (most_decided there.slots (length there.tokens)) [
-        | inr free ↦ inl (λ full. free full.all_taken)
         | inl taken ↦ elim (token_decided position stop company) [
           | inl own ↦ inl (λ full. full.by_others own)
-          | inr others ↦ inr (λ not. not (record { is_city = city; all_taken = taken; by_others = others }))
+          | inr others ↦ inr (λ free. free (record { is_city = city; all_taken = taken; by_others = others }))
         ]
+        | inr free ↦ inl (λ full. free full.all_taken)
       ]
+      | inr none ↦ inl (λ full. none full.is_city)
     ]
 
 -- a spot is marked
@@ -108,7 +107,7 @@ across_decided marks None = inr (λ any. let wrong : None ≡ Some any.0 = any.1
 across_decided marks (Some spot) =
     elim (mark_decided marks spot) [
       | inl is ↦ inl (spot, refl, is)
-      | inr not ↦ inr (λ any. let same : spot ≡ any.0 = (let both : Some spot ≡ Some any.0 = any.1 in cc) in not (subst (IsMarked marks) (sym same) any.2))
+      | inr off ↦ inr (λ any. let same : spot ≡ any.0 = (let both : Some spot ≡ Some any.0 = any.1 in cc) in off (subst (IsMarked marks) (sym same) any.2))
     ]
 
 -- a link may be entered at an end
@@ -148,6 +147,20 @@ idle position company P old nowhere =
         closed = λ same. nowhere;
       };
     }
+
+-- marks of all that walks of the company come to
+pub record Search (position : Position) (company : Company) : Type 0 where
+  pub marks : List Bool
+  pub arrive : AllArrive position company marks
+  pub tokens : HasAllTokens position company marks
+  pub closed : IsClosed position company (IsTrack position) marks
+
+-- marks that have the tokens of the stops before a place in the order of the map
+record Begun (position : Position) (company : Company) (place : ℕ) : Type 0 where
+  pub marks : List Bool
+  pub long : length marks ≡ 744
+  pub arrive : AllArrive position company marks
+  pub tokens : TokensBefore position company marks place
 
 module _ (position : Position) (company : Company) (lawful : IsLawful position) where
   -- a step that is not known yet
@@ -228,59 +241,49 @@ module _ (position : Position) (company : Company) (lawful : IsLawful position) 
       (λ taken here. elim (hexes_more position hex count is taken.link (omega (arith, here.0)) here.1) [ inl before ↦ inl (before, here.1) | inr there ↦ inr there ])
 
   -- those of all hexes
-  all_hexes : (old : List Bool) → length old ≡ 744 → Followed position company (IsTrack position) old
-  all_hexes old long =
-      let all = first_hexes 93 (omega arith) old long in
+  narrowed : (old : List Bool) → Followed position company (λ taken. (index_of taken.link.hex < 93) × IsTrack position taken) old → Followed position company (IsTrack position) old
+  narrowed old all =
       record {
         new = all.new;
         added = all.added;
         follows = follows_fewer position company (λ taken. (index_of taken.link.hex < 93) × IsTrack position taken) (IsTrack position) old all.new all.added all.follows (λ taken track. (index_low taken.link.hex, track));
       }
 
-  -- marks of all that walks of the company come to
-  pub record Search : Type 0 where
-    pub marks : List Bool
-    pub arrive : AllArrive position company marks
-    pub tokens : HasAllTokens position company marks
-    pub closed : IsClosed position company (IsTrack position) marks
+  all_hexes : (old : List Bool) → length old ≡ 744 → Followed position company (IsTrack position) old
+  all_hexes old long = narrowed old (first_hexes 93 (omega arith) old long)
 
   -- no more are marked than there are
   few_marked : (old : List Bool) → length old ≡ 744 → (all : Followed position company (IsTrack position) old) → marked all.new ≤ 744
   few_marked old long all =
       omega (arith, count_by-le-length (λ mark. mark) all.new, long_still (IsTrack position) old long all)
 
-  -- the search ends: each time there is more, and there are no more marks than spots
-  until_nothing : (left : ℕ) (old : List Bool) → length old ≡ 744 → 744 ≤ marked old + left → AllArrive position company old → HasAllTokens position company old → Search
-  until_nothing zero old long few arrive tokens =
-      let all = all_hexes old long in
-      elim all.added as (λ (b : Bool). all.added ≡ b → Search) [
+  -- where nothing is added all is found; else it goes on
+  done_or_on : (old : List Bool) → AllArrive position company old → HasAllTokens position company old → (all : Followed position company (IsTrack position) old) → (all.added ≡ true → Search position company) → Search position company
+  done_or_on old arrive tokens all on =
+      elim all.added as (λ (b : Bool). all.added ≡ b → Search position company) [
+        | true ↦ λ some. on some
         | false ↦ λ none. record { marks = old; arrive = arrive; tokens = tokens; closed = all.follows.closed none }
-        | true ↦ λ some. absurd (omega (arith, all.follows.more some, few_marked old long all, few))
-      ]
-      refl
-  until_nothing (suc left) old long few arrive tokens =
-      let all = all_hexes old long in
-      elim all.added as (λ (b : Bool). all.added ≡ b → Search) [
-        | false ↦ λ none. record { marks = old; arrive = arrive; tokens = tokens; closed = all.follows.closed none }
-        | true ↦ λ some. until_nothing left all.new (long_still (IsTrack position) old long all) (omega (arith, all.follows.more some, few)) (all.follows.arrive arrive) (λ spot stop is token. all.follows.kept spot (tokens spot stop is token))
       ]
       refl
 
-  -- marks that have the tokens of the first stops
-  pub record Begun (place : ℕ) : Type 0 where
-    pub marks : List Bool
-    pub long : length marks ≡ 744
-    pub arrive : AllArrive position company marks
-    pub tokens : TokensBefore position company marks place
+  -- the search ends: each time there is more, and there are no more marks than spots
+  until_nothing : (left : ℕ) (old : List Bool) → length old ≡ 744 → 744 ≤ marked old + left → AllArrive position company old → HasAllTokens position company old → Search position company
+  until_nothing zero old long few arrive tokens =
+      let all : Followed position company (IsTrack position) old = all_hexes old long in
+      done_or_on old arrive tokens all (λ some. absurd (omega (arith, all.follows.more some, few_marked old long all, few)))
+  until_nothing (suc left) old long few arrive tokens =
+      let all : Followed position company (IsTrack position) old = all_hexes old long in
+      done_or_on old arrive tokens all
+      (λ some. until_nothing left all.new (long_still (IsTrack position) old long all) (omega (arith, all.follows.more some, few)) (all.follows.arrive arrive) (λ spot stop is token. all.follows.kept spot (tokens spot stop is token)))
 
   -- one stop more
-  next_stop : (place : ℕ) (begun : Begun place) (stop : Stop) → stop_order stop ≡ place → Begun (place + 1)
+  next_stop : (place : ℕ) (begun : Begun position company place) (stop : Stop) → stop_order stop ≡ place → Begun position company (place + 1)
   next_stop place begun stop here =
       elim (token_decided position (joined_stop_of stop) company) [
         | inl token ↦
-            let number = spot_number (spot_of stop) in
+            let number : ℕ = spot_number (spot_of stop) in
             let low : number < length begun.marks = omega (arith, begun.long, number_low stop.hex (AtStop stop.number)) in
-            let new = set begun.marks number true in
+            let new : List Bool = set begun.marks number true in
             record {
               marks = new;
               long = length-set begun.marks number true ∙ begun.long;
@@ -296,8 +299,8 @@ module _ (position : Position) (company : Company) (lawful : IsLawful position) 
             }
       ]
 
-  -- those of the first hexes
-  begun_hexes : (count : ℕ) → count ≤ 93 → Begun (2 * count)
+  -- both stops of the first hexes
+  begun_hexes : (count : ℕ) → count ≤ 93 → Begun position company (2 * count)
   begun_hexes zero few =
       record {
         marks = replicate 744 false;
@@ -308,14 +311,17 @@ module _ (position : Position) (company : Company) (lawful : IsLawful position) 
   begun_hexes (suc count) few =
       let hex : Hex = get_or hexes count A9 in
       let is : index_of hex ≡ count = hexes_at count A9 (omega arith) in
-      let before = begun_hexes count (omega arith) in
-      let first = next_stop (2 * count) before (stop_at hex First) (omega (arith, is)) in
-      let second = next_stop (2 * count + 1) first (stop_at hex Second) (omega (arith, is)) in
+      let before : Begun position company (2 * count) = begun_hexes count (omega arith) in
+      let first : Begun position company (2 * count + 1) = next_stop (2 * count) before (stop_at hex First) (omega (arith, is)) in
+      let second : Begun position company (2 * count + 1 + 1) = next_stop (2 * count + 1) first (stop_at hex Second) (omega (arith, is)) in
       let same : 2 * count + 1 + 1 ≡ 2 * suc count = omega arith in
-      subst Begun same second
+      subst (Begun position company) same second
+
+  -- from all tokens on
+  from_tokens : Begun position company 186 → Search position company
+  from_tokens begun =
+      until_nothing 744 begun.marks begun.long (omega arith) begun.arrive (all_tokens position company begun.marks 186 (omega arith) begun.tokens)
 
   -- what the company reaches is found
-  pub found : Search
-  found =
-      let begun = begun_hexes 93 (omega arith) in
-      until_nothing 744 begun.marks begun.long (omega arith) begun.arrive (all_tokens position company begun.marks 186 (omega arith) begun.tokens)
+  pub found : Search position company
+  found = from_tokens (begun_hexes 93 (omega arith))

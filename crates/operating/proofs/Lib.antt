@@ -7,3 +7,4 @@ pub mod Found
 pub mod Decided
 pub mod Ends
 pub mod Answered
+pub mod Played

@@ -1,20 +1,19 @@
 -- A company's turn has at most one outcome.
 use Rattle.std.proofs.Common.{◌≡◌, ℕ, Bool, true, false, ◌↔◌, IsTrue, List, [], ◌∷◌, ◌++◌, Option, Some, None, Result, Ok, Err, ℤ, refl, sym, ap, subst, ◌∙◌}
-use Rattle.board.proofs.RuleTables.{earlier, kept}
+use Rattle.board.proofs.RuleTables.{earlier}
 use Rattle.board.specs.Ground.{Ground, position_of, with_lay}
 use Rattle.board.specs.LayRules.{IsConnected, IsLayAnswer, cost_or, ground_rules, lay_cost_of, reach_rules as lay_reach_rules}
 use Rattle.board.specs.TokenRules.{IsReachedPlace, IsTokenAnswer, reach_rules as token_reach_rules, slot_rules, token_cost_of}
 use Rattle.board.specs.declared.asker.Asker.{Asker}
 use Rattle.board.specs.declared.fault.LayFault.{LayFault}
 use Rattle.board.specs.declared.fault.TokenFault.{TokenFault}
-use Rattle.history.specs.LookBack.{Game}
 use Rattle.history.specs.Shares.{president_of}
 use Rattle.map_tables.specs.declared.lay.Lay.{Lay}
 use Rattle.map_tables.specs.declared.place.Place.{Place}
 use Rattle.operating.specs.Ground.{ground_now}
 use Rattle.operating.specs.Judgement.{asker_of}
 use Rattle.operating.specs.Laws.{OneCompanyTurn}
-use Rattle.operating.specs.Turn.{BlockLeads, InTurn, LayLeads, LineLeads, LinesLead, OrderLeads, ReadingLeads, TokenLeads, begun, lay_answered, settled, token_answered}
+use Rattle.operating.specs.Turn.{BlockLeads, InTurn, LayLeads, LinesLead, OrderLeads, ReadingLeads, TokenLeads, begun, lay_answered, settled, token_answered}
 use Rattle.operating.specs.declared.operator.Operator.{Operator}
 use Rattle.order_grammar.specs.declared.fault.Fault.{Fault}
 use Rattle.order_grammar.specs.declared.order.Order.{Order}

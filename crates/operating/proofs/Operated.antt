@@ -1,5 +1,5 @@
 -- Which companies have operated once more events stand at the end of a list, none of which begins a round.
-use Rattle.std.proofs.Common.{◌≡◌, Bool, true, false, ◌||◌, if◌then◌else◌, List, [], ◌∷◌, ◌++◌, Option, Some, None, is_some, refl, sym, ap, subst, ◌∙◌}
+use Rattle.std.proofs.Common.{◌≡◌, Bool, true, false, ◌||◌, if◌then◌else◌, List, [], ◌∷◌, ◌++◌, Option, Some, None, is_some, refl, sym, ap, ◌∙◌}
 use Rattle.std.proofs.lemmas.List.{append_assoc, append-nil}
 use Rattle.std.specs.List.{list_any}
 use Rattle.std.specs.Option.{option_flatten, option_map, option_or}
@@ -9,7 +9,6 @@ use Rattle.history.specs.LookBack.{in_round, last_said}
 use Rattle.history.specs.Operating.{has_operated, turn_said}
 use Rattle.history.specs.declared.event.Event.{Event}
 use Rattle.operating.specs.Laws.{BeginsNoRound}
-use Rattle.tables.specs.Roster.{same_company}
 use Rattle.tables.specs.declared.roster.Company.{Company}
 
 -- a company operates by an event

@@ -1,6 +1,6 @@
 -- What the rules say to a lay and a token of a company's turn: those of the board, asked of what lies by the
 -- list so far.
-use Rattle.std.specs.Prelude.{ℕ, Bool, true, false, List, map, Option, Some, None}
+use Rattle.std.specs.Prelude.{Bool, true, false, map, Option, Some, None}
 use Rattle.board.specs.declared.asker.Asker.{Asker}
 use Rattle.board.specs.declared.fault.LayFault.{LayFault}
 use Rattle.board.specs.declared.fault.LayFault.TheVariants as lay_fault
@@ -8,7 +8,6 @@ use Rattle.board.specs.declared.fault.TokenFault.{TokenFault}
 use Rattle.board.specs.declared.fault.TokenFault.TheVariants as token_fault
 use Rattle.history.specs.Event.{party_of_company}
 use Rattle.history.specs.LookBack.{Game, cash_of, owner_of}
-use Rattle.history.specs.declared.event.Event.{Event}
 use Rattle.history.specs.declared.event.Holder.{Holder}
 use Rattle.history.specs.declared.event.Holder.TheVariants as holder
 use Rattle.history.specs.declared.ruling.LayRule.{LayRule}
@@ -18,7 +17,6 @@ use Rattle.history.specs.declared.ruling.TokenRule.TheVariants as token_rule
 use Rattle.operating.specs.declared.progress.Progress.{Progress}
 use Rattle.tables.specs.Roster.{privates, same_company}
 use Rattle.tables.specs.declared.roster.Company.{Company}
-use Rattle.tables.specs.declared.roster.Private.{Private}
 
 -- the company is this owner
 abbrev pub is_companys : Company → Option Holder → Bool

@@ -1,5 +1,5 @@
 -- Laws of company turns.
-use Rattle.std.specs.Prelude.{◌≡◌, ℕ, Bool, false, ◌||◌, List, ◌++◌, is_some}
+use Rattle.std.specs.Prelude.{◌≡◌, ℕ, false, ◌||◌, List, ◌++◌, is_some}
 use Rattle.std.specs.List.{list_any}
 use Rattle.history.specs.Event.{round_of as round_begun}
 use Rattle.history.specs.LookBack.{Game}

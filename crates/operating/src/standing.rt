@@ -31,11 +31,7 @@ pub fn rule_standing_lines(
 
 /// Rules the standing lines of a seat's sheet, those before its first head. No order has a place
 /// there.
-fn rule_standing(
-    history: &mut History,
-    seat: Seat,
-    sheet: &mut PartsLeft,
-) -> Result<(), AllocError>
+fn rule_standing(history: &mut History, seat: Seat, sheet: &mut PartsLeft) -> Result<(), AllocError>
     requires { IsSound history.old }
     ensures seats { OnOk result (history.new.seats ≡ history.old.seats) }
     ensures events { OnOk result (history.new.events

@@ -37,7 +37,11 @@ pub(crate) fn rule_token(
             tell_ruling(history, by.president, line, Ruling::Obeyed(order))?;
             let company = by.company;
             let cost = amount_of(cost);
-            history.append(Event::Token { company, place, cost })?;
+            history.append(Event::Token {
+                company,
+                place,
+                cost,
+            })?;
             Ok(progress.with_token())
         }
         Err(fault) => {

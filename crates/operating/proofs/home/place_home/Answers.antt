@@ -1,4 +1,4 @@
-use Rattle.std.proofs.Common.{◌≡◌, sym, subst, arith}
+use Rattle.std.proofs.Common.{◌≡◌, arith}
 use Rattle.history.specs.Operating.{tokens_placed}
 use Rattle.operating.proofs.Fitting.{home_fits_after}
 use Rattle.operating.proofs.home.place_home.Goals as goal

@@ -1,12 +1,5 @@
-use Rattle.std.proofs.Common.{sym, subst}
-use Rattle.history.proofs.Payments.{withholding_sound}
-use Rattle.history.specs.Sound.{IsSound}
 use Rattle.operating.proofs.Fitting.{withheld_playable, withheld_steps}
 use Rattle.operating.proofs.withholding.withhold.Goals as goal
-
-pub tell_broken-requires : goal.tell_broken-requires
-tell_broken-requires c =
-    subst IsSound (sym c.in_ok-append.ensures.ok) (withholding_sound c.args.history.now c.args.company c.args.amount c.requires.playable.sound)
 
 pub returns-clause-playable : goal.returns-clause-playable
 returns-clause-playable c =
