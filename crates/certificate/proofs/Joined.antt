@@ -23,7 +23,8 @@ pub fails : {P : Type 0} (test : Bool) → (test ≡ true) ↔ P → (test ≡ f
 fails true exact = (λ h. cc, λ none. absurd (none (exact.0 refl)))
 fails false exact = (λ h fact. let wrong : false ≡ true = exact.1 fact in cc, λ none. refl)
 
-neither : (a b : Bool) → (a || b) ≡ false → (a ≡ false) × (b ≡ false)
+-- neither of two tests passes
+pub neither : (a b : Bool) → (a || b) ≡ false → (a ≡ false) × (b ≡ false)
 neither true b h = cc
 neither false b h = (refl, h)
 

@@ -76,7 +76,7 @@ mark_more marks n m low =
           get_or-set_other marks n m true false other ∙ or_not_here (eqb n m) (get_or marks m false) (get_or marks m false) (eqb_not n m (λ is. other (sym is))) refl
     ]
 
-length_marked : (used : List Bool) (borders : List ℕ) → length (marked used borders) ≡ length used
+pub length_marked : (used : List Bool) (borders : List ℕ) → length (marked used borders) ≡ length used
 length_marked used [] = refl
 length_marked used (border ∷ borders) = length-set (marked used borders) border true ∙ length_marked used borders
 

@@ -9,3 +9,4 @@ pub mod Borders
 pub mod Sharing
 pub mod Counting
 pub mod Written
+pub mod Earning

@@ -183,11 +183,11 @@ ordered_among (first ∷ rest) link h among =
     let parts : (is_link first ≡ true) × (are_links rest ≡ true) = two_of_three (is_link first) (leads first rest) (are_links rest) h in
     elim among [ inl here ↦ subst (λ (l : Link). is_link l ≡ true) here parts.0 | inr later ↦ ordered_among rest link parts.1 later ]
 
-record Ordered (link : Link) : Type 0 where
-  from_side : end_order link.a < 6
-  rising : end_order link.a < end_order link.b
+pub record Ordered (link : Link) : Type 0 where
+  pub from_side : end_order link.a < 6
+  pub rising : end_order link.a < end_order link.b
 
-ordered : (position : Position) → IsLawful position → (step : Step) → IsTrack position step → Ordered step.link
+pub ordered : (position : Position) → IsLawful position → (step : Step) → IsTrack position step → Ordered step.link
 ordered position lawful step track =
     let links = lawful.links step.link.hex in
     let is : is_link step.link ≡ true = ordered_among (links_of position step.link.hex) step.link links.in_order track in
@@ -221,7 +221,7 @@ between_is position lawful step track =
     ∙ ap (λ b. if b then Some step else None) found
 
 -- no step leads from a stop to a stop
-stop_to_stop : (link : Link) (turned : Bool) (n m : StopNumber) → Ordered link → (if turned then link.b else link.a) ≡ AtStop n → (if turned then link.a else link.b) ≡ AtStop m → ⊥
+pub stop_to_stop : (link : Link) (turned : Bool) (n m : StopNumber) → Ordered link → (if turned then link.b else link.a) ≡ AtStop n → (if turned then link.a else link.b) ≡ AtStop m → ⊥
 stop_to_stop link true n m facts enters leaves =
     let wrong : end_order link.a ≡ end_order (AtStop m) = ap end_order leaves in omega (arith, wrong, facts.from_side)
 stop_to_stop link false n m facts enters leaves =

@@ -1,8 +1,8 @@
 -- What joins the legal runs and the rules: what some places name is a legal run exactly where they break
 -- no rule, and each legal run is named by some. And what the numbers of borders and the marks of used
 -- ones are worth: a number is one border's; a run adds its borders to the marks and no others; a run that
--- is legal after it shares no border with it.
-use Rattle.std.specs.Prelude.{◌≡◌, ◌↔◌, ◌≤◌, ◌⊎◌, ℕ, Bool, Some, None, List, length}
+-- is legal after it shares no border with it. A run earns no more than the borders allow that it uses.
+use Rattle.std.specs.Prelude.{◌≡◌, ◌↔◌, ◌+◌, ◌*◌, ◌≤◌, ◌⊎◌, ℕ, Bool, true, false, Some, None, List, [], ◌∷◌, length}
 use Rattle.std.specs.List.{AllByRecursion}
 use Rattle.map_tables.specs.Border.{neighbour_of}
 use Rattle.map_tables.specs.declared.hex.Hex.{Hex}
@@ -16,8 +16,8 @@ use Rattle.reach.specs.declared.walk.Spot.{Spot}
 use Rattle.reach.specs.declared.walk.Step.{Step}
 use Rattle.tables.specs.declared.rolling_stock.Kind.{Kind}
 use Rattle.tables.specs.declared.roster.Company.{Company}
-use Rattle.certificate.specs.Fault.{marked, run_fault}
-use Rattle.certificate.specs.Legal.{IsLegalRun, IsUsed, border_of, crossed}
+use Rattle.certificate.specs.Fault.{marked, named_steps, run_fault}
+use Rattle.certificate.specs.Legal.{IsLegalRun, IsUsed, border_of, crossed, earned}
 use Rattle.certificate.specs.Named.{walk_named}
 
 -- some places name a legal run
@@ -53,6 +53,23 @@ RunsShareNoBorder =
     (position : Position) (company : Company) (kind : Kind) (used : List Bool) (first second : List Step) → length used ≡ 279 →
     IsLegalRun position company kind (marked used (crossed first)) second →
     AllByRecursion (λ border. ¬ IsAmong border (crossed first)) (crossed second)
+
+-- a border that is not used counts, by the marks of those that are
+abbrev pub if_unused : Bool → ℕ
+if_unused true = 0
+if_unused false = 1
+
+-- how many borders are not used
+abbrev pub unused : List Bool → ℕ
+unused [] = 0
+unused (mark ∷ marks) = if_unused mark + unused marks
+
+-- a run that breaks no rule earns at most 160 dollars for each border that it uses
+abbrev pub RunsEarnByBorders : Type 0
+RunsEarnByBorders =
+    (position : Position) (company : Company) (kind : Kind) (used : List Bool) (places : List Place) → length used ≡ 279 →
+    IsLawful position → run_fault position company kind used places ≡ None →
+    earned position (named_steps position places) + 160 * unused (marked used (crossed (named_steps position places))) ≤ 160 * unused used
 
 -- these places name a walk, and are as many as a run may have
 pub record AreItsPlaces (position : Position) (steps : List Step) (places : List Place) : Type 0 where

@@ -4,6 +4,7 @@ ghost use Rattle.certificate.specs.Law.{
   CrossedBordersAreUsed,
   EachLegalRunIsNamed,
   LegalWhereNoRuleIsBroken,
+  RunsEarnByBorders,
   RunsShareNoBorder,
 };
 
@@ -31,6 +32,12 @@ pub fn crossed_borders_are_used()
 /// A run that is legal once the borders of another are used shares no border with it.
 pub fn runs_share_no_border()
     ensures { RunsShareNoBorder }
+{}
+
+/// A run that breaks no rule earns at most 160 dollars for each border that it uses, so that all
+/// runs of a turn together earn at most 44,640 dollars.
+pub fn runs_earn_by_borders()
+    ensures { RunsEarnByBorders }
 {}
 
 /// Each legal run can be written out: some places name it, from 2 to 280. A hex that is a part of

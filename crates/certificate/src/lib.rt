@@ -24,7 +24,7 @@ mod used;
 pub use check::check_run;
 pub use laws::{
     borders_are_told_apart, crossed_borders_are_used, each_legal_run_is_named,
-    legal_where_no_rule_is_broken, runs_share_no_border,
+    legal_where_no_rule_is_broken, runs_earn_by_borders, runs_share_no_border,
 };
 pub use run_fault::RunFault;
 pub use used::Used;

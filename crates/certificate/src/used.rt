@@ -6,7 +6,7 @@ use std::marker::Model;
 pub(crate) const BORDERS: usize = 279;
 
 /// The borders that the trains of a company have crossed in its turn, by their numbers.
-#[derive(Drop)]
+#[derive(Clone, Copy, Debug)]
 pub struct Used {
     pub(crate) crossed: [bool; BORDERS],
 }

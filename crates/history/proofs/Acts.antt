@@ -6,7 +6,8 @@ use Rattle.std.specs.Option.{option_flatten, option_or}
 use Rattle.history.proofs.Choices.{chosen, passed_over}
 use Rattle.history.proofs.BidWords.{differ_after_bid, differ_after_sale, elsewhere_kept, bid_silent, sale_silent, same_private_is, seated_after_bid, seated_after_sale, small_after_bid, small_after_sale, tied_by_bid, untied_by_sale}
 use Rattle.history.proofs.EventAtEnd.{bids_of_before, cash_of_at_end, cash_of_before, is_sold_before, last_said_at_end, shares_of_before, square_of_before, sv_price_of_at_end}
-use Rattle.history.proofs.Soundness.{companies_kept, differ_kept, floated_kept, given_kept, held_kept, led_kept, offered_kept, price_kept, seated_kept, small_kept, solvent_kept, ten_kept}
+use Rattle.history.proofs.Soundness.{companies_kept, differ_kept, floated_kept, given_kept, held_kept, led_kept, offered_kept, price_kept, seated_kept, small_kept, solvent_kept, ten_kept, within_after, within_kept}
+use Rattle.history.proofs.Owned.{owner_is_party}
 use Rattle.history.proofs.Standing.{bids_split}
 use Rattle.history.specs.Bids.{bids_elsewhere_of, free_cash_of, tied_on}
 use Rattle.history.specs.Event.{ownership_of, party_at}
@@ -59,6 +60,7 @@ bid_sound game private seat amount low seated apart affordable sound =
       offered = offered_kept game.events (Bids private seat amount) refl refl refl sound.offered;
       led = led_kept game.events (Bids private seat amount) refl refl refl refl sound.led;
       floated = floated_kept game.events (Bids private seat amount) refl refl refl refl sound.floated;
+      within = within_kept game.seats game.events (Bids private seat amount) refl sound.within;
     }
 
 -- after a sale each seat still has what its bids tie
@@ -134,9 +136,9 @@ pub given_after_sale : (events : List Event) (private : Private) (seat : Seat) (
 given_after_sale events private seat price given none =
     stays_sold events (Sold private seat price) SchuylkillValley (given (sym (sv_price_of_at_end events (Sold private seat price)) ∙ none))
 
--- a sale to a seat that has the price free of other bids
+-- a sale to a seat at the table that has the price free of other bids
 pub sale_sound : SaleKeepsSound
-sale_sound game private seat price unsold affordable sound =
+sale_sound game private seat price unsold seated affordable sound =
     record {
       solvent = solvent_after_sale game private seat price affordable sound.solvent;
       companies = companies_after_sale game private seat price sound.companies;
@@ -150,15 +152,16 @@ sale_sound game private seat price unsold affordable sound =
       offered = offered_after_sale game.events private seat price unsold sound.offered;
       led = led_kept game.events (Sold private seat price) refl refl refl refl sound.led;
       floated = floated_kept game.events (Sold private seat price) refl refl refl refl sound.floated;
+      within = within_after game.seats game.events (Sold private seat price) (seated, tt) sound.within;
     }
 
 -- a revenue takes nothing from a holder
 revenue_takes_nothing : (owner by : Holder) (amount : ℕ) → paid_by (party.Holder by) (Some (record { from = party.Bank; to = party.Holder owner; amount = amount })) ≡ 0
 revenue_takes_nothing owner by amount = refl
 
--- a revenue of the bank
+-- a revenue of the bank to the owner of a private
 pub revenue_sound : RevenueKeepsSound
-revenue_sound game private owner amount sound =
+revenue_sound game private owner amount owns sound =
     record {
       solvent = λ seat. let before = sound.solvent seat in omega (arith, ints, cash_of_at_end game.seats game.events (Revenue private owner amount) (party_at seat), bids_of_before game.events (Revenue private owner amount) seat refl, revenue_takes_nothing owner (holder.Seat seat) amount);
       companies = λ company. let before = sound.companies company in omega (arith, ints, cash_of_at_end game.seats game.events (Revenue private owner amount) (party.Holder (holder.Company company)), revenue_takes_nothing owner (holder.Company company) amount);
@@ -172,6 +175,7 @@ revenue_sound game private owner amount sound =
       offered = offered_kept game.events (Revenue private owner amount) refl refl refl sound.offered;
       led = led_kept game.events (Revenue private owner amount) refl refl refl refl sound.led;
       floated = floated_kept game.events (Revenue private owner amount) refl refl refl refl sound.floated;
+      within = within_after game.seats game.events (Revenue private owner amount) (tt, owner_is_party game private owner sound owns) sound.within;
     }
 
 -- a new price of SV, which is 0 only once SV is sold
@@ -191,11 +195,12 @@ price_sound game price some given sound =
       offered = offered_kept game.events (Price price) refl refl refl sound.offered;
       led = led_kept game.events (Price price) refl refl refl refl sound.led;
       floated = floated_kept game.events (Price price) refl refl refl refl sound.floated;
+      within = within_kept game.seats game.events (Price price) refl sound.within;
     }
 
--- SV, once its price is 0, is given away
+-- SV, once its price is 0, is given away to a seat at the table
 pub gift_sound : SvIsGivenAway
-gift_sound game seat unsold sound =
+gift_sound game seat unsold seated sound =
     let priced = with_event game (Price 0) in
     let free : (by : Seat) → pos 0 ≤ℤ free_cash_of priced.seats priced.events by = solvent_kept game (Price 0) refl refl sound.solvent in
     let has = free seat in
@@ -216,4 +221,5 @@ gift_sound game seat unsold sound =
       offered = offered_after_sale priced.events SchuylkillValley seat 0 still_unsold (offered_kept game.events (Price 0) refl refl refl sound.offered);
       led = led_kept priced.events (Sold SchuylkillValley seat 0) refl refl refl refl (led_kept game.events (Price 0) refl refl refl refl sound.led);
       floated = floated_kept priced.events (Sold SchuylkillValley seat 0) refl refl refl refl (floated_kept game.events (Price 0) refl refl refl refl sound.floated);
+      within = within_after priced.seats priced.events (Sold SchuylkillValley seat 0) (seated, tt) (within_kept game.seats game.events (Price 0) refl sound.within);
     }

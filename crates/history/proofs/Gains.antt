@@ -3,10 +3,11 @@
 use Rattle.std.proofs.Common.{◌≡◌, ℕ, ◌+◌, List, [], ◌∷◌, ◌++◌, Some, None, pos, ◌≤ℤ◌, refl, sym, ◌∙◌, arith}
 use Rattle.std.proofs.lemmas.Int.{ints}
 use Rattle.history.proofs.EventAtEnd.{is_floated_before, par_of_before, president_of_before, square_of_before}
-use Rattle.history.proofs.Soundness.{differ_kept, given_kept, least_offered_before, price_kept, seated_kept, small_kept}
+use Rattle.history.proofs.Soundness.{differ_kept, given_kept, least_offered_before, price_kept, seated_kept, small_kept, within_after}
 use Rattle.history.proofs.Tenths.{IsAtTable, held_after, moved, part, shares_after, ten_after}
-use Rattle.history.specs.Event.{bidding_of, floated_by, office_of, ownership_of, par_set, place_of_source, square_set, sv_price_set, transfer_of}
+use Rattle.history.specs.Event.{bidding_of, floated_by, office_of, ownership_of, par_set, payment_of, place_of_source, square_set, sv_price_set, transfer_of}
 use Rattle.history.specs.LookBack.{Game, with_event}
+use Rattle.history.specs.Money.{IsWithin}
 use Rattle.history.specs.Shares.{shares_of, square_of}
 use Rattle.history.specs.Sound.{AreLed, AreOffered, CompaniesAreSolvent, FloatedAreLed, IsLed, IsSound, SeatsAreSolvent, least_offered}
 use Rattle.history.specs.declared.event.Event.{Event}
@@ -41,7 +42,8 @@ bank_at_table seats InitialOffering bank = tt
 bank_at_table seats BankPool bank = tt
 bank_at_table seats (OfSeat seat) bank = absurd bank
 
--- an event moves these tenths from the bank to a seat, and says nothing else but perhaps of money
+-- an event moves these tenths from the bank to a seat, and says nothing else but perhaps of money, which it moves
+-- within the table
 pub record Gains (seats : ℕ) (event : Event) (transfer : Transfer) : Type 0 where
   pub moves : transfer_of event ≡ Some transfer
   pub from_bank : IsOfBank transfer.from
@@ -53,6 +55,7 @@ pub record Gains (seats : ℕ) (event : Event) (transfer : Transfer) : Type 0 wh
   pub no_office : office_of event ≡ None
   pub no_float : floated_by event ≡ None
   pub no_price : sv_price_set event ≡ None
+  pub pays : IsWithin seats (payment_of event)
 
 -- no seat has fewer tenths
 pub seat_gains : (events : List Event) (event : Event) (transfer : Transfer) (company : Company) (seat : Seat) → transfer_of event ≡ Some transfer → IsOfBank transfer.from → shares_of events company (OfSeat seat) ≤ℤ shares_of (events ++ event ∷ []) company (OfSeat seat)
@@ -109,4 +112,5 @@ gain_sound game event transfer gains many enough solvent companies sound =
       offered = offered_gained game.events event transfer gains.moves gains.no_owner gains.no_square enough;
       led = led_gained game.events event transfer gains.moves gains.from_bank gains.no_par gains.no_square gains.no_office sound.led;
       floated = floated_gained game.events event transfer gains.moves gains.from_bank gains.no_par gains.no_float gains.no_office sound.floated;
+      within = within_after game.seats game.events event gains.pays sound.within;
     }

@@ -40,6 +40,7 @@ gift_gains seats company seat tenths seated =
       no_office = refl;
       no_float = refl;
       no_price = refl;
+      pays = tt;
     }
 
 -- enough are left of each company, where there are enough of the one
@@ -71,4 +72,4 @@ ca_sound game seat price unsold unplaced seated affordable sound =
     let offered : pos (least_offered game.events Pennsylvania) ≤ℤ shares_of game.events Pennsylvania InitialOffering = sound.offered Pennsylvania unplaced in
     let same : shares_of mid.events Pennsylvania InitialOffering ≡ shares_of game.events Pennsylvania InitialOffering = shares_of_before game.events (Sold CamdenAmboy seat price) Pennsylvania InitialOffering refl in
     let many : pos 9 ≤ℤ shares_of mid.events Pennsylvania InitialOffering = subst (λ (tenths : ℤ). pos 9 ≤ℤ tenths) (sym same) (subst (λ (least : ℕ). pos least ≤ℤ shares_of game.events Pennsylvania InitialOffering) nine offered) in
-    given_sound mid Pennsylvania seat 1 seated (omega (arith, ints)) (λ _. subst (λ (least : ℕ). pos (least + 1) ≤ℤ shares_of mid.events Pennsylvania InitialOffering) (sym eight) many) (sale_sound game CamdenAmboy seat price unsold affordable sound)
+    given_sound mid Pennsylvania seat 1 seated (omega (arith, ints)) (λ _. subst (λ (least : ℕ). pos (least + 1) ≤ℤ shares_of mid.events Pennsylvania InitialOffering) (sym eight) many) (sale_sound game CamdenAmboy seat price unsold seated affordable sound)

@@ -5,6 +5,7 @@ pub mod Words
 pub mod Standing
 pub mod BidWords
 pub mod Tied
+pub mod Owned
 pub mod Acts
 pub mod Soundness
 pub mod Tenths

@@ -1,13 +1,14 @@
--- An event that moves money and says nothing else keeps a list sound, where no seat pays and each company has
--- what it pays.
+-- An event that moves money within the table and says nothing else keeps a list sound, where no seat pays and each
+-- company has what it pays.
 use Rattle.std.proofs.Common.{◌≡◌, ℕ, inl, inr, if◌then◌else◌, None, pos, ◌≤ℤ◌, refl, subst, arith}
 use Rattle.std.proofs.lemmas.Int.{ints}
 use Rattle.history.proofs.Choices.{same_company_is, truth}
 use Rattle.history.proofs.EventAtEnd.{bids_of_before, cash_of_at_end}
-use Rattle.history.proofs.Soundness.{differ_kept, floated_kept, given_kept, held_kept, led_kept, offered_kept, price_kept, quiet_sound, seated_kept, small_kept, ten_kept}
+use Rattle.history.proofs.Soundness.{differ_kept, floated_kept, given_kept, held_kept, led_kept, offered_kept, price_kept, quiet_sound, seated_kept, small_kept, ten_kept, within_after}
 use Rattle.history.specs.Event.{bidding_of, floated_by, office_of, ownership_of, par_set, party_at, party_of_company, payment_of, square_set, sv_price_set, transfer_of}
 use Rattle.history.specs.Laws.{HomeKeepsSound, LayKeepsSound, TokenKeepsSound, WithholdingKeepsSound}
 use Rattle.history.specs.LookBack.{Game, cash_of, paid_by, with_event}
+use Rattle.history.specs.Money.{IsWithin}
 use Rattle.history.specs.Sound.{CompaniesAreSolvent, IsSound}
 use Rattle.history.specs.declared.event.Event.{Event}
 use Rattle.history.specs.declared.event.Event.TheVariants.{Home, Laid, Token, Withheld}
@@ -36,8 +37,8 @@ CompaniesCanPay game event =
     (company : Company) → pos (paid_by (party_of_company company) (payment_of event)) ≤ℤ cash_of game.seats game.events (party_of_company company)
 
 -- such an event keeps a list sound
-payment_sound : (game : Game) (event : Event) → OnlyPays event → NoSeatPays event → CompaniesCanPay game event → IsSound game → IsSound (with_event game event)
-payment_sound game event only no_seat can sound =
+payment_sound : (game : Game) (event : Event) → OnlyPays event → NoSeatPays event → CompaniesCanPay game event → IsWithin game.seats (payment_of event) → IsSound game → IsSound (with_event game event)
+payment_sound game event only no_seat can pays sound =
     record {
       solvent = λ seat. let before = sound.solvent seat in omega (arith, ints, cash_of_at_end game.seats game.events event (party_at seat), bids_of_before game.events event seat only.no_bid, no_seat seat);
       companies = λ company. let enough = can company in omega (arith, ints, cash_of_at_end game.seats game.events event (party_of_company company));
@@ -51,6 +52,7 @@ payment_sound game event only no_seat can sound =
       offered = offered_kept game.events event only.no_owner only.no_square only.no_transfer sound.offered;
       led = led_kept game.events event only.no_par only.no_square only.no_office only.no_transfer sound.led;
       floated = floated_kept game.events event only.no_par only.no_float only.no_office only.no_transfer sound.floated;
+      within = within_after game.seats game.events event pays sound.within;
     }
 
 -- a company that pays the bank has what it pays, where the one that pays has
@@ -64,17 +66,17 @@ can_pay game company other cost enough solvent =
 -- a lay
 pub lay_sound : LayKeepsSound
 lay_sound game company lay cost enough sound =
-    payment_sound game (Laid company lay cost) (record { no_owner = refl; no_bid = refl; no_transfer = refl; no_par = refl; no_square = refl; no_office = refl; no_float = refl; no_price = refl }) (λ seat. refl) (λ other. can_pay game company other cost enough sound.companies) sound
+    payment_sound game (Laid company lay cost) (record { no_owner = refl; no_bid = refl; no_transfer = refl; no_par = refl; no_square = refl; no_office = refl; no_float = refl; no_price = refl }) (λ seat. refl) (λ other. can_pay game company other cost enough sound.companies) (tt, tt) sound
 
 -- a token
 pub token_sound : TokenKeepsSound
 token_sound game company place cost enough sound =
-    payment_sound game (Token company place cost) (record { no_owner = refl; no_bid = refl; no_transfer = refl; no_par = refl; no_square = refl; no_office = refl; no_float = refl; no_price = refl }) (λ seat. refl) (λ other. can_pay game company other cost enough sound.companies) sound
+    payment_sound game (Token company place cost) (record { no_owner = refl; no_bid = refl; no_transfer = refl; no_par = refl; no_square = refl; no_office = refl; no_float = refl; no_price = refl }) (λ seat. refl) (λ other. can_pay game company other cost enough sound.companies) (tt, tt) sound
 
 -- a company that withholds
 pub withholding_sound : WithholdingKeepsSound
 withholding_sound game company amount sound =
-    payment_sound game (Withheld company amount) (record { no_owner = refl; no_bid = refl; no_transfer = refl; no_par = refl; no_square = refl; no_office = refl; no_float = refl; no_price = refl }) (λ seat. refl) (λ other. sound.companies other) sound
+    payment_sound game (Withheld company amount) (record { no_owner = refl; no_bid = refl; no_transfer = refl; no_par = refl; no_square = refl; no_office = refl; no_float = refl; no_price = refl }) (λ seat. refl) (λ other. sound.companies other) (tt, tt) sound
 
 -- a home token says nothing of what parties have
 pub home_sound : HomeKeepsSound

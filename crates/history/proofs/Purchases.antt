@@ -7,7 +7,7 @@ use Rattle.history.proofs.Choices.{chosen, passed_over, same_company_is, truth}
 use Rattle.history.proofs.Acts.{stays_sold}
 use Rattle.history.proofs.EventAtEnd.{bids_of_before, cash_of_at_end, last_said_at_end, square_of_before, sv_price_of_before}
 use Rattle.history.proofs.Gains.{EnoughAreLeft, Gains, bank_at_table, floated_gained, gain_sound, led_gained, source_of_bank}
-use Rattle.history.proofs.Soundness.{companies_kept, differ_kept, free_cash_before, price_kept, seated_kept, small_kept, solvent_kept}
+use Rattle.history.proofs.Soundness.{companies_kept, differ_kept, free_cash_before, price_kept, seated_kept, small_kept, solvent_kept, within_kept}
 use Rattle.history.proofs.Starts.{start_sound_by}
 use Rattle.history.proofs.Tenths.{held_after, moved, part, shares_after, ten_after}
 use Rattle.history.specs.Bids.{free_cash_of}
@@ -70,6 +70,7 @@ purchase_gains seats company seat tenths from price seated =
       no_office = refl;
       no_float = refl;
       no_price = refl;
+      pays = (seated, tt);
     }
 
 -- nothing goes either way
@@ -172,4 +173,5 @@ exchange_sound game seat from owner seated many sound =
       offered = offered_after_exchange game.events seat from (holder.Seat seat) owner sound.offered;
       led = led_gained game.events (Exchanged seat from) (exchange seat from) refl (source_of_bank from) refl refl refl sound.led;
       floated = floated_gained game.events (Exchanged seat from) (exchange seat from) refl (source_of_bank from) refl refl refl sound.floated;
+      within = within_kept game.seats game.events (Exchanged seat from) refl sound.within;
     }

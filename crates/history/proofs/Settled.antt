@@ -2,10 +2,11 @@
 -- changes nothing else.
 use Rattle.std.proofs.Common.{true, false, if◌then◌else◌, List, [], ◌∷◌, ◌++◌, refl}
 use Rattle.history.proofs.EventAtEnd.{quiet_same}
-use Rattle.history.proofs.Soundness.{companies_kept, differ_kept, given_kept, held_kept, offered_kept, price_kept, seated_kept, small_kept, solvent_kept, ten_kept}
+use Rattle.history.proofs.Soundness.{companies_kept, differ_kept, given_kept, held_kept, offered_kept, price_kept, seated_kept, small_kept, solvent_kept, ten_kept, within_kept}
 use Rattle.history.specs.Event.{IsQuiet}
 use Rattle.history.specs.Laws.{SaysTheSame}
 use Rattle.history.specs.LookBack.{Game, sv_price_of, with_event}
+use Rattle.history.specs.Money.{AreWithin}
 use Rattle.history.specs.Sound.{AreLed, AreOffered, AreTenInAll, BiddersAreSeated, BidsAreSmall, BidsDiffer, CompaniesAreSolvent, FloatedAreLed, IsGivenAway, IsSound, IsSvPrice, SeatsAreSolvent, TenthsAreHeld}
 use Rattle.history.specs.Tell.{breaks, broken_told}
 use Rattle.history.specs.declared.event.Event.{Event}
@@ -23,6 +24,7 @@ pub record IsSettled (game : Game) : Type 0 where
   pub held : TenthsAreHeld game.events
   pub ten : AreTenInAll game
   pub offered : AreOffered game.events
+  pub within : AreWithin game.seats game.events
 
 -- a list where they are led too
 pub sound_of : (game : Game) → IsSettled game → AreLed game.events → FloatedAreLed game.events → IsSound game
@@ -40,6 +42,7 @@ sound_of game settled led floated =
       offered = settled.offered;
       led = led;
       floated = floated;
+      within = settled.within;
     }
 
 -- a quiet event keeps it so
@@ -56,10 +59,11 @@ settled_quiet game event quiet settled =
       held = held_kept game.events event quiet.transfer settled.held;
       ten = ten_kept game event quiet.transfer settled.ten;
       offered = offered_kept game.events event quiet.ownership quiet.square quiet.transfer settled.offered;
+      within = within_kept game.seats game.events event quiet.payment settled.within;
     }
 
 -- BROKEN is quiet
-broken_quiet : IsQuiet Broken
+pub broken_quiet : IsQuiet Broken
 broken_quiet =
     record {
       payment = refl;

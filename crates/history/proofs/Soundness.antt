@@ -6,6 +6,7 @@ use Rattle.history.specs.Bids.{bids_of, free_cash_of}
 use Rattle.history.specs.Event.{bidding_of, floated_by, office_of, ownership_of, par_set, party_at, payment_of, square_set, sv_price_set, transfer_of}
 use Rattle.history.specs.Laws.{QuietKeepsSound}
 use Rattle.history.specs.LookBack.{Game, cash_of, sv_price_of, with_event}
+use Rattle.history.specs.Money.{AreWithin, IsWithin}
 use Rattle.history.specs.Shares.{held_by, shares_of}
 use Rattle.history.specs.Sound.{AreLed, AreOffered, AreTenInAll, BiddersAreSeated, BidsAreSmall, BidsDiffer, CompaniesAreSolvent, FloatedAreLed, IsGivenAway, IsLed, IsSound, IsSvPrice, SeatsAreSolvent, TenthsAreHeld, least_offered}
 use Rattle.history.specs.declared.event.Event.{Event}
@@ -113,6 +114,15 @@ pub floated_kept : (events : List Event) (event : Event) → par_set event ≡ N
 floated_kept events event no_par no_float no_office no_transfer led =
     λ company floated. is_led_kept events event company no_par no_office no_transfer (led company (sym (is_floated_before events event company no_float) ∙ floated))
 
+-- an event that pays within the table leaves payments within it
+pub within_after : (seats : ℕ) (events : List Event) (event : Event) → IsWithin seats (payment_of event) → AreWithin seats events → AreWithin seats (events ++ event ∷ [])
+within_after seats [] event pays within = (pays, tt)
+within_after seats (first ∷ events) event pays within = (within.0, within_after seats events event pays within.1)
+
+-- without a payment they are within it as before
+pub within_kept : (seats : ℕ) (events : List Event) (event : Event) → payment_of event ≡ None → AreWithin seats events → AreWithin seats (events ++ event ∷ [])
+within_kept seats events event none within = within_after seats events event (subst (IsWithin seats) (sym none) tt) within
+
 -- a quiet event keeps each fact
 pub quiet_sound : QuietKeepsSound
 quiet_sound game event quiet sound =
@@ -129,6 +139,7 @@ quiet_sound game event quiet sound =
       offered = offered_kept game.events event quiet.ownership quiet.square quiet.transfer sound.offered;
       led = led_kept game.events event quiet.par quiet.square quiet.office quiet.transfer sound.led;
       floated = floated_kept game.events event quiet.par quiet.float quiet.office quiet.transfer sound.floated;
+      within = within_kept game.seats game.events event quiet.payment sound.within;
     }
 
 -- at first nobody bids
@@ -167,4 +178,5 @@ start_sound seats =
       offered = λ company unplaced. omega (arith, ints, least_low company);
       led = λ company square placed. absurd (cc);
       floated = λ company floated. absurd (cc);
+      within = tt;
     }

@@ -4,6 +4,7 @@ use Rattle.std.specs.Option.{option_or}
 use Rattle.history.specs.Event.{IsQuiet, party_at, party_of_company, payment_of, place_of_source, square_set}
 use Rattle.history.specs.LookBack.{Game, cash_of, cheapest_of, is_sold, last_said, owner_of, paid_by, paid_to, sv_price_of, with_event}
 use Rattle.history.specs.Bids.{bid_of, bids_elsewhere_of, bids_of, bids_on as the_bids_on, free_cash_of}
+use Rattle.history.specs.Money.{IsParty, cash_together, parties}
 use Rattle.history.specs.Operating.{lays_of, rulings_in_round, rulings_then, tokens_of}
 use Rattle.history.specs.Shares.{arrival_of, is_floated, is_par_value, par_of, president_of, shares_of, square_of, square_said}
 use Rattle.history.specs.Sound.{IsSound, IsSvPrice, least_offered}
@@ -13,6 +14,7 @@ use Rattle.history.specs.declared.event.Event.TheVariants.{Bids, Sold, Price, Re
 use Rattle.history.specs.declared.event.Holder.{Holder}
 use Rattle.history.specs.declared.event.Holder.TheVariants as holder
 use Rattle.history.specs.declared.event.Party.{Party}
+use Rattle.history.specs.declared.event.Party.TheVariants as party
 use Rattle.history.specs.declared.event.Shareholder.{Shareholder}
 use Rattle.history.specs.declared.event.Shareholder.TheVariants.{InitialOffering, Seat as OfSeat}
 use Rattle.map_tables.specs.declared.lay.Lay.{Lay}
@@ -59,6 +61,17 @@ pub record SaysTheSame (before after : List Event) : Type 0 where
 abbrev pub block_sold : Game → Company → Seat → ℕ → ℕ → Game
 block_sold game company seat tenths price = broken_told (with_event game (Sells company seat tenths price))
 
+-- the bank, the seats at the table and the companies have 12,000 together in a sound list
+abbrev pub SoundMoneyStays : Type 0
+SoundMoneyStays =
+    (game : Game) → IsSound game → cash_together game.seats game.events (parties game.seats) ≡ pos 12000
+
+-- a private's owner is a seat at the table, or a company
+abbrev pub OwnersAreParties : Type 0
+OwnersAreParties =
+    (game : Game) (private : Private) (owner : Holder) →
+    IsSound game → owner_of game.events private ≡ Some owner → IsParty game.seats (party.Holder owner)
+
 -- a quiet event changes none of it
 abbrev pub QuietSaysTheSame : Type 0
 QuietSaysTheSame =
@@ -75,16 +88,18 @@ BidKeepsSound =
     (game : Game) (private : Private) (seat : Seat) (amount : ℕ) →
     amount ≤ 99999 → seat.0 < game.seats → ((other : Seat) → bid_of game.events private other ≡ Some amount → other ≡ seat) → pos amount ≤ℤ (cash_of game.seats game.events (party_at seat) -ℤ pos (bids_elsewhere_of game.events seat private)) → IsSound game → IsSound (with_event game (Bids private seat amount))
 
--- a sale of an unsold private keeps a list sound, where the seat has the price free of its other bids
+-- a sale of an unsold private to a seat at the table keeps a list sound, where the seat has the price free of
+-- its other bids
 abbrev pub SaleKeepsSound : Type 0
 SaleKeepsSound =
     (game : Game) (private : Private) (seat : Seat) (price : ℕ) →
-    is_sold game.events private ≡ false → pos price ≤ℤ (cash_of game.seats game.events (party_at seat) -ℤ pos (bids_elsewhere_of game.events seat private)) → IsSound game → IsSound (with_event game (Sold private seat price))
+    is_sold game.events private ≡ false → seat.0 < game.seats → pos price ≤ℤ (cash_of game.seats game.events (party_at seat) -ℤ pos (bids_elsewhere_of game.events seat private)) → IsSound game → IsSound (with_event game (Sold private seat price))
 
--- a revenue of the bank keeps a list sound
+-- a revenue of the bank to the owner of a private keeps a list sound
 abbrev pub RevenueKeepsSound : Type 0
 RevenueKeepsSound =
-    (game : Game) (private : Private) (owner : Holder) (amount : ℕ) → IsSound game → IsSound (with_event game (Revenue private owner amount))
+    (game : Game) (private : Private) (owner : Holder) (amount : ℕ) →
+    owner_of game.events private ≡ Some owner → IsSound game → IsSound (with_event game (Revenue private owner amount))
 
 -- a price of SV keeps a list sound; it is 0 only once SV is sold
 abbrev pub PriceKeepsSound : Type 0
@@ -92,11 +107,11 @@ PriceKeepsSound =
     (game : Game) (price : ℕ) →
     IsSvPrice price → (price ≡ 0 → is_sold game.events SchuylkillValley ≡ true) → IsSound game → IsSound (with_event game (Price price))
 
--- or it comes to 0, and SV is given away
+-- or it comes to 0, and SV is given away to a seat at the table
 abbrev pub SvIsGivenAway : Type 0
 SvIsGivenAway =
     (game : Game) (seat : Seat) →
-    is_sold game.events SchuylkillValley ≡ false → IsSound game → IsSound (with_event (with_event game (Price 0)) (Sold SchuylkillValley seat 0))
+    is_sold game.events SchuylkillValley ≡ false → seat.0 < game.seats → IsSound game → IsSound (with_event (with_event game (Price 0)) (Sold SchuylkillValley seat 0))
 
 -- a gift to a seat at the table keeps a list sound, where the initial offering has so many tenths, and
 -- of a company without a square enough are left

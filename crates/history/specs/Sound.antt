@@ -5,11 +5,13 @@
 -- each company's tenths are nowhere under 0 and ten in all, and of a company without a square at least
 -- eight are in its initial offering, nine of PRR while CA is unsold and of NYC while MH is open;
 -- a company that has a square or has floated has one of the six par values and a president with at least
--- two tenths.
+-- two tenths;
+-- every payment goes between the bank, seats at the table and companies.
 -- Each fact is about a few aspects of events: an event without those keeps it.
 use Rattle.std.specs.Prelude.{◌≡◌, ◌⊎◌, ℕ, ◌<◌, ◌≤◌, true, if◌then◌else◌, List, Some, None, pos, ◌≤ℤ◌}
 use Rattle.history.specs.Bids.{bid_of, free_cash_of}
 use Rattle.history.specs.LookBack.{Game, cash_of, is_closed, is_sold, sv_price_of}
+use Rattle.history.specs.Money.{AreWithin}
 use Rattle.history.specs.Shares.{is_floated, is_par_value, par_of, president_of, shares_of, square_of, tenths_in_all}
 use Rattle.history.specs.declared.event.Event.{Event}
 use Rattle.history.specs.declared.event.Holder.TheVariants as holder
@@ -104,3 +106,4 @@ pub record IsSound (game : Game) : Type 0 where
   pub offered : AreOffered game.events
   pub led : AreLed game.events
   pub floated : FloatedAreLed game.events
+  pub within : AreWithin game.seats game.events

@@ -1,7 +1,7 @@
 //! Laws of games: each function does nothing, and its contract is the law.
 
 ghost use Rattle.history.specs.Money.{AllMoneyStays};
-ghost use Rattle.history.specs.Laws.{ArrivalIsLast, ArrivalsDiffer, BidKeepsSound, BlockKeepsSound, BlockWithSuccessionKeepsSound, CaIsSoldWithItsGift, CashMoves, ExchangeKeepsSound, FirstIsCheapest, FloatKeepsSound, GiftKeepsSound, HomeKeepsSound, LastWordIsLast, LayKeepsSound, LaysGrow, MoveKeepsSound, PriceKeepsSound, PurchaseKeepsSound, QuietKeepsSound, QuietSaysTheSame, RevenueKeepsSound, RulingsAreCounted, SaleKeepsSound, StartByPurchaseKeepsSound, StartKeepsSound, SuccessionKeepsSound, SvIsGivenAway, TokenKeepsSound, TokensGrow, WithholdingKeepsSound};
+ghost use Rattle.history.specs.Laws.{ArrivalIsLast, ArrivalsDiffer, BidKeepsSound, BlockKeepsSound, BlockWithSuccessionKeepsSound, CaIsSoldWithItsGift, CashMoves, ExchangeKeepsSound, FirstIsCheapest, FloatKeepsSound, GiftKeepsSound, HomeKeepsSound, LastWordIsLast, LayKeepsSound, LaysGrow, MoveKeepsSound, OwnersAreParties, PriceKeepsSound, PurchaseKeepsSound, QuietKeepsSound, QuietSaysTheSame, RevenueKeepsSound, RulingsAreCounted, SaleKeepsSound, SoundMoneyStays, StartByPurchaseKeepsSound, StartKeepsSound, SuccessionKeepsSound, SvIsGivenAway, TokenKeepsSound, TokensGrow, WithholdingKeepsSound};
 
 /// What was said last of a thing is what the last event says, or else what was said before it.
 pub fn last_word_is_last<T>()
@@ -17,6 +17,13 @@ pub fn cash_moves()
 /// money goes only between them.
 pub fn all_money_stays()
     ensures { AllMoneyStays }
+{}
+
+/// So it is in each sound list: what its parties have together is 12,000, and who owns a private is
+/// one of them.
+pub fn money_of_sound_lists()
+    ensures together { SoundMoneyStays }
+    ensures owners { OwnersAreParties }
 {}
 
 /// An event that says nothing of what parties have and own, or of SV's price, changes none of it.
@@ -35,18 +42,19 @@ pub fn bid_keeps_sound()
     ensures { BidKeepsSound }
 {}
 
-/// A sale of an unsold private keeps a list sound, where the seat has the price free of its other
-/// bids.
+/// A sale of an unsold private to a seat at the table keeps a list sound, where the seat has the
+/// price free of its other bids.
 pub fn sale_keeps_sound()
     ensures { SaleKeepsSound }
 {}
 
-/// A revenue keeps a list sound.
+/// A revenue to the owner of a private keeps a list sound.
 pub fn revenue_keeps_sound()
     ensures { RevenueKeepsSound }
 {}
 
-/// A price that SV may have keeps a list sound, and so does 0 with the gift of SV.
+/// A price that SV may have keeps a list sound, and so does 0 with the gift of SV to a seat at the
+/// table.
 pub fn price_keeps_sound()
     ensures price { PriceKeepsSound }
     ensures gift { SvIsGivenAway }

@@ -36,10 +36,10 @@ pub use event::{
 pub use laws::{
     all_money_stays, arrivals_differ, bid_keeps_sound, block_keeps_sound, cash_moves,
     exchange_keeps_sound, first_is_cheapest, float_keeps_sound, gift_keeps_sound, ground_grows,
-    last_word_is_last, lay_keeps_sound, move_keeps_sound, price_keeps_sound, purchase_keeps_sound,
-    quiet_keeps_sound, quiet_says_the_same, revenue_keeps_sound, rulings_are_counted,
-    sale_keeps_sound, start_keeps_sound, succession_keeps_sound, token_keeps_sound,
-    withholding_keeps_sound,
+    last_word_is_last, lay_keeps_sound, money_of_sound_lists, move_keeps_sound, price_keeps_sound,
+    purchase_keeps_sound, quiet_keeps_sound, quiet_says_the_same, revenue_keeps_sound,
+    rulings_are_counted, sale_keeps_sound, start_keeps_sound, succession_keeps_sound,
+    token_keeps_sound, withholding_keeps_sound,
 };
 pub use list::History;
 pub use look_back::Past;

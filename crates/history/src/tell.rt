@@ -28,15 +28,15 @@ impl History {
     /// Tells that the bank is broken, once, where its cash has come to 0 or less. It belongs after
     /// each payment of the bank. An `Err` leaves the list as it was.
     pub fn tell_broken(&mut self) -> Result<(), AllocError>
-        requires { IsSound self.old }
         ensures ok { OnOk result (self.new ≡ broken_told self.old) }
         ensures err { OnErr result (self.new ≡ self.old) }
-        ensures sound { IsSound self.new }
+        ensures sound { IsSound self.old → IsSound self.new }
     {
         if self.cash(Party::Bank) > 0 || self.broken() {
             return Ok(());
         }
-        self.tell(Event::Broken)
+        self.append(Event::Broken)?;
+        Ok(())
     }
 
     /// Each private that has an owner pays it its revenue, in roster order; perhaps that breaks the

@@ -20,13 +20,20 @@ guess_at-site A9 = refl
 guess_at-site _ = refl
 
 -- what a search finds passes the test
-find_passes : (test : Hex → Bool) (list : List Hex) (hex : Hex) → find test list ≡ Some hex → test hex ≡ true
-find_passes test [] hex e = absurd cc
-find_passes test (x ∷ xs) hex e =
-    (elim (test x) as (λ b. test x ≡ b → cond b (Some x) (find test xs) ≡ Some hex → test hex ≡ true) [
-      | true ↦ λ t found. let same : x ≡ hex = cc in rw (← same) t
-      | false ↦ λ t found. find_passes test xs hex found
+pub find_passes : {X : Type 0} (test : X → Bool) (list : List X) (one : X) → find test list ≡ Some one → test one ≡ true
+find_passes test [] one e = absurd cc
+find_passes test (x ∷ xs) one e =
+    (elim (test x) as (λ b. test x ≡ b → cond b (Some x) (find test xs) ≡ Some one → test one ≡ true) [
+      | true ↦ λ t found. let same : x ≡ one = cc in rw (← same) t
+      | false ↦ λ t found. find_passes test xs one found
     ]) refl e
+
+-- the hex that is found lies in the row and the column
+pub hex_at-is : (row column : ℕ) (hex : Hex) → hex_at row column ≡ Some hex → (row_of hex ≡ row) × (column_of hex ≡ column)
+unfolding hex_at
+hex_at-is row column hex e =
+    let parts = and_parts (row_of hex == row) (column_of hex == column) (find_passes (λ h. row_of h == row && column_of h == column) hexes hex e) in
+    (eqb-true (row_of hex) row parts.0, eqb-true (column_of hex) column parts.1)
 
 -- a row and a column have no hex where no guess is right
 pub hex_at-none : (row column : ℕ) → ((hex : Hex) → guess_at row column ≡ Some hex → row_of hex ≡ row → column_of hex ≡ column → ⊥) → hex_at row column ≡ None
@@ -35,11 +42,9 @@ hex_at-none row column wrong =
     (elim (hex_at row column) as (λ found. hex_at row column ≡ found → found ≡ None) [
       | None ↦ λ e. refl
       | Some hex ↦ λ e.
-          let parts = and_parts (row_of hex == row) (column_of hex == column) (find_passes (λ h. row_of h == row && column_of h == column) hexes hex e) in
-          let r : row_of hex ≡ row = eqb-true (row_of hex) row parts.0 in
-          let c : column_of hex ≡ column = eqb-true (column_of hex) column parts.1 in
+          let at = hex_at-is row column hex e in
           let guessed : guess_at row column ≡ Some hex = cc (guess_at-site hex) in
-          absurd (wrong hex guessed r c)
+          absurd (wrong hex guessed at.0 at.1)
     ]) refl
 
 -- and the guess that is right is their hex

@@ -10,3 +10,4 @@ mod TileTables
 mod Turning
 mod Turns
 mod Values
+pub mod Texts

@@ -8,5 +8,6 @@ pub mod Tile
 pub mod Print
 pub mod PrintedHex
 pub mod Lay
+pub mod Text
 pub mod Home
 pub mod Laws

@@ -16,6 +16,7 @@ ghost use Rattle.map_tables.specs.Laws.{
   ValuesAreAtMost80,
 };
 ghost use Rattle.map_tables.specs.Side.{rotations, sides};
+ghost use Rattle.map_tables.specs.Text.{TextsAreRead};
 ghost use Rattle.map_tables.specs.Tile.{tiles};
 
 use crate::hex::Hex;
@@ -92,4 +93,9 @@ pub fn red_areas_are_joined()
 /// Each company's home takes a token by its print.
 pub fn homes_take_tokens()
     ensures { HomesTakeTokens }
+{}
+
+/// A text names a hex, a place, a tile or a rotation exactly where it is the text of that.
+pub fn texts_are_read()
+    ensures { TextsAreRead }
 {}

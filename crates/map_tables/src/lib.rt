@@ -7,7 +7,8 @@
 //! are neighbours), `place` (stops), `track` (what joins sides and stops), `print` (what is printed
 //! on the map), `tiles`, `segments` (each piece of
 //! track by its ends), `lay` (a tile on a hex), `run` (the places of a run), `homes` (what the
-//! roster says of the map), `laws` (what holds of all these tables).
+//! roster says of the map), `text` (the texts of hexes, places, tiles and rotations), `laws` (what
+//! holds of all these tables).
 #![tactic(auto)]
 
 mod border;
@@ -20,6 +21,7 @@ mod print;
 mod run;
 mod segments;
 mod side;
+mod text;
 mod tiles;
 mod track;
 
@@ -29,8 +31,8 @@ pub use homes::{home, private_hexes};
 pub use laws::{
     hexes_are_told_apart, hexes_stand_once, homes_take_tokens, laid_links_are_in_order,
     neighbours_pair, printed_links_are_in_order, prints_stand_once, red_areas_are_joined,
-    sides_and_rotations_are_all, six_turns_are_none, tiles_stand_once, turns_add_up,
-    values_are_at_most_80,
+    sides_and_rotations_are_all, six_turns_are_none, texts_are_read, tiles_stand_once,
+    turns_add_up, values_are_at_most_80,
 };
 pub use lay::{Lay, laid_links};
 pub use place::{Place, Stop, StopNumber, joined_stop};
@@ -40,5 +42,6 @@ pub use print::{
 };
 pub use run::{RUN_LEAST, RUN_MOST, Run};
 pub use side::{Rotation, Side};
+pub use text::{PLACE_TEXT_MOST, PlaceText};
 pub use tiles::{Colour, TILES, TileEntry, TileKind, TileNo, tile, tile_track};
 pub use track::{End, LINKS_MOST, Link, Links, Segment, Track, turned};

@@ -1,4 +1,18 @@
-ghost use Rattle.std.specs.Prelude.{◌≡◌, ◌≤◌, ◌<◌, ◌++◌, ◌∷◌, [], ◌↔◌, length, IsTrue};
+ghost use Rattle.std.specs.Prelude.{
+  ◌≡◌,
+  ◌≤◌,
+  ◌<◌,
+  ◌++◌,
+  ◌∷◌,
+  [],
+  ◌↔◌,
+  if◌then◌else◌,
+  IsTrue,
+  None,
+  Some,
+  length,
+  nat_le,
+};
 
 use crate::place::Place;
 use arrayvec::ArrayVec;
@@ -39,6 +53,16 @@ impl Run {
         places.push(first);
         places.push(second);
         Run { places }
+    }
+
+    /// The run of these places; `None` where they are fewer than two.
+    pub fn from_places(places: ArrayVec<Place, RUN_MOST>) -> Option<Run>
+        ensures { result ≡ (if nat_le 2 (length places.items) then Some places.items else None) }
+    {
+        if places.len() < RUN_LEAST {
+            return None;
+        }
+        Some(Run { places })
     }
 
     /// Whether it has 280 places.

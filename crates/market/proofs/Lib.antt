@@ -1,3 +1,4 @@
 mod Chart
 mod Orders
 mod Operating
+pub mod Tokens

@@ -4,13 +4,16 @@
 //! A move answers the square to which a token comes. A move for which the chart has no square is
 //! not made: the token stays. The order is that of the floated companies by their squares.
 //!
-//! Reading order: `moves`, `order`, `laws` (a token on the chart stays on it; the order is one).
+//! Reading order: `moves`, `token` (a company's token moves, which is told), `order`, `laws` (a
+//! token on the chart stays on it; the order is one).
 #![tactic(auto)]
 
 mod laws;
 mod moves;
 mod order;
+mod token;
 
 pub use laws::{first_there_operates_first, floated_companies_in_order, moves_stay_on_chart};
 pub use moves::{down, fall, left, right, up};
 pub use order::operating_order;
+pub use token::{move_token_down, move_token_left, move_token_right, move_token_up};

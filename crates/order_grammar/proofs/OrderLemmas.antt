@@ -1,15 +1,18 @@
 -- Orders and their parts: an order is made of its parts, and words spell it as they spell those.
-use Rattle.std.proofs.Common.{◌≡◌, ℕ, true, inl, inr, List, [], ◌∷◌, Option, Some, None, unwrap_or, refl, sym, ap, subst, ◌∙◌}
+use Rattle.std.proofs.Common.{◌≡◌, ℕ, Bool, true, false, inl, inr, List, [], ◌∷◌, Option, Some, None, unwrap_or, refl, sym, ap, subst, ◌∙◌}
 use Rattle.std.specs.List.{list_any}
 use Rattle.std.proofs.lemmas.Bool.{cases_Bool, false≢true, le-leb, leb-true, and_parts}
+use Rattle.map_tables.specs.declared.hex.Hex.{Hex}
+use Rattle.map_tables.specs.declared.side.Rotation.{Rotation}
+use Rattle.map_tables.specs.declared.tiles.TileNo.{TileNo}
 use Rattle.order_grammar.specs.Form.{forms, is_row_of, has_form, are_names}
 use Rattle.order_grammar.specs.Keyword.{text_of_keyword}
-use Rattle.order_grammar.specs.Order.{made_of, parts_of, order_from}
-use Rattle.order_grammar.specs.Spells.{IsWord, IsNumber, IsName, IsRoundOfLine, IsPrivate, IsCompany, AreNames, Then, End, AreWordsFor}
+use Rattle.order_grammar.specs.Order.{lay_of, made_of, parts_of, order_from}
+use Rattle.order_grammar.specs.Spells.{IsWord, IsNumber, IsName, IsRoundOfLine, IsPrivate, IsCompany, IsTile, IsHex, IsRotation, IsPlace, AreNames, Then, End, AreWordsFor}
 use Rattle.order_grammar.specs.declared.keyword.Keyword.{Keyword}
 use Rattle.order_grammar.specs.declared.keyword.Keyword.TheVariants as keyword
 use Rattle.order_grammar.specs.declared.order.Order.{Order}
-use Rattle.order_grammar.specs.declared.order.Order.TheVariants.{Blank, Game, Players, Sheet, Turn, BuyPrivate, Bid, Limit, Par, BuyShare, Sell, ExchangeMohawk}
+use Rattle.order_grammar.specs.declared.order.Order.TheVariants.{Blank, Game, Players, Sheet, Turn, BuyPrivate, Bid, Limit, Par, BuyShare, Sell, ExchangeMohawk, Company as CompanyTurn, Lay, Token}
 use Rattle.order_grammar.specs.declared.order.Parts.{Parts}
 use Rattle.order_grammar.specs.declared.order.ShareSource.TheVariants.{InitialOffering, BankPool}
 use Rattle.order_grammar.specs.declared.order.Tail.{Tail}
@@ -37,6 +40,10 @@ formed keyword.Buy ((value.Company company) ∷ (value.Word keyword.InitialOffer
 formed keyword.Buy ((value.Company company) ∷ (value.Word keyword.Pool) ∷ []) tail.Nothing h = record { order = BuyShare company BankPool; made = refl; parts = refl }
 formed keyword.Sell ((value.Company company) ∷ (value.Number tenths) ∷ []) tail.Nothing h = record { order = Sell company tenths; made = refl; parts = refl }
 formed keyword.Exchange ((value.Word keyword.Mohawk) ∷ []) tail.Nothing h = record { order = ExchangeMohawk; made = refl; parts = refl }
+formed keyword.Company ((value.Company company) ∷ []) tail.Nothing h = record { order = CompanyTurn company; made = refl; parts = refl }
+formed keyword.Lay ((value.Tile tile) ∷ (value.Hex hex) ∷ (value.Rotation rot) ∷ []) tail.Nothing h = record { order = Lay (lay_of tile hex rot false); made = refl; parts = refl }
+formed keyword.Lay ((value.Tile tile) ∷ (value.Hex hex) ∷ (value.Rotation rot) ∷ (value.Word keyword.Swap) ∷ []) tail.Nothing h = record { order = Lay (lay_of tile hex rot true); made = refl; parts = refl }
+formed keyword.Token ((value.Place place) ∷ []) tail.Nothing h = record { order = Token place; made = refl; parts = refl }
 formed k values t h = absurd (false≢true h)
 
 -- an order is made again of its parts
@@ -44,10 +51,15 @@ abbrev pub IsMadeAgain : Order → Option Parts → Type 0
 IsMadeAgain order None = order ≡ Blank
 IsMadeAgain order (Some parts) = order_from parts.keyword parts.values.items parts.tail ≡ Some order
 
+lay_made_again : (tile : TileNo) (hex : Hex) (rot : Rotation) (swap : Bool) → IsMadeAgain (Lay (lay_of tile hex rot swap)) (parts_of (Lay (lay_of tile hex rot swap)))
+lay_made_again tile hex rot true = refl
+lay_made_again tile hex rot false = refl
+
 pub made_again : (order : Order) → IsMadeAgain order (parts_of order)
 made_again Blank = refl
 made_again (BuyShare company InitialOffering) = refl
 made_again (BuyShare company BankPool) = refl
+made_again (Lay lay) = lay_made_again lay.tile lay.hex lay.rot lay.swap
 made_again other = refl
 
 -- the word of a value
@@ -57,6 +69,10 @@ IsTextOf (value.Name name) text = IsName name text
 IsTextOf (value.Round round) text = IsRoundOfLine round text
 IsTextOf (value.Private private) text = IsPrivate private text
 IsTextOf (value.Company company) text = IsCompany company text
+IsTextOf (value.Tile tile) text = IsTile tile text
+IsTextOf (value.Hex hex) text = IsHex hex text
+IsTextOf (value.Rotation rotation) text = IsRotation rotation text
+IsTextOf (value.Place place) text = IsPlace place text
 IsTextOf (value.Word k) text = IsWord (text_of_keyword k) text
 
 -- the words of what is repeated
@@ -84,12 +100,22 @@ players_by_parts (first ∷ words) names h =
     let each = h.1.each in
     ((h.0, h.1.same), rw (least, most, each) refl)
 
+-- the words of a lay
+lay_by_parts : (tile : TileNo) (hex : Hex) (rot : Rotation) (swap : Bool) (words : List (List ℕ)) → AreWordsFor (Lay (lay_of tile hex rot swap)) words → AreWordsByParts (parts_of (Lay (lay_of tile hex rot swap))) words
+lay_by_parts tile hex rot true words h = (h, refl)
+lay_by_parts tile hex rot false words h = (h, refl)
+
+lay_of_parts : (tile : TileNo) (hex : Hex) (rot : Rotation) (swap : Bool) (words : List (List ℕ)) → AreWordsByParts (parts_of (Lay (lay_of tile hex rot swap))) words → AreWordsFor (Lay (lay_of tile hex rot swap)) words
+lay_of_parts tile hex rot true words h = h.0
+lay_of_parts tile hex rot false words h = h.0
+
 -- words that spell an order are those of its parts
 pub by_parts : (order : Order) (words : List (List ℕ)) → AreWordsFor order words → AreWordsByParts (parts_of order) words
 by_parts Blank words h = h
 by_parts (Players names) words h = players_by_parts words names.items h
 by_parts (BuyShare company InitialOffering) words h = (h, refl)
 by_parts (BuyShare company BankPool) words h = (h, refl)
+by_parts (Lay lay) words h = lay_by_parts lay.tile lay.hex lay.rot lay.swap words h
 by_parts other words h = (h, refl)
 
 -- of the forms only that of a players line has names
@@ -113,6 +139,7 @@ of_parts Blank words h = h
 of_parts (Players names) words h = players_of_parts words names.items h
 of_parts (BuyShare company InitialOffering) words h = h.0
 of_parts (BuyShare company BankPool) words h = h.0
+of_parts (Lay lay) words h = lay_of_parts lay.tile lay.hex lay.rot lay.swap words h
 of_parts other words h = h.0
 
 -- the order that parts make is that of which they are

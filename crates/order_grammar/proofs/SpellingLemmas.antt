@@ -1,15 +1,28 @@
 -- The spelling of an order is a line of its words.
-use Rattle.std.proofs.Common.{◌≡◌, ℕ, ◌+◌, ◌-◌, ◌*◌, ◌/◌, ◌%◌, ◌^◌, ◌<◌, ◌≤◌, ◌==◌, Bool, ltb, nat_le, true, false, not, ◌&&◌, List, [], ◌∷◌, ◌++◌, Option, Some, None, Ok, codes, length, drop, map, refl, sym, ap, subst, ◌∙◌, arith}
+use Rattle.std.proofs.Common.{◌≡◌, ℕ, ◌+◌, ◌-◌, ◌*◌, ◌/◌, ◌%◌, ◌^◌, ◌<◌, ◌≤◌, ◌==◌, Bool, ltb, nat_le, true, false, not, ◌&&◌, List, [], ◌∷◌, ◌++◌, Option, Some, None, Ok, codes, length, drop, map, append_assoc, refl, sym, ap, subst, ◌∙◌, arith}
 use Rattle.std.specs.Char.{to_ascii_uppercase}
 use Rattle.std.specs.Fmt.{decimal}
 use Rattle.std.specs.List.{list_all}
 use Rattle.std.proofs.lemmas.Bool.{le-ltb, leb-true, eqb-true, and_parts, and_from, or_left, or_right, false≢true}
 use Rattle.std.proofs.lemmas.Bool.Decides.{nat_tests}
-use Rattle.std.proofs.lemmas.Fmt.{decimal_by_steps, decimal_nonempty, first_decimal, length-decimal-le}
+use Rattle.std.proofs.lemmas.Fmt.{decimal_digit, decimal_by_steps, decimal_nonempty, first_decimal, length-decimal-le}
 use Rattle.std.proofs.lemmas.List.{drop_at, length-append, length-map, append-nil}
 use Rattle.std.proofs.lemmas.List.Concat.{flat_map-cons}
 use Rattle.std.proofs.lemmas.List.Folds.{list_all-append}
 use Rattle.std.proofs.lemmas.List.Sums.{fold_push}
+use Rattle.std.proofs.lemmas.Bool.{ltb-true}
+use Rattle.map_tables.specs.Hex.{column_of, row_of}
+use Rattle.map_tables.specs.Place.{stop_index_of}
+use Rattle.map_tables.specs.Side.{turns_of}
+use Rattle.map_tables.specs.Text.{stop_text, text_of_hex, text_of_place}
+use Rattle.map_tables.specs.Tile.{number_of_tile}
+use Rattle.map_tables.specs.declared.hex.Hex.{Hex}
+use Rattle.map_tables.specs.declared.place.Place.{Place}
+use Rattle.map_tables.specs.declared.place.StopNumber.{StopNumber}
+use Rattle.map_tables.specs.declared.place.StopNumber.TheVariants.{First, Second}
+use Rattle.map_tables.specs.declared.side.Rotation.{Rotation}
+use Rattle.map_tables.specs.declared.side.Rotation.TheVariants.{Zero}
+use Rattle.map_tables.proofs.Texts.{column_short, hex_text-le, number_short, row_capital}
 use Rattle.tables.specs.Roster.{code_of_company, code_of_private}
 use Rattle.tables.specs.declared.roster.Company.{Company}
 use Rattle.tables.specs.declared.roster.Company.TheVariants as company
@@ -21,13 +34,13 @@ use Rattle.order_grammar.specs.Class.{are_digits, value_of_digits, is_of_class}
 use Rattle.order_grammar.specs.Form.{forms, words_reading, is_row_of, has_form, are_of_classes, is_of_repeated}
 use Rattle.order_grammar.specs.Keyword.{text_of_keyword}
 use Rattle.order_grammar.specs.Limits.{line_most}
-use Rattle.tables.specs.Round.{number_most}
+use Rattle.tables.specs.Round.{number_most, operating_most}
 use Rattle.order_grammar.specs.Line.{reading_of}
 use Rattle.order_grammar.specs.Name.{is_name, is_capital, is_digit, is_letter_or_digit}
 use Rattle.order_grammar.specs.Order.{parts_of}
 use Rattle.order_grammar.specs.Print.{spaced, joined, text_of_value, words_of_tail, words_of_parts, spelling_of}
 use Rattle.order_grammar.specs.Row.{has_room, is_short}
-use Rattle.order_grammar.specs.Spells.{IsNumber, IsNumbered, is_small, are_small, is_round_of_line, has_word, have_words, IsOrder}
+use Rattle.order_grammar.specs.Spells.{IsNumber, IsNumbered, IsOperating, is_small, are_small, is_round_of_line, has_word, have_words, IsOrder}
 use Rattle.order_grammar.specs.Words.{before, with_word, words_from, raised, words_of, is_printable, same_word}
 use Rattle.order_grammar.specs.declared.class.Class.{Class}
 use Rattle.order_grammar.specs.declared.form.Repeated.{Repeated}
@@ -274,6 +287,7 @@ record IsSpelt (v : Value) : Type 0 where
 -- what is known of the spelling of a round whose letters are these
 record IsNumberedText (letters : List ℕ) (number : ℕ) : Type 0 where
   text : IsNumbered letters number (letters ++ decimal number)
+  few : length (letters ++ decimal number) ≤ 7
   small : nat_le number number_most ≡ true
   plain : IsPlain (letters ++ decimal number)
 
@@ -289,6 +303,7 @@ numbered_text letters number two letters_plain has =
     let size = length-append letters (decimal number) in
     record {
       text = (decimal number, refl, (λ e. omega (arith, first, e)), decimal_number number most);
+      few = omega (arith, few, size, two);
       small = parts.1;
       plain = record {
         some = omega (arith, size, digits.some);
@@ -296,6 +311,14 @@ numbered_text letters number two letters_plain has =
         plain = list_all-append is_plain letters (decimal number) ∙ and_from (list_all is_plain letters) (list_all is_plain (decimal number)) letters_plain digits.plain;
       };
     }
+
+-- more behind a plain word
+plain_joined : (word more : List ℕ) → IsPlain word → length word + length more ≤ 16 → list_all is_plain more ≡ true → IsPlain (word ++ more)
+plain_joined word more plain few more_plain = record {
+  some = omega (arith, length-append word more, plain.some);
+  few = omega (arith, length-append word more, few);
+  plain = list_all-append is_plain word more ∙ and_from (list_all is_plain word) (list_all is_plain more) plain.plain more_plain;
+}
 
 -- a round
 round_spelt : (round : Round) → is_round_of_line round ≡ true → IsSpelt (value.Round round)
@@ -305,7 +328,42 @@ round_spelt (Opening number) has =
 round_spelt (Stock number) has =
     let spelt = numbered_text (codes "SR") number (omega arith) refl has in
     record { text = spelt.text; small = spelt.small; plain = spelt.plain }
-round_spelt (Operating set number) has = absurd (false≢true has)
+round_spelt (Operating set number) has =
+    let parts = and_parts (nat_le 1 set && nat_le set number_most) (nat_le 1 number && nat_le number operating_most) has in
+    let in_set = and_parts (nat_le 1 number) (nat_le number operating_most) parts.1 in
+    let most = leb-true number operating_most in_set.1 in
+    let spelt = numbered_text (codes "OR") set (omega arith) refl parts.0 in
+    let digits = decimal_plain number (omega (arith, most)) in
+    let one : length (decimal number) ≡ 1 = ap length (decimal_digit number (omega (arith, most))) in
+    record {
+      text = record { front = codes "OR" ++ decimal set; numbered = spelt.text; whole = refl; least = leb-true 1 number in_set.0; most = most };
+      small = spelt.small;
+      plain =
+          subst IsPlain (sym (append_assoc (codes "OR" ++ decimal set) (codes ".") (decimal number)))
+          (plain_joined (codes "OR" ++ decimal set) (codes "." ++ decimal number) spelt.plain (omega (arith, one, spelt.few)) digits.plain);
+    }
+
+-- the texts of hexes, places, tiles and rotations are plain
+hex_plain : (hex : Hex) → IsPlain (text_of_hex hex)
+hex_plain hex =
+    let digits = decimal_plain (column_of hex) (omega (arith, column_short hex)) in
+    let capital : is_letter_or_digit (row_of hex) ≡ true = or_left (is_capital (row_of hex)) (is_digit (row_of hex)) (row_capital hex) in
+    record {
+      some = omega arith;
+      few = omega (arith, hex_text-le hex);
+      plain = and_from (is_plain (row_of hex)) (list_all is_plain (decimal (column_of hex))) (plain_letter (row_of hex) capital) digits.plain;
+    }
+
+place_plain_from : (hex : Hex) (stop : Option StopNumber) → IsPlain (text_of_hex hex ++ stop_text stop)
+place_plain_from hex None = subst IsPlain (sym (append-nil (text_of_hex hex))) (hex_plain hex)
+place_plain_from hex (Some First) =
+    plain_joined (text_of_hex hex) (stop_text (Some First)) (hex_plain hex) (omega (arith, hex_text-le hex, ap length (decimal_digit 0 (omega arith)))) (decimal_plain 0 (omega arith)).plain
+place_plain_from hex (Some Second) =
+    plain_joined (text_of_hex hex) (stop_text (Some Second)) (hex_plain hex) (omega (arith, hex_text-le hex, ap length (decimal_digit 1 (omega arith)))) (decimal_plain 1 (omega arith)).plain
+
+turns_small : (rotation : Rotation) → nat_le (turns_of rotation) number_most ≡ true
+turns_small Zero = refl
+turns_small other = refl
 
 -- the word of a value is its text
 value_spelt : (v : Value) → has_word v ≡ true → IsSpelt v
@@ -316,6 +374,10 @@ value_spelt (value.Name name) has = record { text = (refl, has); small = refl; p
 value_spelt (value.Round round) has = round_spelt round has
 value_spelt (value.Private p) has = record { text = refl; small = refl; plain = plain_word (code_of_private p) (code_plain p) }
 value_spelt (value.Company co) has = record { text = refl; small = refl; plain = plain_word (code_of_company co) (company_plain co) }
+value_spelt (value.Tile tile) has = record { text = refl; small = refl; plain = decimal_plain (number_of_tile tile) (omega (arith, number_short tile)) }
+value_spelt (value.Hex hex) has = record { text = refl; small = refl; plain = hex_plain hex }
+value_spelt (value.Rotation rotation) has = record { text = refl; small = refl; plain = decimal_plain (turns_of rotation) (leb-true (turns_of rotation) number_most (turns_small rotation)) }
+value_spelt (value.Place place) has = record { text = refl; small = refl; plain = place_plain_from place.hex place.stop }
 value_spelt (value.Word k) has = record { text = refl; small = refl; plain = plain_word (text_of_keyword k) (keyword_plain k) }
 
 -- the words of values and of what is repeated

@@ -1,12 +1,13 @@
 -- The classes of words: which texts may stand at a place of a form, and what each says. A word that
 -- would be such a text if numbers had no greatest value is too large.
-use Rattle.std.specs.Prelude.{ℕ, ◌+◌, ◌*◌, ◌-◌, ◌==◌, Bool, true, false, nat_le, if◌then◌else◌, List, [], ◌∷◌, codes, take, drop, fold, min, Option, Some, None}
+use Rattle.std.specs.Prelude.{ℕ, ◌+◌, ◌*◌, ◌-◌, ◌==◌, Bool, true, false, ◌&&◌, nat_le, if◌then◌else◌, List, [], ◌∷◌, length, codes, take, drop, fold, min, Option, Some, None}
 use Rattle.std.specs.List.{list_all}
 use Rattle.tables.specs.declared.round.Round.{Round}
-use Rattle.tables.specs.declared.round.Round.TheVariants.{Opening, Stock}
+use Rattle.tables.specs.declared.round.Round.TheVariants.{Opening, Stock, Operating}
+use Rattle.map_tables.specs.Text.{hex_of_text, place_of_text, rotation_of_text, tile_of_text}
 use Rattle.tables.specs.Roster.{companies, code_of_company, privates, code_of_private}
 use Rattle.order_grammar.specs.Keyword.{text_of_keyword}
-use Rattle.tables.specs.Round.{number_most}
+use Rattle.tables.specs.Round.{number_most, operating_most}
 use Rattle.order_grammar.specs.Name.{is_name, is_digit}
 use Rattle.order_grammar.specs.Words.{same_word}
 use Rattle.order_grammar.specs.declared.class.Class.{Class}
@@ -42,10 +43,11 @@ digits_reading stands_for digits =
 abbrev pub number_reading : List ℕ → Reading
 number_reading word = digits_reading value.Number word
 
--- the round of a number
+-- the round of a number; operating rounds are numbered by their sets
 abbrev pub round_of_series : Series → ℕ → Round
 round_of_series numbered.Opening number = Opening number
 round_of_series numbered.Stock number = Stock number
+round_of_series (numbered.Operating number) set = Operating set number
 
 -- the number of a round: digits without leading zeros
 abbrev pub round_number_reading : Series → List ℕ → Reading
@@ -55,12 +57,26 @@ round_number_reading series (digit ∷ digits) =
     then Wrong
     else digits_reading (λ number. value.Round (round_of_series series number)) (digit ∷ digits)
 
--- PR and the number of an opening round, or SR and that of a stock round
+-- the number of an operating round in its set, behind a point
+abbrev pub number_in_set : List ℕ → Option ℕ
+number_in_set (point ∷ digit ∷ []) =
+    if point == 46 && (nat_le 49 digit && nat_le digit (48 + operating_most)) then Some (digit - 48) else None
+number_in_set other = None
+
+-- the number of a set, and then that of an operating round in it
+abbrev pub operating_reading : List ℕ → Reading
+operating_reading word =
+    elim (number_in_set (drop (length word - 2) word)) [
+      | Some number ↦ round_number_reading (numbered.Operating number) (take (length word - 2) word)
+      | None ↦ Wrong
+    ]
+
+-- PR and the number of an opening round, SR and that of a stock round, or OR and those of an operating round
 abbrev pub round_reading : List ℕ → Reading
 round_reading word =
-    if same_word (take 2 word) (codes "PR")
-    then round_number_reading numbered.Opening (drop 2 word)
-    else (if same_word (take 2 word) (codes "SR") then round_number_reading numbered.Stock (drop 2 word) else Wrong)
+    if same_word (take 2 word) (codes "PR") then round_number_reading numbered.Opening (drop 2 word) else
+    if same_word (take 2 word) (codes "SR") then round_number_reading numbered.Stock (drop 2 word) else
+    if same_word (take 2 word) (codes "OR") then operating_reading (drop 2 word) else Wrong
 
 -- what stands for the first of some things whose code it is
 abbrev pub code_reading : {X : Type 0} → (X → List ℕ) → (X → values.Value) → List X → List ℕ → Reading
@@ -76,6 +92,11 @@ private_reading word = code_reading code_of_private value.Private privates word
 abbrev pub company_reading : List ℕ → Reading
 company_reading word = code_reading code_of_company value.Company companies word
 
+-- what stands for that which a word names, if it names any
+abbrev pub named_reading : {X : Type 0} → (X → values.Value) → Option X → Reading
+named_reading stands_for (Some one) = Value (stands_for one)
+named_reading stands_for None = Wrong
+
 -- what a word, letters raised, is as a text of a class
 abbrev pub class_reading : Class → List ℕ → Reading
 class_reading class.Number word = number_reading word
@@ -83,6 +104,10 @@ class_reading class.Name word = if is_name word then Value (value.Name word) els
 class_reading class.Round word = round_reading word
 class_reading class.Private word = private_reading word
 class_reading class.Company word = company_reading word
+class_reading class.Tile word = named_reading value.Tile (tile_of_text word)
+class_reading class.Hex word = named_reading value.Hex (hex_of_text word)
+class_reading class.Rotation word = named_reading value.Rotation (rotation_of_text word)
+class_reading class.Place word = named_reading value.Place (place_of_text word)
 class_reading (class.Word keyword) word =
     if same_word word (text_of_keyword keyword) then Value (value.Word keyword) else Wrong
 
@@ -93,5 +118,9 @@ is_of_class class.Name (value.Name name) = true
 is_of_class class.Round (value.Round round) = true
 is_of_class class.Private (value.Private private) = true
 is_of_class class.Company (value.Company company) = true
+is_of_class class.Tile (value.Tile tile) = true
+is_of_class class.Hex (value.Hex hex) = true
+is_of_class class.Rotation (value.Rotation rotation) = true
+is_of_class class.Place (value.Place place) = true
 is_of_class (class.Word keyword) (value.Word other) = same_word (text_of_keyword keyword) (text_of_keyword other)
 is_of_class class other = false

@@ -49,6 +49,10 @@ forms =
     ∷ row keyword.Par (class.Company ∷ class.Number ∷ []) repeated.Nothing
     ∷ row keyword.Sell (class.Company ∷ class.Number ∷ []) repeated.Nothing
     ∷ row keyword.Exchange (class.Word keyword.Mohawk ∷ []) repeated.Nothing
+    ∷ row keyword.Company (class.Company ∷ []) repeated.Nothing
+    ∷ row keyword.Lay (class.Tile ∷ class.Hex ∷ class.Rotation ∷ []) repeated.Nothing
+    ∷ row keyword.Lay (class.Tile ∷ class.Hex ∷ class.Rotation ∷ class.Word keyword.Swap ∷ []) repeated.Nothing
+    ∷ row keyword.Token (class.Place ∷ []) repeated.Nothing
     ∷ []
 
 -- names, at least and at most so many

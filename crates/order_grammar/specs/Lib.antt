@@ -4,6 +4,7 @@ pub mod Words
 pub mod Keyword
 pub mod Class
 pub mod Order
+pub mod Family
 pub mod Form
 pub mod Line
 pub mod Token

@@ -1,11 +1,15 @@
 -- What an order is made of, and which order that makes. A line has these parts in turn: a keyword,
 -- then words with a value each, then what a class that is repeated at the end has.
-use Rattle.std.specs.Prelude.{ℕ, List, [], ◌∷◌, Option, Some, None}
+use Rattle.std.specs.Prelude.{ℕ, Bool, true, false, List, [], ◌∷◌, Option, Some, None}
+use Rattle.map_tables.specs.declared.hex.Hex.{Hex}
+use Rattle.map_tables.specs.declared.lay.Lay as lays
+use Rattle.map_tables.specs.declared.side.Rotation.{Rotation}
+use Rattle.map_tables.specs.declared.tiles.TileNo.{TileNo}
 use Rattle.order_grammar.specs.Keyword.{text_of_keyword}
 use Rattle.order_grammar.specs.declared.keyword.Keyword.{Keyword}
 use Rattle.order_grammar.specs.declared.keyword.Keyword.TheVariants as keyword
 use Rattle.order_grammar.specs.declared.order.Order.{Order}
-use Rattle.order_grammar.specs.declared.order.Order.TheVariants.{Blank, Game, Players, Sheet, Turn, BuyPrivate, Bid, Limit, Par, BuyShare, Sell, ExchangeMohawk}
+use Rattle.order_grammar.specs.declared.order.Order.TheVariants.{Blank, Game, Players, Sheet, Turn, BuyPrivate, Bid, Limit, Par, BuyShare, Sell, ExchangeMohawk, Company as CompanyTurn, Lay, Token}
 use Rattle.order_grammar.specs.declared.order.Parts.{Parts}
 use Rattle.order_grammar.specs.declared.order.ShareSource.{ShareSource}
 use Rattle.order_grammar.specs.declared.order.ShareSource.TheVariants.{InitialOffering, BankPool}
@@ -22,6 +26,15 @@ keyword_of_source BankPool = keyword.Pool
 -- its letters
 abbrev pub text_of_source : ShareSource → List ℕ
 text_of_source source = text_of_keyword (keyword_of_source source)
+
+-- the literal word of stops that are swapped
+abbrev pub swap_values : Bool → List Value
+swap_values true = value.Word keyword.Swap ∷ []
+swap_values false = []
+
+-- a tile that is to be laid
+abbrev pub lay_of : TileNo → Hex → Rotation → Bool → lays.Lay
+lay_of tile hex rotation swap = record { hex = hex; tile = tile; rot = rotation; swap = swap }
 
 -- an order that is made of these
 abbrev pub made_of : Keyword → List Value → Tail → Option Parts
@@ -41,6 +54,10 @@ parts_of (Par company price) = made_of keyword.Par (value.Company company ∷ va
 parts_of (BuyShare company from) = made_of keyword.Buy (value.Company company ∷ value.Word (keyword_of_source from) ∷ []) tail.Nothing
 parts_of (Sell company tenths) = made_of keyword.Sell (value.Company company ∷ value.Number tenths ∷ []) tail.Nothing
 parts_of ExchangeMohawk = made_of keyword.Exchange (value.Word keyword.Mohawk ∷ []) tail.Nothing
+parts_of (CompanyTurn company) = made_of keyword.Company (value.Company company ∷ []) tail.Nothing
+parts_of (Lay lay) =
+    made_of keyword.Lay (value.Tile lay.tile ∷ value.Hex lay.hex ∷ value.Rotation lay.rot ∷ swap_values lay.swap) tail.Nothing
+parts_of (Token place) = made_of keyword.Token (value.Place place ∷ []) tail.Nothing
 
 -- the order of these parts, where there is one
 abbrev pub order_from : Keyword → List Value → Tail → Option Order
@@ -57,4 +74,10 @@ order_from keyword.Limit ((value.Private private) ∷ (value.Number amount) ∷ 
 order_from keyword.Par ((value.Company company) ∷ (value.Number price) ∷ []) tail.Nothing = Some (Par company price)
 order_from keyword.Sell ((value.Company company) ∷ (value.Number tenths) ∷ []) tail.Nothing = Some (Sell company tenths)
 order_from keyword.Exchange ((value.Word keyword.Mohawk) ∷ []) tail.Nothing = Some ExchangeMohawk
+order_from keyword.Company ((value.Company company) ∷ []) tail.Nothing = Some (CompanyTurn company)
+order_from keyword.Lay ((value.Tile tile) ∷ (value.Hex hex) ∷ (value.Rotation rotation) ∷ []) tail.Nothing =
+    Some (Lay (lay_of tile hex rotation false))
+order_from keyword.Lay ((value.Tile tile) ∷ (value.Hex hex) ∷ (value.Rotation rotation) ∷ (value.Word keyword.Swap) ∷ []) tail.Nothing =
+    Some (Lay (lay_of tile hex rotation true))
+order_from keyword.Token ((value.Place place) ∷ []) tail.Nothing = Some (Token place)
 order_from other values tail = None

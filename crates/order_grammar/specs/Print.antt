@@ -1,6 +1,7 @@
 -- The one spelling of an order: upper case, single spaces, no leading zeros.
 use Rattle.std.specs.Prelude.{◌≡◌, ℕ, List, [], ◌∷◌, ◌++◌, Option, Some, None, map, codes, decimal}
 use Rattle.std.specs.List.{flat_map}
+use Rattle.map_tables.specs.Text.{text_of_hex, text_of_place, text_of_rotation, text_of_tile}
 use Rattle.tables.specs.Roster.{code_of_company, code_of_private}
 use Rattle.tables.specs.declared.round.Round.{Round}
 use Rattle.tables.specs.declared.round.Round.TheVariants.{Opening, Stock, Operating}
@@ -26,6 +27,10 @@ text_of_value (value.Name name) = name
 text_of_value (value.Round round) = text_of_round round
 text_of_value (value.Private private) = code_of_private private
 text_of_value (value.Company company) = code_of_company company
+text_of_value (value.Tile tile) = text_of_tile tile
+text_of_value (value.Hex hex) = text_of_hex hex
+text_of_value (value.Rotation rotation) = text_of_rotation rotation
+text_of_value (value.Place place) = text_of_place place
 text_of_value (value.Word keyword) = text_of_keyword keyword
 
 -- the words of a class that is repeated

@@ -1,7 +1,12 @@
 -- Which lines spell which orders, each form by itself, and which orders have a spelling. A line is
 -- loosely spelt where it would spell an order if numbers had no greatest value.
-use Rattle.std.specs.Prelude.{◌≡◌, ◌≢◌, ℕ, ◌≤◌, Bool, true, false, ◌&&◌, nat_le, IsTrue, List, [], ◌∷◌, ◌++◌, Option, Some, None, length, codes, slice_index}
+use Rattle.std.specs.Prelude.{◌≡◌, ◌≢◌, ℕ, ◌≤◌, Bool, true, false, ◌&&◌, nat_le, IsTrue, List, [], ◌∷◌, ◌++◌, Option, Some, None, length, codes, decimal, slice_index}
 use Rattle.std.specs.List.{list_all}
+use Rattle.map_tables.specs.Text.{text_of_hex, text_of_place, text_of_rotation, text_of_tile}
+use Rattle.map_tables.specs.declared.hex.Hex.{Hex}
+use Rattle.map_tables.specs.declared.place.Place.{Place}
+use Rattle.map_tables.specs.declared.side.Rotation.{Rotation}
+use Rattle.map_tables.specs.declared.tiles.TileNo.{TileNo}
 use Rattle.tables.specs.Roster.{code_of_company, code_of_private}
 use Rattle.tables.specs.declared.roster.Company.{Company}
 use Rattle.tables.specs.declared.roster.Private.{Private}
@@ -10,12 +15,12 @@ use Rattle.tables.specs.declared.round.Round.TheVariants.{Opening, Stock, Operat
 use Rattle.order_grammar.specs.Class.{are_digits, value_of_digits}
 use Rattle.order_grammar.specs.Form.{has_form}
 use Rattle.order_grammar.specs.Limits.{line_most}
-use Rattle.tables.specs.Round.{number_most}
+use Rattle.tables.specs.Round.{number_most, operating_most}
 use Rattle.order_grammar.specs.Name.{is_name}
 use Rattle.order_grammar.specs.Order.{parts_of}
 use Rattle.order_grammar.specs.Words.{words_of, before_comment, is_printable}
 use Rattle.order_grammar.specs.declared.order.Order.{Order}
-use Rattle.order_grammar.specs.declared.order.Order.TheVariants.{Blank, Game, Players, Sheet, Turn, BuyPrivate, Bid, Limit, Par, BuyShare, Sell, ExchangeMohawk}
+use Rattle.order_grammar.specs.declared.order.Order.TheVariants.{Blank, Game, Players, Sheet, Turn, BuyPrivate, Bid, Limit, Par, BuyShare, Sell, ExchangeMohawk, Company as CompanyTurn, Lay, Token}
 use Rattle.order_grammar.specs.declared.order.Parts.{Parts}
 use Rattle.order_grammar.specs.declared.order.ShareSource.TheVariants.{InitialOffering, BankPool}
 use Rattle.order_grammar.specs.declared.order.Value.{Value}
@@ -39,11 +44,19 @@ abbrev pub IsNumbered : List ℕ → ℕ → List ℕ → Type 0
 IsNumbered letters number text =
     (digits : List ℕ) × (text ≡ letters ++ digits) × (slice_index digits 0 ≢ 48) × IsNumber number digits
 
--- an opening or a stock round: PR or SR and its number
+-- an operating round: OR and the number of its set, and then a point and its number in the set, 1 to 3
+pub record IsOperating (set number : ℕ) (text : List ℕ) : Type 0 where
+  pub front : List ℕ
+  pub numbered : IsNumbered (codes "OR") set front
+  pub whole : text ≡ front ++ codes "." ++ decimal number
+  pub least : 1 ≤ number
+  pub most : number ≤ operating_most
+
+-- an opening or a stock round: PR or SR and its number; or an operating round
 abbrev pub IsRoundOfLine : Round → List ℕ → Type 0
 IsRoundOfLine (Opening number) text = IsNumbered (codes "PR") number text
 IsRoundOfLine (Stock number) text = IsNumbered (codes "SR") number text
-IsRoundOfLine (Operating set number) text = ⊥
+IsRoundOfLine (Operating set number) text = IsOperating set number text
 
 -- the code of a private
 abbrev pub IsPrivate : Private → List ℕ → Type 0
@@ -52,6 +65,22 @@ IsPrivate private text = text ≡ code_of_private private
 -- the code of a company
 abbrev pub IsCompany : Company → List ℕ → Type 0
 IsCompany company text = text ≡ code_of_company company
+
+-- the number of a tile of the manifest
+abbrev pub IsTile : TileNo → List ℕ → Type 0
+IsTile tile text = text ≡ text_of_tile tile
+
+-- a hex of the map
+abbrev pub IsHex : Hex → List ℕ → Type 0
+IsHex hex text = text ≡ text_of_hex hex
+
+-- 0 to 5
+abbrev pub IsRotation : Rotation → List ℕ → Type 0
+IsRotation rotation text = text ≡ text_of_rotation rotation
+
+-- a hex, or the number of a stop behind it
+abbrev pub IsPlace : Place → List ℕ → Type 0
+IsPlace place text = text ≡ text_of_place place
 
 -- three to six names
 pub record AreNames (names : List (List ℕ)) (words : List (List ℕ)) : Type 0 where
@@ -69,6 +98,11 @@ Then first rest (word ∷ words) = first word × rest words
 abbrev pub End : List (List ℕ) → Type 0
 End [] = Unit {0}
 End (word ∷ words) = ⊥
+
+-- SWAP, where the stops are swapped, and no other word
+abbrev pub AreSwapWords : Bool → List (List ℕ) → Type 0
+AreSwapWords true words = Then (IsWord (codes "SWAP")) End words
+AreSwapWords false words = End words
 
 -- these words spell the order, but that its numbers may be too large
 abbrev pub AreWordsFor : Order → List (List ℕ) → Type 0
@@ -93,6 +127,10 @@ AreWordsFor (BuyShare company BankPool) words =
 AreWordsFor (Sell company tenths) words =
     Then (IsWord (codes "SELL")) (Then (IsCompany company) (Then (IsNumber tenths) End)) words
 AreWordsFor ExchangeMohawk words = Then (IsWord (codes "EXCHANGE")) (Then (IsWord (codes "MH")) End) words
+AreWordsFor (CompanyTurn company) words = Then (IsWord (codes "COMPANY")) (Then (IsCompany company) End) words
+AreWordsFor (Lay lay) words =
+    Then (IsWord (codes "LAY")) (Then (IsTile lay.tile) (Then (IsHex lay.hex) (Then (IsRotation lay.rot) (AreSwapWords lay.swap)))) words
+AreWordsFor (Token place) words = Then (IsWord (codes "TOKEN")) (Then (IsPlace place) End) words
 
 -- the line would spell the order if numbers had no greatest value
 pub record LooselySpells (line : List ℕ) (order : Order) : Type 0 where
@@ -130,7 +168,8 @@ pub record Spells (line : List ℕ) (order : Order) : Type 0 where
 abbrev pub is_round_of_line : Round → Bool
 is_round_of_line (Opening number) = nat_le 1 number && nat_le number number_most
 is_round_of_line (Stock number) = nat_le 1 number && nat_le number number_most
-is_round_of_line (Operating set number) = false
+is_round_of_line (Operating set number) =
+    (nat_le 1 set && nat_le set number_most) && (nat_le 1 number && nat_le number operating_most)
 
 -- whether a value has a word
 abbrev pub has_word : Value → Bool

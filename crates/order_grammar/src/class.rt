@@ -3,7 +3,9 @@ ghost use Rattle.order_grammar.specs.Class.{
   capped_value,
   class_reading,
   company_reading,
+  number_in_set,
   number_reading,
+  operating_reading,
   private_reading,
   round_number_reading,
   round_of_series,
@@ -15,7 +17,8 @@ use crate::keyword::Keyword;
 use crate::name::Name;
 use crate::order::Value;
 use crate::words::is_word;
-use tables::{Company, NUMBER_MOST, Private, Round};
+use map_tables::{Hex, Place, Rotation, TileNo};
+use tables::{Company, NUMBER_MOST, OPERATING_MOST, Private, Round};
 
 /// A class of words: the texts that may stand at one place of a form.
 #[derive(Clone, Copy, Debug, PartialEq, Eq)]
@@ -24,12 +27,21 @@ pub(crate) enum Class {
     Number,
     /// A letter, then up to seven letters or digits.
     Name,
-    /// `PR` or `SR` and a number from 1 without leading zeros.
+    /// `PR` or `SR` and a number from 1 without leading zeros; or `OR` and such a number, and then
+    /// a point and a number from 1 to 3.
     Round,
     /// The code of a private: SV, CS, DH, MH, CA or BOP.
     Private,
     /// The code of a company: PRR, NYC, CPR, BO, CO, ERIE, NYNH or BM.
     Company,
+    /// The number of a tile of the manifest, without leading zeros.
+    Tile,
+    /// A hex of the map, as `H12`.
+    Hex,
+    /// 0 to 5.
+    Rotation,
+    /// A hex of the map, as `H12`, or one with the number of a stop, `H12.0` or `H12.1`.
+    Place,
     /// This very word.
     Word(Keyword),
 }
@@ -39,6 +51,8 @@ pub(crate) enum Class {
 pub(crate) enum Series {
     Opening,
     Stock,
+    /// The operating rounds of this number in their sets, by the numbers of the sets.
+    Operating(u8),
 }
 
 impl Series {
@@ -48,6 +62,10 @@ impl Series {
         match self {
             Series::Opening => Round::Opening(number),
             Series::Stock => Round::Stock(number),
+            Series::Operating(in_set) => Round::Operating {
+                set: number,
+                number: in_set,
+            },
         }
     }
 }
@@ -77,6 +95,22 @@ impl Class {
             Class::Round => read_round(word),
             Class::Private => read_private(word),
             Class::Company => read_company(word),
+            Class::Tile => match TileNo::from_text(word) {
+                Some(tile) => Reading::Value(Value::Tile(tile)),
+                None => Reading::Wrong,
+            },
+            Class::Hex => match Hex::from_text(word) {
+                Some(hex) => Reading::Value(Value::Hex(hex)),
+                None => Reading::Wrong,
+            },
+            Class::Rotation => match Rotation::from_text(word) {
+                Some(rotation) => Reading::Value(Value::Rotation(rotation)),
+                None => Reading::Wrong,
+            },
+            Class::Place => match Place::from_text(word) {
+                Some(place) => Reading::Value(Value::Place(place)),
+                None => Reading::Wrong,
+            },
             Class::Word(keyword) if is_word(word, keyword.text()) => {
                 Reading::Value(Value::Word(keyword))
             }
@@ -126,7 +160,31 @@ fn read_round(word: &[u8]) -> Reading
     if is_word(letters, b"SR") {
         return read_round_number(Series::Stock, digits);
     }
+    if is_word(letters, b"OR") {
+        return read_operating(digits);
+    }
     Reading::Wrong
+}
+
+/// What the numbers of an operating round are, that of its set and that in its set.
+fn read_operating(word: &[u8]) -> Reading
+    ensures { result ≡ operating_reading (raised word.now) }
+{
+    let (set, number) = word.split_at(word.len().saturating_sub(2));
+    match number_in_set(number) {
+        Some(number) => read_round_number(Series::Operating(number), set),
+        None => Reading::Wrong,
+    }
+}
+
+/// The number of an operating round in its set that stands behind a point; `None` for other texts.
+fn number_in_set(text: &[u8]) -> Option<u8>
+    ensures { result ≡ number_in_set (raised text.now) }
+{
+    match text {
+        [b'.', digit] if b'1' <= *digit && *digit <= b'0' + OPERATING_MOST => Some(*digit - b'0'),
+        _ => None,
+    }
 }
 
 fn read_round_number(series: Series, digits: &[u8]) -> Reading

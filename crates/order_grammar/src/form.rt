@@ -36,7 +36,7 @@ pub(crate) enum Repeated {
 }
 
 /// The forms of lines. A line spells an order where its words fit a row.
-pub(crate) const FORMS: [Form; 12] = [
+pub(crate) const FORMS: [Form; 16] = [
     Form {
         keyword: Keyword::Game,
         classes: &[Class::Number, Class::Number],
@@ -98,6 +98,31 @@ pub(crate) const FORMS: [Form; 12] = [
     Form {
         keyword: Keyword::Exchange,
         classes: &[Class::Word(Keyword::Mohawk)],
+        repeated: Repeated::Nothing,
+    },
+    Form {
+        keyword: Keyword::Company,
+        classes: &[Class::Company],
+        repeated: Repeated::Nothing,
+    },
+    Form {
+        keyword: Keyword::Lay,
+        classes: &[Class::Tile, Class::Hex, Class::Rotation],
+        repeated: Repeated::Nothing,
+    },
+    Form {
+        keyword: Keyword::Lay,
+        classes: &[
+            Class::Tile,
+            Class::Hex,
+            Class::Rotation,
+            Class::Word(Keyword::Swap),
+        ],
+        repeated: Repeated::Nothing,
+    },
+    Form {
+        keyword: Keyword::Token,
+        classes: &[Class::Place],
         repeated: Repeated::Nothing,
     },
 ];

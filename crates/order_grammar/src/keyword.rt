@@ -14,9 +14,13 @@ pub(crate) enum Keyword {
     Par,
     Sell,
     Exchange,
+    Company,
+    Lay,
+    Token,
     InitialOffering,
     Pool,
     Mohawk,
+    Swap,
 }
 
 impl Keyword {
@@ -35,9 +39,13 @@ impl Keyword {
             Keyword::Par => b"PAR",
             Keyword::Sell => b"SELL",
             Keyword::Exchange => b"EXCHANGE",
+            Keyword::Company => b"COMPANY",
+            Keyword::Lay => b"LAY",
+            Keyword::Token => b"TOKEN",
             Keyword::InitialOffering => b"IPO",
             Keyword::Pool => b"POOL",
             Keyword::Mohawk => b"MH",
+            Keyword::Swap => b"SWAP",
         }
     }
 }

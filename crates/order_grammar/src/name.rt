@@ -23,14 +23,18 @@ impl Model for Name {
 
     ghost view = { λ n. take n.count n.letters };
 
-    ghost invariant = { λ n. (n.count ≤ 8) × (length n.letters ≡ 8) × (drop n.count n.letters ≡ replicate (8 - n.count) 0) };
+    ghost invariant = { λ n. (n.count ≤ 8) × (length n.letters ≡ 8)
+        × (drop n.count n.letters ≡ replicate (8 - n.count) 0) };
 
-    ghost inverse = { λ text. record { letters = text ++ replicate (8 - length text) 0; count = length text } };
+    ghost inverse = { λ text.
+        record { letters = text ++ replicate (8 - length text) 0; count = length text } };
 
     ghost use Rattle.order_grammar.specs.Name.{padded_again};
     ghost use Rattle.std.proofs.Common.{ap};
 
-    ghost inverse_ok = { λ a h. ap (λ (p : List ℕ × ℕ). record { letters = p.0; count = p.1 }) (padded_again a.letters a.count h.0 h.1 h.2) };
+    ghost inverse_ok = { λ a h.
+        ap (λ (p : List ℕ × ℕ). record { letters = p.0; count = p.1 })
+        (padded_again a.letters a.count h.0 h.1 h.2) };
 }
 
 impl Name {

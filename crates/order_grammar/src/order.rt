@@ -1,4 +1,7 @@
-ghost use Rattle.std.specs.Prelude.{◌≡◌, ◌≤◌, length};
+ghost use Rattle.std.specs.Prelude.{◌≡◌, ◌≤◌, Some, length};
+ghost use Rattle.order_grammar.specs.Family.{HasAmount, IsOfAmount, IsOfFile};
+ghost use Rattle.order_grammar.specs.declared.keyword.Keyword.TheVariants.{Buy, Lay as LayWord};
+ghost use Rattle.order_grammar.specs.declared.order.Order.TheVariants.{Lay as LayOrder};
 ghost use Rattle.order_grammar.specs.declared.order.Tail.TheVariants.{Nothing};
 ghost use Rattle.order_grammar.specs.declared.order.Value.TheVariants.{Number};
 ghost use Rattle.order_grammar.specs.Order.{keyword_of_source, order_from, parts_of, text_of_source};
@@ -6,6 +9,7 @@ ghost use Rattle.order_grammar.specs.Order.{keyword_of_source, order_from, parts
 use crate::keyword::Keyword;
 use crate::name::Name;
 use arrayvec::ArrayVec;
+use map_tables::{Hex, Lay, Place, Rotation, TileNo};
 use tables::{Amount, Company, PLAYERS_MOST, Private, Round};
 
 /// What a line orders or says.
@@ -35,6 +39,13 @@ pub enum Order {
     Sell { company: Company, tenths: Amount },
     /// `EXCHANGE MH`: give up the private MH for one tenth of NYC.
     ExchangeMohawk,
+    /// `COMPANY co`: a group of lines for the turn of a company begins.
+    Company(Company),
+    /// `LAY tile hex rot` or `LAY tile hex rot SWAP`: lay a tile on a hex, turned by so many sixths,
+    /// with its stops swapped or not.
+    Lay(Lay),
+    /// `TOKEN place`: place a token at a stop.
+    Token(Place),
 }
 
 /// Where a tenth is bought that is no seat's.
@@ -72,6 +83,10 @@ pub(crate) enum Value {
     Round(Round),
     Private(Private),
     Company(Company),
+    Tile(TileNo),
+    Hex(Hex),
+    Rotation(Rotation),
+    Place(Place),
     /// A literal word stands for itself.
     Word(Keyword),
 }
@@ -130,60 +145,70 @@ impl Order {
     pub(crate) fn parts(&self) -> Option<Parts>
         ensures { result ≡ parts_of self.now }
     {
-        match self {
-            Order::Blank => None,
-            Order::Game { game, version } => Some(Parts::of(
-                Keyword::Game,
-                &[Value::Number(*game), Value::Number(*version)],
-                Tail::Nothing,
-            )),
-            Order::Players(names) => Some(Parts::of(
-                Keyword::Players,
-                &[],
-                Tail::Names(duplicate_names(names)),
-            )),
-            Order::Sheet { name, round } => Some(Parts::of(
-                Keyword::Sheet,
-                &[Value::Name(*name), Value::Round(*round)],
-                Tail::Nothing,
-            )),
-            Order::Turn => Some(Parts::of(Keyword::Turn, &[], Tail::Nothing)),
-            Order::BuyPrivate(private) => Some(Parts::of(
-                Keyword::Buy,
-                &[Value::Private(*private)],
-                Tail::Nothing,
-            )),
-            Order::Bid { private, amount } => Some(Parts::of(
-                Keyword::Bid,
-                &[Value::Private(*private), Value::Number(*amount)],
-                Tail::Nothing,
-            )),
-            Order::Limit { private, amount } => Some(Parts::of(
-                Keyword::Limit,
-                &[Value::Private(*private), Value::Number(*amount)],
-                Tail::Nothing,
-            )),
-            Order::Par { company, price } => Some(Parts::of(
-                Keyword::Par,
-                &[Value::Company(*company), Value::Number(*price)],
-                Tail::Nothing,
-            )),
-            Order::BuyShare { company, from } => Some(Parts::of(
-                Keyword::Buy,
-                &[Value::Company(*company), Value::Word(from.keyword())],
-                Tail::Nothing,
-            )),
-            Order::Sell { company, tenths } => Some(Parts::of(
-                Keyword::Sell,
-                &[Value::Company(*company), Value::Number(*tenths)],
-                Tail::Nothing,
-            )),
-            Order::ExchangeMohawk => Some(Parts::of(
-                Keyword::Exchange,
-                &[Value::Word(Keyword::Mohawk)],
-                Tail::Nothing,
-            )),
-        }
+        let parts = match self {
+            Order::Blank => return None,
+            Order::Game { game, version } => {
+                Parts::of(
+                    Keyword::Game,
+                    &[Value::Number(*game), Value::Number(*version)],
+                )
+            }
+            Order::Players(names) => {
+                Parts::with_tail(Keyword::Players, &[], Tail::Names(duplicate_names(names)))
+            }
+            Order::Sheet { name, round } => {
+                Parts::of(Keyword::Sheet, &[Value::Name(*name), Value::Round(*round)])
+            }
+            Order::Turn => Parts::of(Keyword::Turn, &[]),
+            Order::BuyPrivate(private) => Parts::of(Keyword::Buy, &[Value::Private(*private)]),
+            Order::Bid { .. } | Order::Limit { .. } | Order::Par { .. } | Order::Sell { .. } => {
+                self.parts_of_amount()
+            }
+            Order::BuyShare { company, from } => {
+                Parts::of(
+                    Keyword::Buy,
+                    &[Value::Company(*company), Value::Word(from.keyword())],
+                )
+            }
+            Order::ExchangeMohawk => {
+                Parts::of(Keyword::Exchange, &[Value::Word(Keyword::Mohawk)])
+            }
+            Order::Company(company) => Parts::of(Keyword::Company, &[Value::Company(*company)]),
+            Order::Lay(lay) => parts_of_lay(*lay),
+            Order::Token(place) => Parts::of(Keyword::Token, &[Value::Place(*place)]),
+        };
+        Some(parts)
+    }
+
+    /// What an order is made of that names a number of dollars or of tenths.
+    fn parts_of_amount(&self) -> Parts
+        requires { HasAmount self.now }
+        ensures { Some result ≡ parts_of self.now }
+    {
+        let (keyword, of, amount) = match self {
+            Order::Bid { private, amount } => (Keyword::Bid, Value::Private(*private), *amount),
+            Order::Limit { private, amount } => (Keyword::Limit, Value::Private(*private), *amount),
+            Order::Par { company, price } => (Keyword::Par, Value::Company(*company), *price),
+            Order::Sell { company, tenths } => (Keyword::Sell, Value::Company(*company), *tenths),
+            _ => unreachable!(),
+        };
+        Parts::of(keyword, &[of, Value::Number(amount)])
+    }
+}
+
+/// What the order of a lay is made of.
+fn parts_of_lay(lay: Lay) -> Parts
+    ensures { Some result ≡ parts_of (LayOrder lay) }
+{
+    let (tile, hex) = (Value::Tile(lay.tile), Value::Hex(lay.hex));
+    let rotation = Value::Rotation(lay.rot);
+    if lay.swap {
+        Parts::of(
+            Keyword::Lay,
+            &[tile, hex, rotation, Value::Word(Keyword::Swap)],
+        )
+    } else {
+        Parts::of(Keyword::Lay, &[tile, hex, rotation])
     }
 }
 
@@ -205,6 +230,33 @@ fn order_of_values(keyword: Keyword, values: &[Value]) -> Option<Order>
     ensures { result ≡ order_from keyword values.now Nothing }
 {
     match keyword {
+        Keyword::Game | Keyword::Sheet | Keyword::Turn | Keyword::Company => {
+            order_of_file(keyword, values)
+        }
+        Keyword::Buy => order_to_buy(values),
+        Keyword::Bid | Keyword::Limit | Keyword::Par | Keyword::Sell => {
+            order_of_amount(keyword, values)
+        }
+        Keyword::Exchange => match values {
+            [Value::Word(Keyword::Mohawk)] => Some(Order::ExchangeMohawk),
+            _ => None,
+        },
+        Keyword::Lay => order_to_lay(values),
+        Keyword::Token => match values {
+            [Value::Place(place)] => Some(Order::Token(*place)),
+            _ => None,
+        },
+        Keyword::Players => None,
+        Keyword::InitialOffering | Keyword::Pool | Keyword::Mohawk | Keyword::Swap => None,
+    }
+}
+
+/// The order of these parts that is a line of the file or a head of its sheets.
+fn order_of_file(keyword: Keyword, values: &[Value]) -> Option<Order>
+    requires { IsOfFile keyword }
+    ensures { result ≡ order_from keyword values.now Nothing }
+{
+    match keyword {
         Keyword::Game => match values {
             [Value::Number(game), Value::Number(version)] => Some(Order::Game {
                 game: *game,
@@ -212,7 +264,6 @@ fn order_of_values(keyword: Keyword, values: &[Value]) -> Option<Order>
             }),
             _ => None,
         },
-        Keyword::Players => None,
         Keyword::Sheet => match values {
             [Value::Name(name), Value::Round(round)] => Some(Order::Sheet {
                 name: *name,
@@ -222,23 +273,43 @@ fn order_of_values(keyword: Keyword, values: &[Value]) -> Option<Order>
         },
         Keyword::Turn if values.is_empty() => Some(Order::Turn),
         Keyword::Turn => None,
-        Keyword::Buy => match values {
-            [Value::Private(private)] => Some(Order::BuyPrivate(*private)),
-            [
-                Value::Company(company),
-                Value::Word(Keyword::InitialOffering),
-            ] => {
-                Some(Order::BuyShare {
-                    company: *company,
-                    from: ShareSource::InitialOffering,
-                })
-            }
-            [Value::Company(company), Value::Word(Keyword::Pool)] => Some(Order::BuyShare {
-                company: *company,
-                from: ShareSource::BankPool,
-            }),
+        Keyword::Company => match values {
+            [Value::Company(company)] => Some(Order::Company(*company)),
             _ => None,
         },
+        _ => unreachable!(),
+    }
+}
+
+/// The order to buy that has these values: a private, or a tenth of a company.
+fn order_to_buy(values: &[Value]) -> Option<Order>
+    ensures { result ≡ order_from Buy values.now Nothing }
+{
+    match values {
+        [Value::Private(private)] => Some(Order::BuyPrivate(*private)),
+        [
+            Value::Company(company),
+            Value::Word(Keyword::InitialOffering),
+        ] => {
+            Some(Order::BuyShare {
+                company: *company,
+                from: ShareSource::InitialOffering,
+            })
+        }
+        [Value::Company(company), Value::Word(Keyword::Pool)] => Some(Order::BuyShare {
+            company: *company,
+            from: ShareSource::BankPool,
+        }),
+        _ => None,
+    }
+}
+
+/// The order of these parts that names a number of dollars or of tenths.
+fn order_of_amount(keyword: Keyword, values: &[Value]) -> Option<Order>
+    requires { IsOfAmount keyword }
+    ensures { result ≡ order_from keyword values.now Nothing }
+{
+    match keyword {
         Keyword::Bid => match values {
             [Value::Private(private), Value::Number(amount)] => Some(Order::Bid {
                 private: *private,
@@ -267,17 +338,45 @@ fn order_of_values(keyword: Keyword, values: &[Value]) -> Option<Order>
             }),
             _ => None,
         },
-        Keyword::Exchange => match values {
-            [Value::Word(Keyword::Mohawk)] => Some(Order::ExchangeMohawk),
-            _ => None,
-        },
-        Keyword::InitialOffering | Keyword::Pool | Keyword::Mohawk => None,
+        _ => unreachable!(),
     }
 }
 
+/// The order to lay a tile that has these values.
+fn order_to_lay(values: &[Value]) -> Option<Order>
+    ensures { result ≡ order_from LayWord values.now Nothing }
+{
+    let (tile, hex, rot, swap) = match values {
+        [Value::Tile(tile), Value::Hex(hex), Value::Rotation(rot)] => { (*tile, *hex, *rot, false) }
+        [
+            Value::Tile(tile),
+            Value::Hex(hex),
+            Value::Rotation(rot),
+            Value::Word(Keyword::Swap),
+        ] => { (*tile, *hex, *rot, true) }
+        _ => return None,
+    };
+    Some(Order::Lay(Lay {
+        hex,
+        tile,
+        rot,
+        swap,
+    }))
+}
+
 impl Parts {
+    /// These parts, of which none is repeated.
+    fn of(keyword: Keyword, values: &[Value]) -> Parts
+        requires { length values.now ≤ 5 }
+        ensures keyword { result.keyword ≡ keyword }
+        ensures values { result.values.items ≡ values.now }
+        ensures tail { result.tail ≡ Nothing }
+    {
+        Parts::with_tail(keyword, values, Tail::Nothing)
+    }
+
     /// These parts.
-    fn of(keyword: Keyword, values: &[Value], tail: Tail) -> Parts
+    fn with_tail(keyword: Keyword, values: &[Value], tail: Tail) -> Parts
         requires { length values.now ≤ 5 }
         ensures keyword { result.keyword ≡ keyword }
         ensures values { result.values.items ≡ values.now }

@@ -68,6 +68,10 @@ fn print_value(text: &mut Vec<u8>, value: &Value) -> Result<(), AllocError>
         Value::Round(round) => print_round(text, round),
         Value::Private(private) => text.extend_from_slice(private.code().as_bytes()),
         Value::Company(company) => text.extend_from_slice(company.code().as_bytes()),
+        Value::Tile(tile) => print_number(text, tile.number()),
+        Value::Hex(hex) => text.extend_from_slice(hex.text().as_slice()),
+        Value::Rotation(rotation) => print_number(text, rotation.turns()),
+        Value::Place(place) => text.extend_from_slice(place.text().as_slice()),
         Value::Word(keyword) => text.extend_from_slice(keyword.text()),
     }
 }

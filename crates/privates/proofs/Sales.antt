@@ -61,18 +61,18 @@ four_more events a b c d =
     append_assoc ((events ++ a ∷ []) ++ b ∷ []) (c ∷ []) (d ∷ []) ∙ append_assoc (events ++ a ∷ []) (b ∷ []) (c ∷ d ∷ []) ∙ append_assoc events (a ∷ []) (b ∷ c ∷ d ∷ [])
 
 -- SV's price comes to 0, and it is given away
-pub gift_underway : (game new : Game) (seat : Seat) → is_sold game.events SchuylkillValley ≡ false → new ≡ with_event (with_event game (event.Price 0)) (event.Sold SchuylkillValley seat 0) → IsUnderway game → IsUnderway new
-gift_underway game new seat unsold told before =
+pub gift_underway : (game new : Game) (seat : Seat) → is_sold game.events SchuylkillValley ≡ false → seat.0 < game.seats → new ≡ with_event (with_event game (event.Price 0)) (event.Sold SchuylkillValley seat 0) → IsUnderway game → IsUnderway new
+gift_underway game new seat unsold seated told before =
     subst IsUnderway (sym told)
     (record {
-      sound = gift_sound game seat unsold before.sound;
+      sound = gift_sound game seat unsold seated before.sound;
       waiting = waiting_silent (game.events ++ event.Price 0 ∷ []) (event.Sold SchuylkillValley seat 0) refl (λ its other. refl) (waiting_silent game.events (event.Price 0) refl (λ its other. refl) before.waiting);
     })
 
 -- a sale without a gift
-pub sold_underway : (game new : Game) (private : Private) (buyer : Seat) (price : ℕ) → MayPay game.seats game.events buyer private price → new ≡ with_event game (event.Sold private buyer price) → IsUnderway game → IsUnderway new
-sold_underway game new private buyer price may told before =
-    event_underway game new (event.Sold private buyer price) refl (λ its seat. refl) told (sale_sound game private buyer price may.unsold may.free before.sound) before
+pub sold_underway : (game new : Game) (private : Private) (buyer : Seat) (price : ℕ) → MayPay game.seats game.events buyer private price → buyer.0 < game.seats → new ≡ with_event game (event.Sold private buyer price) → IsUnderway game → IsUnderway new
+sold_underway game new private buyer price may seated told before =
+    event_underway game new (event.Sold private buyer price) refl (λ its seat. refl) told (sale_sound game private buyer price may.unsold seated may.free before.sound) before
 
 -- the sale of CA with its gift
 pub ca_underway : (game new : Game) (buyer : Seat) (price : ℕ) → MayPay game.seats game.events buyer CamdenAmboy price → buyer.0 < game.seats → new ≡ with_event (with_event game (event.Sold CamdenAmboy buyer price)) (event.Given company.Pennsylvania buyer 1) → IsUnderway game → IsUnderway new
@@ -117,7 +117,7 @@ bop_underway game new buyer price par may seated is_par told before =
     let after_gift = waiting_silent (sold.events ++ event.Par company.BaltimoreOhio par ∷ []) (event.Given company.BaltimoreOhio buyer 2) refl (λ its other. refl) after_par in
     subst IsUnderway (sym told)
     (record {
-      sound = started_sound sold company.BaltimoreOhio buyer par (ap is_par_value is_par ∙ par_set_is_par game.events buyer) unplaced seated (sale_sound game BaltimoreOhio buyer price may.unsold may.free before.sound);
+      sound = started_sound sold company.BaltimoreOhio buyer par (ap is_par_value is_par ∙ par_set_is_par game.events buyer) unplaced seated (sale_sound game BaltimoreOhio buyer price may.unsold seated may.free before.sound);
       waiting = waiting_silent ((sold.events ++ event.Par company.BaltimoreOhio par ∷ []) ++ event.Given company.BaltimoreOhio buyer 2 ∷ []) (event.President company.BaltimoreOhio buyer) refl (λ its other. refl) after_gift;
     })
 

@@ -1,4 +1,4 @@
-ghost use Rattle.std.specs.Prelude.{◌≡◌, ◌≢◌, ◌≤◌, ◌-◌, OnOk, false};
+ghost use Rattle.std.specs.Prelude.{◌≡◌, ◌≢◌, ◌<◌, ◌≤◌, ◌-◌, OnOk, false};
 ghost use Rattle.history.specs.LookBack.{is_sold, priority_of, sv_price_of, with_event};
 ghost use Rattle.history.specs.Tell.{revenues_told};
 ghost use Rattle.history.specs.declared.event.Event.TheVariants as event;
@@ -17,6 +17,7 @@ const FALL: u32 = 5;
 /// The end of the turns: unless all privates are sold SV falls, or each sold private pays.
 pub(crate) fn close(history: &mut History) -> Result<(), AllocError>
     requires few { history.old.seats ≤ 6 }
+    requires some { 0 < history.old.seats }
     requires underway { IsUnderway history.old }
     ensures seats { OnOk result (history.new.seats ≡ history.old.seats) }
     ensures events { OnOk result (history.new.events
@@ -37,6 +38,7 @@ pub(crate) fn close(history: &mut History) -> Result<(), AllocError>
 /// SV falls, which is unsold; at 0 it goes to the holder of priority for nothing.
 fn lower_price(history: &mut History) -> Result<(), AllocError>
     requires few { history.old.seats ≤ 6 }
+    requires some { 0 < history.old.seats }
     requires unsold { is_sold history.old.events SchuylkillValley ≡ false }
     requires underway { IsUnderway history.old }
     ensures seats { OnOk result (history.new.seats ≡ history.old.seats) }
@@ -66,9 +68,10 @@ fn set_price(history: &mut History, price: Amount) -> Result<(), AllocError>
     Ok(())
 }
 
-/// SV's price comes to 0, and SV goes to a seat for nothing.
+/// SV's price comes to 0, and SV goes to a seat at the table for nothing.
 fn give_away(history: &mut History, seat: Seat) -> Result<(), AllocError>
     requires unsold { is_sold history.old.events SchuylkillValley ≡ false }
+    requires at_table { seat.0 < history.old.seats }
     requires underway { IsUnderway history.old }
     ensures seats { OnOk result (history.new.seats ≡ history.old.seats) }
     ensures events { OnOk result (history.new.events ≡ given_away history.old.events seat) }

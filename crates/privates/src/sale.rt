@@ -51,6 +51,7 @@ fn sell_alone(
     price: Amount,
 ) -> Result<(), AllocError>
     requires small { price ≤ 1000000 }
+    requires at_table { buyer.0 < history.old.seats }
     requires may { MayPay history.old.seats history.old.events buyer private price }
     requires underway { IsUnderway history.old }
     ensures event { OnOk result (history.new

@@ -7,14 +7,8 @@ use Rattle.history.specs.declared.event.Holder.{Holder}
 use Rattle.history.specs.declared.event.Holder.TheVariants as holder
 use Rattle.history.specs.declared.ruling.Ruling.{Ruling}
 use Rattle.history.specs.declared.ruling.Ruling.TheVariants.{Obeyed, Refused, Faulty}
-use Rattle.map_tables.specs.Hex.{column_of, row_of}
-use Rattle.map_tables.specs.Place.{stop_index_of}
-use Rattle.map_tables.specs.Side.{turns_of}
-use Rattle.map_tables.specs.Tile.{number_of_tile}
-use Rattle.map_tables.specs.declared.hex.Hex.{Hex}
+use Rattle.map_tables.specs.Text.{text_of_hex, text_of_place, text_of_rotation, text_of_tile}
 use Rattle.map_tables.specs.declared.lay.Lay.{Lay}
-use Rattle.map_tables.specs.declared.place.Place.{Place}
-use Rattle.map_tables.specs.declared.place.StopNumber.{StopNumber}
 use Rattle.order_grammar.specs.Fault.{code_of as code_of_fault}
 use Rattle.order_grammar.specs.Order.{text_of_source}
 use Rattle.order_grammar.specs.declared.order.ShareSource.{ShareSource}
@@ -65,26 +59,13 @@ letter_text (Some letter) = letter ∷ []
 abbrev pub text_of_square : Square → List ℕ
 text_of_square square = letter_text (slice_get (codes "ABCDEFGHIJK") square.row) ++ decimal square.column
 
--- a hex of the map: the letter of its row, and its column
-abbrev pub text_of_hex : Hex → List ℕ
-text_of_hex hex = row_of hex ∷ decimal (column_of hex)
-
--- the number of a stop behind its hex, if a place names one
-abbrev pub stop_text : Option StopNumber → List ℕ
-stop_text None = []
-stop_text (Some number) = 46 ∷ decimal (stop_index_of number)
-
--- a place: a hex, or a stop of one
-abbrev pub text_of_place : Place → List ℕ
-text_of_place place = text_of_hex place.hex ++ stop_text place.stop
-
 -- the word of stops that are swapped
 abbrev pub swap_words : Bool → List (List ℕ)
 swap_words swapped = if swapped then codes "SWAP" ∷ [] else []
 
 -- a tile as it lies: its number, its hex, how far it is turned, and whether its stops are swapped
 abbrev pub words_of_lay : Lay → List (List ℕ)
-words_of_lay lay = decimal (number_of_tile lay.tile) ∷ text_of_hex lay.hex ∷ decimal (turns_of lay.rot) ∷ swap_words lay.swap
+words_of_lay lay = text_of_tile lay.tile ∷ text_of_hex lay.hex ∷ text_of_rotation lay.rot ∷ swap_words lay.swap
 
 -- the line of a tile that a company lays
 abbrev pub lay_line : Company → Lay → ℕ → List ℕ
@@ -163,9 +144,9 @@ field_text file (Number number) = decimal number
 field_text file (Tenths tenths) = decimal tenths
 field_text file (Source source) = text_of_source source
 field_text file (On square) = text_of_square square
-field_text file (Tile tile) = decimal (number_of_tile tile)
+field_text file (Tile tile) = text_of_tile tile
 field_text file (In hex) = text_of_hex hex
-field_text file (Turned rotation) = decimal (turns_of rotation)
+field_text file (Turned rotation) = text_of_rotation rotation
 field_text file (At place) = text_of_place place
 field_text file (OfRound round) = text_of_round round
 field_text file (Spelt order) = spelling_of order.now

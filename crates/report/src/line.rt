@@ -1,6 +1,6 @@
 ghost use Rattle.std.specs.Prelude.{◌≡◌, OnOk};
 ghost use Rattle.report.specs.Column.{Adds};
-ghost use Rattle.report.specs.Line.{IsOfCompany, IsOfPrivate, IsOfTenths, IsOfTurn, event_line, exchange_line, field_text, lay_line, line_of_company, line_of_fields, line_of_seat, line_of_word, name_of, private_line, ruled_line, text_of_hex, text_of_place, text_of_square};
+ghost use Rattle.report.specs.Line.{IsOfCompany, IsOfPrivate, IsOfTenths, IsOfTurn, event_line, exchange_line, field_text, lay_line, line_of_company, line_of_fields, line_of_seat, line_of_word, name_of, private_line, ruled_line, text_of_square};
 
 use Field::{At, Holds, In, Name, Number, OfRound, On, Source, Spelt, Tenths, Tile, Turned, Word};
 use history::{Event, Holder, KeptOrder, Ruling};
@@ -308,9 +308,9 @@ fn push_field(out: &mut Vec<u8>, sheets: &Sheets, field: &Field) -> Result<(), A
         Source(source) => out.extend_from_slice(source.text()),
         On(square) => push_square(out, *square),
         Tile(tile) => print_number(out, tile.number()),
-        In(hex) => push_hex(out, *hex),
+        In(hex) => out.extend_from_slice(hex.text().as_slice()),
         Turned(rotation) => print_number(out, rotation.turns()),
-        At(place) => push_place(out, *place),
+        At(place) => out.extend_from_slice(place.text().as_slice()),
         OfRound(round) => print_round(out, round),
         Spelt(order) => print_order(out, &order.order()),
     }
@@ -325,26 +325,6 @@ fn push_square(out: &mut Vec<u8>, square: Square) -> Result<(), AllocError>
         out.push(*letter)?;
     }
     print_number(out, square.column)
-}
-
-/// Adds a hex of the map: the letter of its row, and its column.
-fn push_hex(out: &mut Vec<u8>, hex: Hex) -> Result<(), AllocError>
-    ensures { OnOk result (Adds out.old out.new (text_of_hex hex)) }
-{
-    out.push(hex.row())?;
-    print_number(out, hex.column())
-}
-
-/// Adds a place of the map: a hex, or a stop of one.
-fn push_place(out: &mut Vec<u8>, place: Place) -> Result<(), AllocError>
-    ensures { OnOk result (Adds out.old out.new (text_of_place place)) }
-{
-    push_hex(out, place.hex)?;
-    if let Some(number) = place.stop {
-        out.push(b'.')?;
-        print_number(out, number.index())?;
-    }
-    Ok(())
 }
 
 /// Adds what became of a line of a seat's sheet.

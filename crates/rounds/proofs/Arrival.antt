@@ -1,6 +1,6 @@
 -- Files with the same sheets of each player have the same game.
 use Rattle.std.proofs.Common.{◌≡◌, ℕ, zero, suc, List, sym, ◌∙◌}
-use Rattle.rounds.proofs.SameSheets.{same_before, same_can_play, same_round}
+use Rattle.rounds.proofs.SameSheets.{same_before, same_posted, same_round}
 use Rattle.rounds.specs.Arrival.{ArrivalChangesNoGame}
 use Rattle.rounds.specs.Play.{AreRounds, Between, before_play}
 use Rattle.sheets.specs.File.{players_of, sheet_of}
@@ -23,5 +23,5 @@ arrival_no_game nothing f g players sent last plays =
     record {
       rounds = plays.rounds;
       reached = all_the_same f g players same plays.rounds last plays.reached;
-      stopped = sym (same_can_play f g last.next players (λ seat. same seat last.next)) ∙ plays.stopped;
+      stopped = sym (same_posted f g last.next players (λ seat. same seat last.next)) ∙ plays.stopped;
     }

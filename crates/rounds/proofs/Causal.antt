@@ -1,12 +1,12 @@
 -- Later sheets change nothing, since the sequence goes forward and each round is played from its own
 -- sheets alone.
 use Rattle.std.proofs.Common.{◌≡◌, ℕ, zero, suc, ◌≤◌, ◌<◌, List, length, sym, subst, ap, ◌∙◌, arith}
-use Rattle.std.proofs.lemmas.Bool.{and_parts}
 use Rattle.privates.specs.Turn.{all_sold}
 use Rattle.rounds.proofs.Forward.{played_forward}
+use Rattle.rounds.proofs.InSet.{StandsInSet, comes_in_set}
 use Rattle.rounds.proofs.SameSheets.{same_before, same_round}
 use Rattle.rounds.specs.Causality.{AgreeUpTo, LaterSheetsChangeNothing}
-use Rattle.rounds.specs.Play.{AreRounds, Between, IsRound, all_posted, before_play, is_playable}
+use Rattle.rounds.specs.Play.{AreRounds, Between, IsRound, before_play}
 use Rattle.sheets.specs.File.{players_of}
 use Rattle.sheets.specs.Laws.{SheetsAreNumbered, ThreeToSixPlay}
 use Rattle.tables.specs.Round.{rank_of}
@@ -14,11 +14,10 @@ use Rattle.tables.specs.declared.round.Round.{Round}
 
 module _ (numbered : SheetsAreNumbered) (last : Round) (first second : List ℕ) (some : 0 < length (players_of first)) (agree : AgreeUpTo last first second) where
   -- a round that was played is before the next
-  forward : (old new : Between) → IsRound first old new → rank_of old.next < rank_of new.next
-  forward old new round =
-      let parts = and_parts (is_playable old.next) (all_posted first old.next) round.can in
+  forward : (old new : Between) → StandsInSet old.next old.in_set → IsRound first old new → rank_of old.next < rank_of new.next
+  forward old new stands round =
       subst (λ (next : Round). rank_of old.next < rank_of next) (sym round.next_then)
-      (played_forward numbered first old.next old.in_set (all_sold new.game.events) some parts.0 parts.1)
+      (played_forward numbered first old.next old.in_set (all_sold new.game.events) some stands round.posted)
 
   -- a round up to the last is played alike
   alike : (old new : Between) → rank_of old.next ≤ rank_of last → IsRound first old new → IsRound second old new
@@ -29,7 +28,7 @@ module _ (numbered : SheetsAreNumbered) (last : Round) (first second : List ℕ)
   pub all_alike : (rounds : ℕ) (there : Between) → rank_of there.next ≤ rank_of last → AreRounds first rounds (before_play first) there → AreRounds second rounds (before_play second) there
   all_alike zero there up_to played = sym (same_before first second agree.players) ∙ played
   all_alike (suc rounds) there up_to played =
-      let before = forward played.0 there played.2 in
+      let before = forward played.0 there (comes_in_set first rounds played.0 played.1) played.2 in
       let earlier : rank_of played.0.next ≤ rank_of last = omega arith in
       (played.0, all_alike rounds played.0 earlier played.1, alike played.0 there earlier played.2)
 

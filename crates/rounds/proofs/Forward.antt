@@ -3,9 +3,10 @@
 use Rattle.std.proofs.Common.{◌≡◌, ℕ, ◌+◌, ◌-◌, ◌<◌, ◌≤◌, Bool, true, false, ◌&&◌, nat_lt, if◌then◌else◌, List, length, is_some, refl, arith, rules}
 use Rattle.std.proofs.lemmas.Bool.{lt-ltb}
 use Rattle.history.specs.declared.event.Event.{Event}
+use Rattle.rounds.proofs.InSet.{StandsInSet, in_any_set}
 use Rattle.rounds.proofs.Posted.{posted_each}
 use Rattle.rounds.specs.Gifts.{GiftsWait}
-use Rattle.rounds.specs.Play.{all_posted, is_playable}
+use Rattle.rounds.specs.Play.{all_posted}
 use Rattle.rounds.specs.Sequence.{BankAloneEndsIt, SequenceGoesForward, ends_set, round_after, turn_in_set}
 use Rattle.rounds.specs.declared.following.Next.TheVariants as next
 use Rattle.sheets.specs.File.{players_of, sheet_of}
@@ -50,12 +51,6 @@ before_the_last (Opening number) small turn = omega arith
 before_the_last (Stock set) small turn = omega arith
 before_the_last (Operating set number) small turn = omega arith
 
--- a round that is played stands within its set
-played_turn : (round : Round) → is_playable round ≡ true → turn_in_set round ≤ operating_most
-played_turn (Opening number) playable = omega arith
-played_turn (Stock set) playable = omega arith
-played_turn (Operating set number) playable = cc
-
 -- a round that all have posted is numbered within the limit
 pub posted_small : SheetsAreNumbered → (file : List ℕ) (round : Round) → 0 < length (players_of file) → all_posted file round ≡ true → number_of round ≤ number_most
 posted_small numbered file round some posted =
@@ -64,16 +59,16 @@ posted_small numbered file round some posted =
 
 module _ (numbered : SheetsAreNumbered) (file : List ℕ) (round : Round) (in_set : ℕ) (all_sold : Bool) where
   -- what follows a round that is played comes later
-  pub played_forward : 0 < length (players_of file) → is_playable round ≡ true → all_posted file round ≡ true → rank_of round < rank_of (round_after round in_set all_sold)
-  played_forward some playable posted =
-      later_place round in_set all_sold (posted_small numbered file round some posted) (played_turn round playable)
+  pub played_forward : 0 < length (players_of file) → StandsInSet round in_set → all_posted file round ≡ true → rank_of round < rank_of (round_after round in_set all_sold)
+  played_forward some stands posted =
+      later_place round in_set all_sold (posted_small numbered file round some posted) (in_any_set round in_set stands)
 
   -- and leaves fewer places
-  pub fewer_places : 0 < length (players_of file) → is_playable round ≡ true → all_posted file round ≡ true → places_left (round_after round in_set all_sold) < places_left round
-  fewer_places some playable posted =
+  pub fewer_places : 0 < length (players_of file) → StandsInSet round in_set → all_posted file round ≡ true → places_left (round_after round in_set all_sold) < places_left round
+  fewer_places some stands posted =
       let small = posted_small numbered file round some posted in
-      let within = before_the_last round small (played_turn round playable) in
-      let forward = played_forward some playable posted in
+      let within = before_the_last round small (in_any_set round in_set stands) in
+      let forward = played_forward some stands posted in
       omega arith
 
 -- a round of a set asks nothing more

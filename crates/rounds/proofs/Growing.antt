@@ -1,38 +1,42 @@
--- A list of events grows, and no new event begins a round.
-use Rattle.std.proofs.Common.{◌≡◌, ℕ, zero, suc, Bool, true, false, if◌then◌else◌, List, [], ◌∷◌, ◌++◌, Option, Some, None, refl, sym, ap, ◌∙◌}
+-- A list of events grows, and its new events stand aside: they begin no round, lay no tile, place no token and
+-- end no company's turn. So the list says of the map, and of who has operated, what it said before.
+use Rattle.std.proofs.Common.{◌≡◌, ℕ, zero, suc, Bool, true, false, ◌&&◌, if◌then◌else◌, List, [], ◌∷◌, ◌++◌, Option, Some, None, is_none, refl, sym, ap, ◌∙◌}
 use Rattle.std.proofs.lemmas.List.{append_assoc, append-nil}
-use Rattle.history.specs.Event.{round_of}
-use Rattle.history.specs.Tell.{breaks, with_broken}
+use Rattle.std.proofs.lemmas.List.Folds.{list_all-append}
+use Rattle.std.specs.List.{list_all}
+use Rattle.history.specs.Event.{operated_by, round_of, tile_laid, token_placed}
+use Rattle.history.specs.LookBack.{owner_of}
+use Rattle.history.specs.Tell.{after_revenues, breaks, paid_to_owner, with_broken}
 use Rattle.history.specs.declared.event.Event.{Event}
 use Rattle.history.specs.declared.event.Event.TheVariants as event
-use Rattle.rounds.specs.Begun.{rounds_begun, with_round}
+use Rattle.history.specs.declared.event.Holder.{Holder}
 use Rattle.sheets.specs.Part.{Numbered}
+use Rattle.tables.specs.Roster.{revenue_of}
 use Rattle.tables.specs.Seat.{seat_at}
 use Rattle.tables.specs.Steps.{iterate}
 use Rattle.tables.specs.Turns.{InPlay, Play, Turned, after_turn, groups_at, next_group}
-use Rattle.tables.specs.declared.round.Round.{Round}
+use Rattle.tables.specs.declared.roster.Private.{Private}
 use Rattle.tables.specs.declared.seat.Seat.{Seat}
 
--- the list grows, and nothing that is new begins a round
+-- an event stands aside
+abbrev pub is_aside : Event → Bool
+is_aside event =
+    is_none (round_of event) && (is_none (tile_laid event) && (is_none (token_placed event) && is_none (operated_by event)))
+
+-- the list grows, and what is new stands aside
 pub record Grows (old new : List Event) : Type 0 where
   pub more : List Event
   pub longer : new ≡ old ++ more
-  pub quiet : rounds_begun more ≡ []
+  pub aside : list_all is_aside more ≡ true
 
 -- a list that stays as it is
 pub stays : (events : List Event) → Grows events events
-stays events = record { more = []; longer = sym (append-nil events); quiet = refl }
+stays events = record { more = []; longer = sym (append-nil events); aside = refl }
 
--- a round in front of rounds of two lists
-round_in_front : (round : Option Round) (front back : List Round) → with_round round (front ++ back) ≡ with_round round front ++ back
-round_in_front None front back = refl
-round_in_front (Some round) front back = refl
-
--- rounds of one list after those of another
-pub begun_in_both : (front back : List Event) → rounds_begun (front ++ back) ≡ rounds_begun front ++ rounds_begun back
-begun_in_both [] back = refl
-begun_in_both (event ∷ front) back =
-    ap (with_round (round_of event)) (begun_in_both front back) ∙ round_in_front (round_of event) (rounds_begun front) (rounds_begun back)
+-- what stands aside, and more that does
+pub both_aside : (front back : List Event) → list_all is_aside front ≡ true → list_all is_aside back ≡ true → list_all is_aside (front ++ back) ≡ true
+both_aside front back first second =
+    list_all-append is_aside front back ∙ ap (λ (b : Bool). b && list_all is_aside back) first ∙ second
 
 -- it grows further
 pub further : (a b c : List Event) → Grows a b → Grows b c → Grows a c
@@ -40,7 +44,7 @@ further a b c first second =
     record {
       more = first.more ++ second.more;
       longer = second.longer ∙ ap (λ (list : List Event). list ++ second.more) first.longer ∙ append_assoc a first.more second.more;
-      quiet = begun_in_both first.more second.more ∙ ap (λ (list : List Round). list ++ rounds_begun second.more) first.quiet ∙ second.quiet;
+      aside = both_aside first.more second.more first.aside second.aside;
     }
 
 -- by each of two cases
@@ -54,14 +58,28 @@ by_steps step each zero events = stays events
 by_steps step each (suc n) events =
     further events (iterate step n events) (step (iterate step n events)) (by_steps step each n events) (each (iterate step n events))
 
--- by one event that begins no round
-pub told : (events : List Event) (event : Event) → round_of event ≡ None → Grows events (events ++ event ∷ [])
-told events event none = record { more = event ∷ []; longer = refl; quiet = ap (λ (round : Option Round). with_round round []) none }
+-- by one event that stands aside
+pub told : (events : List Event) (event : Event) → is_aside event ≡ true → Grows events (events ++ event ∷ [])
+told events event aside = record { more = event ∷ []; longer = refl; aside = ap (λ (b : Bool). b && true) aside }
 
 -- by BROKEN, where the bank breaks
 pub broken_grows : (seats : ℕ) (events : List Event) → Grows events (with_broken seats events)
 broken_grows seats events =
     in_either events (events ++ event.Broken ∷ []) events (breaks seats events) (told events event.Broken refl) (stays events)
+
+-- by a revenue
+owner_grows : (seats : ℕ) (events : List Event) (private : Private) (owner : Option Holder) → Grows events (paid_to_owner seats events private owner)
+owner_grows seats events private None = stays events
+owner_grows seats events private (Some owner) =
+    let paid : List Event = events ++ event.Revenue private owner (revenue_of private) ∷ [] in
+    further events paid _ (told events (event.Revenue private owner (revenue_of private)) refl) (broken_grows seats paid)
+
+-- by the revenues of some privates
+pub revenues_grow : (seats : ℕ) (events : List Event) (paying : List Private) → Grows events (after_revenues seats events paying)
+revenues_grow seats events [] = stays events
+revenues_grow seats events (private ∷ others) =
+    let paid : List Event = paid_to_owner seats events private (owner_of events private) in
+    further events paid _ (owner_grows seats events private (owner_of events private)) (revenues_grow seats paid others)
 
 -- by turns, where it grows by the lines of each and by each pass
 pub by_turns : (play : Play (List Event) Numbered) → ((seat : Seat) (lines : List Numbered) (events : List Event) → Grows events (play.turn seat lines events).state) → ((seat : Seat) (events : List Event) → Grows events (play.pass seat events)) → (n : ℕ) (start : InPlay (List Event) Numbered) → Grows start.now (iterate (after_turn play) n start).now
@@ -75,7 +93,7 @@ by_turns play acts passes (suc n) start =
     (in_either at.now turned.state (play.pass seat turned.state) turned.acted acted
     (further at.now turned.state _ acted (passes seat turned.state)))
 
--- a count of lines that were left begins no round
-pub quiet_count : (seat : Seat) (count : ℕ) (none : Bool) (events : List Event) → rounds_begun events ≡ [] → rounds_begun (if none then events else event.Left seat count ∷ events) ≡ []
-quiet_count seat count true events quiet = quiet
-quiet_count seat count false events quiet = quiet
+-- a count of lines that were left stands aside
+pub count_aside : (seat : Seat) (count : ℕ) (none : Bool) (events : List Event) → list_all is_aside events ≡ true → list_all is_aside (if none then events else event.Left seat count ∷ events) ≡ true
+count_aside seat count true events aside = aside
+count_aside seat count false events aside = aside

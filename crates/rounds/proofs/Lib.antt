@@ -8,6 +8,14 @@ pub mod Arrival
 pub mod Example
 pub mod StockExample
 mod Growing
+mod Aside
+mod GoingOn
 mod OpeningGrows
 mod StockGrows
+mod OperatingGrows
+mod Ground
+mod Idle
+mod CompanyTurns
+mod WholeOperatingRound
+mod InSet
 mod InOrder

@@ -4,7 +4,8 @@ use Rattle.std.proofs.lemmas.Bool.{cases_order, true≢false}
 use Rattle.history.specs.LookBack.{Game}
 use Rattle.privates.specs.Opening.{IsOpeningRound}
 use Rattle.privates.specs.Turn.{all_sold}
-use Rattle.rounds.specs.Play.{AreRounds, Between, IsPlayed, IsRound, OneGame, before_play, can_play, in_set_before}
+use Rattle.rounds.specs.OperatingRound.{OneOperatingRound}
+use Rattle.rounds.specs.Play.{AreRounds, Between, IsPlayed, IsRound, OneGame, all_posted, before_play, in_set_before}
 use Rattle.rounds.specs.Sequence.{round_after}
 use Rattle.stock_round.specs.StockRound.{IsStockRound}
 use Rattle.tables.specs.declared.round.Round.{Round}
@@ -18,12 +19,12 @@ OneOpeningRound = (file : List ℕ) (round : Round) (old a b : Game) → IsOpeni
 abbrev pub OneStockRound : Type 0
 OneStockRound = (file : List ℕ) (round : Round) (old a b : Game) → IsStockRound file round old a → IsStockRound file round old b → a ≡ b
 
-module _ (one_opening : OneOpeningRound) (one_stock : OneStockRound) (file : List ℕ) where
+module _ (one_opening : OneOpeningRound) (one_stock : OneStockRound) (one_operating : OneOperatingRound) (file : List ℕ) where
   -- so has a round of each kind
   played_once : (round : Round) (old a b : Game) → IsPlayed file round old a → IsPlayed file round old b → a ≡ b
   played_once (Opening number) old a b first second = one_opening file (Opening number) old a b first second
   played_once (Stock set) old a b first second = one_stock file (Stock set) old a b first second
-  played_once (Operating set number) old a b first second = absurd first
+  played_once (Operating set number) old a b first second = one_operating file (Operating set number) old a b first second
 
   -- two games between rounds are the same if their parts are
   between_same : (a b : Between) → a.game ≡ b.game → a.in_set ≡ b.in_set → a.next ≡ b.next → a ≡ b
@@ -45,28 +46,28 @@ module _ (one_opening : OneOpeningRound) (one_stock : OneStockRound) (file : Lis
       round_once first.0 a b first.2 (subst (λ (m : Between). IsRound file m b) (sym mid) second.2)
 
   -- before the last round the game could go on
-  could_go_on : (n k : ℕ) (old a : Between) → AreRounds file n old a → k < n → (mid : Between) × AreRounds file k old mid × (can_play file mid.next ≡ true)
+  could_go_on : (n k : ℕ) (old a : Between) → AreRounds file n old a → k < n → (mid : Between) × AreRounds file k old mid × (all_posted file mid.next ≡ true)
   could_go_on zero k old a rounds fewer = absurd (omega arith)
   could_go_on (suc n) k old a rounds fewer =
       elim (cases_order k n) [
-        | inl same ↦ (rounds.0, subst (λ (m : ℕ). AreRounds file m old rounds.0) (sym same) rounds.1, rounds.2.can)
+        | inl same ↦ (rounds.0, subst (λ (m : ℕ). AreRounds file m old rounds.0) (sym same) rounds.1, rounds.2.posted)
         | inr apart ↦ could_go_on n k old rounds.0 rounds.1 (elim apart [ inl less ↦ less | inr more ↦ omega arith ])
       ]
 
   -- where the game stopped after k rounds, it didn't go on for more
-  not_more : (k n : ℕ) (old a b : Between) → AreRounds file k old a → can_play file a.next ≡ false → AreRounds file n old b → k < n → ⊥
+  not_more : (k n : ℕ) (old a b : Between) → AreRounds file k old a → all_posted file a.next ≡ false → AreRounds file n old b → k < n → ⊥
   not_more k n old a b first stopped second more =
       let on = could_go_on n k old b second more in
       let same : a ≡ on.0 = rounds_once k old a on.0 first on.1 in
-      true≢false (sym on.2 ∙ (ap (λ (m : Between). can_play file m.next) (sym same) ∙ stopped))
+      true≢false (sym on.2 ∙ (ap (λ (m : Between). all_posted file m.next) (sym same) ∙ stopped))
 
 -- a file has at most one game
-pub game_once : OneOpeningRound → OneStockRound → OneGame
-game_once one_opening one_stock file a b first second =
+pub game_once : OneOpeningRound → OneStockRound → OneOperatingRound → OneGame
+game_once one_opening one_stock one_operating file a b first second =
     elim (cases_order first.rounds second.rounds) [
-      | inl same ↦ rounds_once one_opening one_stock file second.rounds (before_play file) a b (subst (λ (m : ℕ). AreRounds file m (before_play file) a) same first.reached) second.reached
+      | inl same ↦ rounds_once one_opening one_stock one_operating file second.rounds (before_play file) a b (subst (λ (m : ℕ). AreRounds file m (before_play file) a) same first.reached) second.reached
       | inr apart ↦ elim apart [
-        | inl earlier ↦ absurd (not_more one_opening one_stock file first.rounds second.rounds (before_play file) a b first.reached first.stopped second.reached earlier)
-        | inr later ↦ absurd (not_more one_opening one_stock file second.rounds first.rounds (before_play file) b a second.reached second.stopped first.reached later)
+        | inl earlier ↦ absurd (not_more one_opening one_stock one_operating file first.rounds second.rounds (before_play file) a b first.reached first.stopped second.reached earlier)
+        | inr later ↦ absurd (not_more one_opening one_stock one_operating file second.rounds first.rounds (before_play file) b a second.reached second.stopped first.reached later)
       ]
     ]

@@ -1,34 +1,44 @@
 -- A round is played from its own sheets alone: in two files with the same sheets for it, it is played
 -- alike.
-use Rattle.std.proofs.Common.{◌≡◌, ℕ, ◌&&◌, List, [], length, map, is_some, unwrap_or, refl, sym, ap, subst, ◌∙◌, ◌∷◌, ◌++◌, Option}
+use Rattle.std.proofs.Common.{◌≡◌, ℕ, ◌-◌, List, [], length, map, is_some, unwrap_or, refl, sym, ap, subst, ◌∙◌, ◌∷◌, ◌++◌, Option, Some, None}
 use Rattle.std.specs.List.{list_all, range_with_len}
 use Rattle.history.specs.LookBack.{Game, priority_of}
+use Rattle.history.specs.Operating.{rulings_in_round}
+use Rattle.history.specs.Shares.{president_of}
+use Rattle.history.specs.Tell.{revenues_told, with_left}
 use Rattle.history.specs.declared.event.Event.{Event}
 use Rattle.history.specs.declared.event.Event.TheVariants as event
+use Rattle.operating.specs.Standing as rules
+use Rattle.operating.specs.Turn.{BlockLeads, InTurn, IsCompanyTurn, LinesLead, begun}
 use Rattle.privates.specs.Opening.{IsOpeningRound, groups_for, in_play, opened}
-use Rattle.privates.specs.Standing.{after_standing, after_standing_lines, after_standing_of}
+use Rattle.privates.specs.Standing as opening
 use Rattle.privates.specs.Turn.{opening_turns}
-use Rattle.rounds.specs.Play.{Between, IsPlayed, IsRound, all_posted, before_play, can_play, is_playable, rounds_of_new_set}
+use Rattle.rounds.specs.OperatingRound as operating
+use Rattle.rounds.specs.Play.{Between, IsPlayed, IsRound, all_posted, before_play, rounds_of_new_set}
+use Rattle.sheets.specs.Block.{block_in}
 use Rattle.sheets.specs.File.{players_of, sheet_of}
-use Rattle.sheets.specs.Part.{Numbered, groups_of, parts_of}
+use Rattle.sheets.specs.Part.{Numbered, groups_of, lines_in, parts_of}
+use Rattle.sheets.specs.Taken.{after_all_before, after_each, after_lines_before}
 use Rattle.stock_round.specs.StockRound as stock
 use Rattle.stock_round.specs.Turn.{stock_turns}
 use Rattle.tables.specs.Seat.{seat_at}
 use Rattle.tables.specs.Turns.{InPlay, TurnsEnd}
+use Rattle.tables.specs.declared.roster.Company.{Company}
 use Rattle.tables.specs.declared.round.Round.{Round}
 use Rattle.tables.specs.declared.round.Round.TheVariants.{Opening, Stock, Operating}
+use Rattle.tables.specs.declared.seat.Seat.{Seat}
 
 module _ (first second : List ℕ) where
   -- the files have the same sheet of each seat for the round
   abbrev pub SameFor : Round → Type 0
   SameFor round = (seat : ℕ) → sheet_of first seat round ≡ sheet_of second seat round
 
-  -- the same sheets have the same standing lines
-  same_standing : (round : Round) (events : List Event) (seats : List ℕ) → SameFor round → after_standing first round events seats ≡ after_standing second round events seats
-  same_standing round events [] same = refl
-  same_standing round events (seat ∷ seats) same =
-      ap (λ (sheet : Option (List (List ℕ))). after_standing first round (after_standing_lines (seat_at seat) events (parts_of round (unwrap_or sheet [])).before) seats) (same seat)
-      ∙ same_standing round (after_standing_of second round events seat) seats same
+  -- standing lines do the same, whatever they do
+  same_standing : {State : Type 0} (step : Seat → State → Numbered → State) (round : Round) (state : State) (seats : List ℕ) → SameFor round → after_all_before step first round state seats ≡ after_all_before step second round state seats
+  same_standing step round state [] same = refl
+  same_standing step round state (seat ∷ seats) same =
+      ap (λ (sheet : Option (List (List ℕ))). after_all_before step first round (after_each (step (seat_at seat)) state (parts_of round (unwrap_or sheet [])).before) seats) (same seat)
+      ∙ same_standing step round (after_lines_before step second round state seat) seats same
 
   -- and the same groups
   same_groups : (seats : ℕ) (round : Round) → SameFor round → groups_for seats first round ≡ groups_for seats second round
@@ -38,7 +48,7 @@ module _ (first second : List ℕ) where
   -- so they open a round the same way
   same_opened : (seats : ℕ) (round : Round) (events : List Event) → SameFor round → opened seats first round events ≡ opened seats second round events
   same_opened seats round events same =
-      let standing = same_standing round (events ++ event.Round round ∷ []) (range_with_len 0 seats) same in
+      let standing = same_standing opening.after_standing_line round (events ++ event.Round round ∷ []) (range_with_len 0 seats) same in
       let groups = same_groups seats round same in
       λ i. in_play (standing i) (priority_of seats events).0 0 (groups i)
 
@@ -51,17 +61,10 @@ module _ (first second : List ℕ) where
         after = played.after;
       }
 
-  -- the same sheets have the same standing lines in a stock round
-  same_stock_standing : (round : Round) (events : List Event) (seats : List ℕ) → SameFor round → stock.after_standing first round events seats ≡ stock.after_standing second round events seats
-  same_stock_standing round events [] same = refl
-  same_stock_standing round events (seat ∷ seats) same =
-      ap (λ (sheet : Option (List (List ℕ))). stock.after_standing first round (stock.after_standing_lines (seat_at seat) events (parts_of round (unwrap_or sheet [])).before) seats) (same seat)
-      ∙ same_stock_standing round (stock.after_standing_of second round events seat) seats same
-
-  -- so they open it the same way
+  -- they open a stock round the same way
   same_stock_opened : (seats : ℕ) (round : Round) (events : List Event) → SameFor round → stock.opened seats first round events ≡ stock.opened seats second round events
   same_stock_opened seats round events same =
-      let standing = same_stock_standing round (events ++ event.Round round ∷ []) (range_with_len 0 seats) same in
+      let standing = same_standing stock.after_standing_line round (events ++ event.Round round ∷ []) (range_with_len 0 seats) same in
       let groups = same_groups seats round same in
       λ i. in_play (standing i) (priority_of seats events).0 0 (groups i)
 
@@ -74,26 +77,77 @@ module _ (first second : List ℕ) where
         after = played.after;
       }
 
+  -- they open an operating round the same way
+  same_operating_opened : (round : Round) (old : Game) → SameFor round → operating.opened first round old ≡ operating.opened second round old
+  same_operating_opened round old same =
+      ap (λ (events : List Event). revenues_told (record { seats = old.seats; events = events }))
+      (same_standing rules.after_standing_line round (old.events ++ event.Round round ∷ []) (range_with_len 0 old.seats) same)
+
+  -- the block of a company leads to the same
+  same_block : (round : Round) (company : Company) (turn new : InTurn) (president : Option Seat) → SameFor round → BlockLeads first round company turn president new → BlockLeads second round company turn president new
+  same_block round company turn new None same leads = leads
+  same_block round company turn new (Some seat) same leads =
+      subst (λ (sheet : Option (List (List ℕ))). LinesLead (record { company = company; president = seat }) turn (block_in company (parts_of round (unwrap_or sheet [])).opened) new) (same seat.0) leads
+
+  -- a company takes its turn alike
+  same_turn : (round : Round) (company : Company) (old new : Game) → SameFor round → IsCompanyTurn first round company old new → IsCompanyTurn second round company old new
+  same_turn round company old new same turn =
+      record {
+        last = turn.last;
+        block = same_block round company (begun old company) turn.last (president_of old.events company) same turn.block;
+        after = turn.after;
+      }
+
+  -- so do companies one after another
+  same_turns : (round : Round) (companies : List Company) (old new : Game) → SameFor round → operating.TakeTurns first round companies old new → operating.TakeTurns second round companies old new
+  same_turns round [] old new same turns = turns
+  same_turns round (company ∷ others) old new same turns = (
+    turns.0,
+    record { is_next = turns.1.is_next; turn = same_turn round company old turns.0 same turns.1.turn },
+    same_turns round others turns.0 new same turns.2,
+  )
+
+  -- as many lines are left
+  same_left : (round : Round) (events : List Event) (seats : List ℕ) → SameFor round → operating.told_left first round events seats ≡ operating.told_left second round events seats
+  same_left round events [] same = refl
+  same_left round events (seat ∷ seats) same =
+      ap (λ (sheet : Option (List (List ℕ))). with_left (seat_at seat) (lines_in (parts_of round (unwrap_or sheet [])) - rulings_in_round events (seat_at seat)) (operating.told_left first round events seats)) (same seat)
+      ∙ ap (λ (rest : List Event). with_left (seat_at seat) (operating.lines_left second round events (seat_at seat)) rest) (same_left round events seats same)
+
+  -- an operating round is played alike
+  same_operating : (round : Round) (old new : Game) → SameFor round → operating.IsOperatingRound first round old new → operating.IsOperatingRound second round old new
+  same_operating round old new same played =
+      record {
+        turned = played.turned;
+        turns =
+            record {
+              companies = played.turns.companies;
+              turns =
+                  subst (λ (start : Game). operating.TakeTurns second round played.turns.companies start played.turned) (same_operating_opened round old same)
+                  (same_turns round played.turns.companies (operating.opened first round old) played.turned same played.turns.turns);
+              over_then = played.turns.over_then;
+            };
+        after =
+            played.after
+            ∙ ap (λ (left : List Event). record { seats = old.seats; events = played.turned.events ++ left }) (same_left round played.turned.events (range_with_len 0 old.seats) same);
+      }
+
   -- so is a round of each kind
   same_played : (round : Round) (old new : Game) → SameFor round → IsPlayed first round old new → IsPlayed second round old new
   same_played (Opening number) old new same played = same_opening (Opening number) old new same played
   same_played (Stock set) old new same played = same_stock_round (Stock set) old new same played
-  same_played (Operating set number) old new same played = absurd played
+  same_played (Operating set number) old new same played = same_operating (Operating set number) old new same played
 
-  -- the same sheets are all posted, or not, in both files
-  same_posted : (round : Round) → players_of first ≡ players_of second → SameFor round → all_posted first round ≡ all_posted second round
+  -- all are posted in both files, or in neither
+  pub same_posted : (round : Round) → players_of first ≡ players_of second → SameFor round → all_posted first round ≡ all_posted second round
   same_posted round players same =
       λ i. list_all (λ seat. is_some (same seat i)) (range_with_len 0 (length (players i)))
-
-  -- so the round can be played in both or in neither
-  pub same_can_play : (round : Round) → players_of first ≡ players_of second → SameFor round → can_play first round ≡ can_play second round
-  same_can_play round players same = ap (λ posted. is_playable round && posted) (same_posted round players same)
 
   -- one round is played alike
   pub same_round : (old new : Between) → players_of first ≡ players_of second → SameFor old.next → IsRound first old new → IsRound second old new
   same_round old new players same round =
       record {
-        can = sym (same_can_play old.next players same) ∙ round.can;
+        posted = sym (same_posted old.next players same) ∙ round.posted;
         played = same_played old.next old.game new.game same round.played;
         next_then = round.next_then;
         in_set_then = round.in_set_then;

@@ -78,12 +78,12 @@ between_rounds = record { game = after_opening; in_set = 1; next = Stock 1 }
 -- the first round
 first_round : IsRound second_file (before_play second_file) between_rounds
 unfolding sheet_of players_of body_of content_of written_lines is_blank begins is_sheet_line settled
-first_round = record { can = refl; played = opening_played; next_then = refl; in_set_then = refl }
+first_round = record { posted = refl; played = opening_played; next_then = refl; in_set_then = refl }
 
 -- the second
 second_round : IsRound second_file between_rounds second_end
 unfolding sheet_of players_of body_of content_of written_lines is_blank begins is_sheet_line
-second_round = record { can = refl; played = stock_played; next_then = refl; in_set_then = refl }
+second_round = record { posted = refl; played = stock_played; next_then = refl; in_set_then = refl }
 
 -- so the game goes
 pub second_plays : Plays second_file second_end

@@ -1,7 +1,7 @@
--- Within a stock round the list of events grows, and no event begins another round.
-use Rattle.std.proofs.Common.{◌≡◌, ℕ, ◌+◌, ◌*◌, ◌==◌, List, [], ◌∷◌, ◌++◌, Option, Some, None, refl, sym, subst}
+-- Within a stock round the list of events grows, and its new events stand aside.
+use Rattle.std.proofs.Common.{◌≡◌, ℕ, ◌+◌, ◌*◌, ◌==◌, true, List, [], ◌∷◌, ◌++◌, Option, Some, None, refl, sym, subst}
 use Rattle.std.specs.Prelude.{unwrap_or}
-use Rattle.std.specs.List.{range_with_len}
+use Rattle.std.specs.List.{list_all, range_with_len}
 use Rattle.certs.specs.Purchase.{market_price_of}
 use Rattle.history.specs.LookBack.{Game}
 use Rattle.history.specs.Shares.{par_of, president_of, square_of}
@@ -11,13 +11,13 @@ use Rattle.history.specs.declared.ruling.Ruling.{Ruling}
 use Rattle.history.specs.declared.ruling.Ruling.TheVariants as ruling
 use Rattle.market.specs.Moves.{fallen, up_of}
 use Rattle.market.specs.OperatingOrder.{operating_order_of}
+use Rattle.market.specs.Token.{moved_from, same_square}
 use Rattle.order_grammar.specs.declared.order.Order.{Order}
 use Rattle.order_grammar.specs.declared.order.Order.TheVariants as order
 use Rattle.order_grammar.specs.declared.order.ShareSource.{ShareSource}
-use Rattle.rounds.proofs.Growing.{Grows, broken_grows, by_turns, further, in_either, quiet_count, stays, told}
-use Rattle.rounds.specs.Begun.{rounds_begun}
+use Rattle.rounds.proofs.Growing.{Grows, broken_grows, by_turns, count_aside, further, in_either, is_aside, stays, told}
 use Rattle.sheets.specs.Part.{Numbered, lines_in_groups, parts_for}
-use Rattle.stock_round.specs.Act.{after_act, after_exchange, after_purchase, after_sale, bought, exchanged, floated_at, is_to_float, moved_from, same_square, sold, successor_of, with_float, with_president, with_successor}
+use Rattle.stock_round.specs.Act.{after_act, after_exchange, after_purchase, after_sale, bought, exchanged, floated_at, is_to_float, sold, successor_of, with_float, with_president, with_successor}
 use Rattle.stock_round.specs.Judgement.{exchange_source, ruling_of}
 use Rattle.stock_round.specs.StockRound.{IsStockRound, after_standing, after_standing_line, after_standing_lines, after_standing_of, all_risen, closed, finished, is_sold_out, left_from, opened, risen}
 use Rattle.stock_round.specs.Turn.{InTurn, after_line, after_lines, after_obeyed, in_turn, no_deals, stock_turns}
@@ -34,7 +34,7 @@ use Rattle.tables.specs.declared.squares.Square.{Square}
 standing_lines_grow : (seat : Seat) (events : List Event) (lines : List Numbered) → Grows events (after_standing_lines seat events lines)
 standing_lines_grow seat events [] = stays events
 standing_lines_grow seat events (line ∷ lines) =
-    further events (after_standing_line seat events line) _ (record { more = _; longer = refl; quiet = refl })
+    further events (after_standing_line seat events line) _ (record { more = _; longer = refl; aside = refl })
     (standing_lines_grow seat (after_standing_line seat events line) lines)
 
 -- by those of each seat
@@ -81,7 +81,7 @@ purchase_grows : (seats : ℕ) (events : List Event) (seat : Seat) (company : Co
 purchase_grows seats events seat company from =
     let paid : List Event = bought events seat company from in
     let presided : List Event = with_president seats paid company in
-    further events paid _ (record { more = _; longer = refl; quiet = refl })
+    further events paid _ (record { more = _; longer = refl; aside = refl })
     (further paid presided _ (president_grows seats paid company) (float_grows seats presided company))
 
 -- by a sale
@@ -90,7 +90,7 @@ sale_grows seats events seat company tenths =
     let told_so : List Event = events ++ event.Sells company seat tenths (tenths * market_price_of events company) ∷ [] in
     let paid : List Event = sold seats events seat company tenths in
     let presided : List Event = with_president seats paid company in
-    further events told_so _ (record { more = _; longer = refl; quiet = refl })
+    further events told_so _ (record { more = _; longer = refl; aside = refl })
     (further told_so paid _ (broken_grows seats told_so)
     (further paid presided _ (president_grows seats paid company) (token_grows (fallen tenths) presided company (square_of presided company))))
 
@@ -104,7 +104,7 @@ exchange_grows seats events seat =
 
 -- by an order that was obeyed
 act_grows : (seats : ℕ) (seat : Seat) (events : List Event) (done : Order) → Grows events (after_act seats seat events done)
-act_grows seats seat events (order.Par company price) = record { more = _; longer = refl; quiet = refl }
+act_grows seats seat events (order.Par company price) = record { more = _; longer = refl; aside = refl }
 act_grows seats seat events (order.BuyShare company from) = purchase_grows seats events seat company from
 act_grows seats seat events (order.Sell company tenths) = sale_grows seats events seat company tenths
 act_grows seats seat events order.ExchangeMohawk = exchange_grows seats events seat
@@ -123,7 +123,7 @@ lines_grow seats seat turn (line ∷ lines) =
     let told_so : InTurn = in_turn (turn.events ++ event.Ruled seat line.number ruled ∷ []) turn.deals in
     let next : InTurn = after_line seats seat turn line in
     further turn.events next.events (after_lines seats seat next lines).events
-    (further turn.events told_so.events next.events (record { more = _; longer = refl; quiet = refl }) (ruling_grows seats seat told_so ruled))
+    (further turn.events told_so.events next.events (record { more = _; longer = refl; aside = refl }) (ruling_grows seats seat told_so ruled))
     (lines_grow seats seat next lines)
 
 -- by the lines of a turn and by passes
@@ -143,13 +143,13 @@ rises_grow events [] = stays events
 rises_grow events (company ∷ others) =
     further events (risen events company) _ (rise_grows events company) (rises_grow (risen events company) others)
 
--- lines that were left begin no round
-quiet_left : (seat : ℕ) (groups : List (List (List Numbered))) → rounds_begun (left_from seat groups) ≡ []
-quiet_left seat [] = refl
-quiet_left seat (group ∷ groups) =
-    quiet_count (seat_at seat) (lines_in_groups group) (lines_in_groups group == 0) (left_from (seat + 1) groups) (quiet_left (seat + 1) groups)
+-- the counts of lines that were left stand aside
+left_aside : (seat : ℕ) (groups : List (List (List Numbered))) → list_all is_aside (left_from seat groups) ≡ true
+left_aside seat [] = refl
+left_aside seat (group ∷ groups) =
+    count_aside (seat_at seat) (lines_in_groups group) (lines_in_groups group == 0) (left_from (seat + 1) groups) (left_aside (seat + 1) groups)
 
--- a stock round grows by its own ROUND event, and begins no other round
+-- a stock round adds its own ROUND event, and then events that stand aside
 pub stock_round_grows : (file : List ℕ) (round : Round) (old new : Game) → IsStockRound file round old new → Grows (old.events ++ event.Round round ∷ []) new.events
 stock_round_grows file round old new played =
     let begun : List Event = old.events ++ event.Round round ∷ [] in
@@ -161,6 +161,6 @@ stock_round_grows file round old new played =
     let whole : Grows begun (finished played.last) =
     further begun start.now _ (standing_grows file round begun (range_with_len 0 old.seats))
     (further start.now played.last.now _ turned
-    (further played.last.now shut _ (rises_grow played.last.now (operating_order_of played.last.now)) (record { more = _; longer = refl; quiet = quiet_left 0 played.last.groups })))
+    (further played.last.now shut _ (rises_grow played.last.now (operating_order_of played.last.now)) (record { more = _; longer = refl; aside = left_aside 0 played.last.groups })))
     in
     subst (λ (game : Game). Grows begun game.events) (sym played.after) whole

@@ -1,5 +1,6 @@
 pub mod Sequence
 pub mod Gifts
+pub mod OperatingRound
 pub mod Play
 pub mod Example
 pub mod Causality

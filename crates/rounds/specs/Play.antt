@@ -1,11 +1,11 @@
 -- The one game of a file: whole rounds in their sequence, each with a sheet of every seat, until a seat
--- has none for the next round, or that is of a kind that is not played yet. Opening and stock rounds are
--- played, and operating rounds are not; so no set ends, and nothing but an awaited round ends a game.
-use Rattle.std.specs.Prelude.{◌≡◌, ℕ, zero, suc, Bool, true, false, ◌&&◌, List, [], length, is_some}
+-- has none for the next round. Nothing else ends a game yet: it goes on where the bank is broken.
+use Rattle.std.specs.Prelude.{◌≡◌, ℕ, zero, suc, Bool, true, false, List, [], length, is_some}
 use Rattle.std.specs.List.{list_all, range_with_len}
 use Rattle.history.specs.LookBack.{Game}
 use Rattle.privates.specs.Opening.{IsOpeningRound}
 use Rattle.privates.specs.Turn.{all_sold}
+use Rattle.rounds.specs.OperatingRound.{IsOperatingRound}
 use Rattle.rounds.specs.Sequence.{round_after}
 use Rattle.rounds.specs.declared.game.End.{End}
 use Rattle.rounds.specs.declared.game.End.TheVariants.{Awaiting}
@@ -46,25 +46,15 @@ before_play file =
 abbrev pub all_posted : List ℕ → Round → Bool
 all_posted file round = list_all (λ seat. is_some (sheet_of file seat round)) (range_with_len 0 (length (players_of file)))
 
--- rounds of this kind are played
-abbrev pub is_playable : Round → Bool
-is_playable (Opening number) = true
-is_playable (Stock set) = true
-is_playable (Operating set number) = false
-
--- the round can be played: it is of a kind that is, and has all its sheets
-abbrev pub can_play : List ℕ → Round → Bool
-can_play file round = is_playable round && all_posted file round
-
 -- the round was played, by its kind
 abbrev pub IsPlayed : List ℕ → Round → Game → Game → Type 0
 IsPlayed file (Opening number) old new = IsOpeningRound file (Opening number) old new
 IsPlayed file (Stock set) old new = IsStockRound file (Stock set) old new
-IsPlayed file (Operating set number) old new = ⊥
+IsPlayed file (Operating set number) old new = IsOperatingRound file (Operating set number) old new
 
 -- one round was played between them
 pub record IsRound (file : List ℕ) (old new : Between) : Type 0 where
-  pub can : can_play file old.next ≡ true
+  pub posted : all_posted file old.next ≡ true
   pub played : IsPlayed file old.next old.game new.game
   pub next_then : new.next ≡ round_after old.next old.in_set (all_sold new.game.events)
   pub in_set_then : new.in_set ≡ in_set_before new.next old.in_set
@@ -78,7 +68,7 @@ AreRounds file (suc rounds) old new = (mid : Between) × AreRounds file rounds o
 pub record Plays (file : List ℕ) (last : Between) : Type 0 where
   pub rounds : ℕ
   pub reached : AreRounds file rounds (before_play file) last
-  pub stopped : can_play file last.next ≡ false
+  pub stopped : all_posted file last.next ≡ false
 
 -- why play stopped where this round comes next
 abbrev pub end_of : Round → End

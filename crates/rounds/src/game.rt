@@ -1,10 +1,13 @@
-ghost use Rattle.std.specs.Prelude.{◌≡◌, true, IfOk, length};
+ghost use Rattle.std.specs.Prelude.{◌≡◌, IfOk, length};
 ghost use Rattle.history.specs.Sound.{IsSound};
 ghost use Rattle.rounds.specs.Gifts.{GiftsWait};
-ghost use Rattle.rounds.specs.Play.{IsPlayed, IsTheGame, all_posted, can_play as may_be_played, in_set_before as set_before, is_playable as is_of_played_kind, rounds_of_new_set};
+ghost use Rattle.operating.specs.Ground.{GroundFits};
+ghost use Rattle.rounds.specs.Play.{IsPlayed, IsTheGame, all_posted, in_set_before as set_before, rounds_of_new_set};
 ghost use Rattle.sheets.specs.File.{players_of};
 
+use crate::operating_round::play_operating;
 use crate::sequence::round_after;
+use board::nothing_fits;
 use history::History;
 use privates::play_opening;
 use sheets::{Sheets, sheets_are_numbered};
@@ -16,8 +19,7 @@ use tables::{Kind, Round, Seat, rounds_in_set};
 /// Why play stopped.
 #[derive(Clone, Copy, Debug, PartialEq, Eq)]
 pub enum End {
-    /// This round comes next, and some seat has no sheet for it, or rounds of its kind are not
-    /// played yet.
+    /// This round comes next, and some seat has no sheet for it.
     Awaiting(Round),
 }
 
@@ -70,16 +72,19 @@ impl<'a> Game<'a> {
 pub fn play<'a>(alloc: Global, sheets: &'a Sheets<'a>) -> Result<Game<'a>, AllocError>
     ensures file { IfOk result (λ game. game.file ≡ sheets.now) }
     ensures game { IfOk result IsTheGame }
+    ensures sound { IfOk result (λ game. IsSound game.game) }
 {
     let mut history = History::start(alloc, sheets.seats());
     let mut in_set = rounds_of_new_set();
     let mut upcoming = Round::Opening(1);
-    // A law, which does nothing when it runs: by it the loop comes to an end.
+    // Laws, which do nothing when they run: by them the empty map fits, and the loop comes to an
+    // end.
+    nothing_fits();
     sheets_are_numbered();
-    while can_play(sheets, upcoming) {
-        history = play_round(history, sheets, upcoming)?;
+    while are_all_posted(sheets, upcoming) {
+        history = play_round(alloc, history, sheets, upcoming)?;
         let all_sold = history.now().cheapest_unsold().is_none();
-        // No set is played to its end yet, so the bank, broken or not, ends no game.
+        // The bank, broken or not, ends no game yet.
         upcoming = round_after(upcoming, in_set, all_sold);
         in_set = in_set_before(upcoming, in_set);
     }
@@ -90,22 +95,27 @@ pub fn play<'a>(alloc: Global, sheets: &'a Sheets<'a>) -> Result<Game<'a>, Alloc
     })
 }
 
-/// Plays a round of a kind that is played, by its kind: an opening or a stock round. An `Err` comes
-/// from want of memory alone, and the game is dropped.
-fn play_round(history: History, sheets: &Sheets, round: Round) -> Result<History, AllocError>
+/// Plays a round, by its kind. An `Err` comes from want of memory alone, and the game is dropped.
+fn play_round(
+    alloc: Global,
+    history: History,
+    sheets: &Sheets,
+    round: Round,
+) -> Result<History, AllocError>
     requires sound { IsSound history }
+    requires fits { GroundFits history }
     requires seats { history.seats ≡ length (players_of sheets.now) }
     requires gifts { GiftsWait round history.events }
-    requires playable { is_of_played_kind round ≡ true }
     ensures round { IfOk result (IsPlayed sheets.now round history) }
     ensures seats { IfOk result (λ new. new.seats ≡ history.seats) }
     ensures sound { IfOk result IsSound }
+    ensures fits { IfOk result GroundFits }
     ensures gifts { IfOk result (λ new. GiftsWait round new.events) }
 {
     match round {
         Round::Opening(_) => play_opening(history, sheets, round),
         Round::Stock(_) => play_stock(history, sheets, round),
-        Round::Operating { .. } => unreachable!(),
+        Round::Operating { .. } => play_operating(alloc, history, sheets, round),
     }
 }
 
@@ -126,20 +136,6 @@ fn in_set_before(upcoming: Round, in_set: u8) -> u8
         Round::Stock(_) => rounds_of_new_set(),
         Round::Opening(_) | Round::Operating { .. } => in_set,
     }
-}
-
-/// Whether a round can be played: it is of a kind that is, and every seat has a sheet for it.
-fn can_play(sheets: &Sheets, round: Round) -> bool
-    ensures { result ≡ may_be_played sheets.now round }
-{
-    is_playable(round) && are_all_posted(sheets, round)
-}
-
-/// Whether rounds of this kind are played.
-fn is_playable(round: Round) -> bool
-    ensures { result ≡ is_of_played_kind round }
-{
-    matches!(round, Round::Opening(_) | Round::Stock(_))
 }
 
 /// Whether every seat has a sheet for a round.

@@ -1,24 +1,56 @@
 //! Laws of the definitions, each the contract of a function that does nothing.
-ghost use Rattle.std.specs.Prelude.{◌≡◌, [], Err};
+ghost use Rattle.std.specs.Prelude.{◌≡◌, ℕ, List, [], Err};
+ghost use Rattle.history.specs.LookBack.{Game};
 ghost use Rattle.rounds.specs.Arrival.{ArrivalChangesNoGame};
 ghost use Rattle.rounds.specs.Begun.{RoundsFollowInOrder};
 ghost use Rattle.rounds.specs.Causality.{LaterSheetsChangeNothing};
 ghost use Rattle.rounds.specs.Example.{first_end, first_file, second_end, second_file};
+ghost use Rattle.rounds.specs.OperatingRound.{CompaniesOperateOnce, EndsSoon, OneOperatingRound};
 ghost use Rattle.rounds.specs.Play.{OneGame, Plays, SomeGame};
 ghost use Rattle.rounds.specs.Sequence.{BankAloneEndsIt, SequenceGoesForward};
 ghost use Rattle.sheets.specs.File.{content_of};
 ghost use Rattle.sheets.specs.declared.fault.FileFault.TheVariants.{Header};
+ghost use Rattle.tables.specs.declared.round.Round.{Round};
 
+use market::floated_companies_in_order;
+use operating::{company_operates, company_turn_ends, one_company_turn, turn_only_adds};
 use privates::{one_opening_round, opening_round_ends};
 use sheets::{arrival_changes_nothing, sheets_are_numbered, three_to_six_play};
 use stock_round::{one_stock_round, stock_round_ends};
+
+/// An operating round has at most one outcome: the sheets and the game before it say what the game
+/// after it is.
+pub fn one_operating_round()
+    ensures { OneOperatingRound }
+{
+    one_company_turn()
+}
+
+/// An operating round has an outcome, whatever the sheets say.
+pub fn operating_round_ends()
+    ensures { (file : List ℕ) (round : Round) (old : Game) → EndsSoon file round old }
+{
+    floated_companies_in_order();
+    company_operates();
+    company_turn_ends()
+}
+
+/// In an operating round at most eight companies take turns, none of them a second, and none is
+/// missed that has floated by its end and whose token has a square.
+pub fn companies_operate_once()
+    ensures { CompaniesOperateOnce }
+{
+    floated_companies_in_order();
+    company_operates()
+}
 
 /// A file has at most one game.
 pub fn one_game()
     ensures { OneGame }
 {
     one_opening_round();
-    one_stock_round()
+    one_stock_round();
+    one_operating_round()
 }
 
 /// Each file that is not refused has a game: each of its rounds comes to an end, and so does their
@@ -29,7 +61,8 @@ pub fn some_game()
     sheets_are_numbered();
     three_to_six_play();
     opening_round_ends();
-    stock_round_ends()
+    stock_round_ends();
+    operating_round_ends()
 }
 
 /// The round that follows a round comes later in the order of all rounds.
@@ -42,6 +75,7 @@ pub fn sequence_goes_forward()
 pub fn rounds_follow_in_order()
     ensures { RoundsFollowInOrder }
 {
+    turn_only_adds();
     sheets_are_numbered();
     three_to_six_play()
 }

@@ -1,21 +1,24 @@
 //! The sequence of rounds, and the one game of an order file.
 //!
 //! A game is played by whole rounds, each once every seat has a sheet for it, until a sheet is
-//! missing. The openings and the stock rounds are played; an operating round is awaited.
+//! missing. An opening and a stock round are played by crates of their own; an operating round is
+//! played here, company by company, each company's turn by the crate `operating`.
 //!
-//! Reading order: `following`, `sequence` (`next`), `game` (`Game`, `play`), `laws`.
+//! Reading order: `following`, `sequence` (`next`), `operating_round`, `game` (`Game`, `play`),
+//! `laws`.
 #![tactic(auto)]
 
 mod following;
 mod game;
 mod laws;
+mod operating_round;
 mod sequence;
 
 pub use following::Next;
 pub use game::{End, Game, play};
 pub use laws::{
-    arrival_changes_no_game, bank_alone_ends_it, empty_example, first_example,
-    later_sheets_change_nothing, one_game, rounds_follow_in_order, second_example,
-    sequence_goes_forward, some_game,
+    arrival_changes_no_game, bank_alone_ends_it, companies_operate_once, empty_example,
+    first_example, later_sheets_change_nothing, one_game, one_operating_round,
+    operating_round_ends, rounds_follow_in_order, second_example, sequence_goes_forward, some_game,
 };
 pub use sequence::next;

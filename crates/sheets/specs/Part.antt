@@ -1,13 +1,13 @@
 -- A sheet is taken apart at its heads. In an opening or stock round's sheet each TURN line up to line
--- 512 is a head, and opens a group; in an operating round's sheet the lines that name a company will
--- be heads, and open blocks: no line spells such an order yet. The lines before the first head stand
--- alone. A line past 512 has that fault before any other, so it is no head.
+-- 512 is a head, and opens a group; in an operating round's sheet each COMPANY line up to line 512 is
+-- one, and opens a block. The lines before the first head stand alone. A line past 512 has that fault
+-- before any other, so it is no head.
 use Rattle.std.specs.Prelude.{◌≡◌, ℕ, ◌+◌, Bool, true, false, nat_lt, if◌then◌else◌, List, [], ◌∷◌, length, map, Option, Some, None, Result, Ok, Err, unwrap_or}
 use Rattle.order_grammar.specs.Line.{order_of, reading_of}
 use Rattle.order_grammar.specs.declared.fault.Fault.{Fault}
 use Rattle.order_grammar.specs.declared.fault.Fault.TheVariants.{PastLastLine}
 use Rattle.order_grammar.specs.declared.order.Order.{Order}
-use Rattle.order_grammar.specs.declared.order.Order.TheVariants.{Turn}
+use Rattle.order_grammar.specs.declared.order.Order.TheVariants.{Company, Turn}
 use Rattle.sheets.specs.File.{sheet_of}
 use Rattle.sheets.specs.Limits.{lines_most}
 use Rattle.sheets.specs.Sheet.{Unruled}
@@ -37,9 +37,14 @@ abbrev pub is_turn : Result Order Fault → Bool
 is_turn (Ok Turn) = true
 is_turn other = false
 
+-- the order that opens a block
+abbrev pub is_company : Result Order Fault → Bool
+is_company (Ok (Company company)) = true
+is_company other = false
+
 -- a line with this reading opens a part of a sheet for this round
 abbrev pub opens_part : Round → Result Order Fault → Bool
-opens_part (Operating set number) reading = false
+opens_part (Operating set number) reading = is_company reading
 opens_part round reading = is_turn reading
 
 -- a group or block: its head, and the lines after that up to the next head

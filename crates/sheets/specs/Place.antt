@@ -13,6 +13,7 @@ is_of_file (order.Game game version) = true
 is_of_file (order.Players names) = true
 is_of_file (order.Sheet name round) = true
 is_of_file order.Turn = true
+is_of_file (order.Company company) = true
 is_of_file other = false
 
 -- what a line with this reading is, where the orders that pass this test have a place

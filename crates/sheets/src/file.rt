@@ -1,5 +1,6 @@
 ghost use Rattle.std.specs.Prelude.{◌≡◌, ℕ, ◌≤◌, List, length, MatchResult, IfOk, OnOk, option_copied, option_map, slice_get, Err};
 ghost use Rattle.order_grammar.specs.Line.{reading_of};
+ghost use Rattle.sheets.specs.Block.{block_for};
 ghost use Rattle.sheets.specs.File.{Fails, IsAccepted, body_content, content_of, is_header, lines_content, players_content, players_of, sheet_of, unread_of};
 ghost use Rattle.sheets.specs.Part.{parts_for};
 ghost use Rattle.sheets.specs.Text.{written_lines};
@@ -15,7 +16,7 @@ use order_grammar::{Fault, Order, read_line};
 use std::alloc::Global;
 use std::collections::HashMap;
 use std::marker::Model;
-use tables::{Round, Seat};
+use tables::{Company, Round, Seat};
 
 /// The game that an order file is for, as its header line names it.
 const GAME: u32 = 1830;
@@ -73,6 +74,17 @@ impl<'a> Sheets<'a> {
             None => Lines::none(),
         };
         PartsLeft::of(lines, round)
+    }
+
+    /// What the sheet of this seat for this round has from the first line of a company's block on;
+    /// nothing where it has no block for the company, or there is no sheet. Of two blocks for the
+    /// company the first counts.
+    pub fn block(&self, seat: Seat, round: &Round, company: Company) -> PartsLeft<'a>
+        ensures { result.before ≡ block_for self.now round.now seat.0 company }
+    {
+        let mut parts = self.parts(seat, *round);
+        parts.take_to_block(company);
+        parts
     }
 
     /// The codes of the unread lines, in order.

@@ -9,9 +9,9 @@
 //! Reading order: `fault`, `text` (the lines of a text), `sheet`, `parts` (a sheet as the rounds
 //! take it up), `place` (orders that have none), `players`, `post` and `open_sheet` (whose sheet it
 //! is, and where it began), `collecting` (line after line), `file` (`collect`), `laws`. In
-//! `specs/`, `File` says what a file says, `Part` what the parts of a sheet are, `Place` what
-//! becomes of an order without a place, `Limits` the limits of a file, and `Collecting` how far a
-//! file was collected.
+//! `specs/`, `File` says what a file says, `Part` what the parts of a sheet are, `Block` which of
+//! them is a company's, `Place` what becomes of an order without a place, `Limits` the limits of a
+//! file, and `Collecting` how far a file was collected.
 #![tactic(auto)]
 
 mod collecting;

@@ -1,16 +1,17 @@
 ghost use Rattle.std.specs.Prelude.{◌≡◌, []};
+ghost use Rattle.sheets.specs.Block.{block_in, opens_block_of as opens_a_block_of};
 ghost use Rattle.sheets.specs.Part.{StandsAtHead, TakesHead, TakesOrdinary, line_read, lines_in, opens_part as opens_a_part, parts_left};
 
 use crate::sheet::{Lines, NumberedLine};
 use order_grammar::Order;
 use std::marker::Model;
-use tables::Round;
+use tables::{Company, Round};
 
 /// What is still to be taken up of a sheet: the lines before the next head, and then group after
 /// group, or block after block, each with its head.
 ///
-/// In the sheet of an opening or a stock round a TURN line up to line `LINES_MOST` is a head. In
-/// that of an operating round no line is one yet.
+/// In the sheet of an opening or a stock round a TURN line up to line `LINES_MOST` is a head, in
+/// that of an operating round a COMPANY line.
 #[derive(Debug, Drop)]
 pub struct PartsLeft<'a> {
     lines: Lines<'a>,
@@ -66,6 +67,18 @@ impl<'a> PartsLeft<'a> {
         self.lines.take_line()
     }
 
+    /// Takes all that is left up to the head of the next block of a company, and that head; where
+    /// there is none, everything.
+    pub(crate) fn take_to_block(&mut self, company: Company)
+        ensures { self.new.before ≡ block_in company self.old.opened }
+    {
+        while let Some(line) = self.lines.take_line() {
+            if opens_part(self.round, &line) && opens_block_of(company, &line) {
+                break;
+            }
+        }
+    }
+
     /// How many lines are left, heads not counted.
     pub fn count(&self) -> u32
         ensures { result ≡ lines_in self.now }
@@ -96,6 +109,16 @@ fn opens_part(round: Round, line: &NumberedLine) -> bool
 {
     match round {
         Round::Opening(_) | Round::Stock(_) => matches!(line.order(), Ok(Order::Turn)),
-        Round::Operating { .. } => false,
+        Round::Operating { .. } => matches!(line.order(), Ok(Order::Company(_))),
+    }
+}
+
+/// Whether a head opens a block of a company.
+fn opens_block_of(company: Company, head: &NumberedLine) -> bool
+    ensures { result ≡ opens_a_block_of company (line_read head.now).reading }
+{
+    match head.order() {
+        Ok(Order::Company(named)) => *named == company,
+        _ => false,
     }
 }

@@ -6,13 +6,17 @@ use crate::sheet::NumberedLine;
 use order_grammar::{Fault, Order};
 
 /// Whether an order belongs to the file and its sheets and is none of play, so that no part of a
-/// sheet has a place for it: GAME, PLAYERS, SHEET, and TURN where it is no head.
+/// sheet has a place for it: GAME, PLAYERS, SHEET, and TURN and COMPANY where they are no heads.
 pub fn is_of_file(order: &Order) -> bool
     ensures { result ≡ belongs_to_file order.now }
 {
     matches!(
         order,
-        Order::Game { .. } | Order::Players(_) | Order::Sheet { .. } | Order::Turn
+        Order::Game { .. }
+            | Order::Players(_)
+            | Order::Sheet { .. }
+            | Order::Turn
+            | Order::Company(_)
     )
 }
 

@@ -1,5 +1,5 @@
 -- What an obeyed order brings keeps a list sound.
-use Rattle.std.proofs.Common.{◌≡◌, ℕ, ◌+◌, ◌*◌, ◌≤◌, ◌<◌, ◌==◌, Bool, true, false, not, ◌&&◌, ◌||◌, if◌then◌else◌, List, [], ◌∷◌, ◌++◌, Option, Some, None, is_some, ℤ, pos, ◌≤ℤ◌, ◌+ℤ◌, refl, sym, subst, ap, ◌∙◌, arith}
+use Rattle.std.proofs.Common.{◌≡◌, ℕ, ◌*◌, ◌≤◌, ◌<◌, ◌==◌, Bool, true, false, not, ◌&&◌, ◌||◌, if◌then◌else◌, List, [], ◌∷◌, ◌++◌, Option, Some, None, is_some, ℤ, pos, ◌≤ℤ◌, ◌+ℤ◌, refl, sym, subst, ap, ◌∙◌, arith}
 use Rattle.std.proofs.lemmas.Bool.Decides.{nat_tests}
 use Rattle.std.proofs.lemmas.Int.{ints}
 use Rattle.std.specs.Int.Signed.{lt_z}
@@ -8,36 +8,31 @@ use Rattle.certs.specs.President.{others_from}
 use Rattle.certs.specs.Purchase.{is_none_there, is_short, tenth_price_of}
 use Rattle.certs.specs.Sale.{is_over_five}
 use Rattle.certs.specs.declared.deal.Sale.{Sale}
-use Rattle.history.proofs.Blocks.{float_sound as float_law, move_sound as move_law, succession_sound as succession_law}
+use Rattle.history.proofs.Blocks.{float_sound as float_law, succession_sound as succession_law}
 use Rattle.history.proofs.Purchases.{exchange_sound as exchange_law, purchase_sound as purchase_law, start_by_purchase_sound as start_law}
 use Rattle.history.specs.Bids.{free_cash_of}
 use Rattle.history.specs.Event.{place_of_source}
 use Rattle.history.specs.LookBack.{Game, is_closed, is_sold, owner_of, with_event}
-use Rattle.history.specs.Shares.{is_floated, is_par_value, is_started, president_of, shares_of, square_of}
+use Rattle.history.specs.Shares.{is_floated, is_par_value, president_of, shares_of, square_of}
 use Rattle.history.specs.Sound.{IsLed, IsSound, least_offered}
 use Rattle.history.specs.declared.event.Event.{Event}
 use Rattle.history.specs.declared.event.Event.TheVariants as event
 use Rattle.history.specs.declared.event.Holder.{Holder}
 use Rattle.history.specs.declared.event.Holder.TheVariants as holder
-use Rattle.history.specs.declared.event.Shareholder.TheVariants.{InitialOffering, BankPool, Seat as OfSeat}
+use Rattle.history.specs.declared.event.Shareholder.TheVariants.{InitialOffering, BankPool}
+use Rattle.market.proofs.Tokens.{same_game}
 use Rattle.order_grammar.specs.declared.order.ShareSource.{ShareSource}
 use Rattle.order_grammar.specs.declared.order.ShareSource.TheVariants as source
 use Rattle.stock_round.proofs.Judged.{holds, is_nothing}
-use Rattle.stock_round.specs.Act.{float_most, is_to_float, moved_from, moved_to, president_tenths, same_square, seat_tenths_of, succeeded, successor_of, with_move, with_president, with_successor}
+use Rattle.stock_round.specs.Act.{float_most, is_to_float, president_tenths, seat_tenths_of, succeeded, successor_of, with_president, with_successor}
 use Rattle.stock_round.specs.Allowed.{MayBuy, MayExchange, MaySell, MayStart}
-use Rattle.stock_round.specs.Judgement.{exchange_source, is_no_exchange, is_offered, is_owner, is_pooled}
+use Rattle.stock_round.specs.Judgement.{exchange_source, is_offered, is_owner, is_pooled}
 use Rattle.tables.specs.Seat.{seat_at}
 use Rattle.tables.specs.declared.roster.Company.{Company}
 use Rattle.tables.specs.declared.roster.Company.TheVariants as company
 use Rattle.tables.specs.declared.roster.Private.TheVariants.{MohawkHudson, CamdenAmboy}
 use Rattle.tables.specs.declared.seat.Seat.{Seat}
 use Rattle.tables.specs.declared.squares.Square.{Square}
-
--- a game with these seats and events is sound where the record of them is
-pub same_game : (new : Game) (seats : ℕ) (events : List Event) → new.seats ≡ seats → new.events ≡ events → IsSound (record { seats = seats; events = events }) → IsSound new
-same_game new seats events same_seats same_events sound =
-    let game : ℕ → List Event → Game = λ seats events. record { seats = seats; events = events } in
-    subst IsSound (sym (ap (λ (n : ℕ). game n new.events) same_seats ∙ ap (λ (all : List Event). game seats all) same_events)) sound
 
 -- a seat that is not short of a sum has it
 paid : (seats : ℕ) (events : List Event) (seat : Seat) (cost : ℕ) → is_short seats events seat cost ≡ false → pos cost ≤ℤ free_cash_of seats events seat
@@ -143,26 +138,6 @@ float_led game its ready sound =
 pub float_sound : (game new : Game) (its : Company) (amount : ℕ) → is_to_float game.events its ≡ true → new ≡ with_event game (event.Floats its amount) → IsSound game → IsSound new
 float_sound game new its amount ready told sound =
     subst IsSound (sym told) (float_law game its amount (few_left (is_floated game.events its) (shares_of game.events its InitialOffering) ready) sound)
-
--- a token that has moved
-token_sound : (game : Game) (its : Company) (from to : Square) → square_of game.events its ≡ Some from → IsSound game → IsSound (record { seats = game.seats; events = moved_to game.events its from to })
-token_sound game its from to is sound =
-    elim (same_square to from) as (λ (b : Bool). IsSound (record { seats = game.seats; events = if b then game.events else game.events ++ event.Moves its to ∷ [] })) [
-      | true ↦ sound
-      | false ↦ move_law game its from to is sound
-    ]
-
--- the move of a token
-pub move_sound : (move : Square → Square) (game new : Game) (its : Company) → new.seats ≡ game.seats → new.events ≡ with_move move game.events its → IsSound game → IsSound new
-move_sound move game new its seats told sound =
-    let after : IsSound (record { seats = game.seats; events = with_move move game.events its }) =
-    elim (square_of game.events its) as (λ (found : Option Square). square_of game.events its ≡ found → IsSound (record { seats = game.seats; events = moved_from move game.events its found })) [
-      | None ↦ λ is. sound
-      | Some square ↦ λ is. token_sound game its square (move square) is sound
-    ]
-    refl
-    in
-    same_game new game.seats (with_move move game.events its) seats told after
 
 -- few tenths come to a pool that has none too few and comes to at most five
 few_come : (pooled : ℤ) (tenths : ℕ) → pos 0 ≤ℤ pooled → lt_z (pos 5) (pooled +ℤ pos tenths) ≡ false → tenths ≤ 5

@@ -22,7 +22,7 @@ use Rattle.order_grammar.specs.declared.order.Order.TheVariants.{Par, BuyShare, 
 use Rattle.order_grammar.specs.declared.order.ShareSource.{ShareSource}
 use Rattle.order_grammar.specs.declared.order.ShareSource.TheVariants as source
 use Rattle.stock_round.specs.Act.{president_tenths}
-use Rattle.stock_round.specs.Allowed.{MayAct, MayBuy, MayExchange, MaySell, MayStart}
+use Rattle.stock_round.specs.Allowed.{MayAct, MayBuy, MaySell, MayStart}
 use Rattle.stock_round.specs.Judgement.{exchange_rules, is_no_exchange, is_owner, judgement_of}
 use Rattle.tables.proofs.Rules.{none_broken}
 use Rattle.tables.specs.declared.roster.Company.{Company}

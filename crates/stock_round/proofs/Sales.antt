@@ -1,9 +1,8 @@
 -- Sales of tenths, after which somebody presides who has two.
-use Rattle.std.proofs.Common.{◌≡◌, ◌≢◌, ℕ, ◌+◌, ◌*◌, ◌≤◌, ◌<◌, ◌==◌, ◌⊎◌, inl, inr, Bool, true, false, not, ◌&&◌, ◌||◌, if◌then◌else◌, List, [], ◌∷◌, ◌++◌, Option, Some, None, is_some, ℤ, pos, ◌≤ℤ◌, ◌-ℤ◌, ◌+ℤ◌, refl, sym, subst, ap, ◌∙◌, arith}
-use Rattle.std.proofs.lemmas.Bool.{cases_eq}
+use Rattle.std.proofs.Common.{◌≡◌, ℕ, ◌*◌, ◌≤◌, ◌<◌, ◌==◌, ◌⊎◌, inl, inr, Bool, true, false, not, ◌&&◌, ◌||◌, if◌then◌else◌, List, [], ◌∷◌, ◌++◌, Option, Some, None, is_some, ℤ, pos, ◌≤ℤ◌, ◌-ℤ◌, ◌+ℤ◌, refl, sym, subst, ap, ◌∙◌, arith}
 use Rattle.std.proofs.lemmas.Bool.Decides.{nat_tests}
 use Rattle.std.proofs.lemmas.Int.{ints}
-use Rattle.std.specs.Int.Signed.{le_z, lt_z}
+use Rattle.std.specs.Int.Signed.{lt_z}
 use Rattle.certs.proofs.Presidents.{most_le}
 use Rattle.certs.specs.Counted.{presides}
 use Rattle.certs.specs.President.{others_from}
@@ -13,14 +12,14 @@ use Rattle.certs.specs.declared.deal.Sale.{Sale}
 use Rattle.history.proofs.EventAtEnd.{president_of_before, shares_of_at_end, shares_of_before}
 use Rattle.history.proofs.Blocks.{block_sound, block_with_succession_sound}
 use Rattle.history.specs.Laws.{block_sold}
-use Rattle.history.specs.LookBack.{Game, with_event}
-use Rattle.history.specs.Shares.{is_started, president_of, shares_of, square_of}
+use Rattle.history.specs.LookBack.{Game}
+use Rattle.history.specs.Shares.{is_started, president_of, square_of}
 use Rattle.history.specs.Sound.{IsLed, IsSound}
 use Rattle.history.specs.Tell.{breaks, with_broken}
 use Rattle.history.specs.declared.event.Event.{Event}
 use Rattle.history.specs.declared.event.Event.TheVariants as event
 use Rattle.history.specs.declared.event.Shareholder.TheVariants.{Seat as OfSeat}
-use Rattle.stock_round.proofs.Acts.{same_game}
+use Rattle.market.proofs.Tokens.{same_game}
 use Rattle.stock_round.proofs.Others.{another_leads}
 use Rattle.stock_round.specs.Act.{seat_tenths_of, sold, succeeded, successor_of, with_president, with_successor}
 use Rattle.stock_round.specs.Allowed.{MaySell}

@@ -4,16 +4,17 @@
 -- market price, and the token then moves down as many squares. The presidency passes to a seat that has
 -- strictly more tenths than the president. A company floats once at most four tenths are left in its initial
 -- offering, and has ten times its par value then.
-use Rattle.std.specs.Prelude.{ℕ, ◌*◌, ◌==◌, Bool, true, false, not, ◌&&◌, if◌then◌else◌, List, [], ◌∷◌, ◌++◌, Option, Some, None, unwrap_or, ℤ, pos}
+use Rattle.std.specs.Prelude.{ℕ, ◌*◌, ◌==◌, Bool, not, ◌&&◌, if◌then◌else◌, List, [], ◌∷◌, ◌++◌, Option, Some, None, unwrap_or, ℤ, pos}
 use Rattle.std.specs.Int.Signed.{lt_z}
 use Rattle.certs.specs.President.{others_from, with_most}
 use Rattle.certs.specs.Purchase.{market_price_of, tenth_price_of}
-use Rattle.history.specs.Shares.{is_floated, par_of, president_of, shares_of, square_of}
+use Rattle.history.specs.Shares.{is_floated, par_of, president_of, shares_of}
 use Rattle.history.specs.Tell.{with_broken}
 use Rattle.history.specs.declared.event.Event.{Event}
 use Rattle.history.specs.declared.event.Event.TheVariants as event
 use Rattle.history.specs.declared.event.Shareholder.TheVariants.{InitialOffering as AtOffering, Seat as OfSeat}
 use Rattle.market.specs.Moves.{fallen}
+use Rattle.market.specs.Token.{with_move}
 use Rattle.order_grammar.specs.declared.order.Order.{Order}
 use Rattle.order_grammar.specs.declared.order.Order.TheVariants.{Par, BuyShare, Sell, ExchangeMohawk}
 use Rattle.order_grammar.specs.declared.order.ShareSource.{ShareSource}
@@ -22,7 +23,6 @@ use Rattle.stock_round.specs.Judgement.{exchange_source}
 use Rattle.tables.specs.declared.roster.Company.{Company}
 use Rattle.tables.specs.declared.roster.Company.TheVariants.{NewYorkCentral}
 use Rattle.tables.specs.declared.seat.Seat.{Seat}
-use Rattle.tables.specs.declared.squares.Square.{Square}
 
 -- the tenths of a president's certificate
 abbrev pub president_tenths : ℕ
@@ -65,23 +65,6 @@ floated_at seats events company par = with_broken seats (events ++ event.Floats 
 abbrev pub with_float : ℕ → List Event → Company → List Event
 with_float seats events company =
     if is_to_float events company then floated_at seats events company (unwrap_or (par_of events company) 0) else events
-
--- two squares are the same
-abbrev pub same_square : Square → Square → Bool
-same_square a b = a.row == b.row && a.column == b.column
-
--- with MOVES where a company's token comes from one square to another
-abbrev pub moved_to : List Event → Company → Square → Square → List Event
-moved_to events company from to = if same_square to from then events else events ++ event.Moves company to ∷ []
-
--- with the token of a company moved, where it is on this square, if on any
-abbrev pub moved_from : (Square → Square) → List Event → Company → Option Square → List Event
-moved_from move events company None = events
-moved_from move events company (Some square) = moved_to events company square (move square)
-
--- with the token of a company moved
-abbrev pub with_move : (Square → Square) → List Event → Company → List Event
-with_move move events company = moved_from move events company (square_of events company)
 
 -- after a seat has set a company's par value, and so bought its president's certificate
 abbrev pub after_start : List Event → Seat → Company → ℕ → List Event

@@ -3,7 +3,7 @@
 -- if it owns MH, the initial offering or the pool has such a tenth, and it would not come to hold over six,
 -- where the zone of NYC's square limits that. There is one purchase a turn, but of a company whose square is
 -- brown there may be several.
-use Rattle.std.specs.Prelude.{ℕ, ◌==◌, Bool, true, false, not, ◌&&◌, ◌||◌, if◌then◌else◌, List, [], ◌∷◌, Option, Some, None, Result, Ok, Err, pos}
+use Rattle.std.specs.Prelude.{ℕ, ◌==◌, Bool, false, not, ◌||◌, if◌then◌else◌, List, [], ◌∷◌, Option, Some, None, Result, Ok, Err, pos}
 use Rattle.std.specs.Int.Signed.{lt_z}
 use Rattle.certs.specs.Purchase.{is_over_six, purchase_judgement}
 use Rattle.certs.specs.Sale.{sale_judgement}

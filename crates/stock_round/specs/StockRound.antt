@@ -2,7 +2,7 @@
 -- place, the turns from the holder of priority to the left until all have passed, the moves of the companies
 -- that are sold out, and what was left. A company is sold out where all its tenths are with players; its token
 -- then moves up. These companies move in operating order, as it is when the turns are over.
-use Rattle.std.specs.Prelude.{◌≡◌, ℕ, ◌*◌, ◌≤◌, Bool, false, ◌&&◌, if◌then◌else◌, List, [], ◌∷◌, ◌++◌, Result, Ok, Err, pos}
+use Rattle.std.specs.Prelude.{◌≡◌, ℕ, ◌*◌, ◌≤◌, Bool, ◌&&◌, if◌then◌else◌, List, [], ◌∷◌, ◌++◌, Result, Ok, Err, pos}
 use Rattle.std.specs.List.{range_with_len}
 use Rattle.std.specs.Ordering.{int_eq}
 use Rattle.history.specs.LookBack.{Game, priority_of}
@@ -14,13 +14,13 @@ use Rattle.history.specs.declared.event.Shareholder.TheVariants.{InitialOffering
 use Rattle.history.specs.declared.ruling.Ruling.TheVariants.{Faulty}
 use Rattle.market.specs.Moves.{up_of}
 use Rattle.market.specs.OperatingOrder.{operating_order_of}
+use Rattle.market.specs.Token.{with_move}
 use Rattle.order_grammar.specs.declared.fault.Fault.{Fault}
 use Rattle.order_grammar.specs.declared.fault.Fault.TheVariants.{OutOfPlace}
 use Rattle.order_grammar.specs.declared.order.Order.{Order}
 use Rattle.sheets.specs.Part.{Numbered}
 pub use Rattle.sheets.specs.Taken.{groups_for, in_play}
 use Rattle.sheets.specs.Taken.{after_all_before, after_each, after_lines_before, told_of_left}
-use Rattle.stock_round.specs.Act.{with_move}
 use Rattle.stock_round.specs.Turn.{stock_turns}
 use Rattle.tables.specs.Turns.{InPlay, TurnsEnd}
 use Rattle.tables.specs.declared.roster.Company.{Company}

@@ -1,7 +1,7 @@
 -- A seat's turn: the lines of its group are ruled in order, each on the list that the one before left. In a
 -- turn a seat buys once, but several certificates of a company whose square is brown, and sells as often as it
 -- likes, before and after. A seat that neither bought nor sold passes, also where it gave up MH.
-use Rattle.std.specs.Prelude.{ℕ, Bool, true, false, ◌||◌, List, [], ◌∷◌, ◌++◌, Option, Some, None, is_some}
+use Rattle.std.specs.Prelude.{ℕ, Bool, true, false, ◌||◌, List, [], ◌∷◌, ◌++◌, Some, None, is_some}
 use Rattle.history.specs.declared.event.Event.{Event}
 use Rattle.history.specs.declared.event.Event.TheVariants.{Passes, Ruled}
 use Rattle.history.specs.declared.ruling.Ruling.{Ruling}
@@ -13,7 +13,6 @@ use Rattle.stock_round.specs.Act.{after_act}
 use Rattle.stock_round.specs.Judgement.{ruling_of}
 use Rattle.stock_round.specs.declared.deals.Deals.{Deals}
 use Rattle.tables.specs.Turns.{Play, Turned}
-use Rattle.tables.specs.declared.roster.Company.{Company}
 use Rattle.tables.specs.declared.seat.Seat.{Seat}
 
 -- nothing yet

@@ -8,8 +8,8 @@ ghost use Rattle.stock_round.specs.Allowed.{MayAct, MayBuy, MayExchange, MaySell
 use crate::float::tell_float;
 use crate::payments::{give_up_mohawk, pay_for_block, pay_for_tenth};
 use crate::president::tell_president;
-use crate::token::drop_token;
 use history::{Event, History};
+use market::move_token_down;
 use order_grammar::{Order, ShareSource};
 use std::alloc::AllocError;
 use tables::{Amount, Company, Seat};
@@ -105,7 +105,7 @@ fn sell(
     let tenths = tenths as u8;
     pay_for_block(history, seat, company, tenths)?;
     tell_president(history, company)?;
-    drop_token(history, company, tenths)?;
+    move_token_down(history, company, tenths)?;
     Ok(())
 }
 

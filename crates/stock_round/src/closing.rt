@@ -2,9 +2,8 @@ ghost use Rattle.std.specs.Prelude.{◌≡◌, OnOk};
 ghost use Rattle.history.specs.Sound.{IsSound};
 ghost use Rattle.stock_round.specs.StockRound.{all_risen, closed, is_sold_out as has_sold_out, risen};
 
-use crate::token::raise_token;
 use history::{History, Shareholder};
-use market::operating_order;
+use market::{move_token_up, operating_order};
 use std::alloc::AllocError;
 use tables::Company;
 
@@ -43,7 +42,7 @@ fn raise_if_sold_out(history: &mut History, company: Company) -> Result<(), Allo
     if !is_sold_out(history, company) {
         return Ok(());
     }
-    raise_token(history, company)?;
+    move_token_up(history, company)?;
     Ok(())
 }
 

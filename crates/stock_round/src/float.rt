@@ -49,5 +49,6 @@ fn float(history: &mut History, company: Company) -> Result<(), AllocError>
 {
     let amount = TENTHS_OF_COMPANY * par_value(history, company);
     history.append(Event::Floats { company, amount })?;
-    history.tell_broken()
+    history.tell_broken()?;
+    Ok(())
 }

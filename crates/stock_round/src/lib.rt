@@ -8,7 +8,7 @@
 //! succession; then the companies that are all in players' hands move up.
 //!
 //! Reading order: `judgement` (the rules that an order may break), `ruling`, `act` (what an obeyed
-//! order brings) with `payments`, `prices`, `president`, `float` and `token`, `deals` (what a seat
+//! order brings) with `payments`, `prices`, `president` and `float`, `deals` (what a seat
 //! has done in a turn), `turn`, `standing` (the lines before the first group), `closing`,
 //! `playing`, `laws` (what holds of every stock round).
 #![tactic(auto)]
@@ -25,7 +25,6 @@ mod president;
 mod prices;
 mod ruling;
 mod standing;
-mod token;
 mod turn;
 
 pub use laws::{one_stock_round, stock_round_ends};

@@ -1,13 +1,12 @@
 //! What passes between a seat and the bank in one event.
 ghost use Rattle.std.specs.Prelude.{◌≡◌, ◌≤◌, ◌<◌, OnOk};
 ghost use Rattle.history.specs.Sound.{IsSound};
-ghost use Rattle.history.specs.Tell.{with_broken};
 ghost use Rattle.stock_round.specs.Act.{bought, exchanged, sold};
 ghost use Rattle.stock_round.specs.Allowed.{MayBuy, MayExchange, MaySell};
 
 use crate::judgement::exchange_source;
 use crate::prices::{market_price, tenth_price};
-use history::{Event, History, Party};
+use history::{Event, History};
 use order_grammar::ShareSource;
 use std::alloc::AllocError;
 use tables::{Amount, Company, Seat};
@@ -57,19 +56,7 @@ pub(crate) fn pay_for_block(
         tenths,
         price,
     })?;
-    break_bank(history)
-}
-
-/// Tells that the bank is broken, where it has just come to that.
-fn break_bank(history: &mut History) -> Result<(), AllocError>
-    ensures seats { OnOk result (history.new.seats ≡ history.old.seats) }
-    ensures events { OnOk result (history.new.events
-        ≡ with_broken history.old.seats history.old.events) }
-{
-    if history.cash(Party::Bank) > 0 || history.broken() {
-        return Ok(());
-    }
-    history.append(Event::Broken)?;
+    history.tell_broken()?;
     Ok(())
 }
 

@@ -1,50 +1,64 @@
-use Rattle.std.proofs.Common.{◌≡◌, ◌<◌, Bool, suc, true, is_none, length, subst, sym, arith, ap, ◌∙◌}
-use Rattle.std.proofs.lemmas.Bool.{and_parts}
+use Rattle.std.proofs.Common.{◌≡◌, ℕ, zero, suc, ◌<◌, Bool, true, is_none, length, subst, sym, ap, ◌∙◌, arith, rules}
 use Rattle.history.specs.LookBack.{cheapest_of}
+use Rattle.operating.specs.Ground.{GroundFits}
 use Rattle.privates.specs.Turn.{all_sold}
 use Rattle.rounds.proofs.Forward.{fewer_places, gifts_go_on, places_left, posted_small}
+use Rattle.rounds.proofs.InSet.{StandsInSet, first_in_set, round_in_set}
 use Rattle.rounds.proofs.Posted.{missing_from}
 use Rattle.rounds.specs.Gifts.{GiftsWait}
-use Rattle.rounds.specs.Play.{all_posted, can_play, is_playable}
+use Rattle.rounds.specs.Play.{IsRound, all_posted}
 use Rattle.rounds.specs.Sequence.{round_after}
 use Rattle.sheets.specs.File.{players_of}
+use Rattle.tables.specs.declared.rolling_stock.Kind.TheVariants.{Two}
 use Rattle.tables.specs.declared.round.Round.{Round}
+use Rattle.tables.specs.declared.round.Round.TheVariants.{Opening}
 use Rattle.rounds.proofs.game.play.Goals as goal
+
+pub loop-alloc-init : goal.loop-alloc-init
+loop-alloc-init c =
+    record {
+      rounds = zero;
+      reached = search rules;
+      in_set = subst (λ (count : ℕ). StandsInSet (Opening 1) count) (sym c.rounds_of_new_set-in_set.ensures) (first_in_set c.args.sheets.now);
+      sound = search rules;
+      fits = subst GroundFits (sym c.start-history.ensures.empty) (c.nothing_fits.ensures Two);
+      gifts = search rules;
+      seats = search rules;
+    }
 
 pub round_after-upcoming-requires : goal.round_after-upcoming-requires
 round_after-upcoming-requires c =
-    let can : can_play c.args.sheets.now c.loop-history.upcoming ≡ true = sym c.can_play.ensures ∙ c.loop-history-test.true in
-    let posted = (and_parts (is_playable c.loop-history.upcoming) (all_posted c.args.sheets.now c.loop-history.upcoming) can).1 in
+    let posted : all_posted c.args.sheets.now c.loop-alloc.upcoming ≡ true = sym c.are_all_posted.ensures ∙ c.loop-alloc-test.true in
     let some : 0 < length (players_of c.args.sheets.now) = omega (arith, c.seats.ensures.value, c.seats.ensures.least) in
-    record { number = posted_small c.sheets_are_numbered.ensures c.args.sheets.now c.loop-history.upcoming some posted }
+    record { number = posted_small c.sheets_are_numbered.ensures c.args.sheets.now c.loop-alloc.upcoming some posted }
 
-pub loop-history-smaller : goal.loop-history-smaller
-loop-history-smaller c =
-    let can : can_play c.args.sheets.now c.loop-history.upcoming ≡ true = sym c.can_play.ensures ∙ c.loop-history-test.true in
-    let parts = and_parts (is_playable c.loop-history.upcoming) (all_posted c.args.sheets.now c.loop-history.upcoming) can in
+pub loop-alloc-smaller : goal.loop-alloc-smaller
+loop-alloc-smaller c =
+    let posted : all_posted c.args.sheets.now c.loop-alloc.upcoming ≡ true = sym c.are_all_posted.ensures ∙ c.loop-alloc-test.true in
     let some : 0 < length (players_of c.args.sheets.now) = omega (arith, c.seats.ensures.value, c.seats.ensures.least) in
-    subst (λ (next : Round). places_left next < places_left c.loop-history.upcoming) (sym c.round_after-upcoming.ensures)
-    (fewer_places c.sheets_are_numbered.ensures c.args.sheets.now c.loop-history.upcoming c.loop-history.in_set c.is_none-all_sold.result some parts.0 parts.1)
+    subst (λ (next : Round). places_left next < places_left c.loop-alloc.upcoming) (sym c.round_after-upcoming.ensures)
+    (fewer_places c.sheets_are_numbered.ensures c.args.sheets.now c.loop-alloc.upcoming c.loop-alloc.in_set c.is_none-all_sold.result some c.loop-alloc.invariant.in_set posted)
 
-pub loop-history-preserved : goal.loop-history-preserved
-loop-history-preserved c =
+pub loop-alloc-preserved : goal.loop-alloc-preserved
+loop-alloc-preserved c =
     let sold : c.is_none-all_sold.result ≡ all_sold c.in_ok-history.history.events =
     missing_from _ _ c.is_none-all_sold.ensures ∙ ap is_none (c.cheapest_unsold.ensures ∙ ap cheapest_of c.now.ensures.events) in
+    let round : IsRound c.args.sheets.now (record { game = c.loop-alloc.history; in_set = c.loop-alloc.in_set; next = c.loop-alloc.upcoming }) (record { game = c.in_ok-history.history; in_set = c.in_set_before-in_set.result; next = c.round_after-upcoming.result }) =
     record {
-      rounds = suc c.loop-history.invariant.rounds;
-      reached = (
-        _,
-        c.loop-history.invariant.reached,
-        record {
-          can = sym c.can_play.ensures ∙ c.loop-history-test.true;
-          played = c.in_ok-history.ensures.round;
-          next_then = c.round_after-upcoming.ensures ∙ ap (λ (b : Bool). round_after c.loop-history.upcoming c.loop-history.in_set b) sold;
-          in_set_then = c.in_set_before-in_set.ensures;
-        },
-      );
+      posted = sym c.are_all_posted.ensures ∙ c.loop-alloc-test.true;
+      played = c.in_ok-history.ensures.round;
+      next_then = c.round_after-upcoming.ensures ∙ ap (λ (b : Bool). round_after c.loop-alloc.upcoming c.loop-alloc.in_set b) sold;
+      in_set_then = c.in_set_before-in_set.ensures;
+    }
+    in
+    record {
+      rounds = suc c.loop-alloc.invariant.rounds;
+      reached = (_, c.loop-alloc.invariant.reached, round);
+      in_set = round_in_set c.args.sheets.now _ _ c.loop-alloc.invariant.in_set round;
       sound = c.in_ok-history.ensures.sound;
+      fits = c.in_ok-history.ensures.fits;
       gifts =
           subst (λ (next : Round). GiftsWait next c.in_ok-history.history.events) (sym c.round_after-upcoming.ensures)
-          (gifts_go_on c.loop-history.upcoming c.loop-history.in_set c.is_none-all_sold.result c.in_ok-history.history.events c.in_ok-history.ensures.gifts);
-      seats = c.in_ok-history.ensures.seats ∙ c.loop-history.invariant.seats;
+          (gifts_go_on c.loop-alloc.upcoming c.loop-alloc.in_set c.is_none-all_sold.result c.in_ok-history.history.events c.in_ok-history.ensures.gifts);
+      seats = c.in_ok-history.ensures.seats ∙ c.loop-alloc.invariant.seats;
     }

@@ -1,6 +1,7 @@
 use Rattle.std.proofs.Common.{◌≤◌, arith}
 use Rattle.market.specs.Moves.{fallen}
-use Rattle.stock_round.proofs.Acts.{block_small, move_sound}
+use Rattle.market.proofs.Tokens.{move_sound}
+use Rattle.stock_round.proofs.Acts.{block_small}
 use Rattle.stock_round.proofs.Sales.{sold_sound}
 use Rattle.stock_round.proofs.act.sell.Goals as goal
 
@@ -14,5 +15,5 @@ pay_for_block-requires c =
 
 pub returns-clause-sound : goal.returns-clause-sound
 returns-clause-sound c =
-    move_sound (fallen c.args.tenths) c.tell_president.new.history c.drop_token.new.history c.args.company c.in_ok-drop_token.ensures.seats c.in_ok-drop_token.ensures.events
+    move_sound (fallen c.args.tenths) c.tell_president.new.history c.move_token_down.new.history c.args.company c.in_ok-move_token_down.ensures.seats c.in_ok-move_token_down.ensures.events
     (sold_sound c.args.history.now c.pay_for_block.new.history c.tell_president.new.history c.args.seat (record { company = c.args.company; tenths = c.args.tenths }) c.requires.few c.requires.at_table c.requires.may c.requires.sound c.in_ok-pay_for_block.ensures.seats c.in_ok-pay_for_block.ensures.events c.in_ok-tell_president.ensures.seats c.in_ok-tell_president.ensures.events)

@@ -1,0 +1,81 @@
+ghost use Rattle.std.specs.Prelude.{◌≡◌, OnOk};
+ghost use Rattle.market.specs.Moves.{fallen, left_of, right_of, up_of};
+ghost use Rattle.market.specs.Token.{moved_to, with_move};
+
+use crate::moves::{fall, left, right, up};
+use history::{Event, History};
+use std::alloc::AllocError;
+use tables::{Company, Square};
+
+/// A company's token moves right, which is told where it comes to another square.
+pub fn move_token_right(history: &mut History, company: Company) -> Result<(), AllocError>
+    ensures seats { OnOk result (history.new.seats ≡ history.old.seats) }
+    ensures events { OnOk result (history.new.events
+        ≡ with_move right_of history.old.events company) }
+{
+    match history.square(company) {
+        Some(square) => move_token(history, company, square, right(square)),
+        None => Ok(()),
+    }
+}
+
+/// A company's token moves left, which is told where it comes to another square.
+pub fn move_token_left(history: &mut History, company: Company) -> Result<(), AllocError>
+    ensures seats { OnOk result (history.new.seats ≡ history.old.seats) }
+    ensures events { OnOk result (history.new.events
+        ≡ with_move left_of history.old.events company) }
+{
+    match history.square(company) {
+        Some(square) => move_token(history, company, square, left(square)),
+        None => Ok(()),
+    }
+}
+
+/// A company's token moves up, if there is a square.
+pub fn move_token_up(history: &mut History, company: Company) -> Result<(), AllocError>
+    ensures seats { OnOk result (history.new.seats ≡ history.old.seats) }
+    ensures events { OnOk result (history.new.events
+        ≡ with_move up_of history.old.events company) }
+{
+    match history.square(company) {
+        Some(square) => move_token(history, company, square, up(square)),
+        None => Ok(()),
+    }
+}
+
+/// A company's token moves down so many squares, as far as there are squares; it is told once.
+pub fn move_token_down(
+    history: &mut History,
+    company: Company,
+    squares: u8,
+) -> Result<(), AllocError>
+    ensures seats { OnOk result (history.new.seats ≡ history.old.seats) }
+    ensures events { OnOk result (history.new.events
+        ≡ with_move (fallen squares) history.old.events company) }
+{
+    match history.square(company) {
+        Some(square) => move_token(history, company, square, fall(square, squares)),
+        None => Ok(()),
+    }
+}
+
+/// A company's token comes from one square to another, which is told where it is another.
+fn move_token(
+    history: &mut History,
+    company: Company,
+    from: Square,
+    to: Square,
+) -> Result<(), AllocError>
+    ensures seats { OnOk result (history.new.seats ≡ history.old.seats) }
+    ensures events { OnOk result (history.new.events
+        ≡ moved_to history.old.events company from to) }
+{
+    if to == from {
+        return Ok(());
+    }
+    history.append(Event::Moves {
+        company,
+        square: to,
+    })?;
+    Ok(())
+}

@@ -1,0 +1,153 @@
+-- From the answer of the rules of the board to where a line leads.
+use Rattle.std.proofs.Common.{◌≡◌, ℕ, ◌⊎◌, inl, inr, List, Some, None, Result, Ok, Err, ℤ, pos, ◌≤ℤ◌, refl, sym, ap, subst, ◌∙◌}
+use Rattle.std.specs.Int.RustNames.{unsigned_abs}
+use Rattle.board.proofs.FitLaws.{fits_without_homes}
+use Rattle.board.specs.Fit.{board_fault_of}
+use Rattle.board.specs.Ground.{Ground, ground_of}
+use Rattle.board.specs.Homes.{Fits}
+use Rattle.board.specs.LayRules.{IsLayAnswer, ground_rules}
+use Rattle.board.specs.TokenRules.{IsTokenAnswer, slot_rules}
+use Rattle.board.specs.declared.asker.Asker.{Asker}
+use Rattle.board.specs.declared.fault.BoardFault.{BoardFault}
+use Rattle.board.specs.declared.fault.BoardFault.TheVariants as board_fault
+use Rattle.board.specs.declared.fault.LayFault.{LayFault}
+use Rattle.board.specs.declared.fault.LayFault.TheVariants as lay_fault
+use Rattle.board.specs.declared.fault.TokenFault.{TokenFault}
+use Rattle.board.specs.declared.fault.TokenFault.TheVariants as token_fault
+use Rattle.history.proofs.EventAtEnd.{cash_of_before}
+use Rattle.history.proofs.Payments.{lay_sound, token_sound}
+use Rattle.history.specs.Event.{party_of_company}
+use Rattle.history.specs.LookBack.{Game, cash_of, with_event}
+use Rattle.history.specs.Operating.{lays_of, tokens_of}
+use Rattle.history.specs.declared.event.Event.{Event}
+use Rattle.history.specs.declared.event.Event.TheVariants as event
+use Rattle.history.specs.declared.ruling.LayRule.{LayRule}
+use Rattle.history.specs.declared.ruling.Refusal.TheVariants as refusal
+use Rattle.history.specs.declared.ruling.Ruling.{Ruling}
+use Rattle.history.specs.declared.ruling.Ruling.TheVariants.{Obeyed, Refused}
+use Rattle.history.specs.declared.ruling.TokenRule.{TokenRule}
+use Rattle.map_tables.specs.declared.lay.Lay.{Lay}
+use Rattle.map_tables.specs.declared.place.Place.{Place}
+use Rattle.operating.proofs.Allowed.{lay_allowed, token_allowed}
+use Rattle.operating.proofs.Fitting.{lay_fits, same_ground, token_fits}
+use Rattle.operating.specs.Ground.{IsPlayable, ground_now}
+use Rattle.operating.specs.Judgement.{asker_of, rule_of_lay, rule_of_token}
+use Rattle.operating.specs.Turn.{InTurn, in_turn, lay_answered, lay_done, lay_refused, token_answered, token_done, token_refused}
+use Rattle.operating.specs.declared.operator.Operator.{Operator}
+use Rattle.operating.specs.declared.progress.Progress.{Progress}
+use Rattle.order_grammar.specs.declared.order.Order.{Order}
+use Rattle.order_grammar.specs.declared.order.Order.TheVariants as order
+use Rattle.tables.specs.Rules.{first_broken}
+use Rattle.tables.specs.declared.roster.Company.{Company}
+use Rattle.tables.specs.declared.rolling_stock.Kind.TheVariants.{Two}
+use Rattle.tables.specs.declared.seat.Seat.{Seat}
+
+-- what fits is refused as a board only for want of memory
+pub want_of_memory : (events : List Event) (lays : List Lay) (tokens : List (Place × Company)) (fault : BoardFault) → lays ≡ lays_of events → tokens ≡ tokens_of events → Fits (ground_now events) → (fault ≡ board_fault.Memory) ⊎ (board_fault_of (ground_of lays tokens Two) ≡ Some fault) → fault ≡ board_fault.Memory
+want_of_memory events lays tokens fault is_lays is_tokens fits (inl memory) = memory
+want_of_memory events lays tokens fault is_lays is_tokens fits (inr broken) =
+    let same : ground_of lays tokens Two ≡ ground_now events = ap (λ (l : List Lay). ground_of l tokens Two) is_lays ∙ ap (λ (t : List (Place × Company)). ground_of (lays_of events) t Two) is_tokens in
+    let wrong : Some fault ≡ None = sym broken ∙ ap board_fault_of same ∙ fits_without_homes (ground_now events) fits in
+    cc
+
+-- the answer to a lay, by what lies and by who asks
+pub lay_by : (board laid : Ground) (asker its : Asker) (lay : Lay) (answer : Result ℤ LayFault) → board ≡ laid → asker ≡ its → ¬ (answer ≡ Err lay_fault.Memory) → (answer ≡ Err lay_fault.Memory) ⊎ IsLayAnswer board asker lay answer → IsLayAnswer laid its lay answer
+lay_by board laid asker its lay answer is_board is_asker known (inl memory) = absurd (known memory)
+lay_by board laid asker its lay answer is_board is_asker known (inr answered) =
+    subst (λ (g : Ground). IsLayAnswer g its lay answer) is_board (subst (λ (a : Asker). IsLayAnswer board a lay answer) is_asker answered)
+
+-- and to a token
+pub token_by : (board laid : Ground) (asker its : Asker) (place : Place) (answer : Result ℤ TokenFault) → board ≡ laid → asker ≡ its → ¬ (answer ≡ Err token_fault.Memory) → (answer ≡ Err token_fault.Memory) ⊎ IsTokenAnswer board asker place answer → IsTokenAnswer laid its place answer
+token_by board laid asker its place answer is_board is_asker known (inl memory) = absurd (known memory)
+token_by board laid asker its place answer is_board is_asker known (inr answered) =
+    subst (λ (g : Ground). IsTokenAnswer g its place answer) is_board (subst (λ (a : Asker). IsTokenAnswer board a place answer) is_asker answered)
+
+-- an answer that is a cost, or a fault
+abbrev cost_of_lay : ℤ → Result ℤ LayFault
+cost_of_lay cost = Ok cost
+
+abbrev fault_of_lay : LayFault → Result ℤ LayFault
+fault_of_lay fault = Err fault
+
+abbrev cost_of_token : ℤ → Result ℤ TokenFault
+cost_of_token cost = Ok cost
+
+abbrev fault_of_token : TokenFault → Result ℤ TokenFault
+fault_of_token fault = Err fault
+
+-- a cost is no want of memory
+pub lay_costs : (cost : ℤ) (answer : Result ℤ LayFault) → answer ≡ Ok cost → ¬ (answer ≡ Err lay_fault.Memory)
+lay_costs cost answer is memory = let wrong : cost_of_lay cost ≡ Err lay_fault.Memory = sym is ∙ memory in let no : ⊥ = cc in no
+
+pub token_costs : (cost : ℤ) (answer : Result ℤ TokenFault) → answer ≡ Ok cost → ¬ (answer ≡ Err token_fault.Memory)
+token_costs cost answer is memory = let wrong : cost_of_token cost ≡ Err token_fault.Memory = sym is ∙ memory in let no : ⊥ = cc in no
+
+-- nor is a fault that tells of a rule
+pub lay_breaks : (fault : LayFault) (rule : LayRule) → rule_of_lay fault ≡ Some rule → ¬ (fault_of_lay fault ≡ fault_of_lay lay_fault.Memory)
+lay_breaks fault rule is memory =
+    let same : fault ≡ lay_fault.Memory = cc in
+    let wrong : None ≡ Some rule = sym (ap rule_of_lay same) ∙ is in
+    let no : ⊥ = cc in no
+
+pub token_breaks : (fault : TokenFault) (rule : TokenRule) → rule_of_token fault ≡ Some rule → ¬ (fault_of_token fault ≡ fault_of_token token_fault.Memory)
+token_breaks fault rule is memory =
+    let same : fault ≡ token_fault.Memory = cc in
+    let wrong : None ≡ Some rule = sym (ap rule_of_token same) ∙ is in
+    let no : ⊥ = cc in no
+
+-- a lay that was obeyed, step by step
+pub laid_steps : (by : Operator) (turn : InTurn) (number : ℕ) (lay : Lay) (cost : ℤ) (ruled paid : Game) (kept : Order) (amount : ℕ) (progress : Progress) → ruled ≡ with_event turn.game (event.Ruled by.president number (Obeyed kept)) → kept ≡ order.Lay lay → paid ≡ with_event ruled (event.Laid by.company lay amount) → amount ≡ unsigned_abs cost → progress ≡ lay_done turn.progress → in_turn paid progress ≡ lay_answered by turn number lay (Ok cost)
+laid_steps by turn number lay cost ruled paid kept amount progress is_ruled is_kept is_paid is_amount is_progress =
+    ap (λ (g : Game). in_turn g progress) is_paid
+    ∙ ap (λ (n : ℕ). in_turn (with_event ruled (event.Laid by.company lay n)) progress) is_amount
+    ∙ ap (λ (g : Game). in_turn (with_event g (event.Laid by.company lay (unsigned_abs cost))) progress) (is_ruled ∙ ap (λ (o : Order). with_event turn.game (event.Ruled by.president number (Obeyed o))) is_kept)
+    ∙ ap (λ (p : Progress). in_turn (with_event (with_event turn.game (event.Ruled by.president number (Obeyed (order.Lay lay)))) (event.Laid by.company lay (unsigned_abs cost))) p) is_progress
+
+-- a token that was obeyed
+pub placed_steps : (by : Operator) (turn : InTurn) (number : ℕ) (place : Place) (cost : ℤ) (ruled paid : Game) (kept : Order) (amount : ℕ) (progress : Progress) → ruled ≡ with_event turn.game (event.Ruled by.president number (Obeyed kept)) → kept ≡ order.Token place → paid ≡ with_event ruled (event.Token by.company place amount) → amount ≡ unsigned_abs cost → progress ≡ token_done turn.progress → in_turn paid progress ≡ token_answered by turn number place (Ok cost)
+placed_steps by turn number place cost ruled paid kept amount progress is_ruled is_kept is_paid is_amount is_progress =
+    ap (λ (g : Game). in_turn g progress) is_paid
+    ∙ ap (λ (n : ℕ). in_turn (with_event ruled (event.Token by.company place n)) progress) is_amount
+    ∙ ap (λ (g : Game). in_turn (with_event g (event.Token by.company place (unsigned_abs cost))) progress) (is_ruled ∙ ap (λ (o : Order). with_event turn.game (event.Ruled by.president number (Obeyed o))) is_kept)
+    ∙ ap (λ (p : Progress). in_turn (with_event (with_event turn.game (event.Ruled by.president number (Obeyed (order.Token place)))) (event.Token by.company place (unsigned_abs cost))) p) is_progress
+
+-- a lay that was refused
+pub lay_refused_steps : (by : Operator) (turn : InTurn) (number : ℕ) (lay : Lay) (fault : LayFault) (rule : LayRule) (ruled : Game) (kept : Order) → ruled ≡ with_event turn.game (event.Ruled by.president number (Refused (refusal.Lay rule) kept)) → kept ≡ order.Lay lay → rule_of_lay fault ≡ Some rule → in_turn ruled turn.progress ≡ lay_answered by turn number lay (Err fault)
+lay_refused_steps by turn number lay fault rule ruled kept is_ruled is_kept is_rule =
+    ap (λ (g : Game). in_turn g turn.progress) (is_ruled ∙ ap (λ (o : Order). with_event turn.game (event.Ruled by.president number (Refused (refusal.Lay rule) o))) is_kept)
+    ∙ sym (ap (lay_refused by turn number lay) is_rule)
+
+-- a token that was refused
+pub token_refused_steps : (by : Operator) (turn : InTurn) (number : ℕ) (place : Place) (fault : TokenFault) (rule : TokenRule) (ruled : Game) (kept : Order) → ruled ≡ with_event turn.game (event.Ruled by.president number (Refused (refusal.Token rule) kept)) → kept ≡ order.Token place → rule_of_token fault ≡ Some rule → in_turn ruled turn.progress ≡ token_answered by turn number place (Err fault)
+token_refused_steps by turn number place fault rule ruled kept is_ruled is_kept is_rule =
+    ap (λ (g : Game). in_turn g turn.progress) (is_ruled ∙ ap (λ (o : Order). with_event turn.game (event.Ruled by.president number (Refused (refusal.Token rule) o))) is_kept)
+    ∙ sym (ap (token_refused by turn number place) is_rule)
+
+-- the same lies after a ruling, and the company has as much
+same_after_ruling : (game ruled : Game) (seat : Seat) (number : ℕ) (ruling : Ruling) → ruled ≡ with_event game (event.Ruled seat number ruling) → ground_now ruled.events ≡ ground_now game.events
+same_after_ruling game ruled seat number ruling is =
+    ap (λ (g : Game). ground_now g.events) is ∙ same_ground game.events (event.Ruled seat number ruling) refl refl
+
+same_cash : (game ruled : Game) (seat : Seat) (number : ℕ) (ruling : Ruling) (company : Company) → ruled ≡ with_event game (event.Ruled seat number ruling) → cash_of ruled.seats ruled.events (party_of_company company) ≡ cash_of game.seats game.events (party_of_company company)
+same_cash game ruled seat number ruling company is =
+    ap (λ (g : Game). cash_of g.seats g.events (party_of_company company)) is ∙ cash_of_before game.seats game.events (event.Ruled seat number ruling) (party_of_company company) refl
+
+-- a game goes on after a lay that is allowed
+pub laid_playable : (game ruled new : Game) (company : Company) (progress : Progress) (seat : Seat) (number : ℕ) (ruling : Ruling) (lay : Lay) (cost : ℤ) (amount : ℕ) → IsLayAnswer (ground_now game.events) (asker_of game company progress) lay (Ok cost) → ruled ≡ with_event game (event.Ruled seat number ruling) → new ≡ with_event ruled (event.Laid company lay amount) → amount ≡ unsigned_abs cost → IsPlayable ruled → IsPlayable new
+laid_playable game ruled new company progress seat number ruling lay cost amount answered is_ruled is_new is_amount playable =
+    let asker : Asker = asker_of game company progress in
+    let may = lay_allowed (ground_now game.events) asker lay cost answered in
+    let rules : first_broken (ground_rules (ground_now ruled.events) asker lay) ≡ None = subst (λ (g : Ground). first_broken (ground_rules g asker lay) ≡ None) (sym (same_after_ruling game ruled seat number ruling is_ruled)) may.allowed in
+    let pays : pos amount ≤ℤ cash_of ruled.seats ruled.events (party_of_company company) = subst (λ (n : ℕ). pos n ≤ℤ cash_of ruled.seats ruled.events (party_of_company company)) (sym is_amount) (subst (λ (z : ℤ). pos (unsigned_abs cost) ≤ℤ z) (sym (same_cash game ruled seat number ruling company is_ruled)) may.pays) in
+    subst IsPlayable (sym is_new)
+    (record { sound = lay_sound ruled company lay amount pays playable.sound; ground = lay_fits ruled asker lay amount rules playable.ground })
+
+-- and after a token
+pub placed_playable : (game ruled new : Game) (company : Company) (progress : Progress) (seat : Seat) (number : ℕ) (ruling : Ruling) (place : Place) (cost : ℤ) (amount : ℕ) → IsTokenAnswer (ground_now game.events) (asker_of game company progress) place (Ok cost) → ruled ≡ with_event game (event.Ruled seat number ruling) → new ≡ with_event ruled (event.Token company place amount) → amount ≡ unsigned_abs cost → IsPlayable ruled → IsPlayable new
+placed_playable game ruled new company progress seat number ruling place cost amount answered is_ruled is_new is_amount playable =
+    let asker : Asker = asker_of game company progress in
+    let may = token_allowed (ground_now game.events) asker place cost answered in
+    let rules : first_broken (slot_rules (ground_now ruled.events) asker place) ≡ None = subst (λ (g : Ground). first_broken (slot_rules g asker place) ≡ None) (sym (same_after_ruling game ruled seat number ruling is_ruled)) may.allowed in
+    let pays : pos amount ≤ℤ cash_of ruled.seats ruled.events (party_of_company company) = subst (λ (n : ℕ). pos n ≤ℤ cash_of ruled.seats ruled.events (party_of_company company)) (sym is_amount) (subst (λ (z : ℤ). pos (unsigned_abs cost) ≤ℤ z) (sym (same_cash game ruled seat number ruling company is_ruled)) may.pays) in
+    subst IsPlayable (sym is_new)
+    (record { sound = token_sound ruled company place amount pays playable.sound; ground = token_fits ruled asker place amount rules playable.ground })

@@ -1,0 +1,10 @@
+pub mod Fitting
+pub mod Allowed
+pub mod Once
+pub mod Adding
+pub mod Operated
+pub mod Found
+pub mod Decided
+pub mod Ends
+pub mod Answered
+pub mod Played

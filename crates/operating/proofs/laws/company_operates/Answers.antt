@@ -1,0 +1,5 @@
+use Rattle.operating.proofs.Adding.{company_operates as law}
+use Rattle.operating.proofs.laws.company_operates.Goals as goal
+
+pub returns : goal.returns
+returns c = law

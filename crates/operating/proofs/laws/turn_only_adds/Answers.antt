@@ -1,0 +1,5 @@
+use Rattle.operating.proofs.Adding.{only_adds as law}
+use Rattle.operating.proofs.laws.turn_only_adds.Goals as goal
+
+pub returns : goal.returns
+returns c = law

@@ -1,0 +1,13 @@
+use Rattle.std.proofs.Common.{List, ap, sym, subst}
+use Rattle.operating.specs.Turn.{LinesLead, in_turn}
+use Rattle.sheets.specs.Part.{Numbered, Parts}
+use Rattle.operating.proofs.turn.rule_lines.Goals as goal
+
+pub loop-line-preserved : goal.loop-line-preserved
+loop-line-preserved c =
+    let turn = in_turn c.loop-line.history c.loop-line.progress in
+    let by = c.args.by in
+    record {
+      turn = λ new rest. c.loop-line.invariant.turn new (subst (λ (lines : List Numbered). LinesLead by turn lines new) (sym (ap (λ (parts : Parts). parts.before) c.in-Some.ensures)) (_, c.in_ok-progress.ensures.turn, rest));
+      playable = c.in_ok-progress.ensures.playable;
+    }

@@ -1,0 +1,14 @@
+use Rattle.std.proofs.Common.{length}
+use Rattle.operating.specs.Ground.{IsPlayable}
+use Rattle.operating.specs.Turn.{InTurn, LinesLead, at_start, in_turn}
+use Rattle.operating.proofs.turn.rule_lines.Given as goal
+
+-- where the lines that are left lead from here, all lead from the start
+abbrev pub invariant-loop-line : goal.invariant-loop-line
+invariant-loop-line l = record {
+  turn : (new : InTurn) → LinesLead l.by (in_turn l.history l.progress) l.block.before new → LinesLead l.by (in_turn l.fn.history at_start) l.fn.block.before new;
+  playable : IsPlayable l.history;
+}
+
+abbrev pub decreases-loop-line : goal.decreases-loop-line
+decreases-loop-line l = length l.block.before

@@ -1,0 +1,36 @@
+-- What a company does in its turn, each on the list that was before: its home token, for nothing, where it has
+-- placed none yet; a tile; a further token; and that it withholds what it earned, which the bank pays it, so
+-- that its token on the chart moves left.
+use Rattle.std.specs.Prelude.{ℕ, ◌==◌, if◌then◌else◌}
+use Rattle.history.specs.LookBack.{Game, with_event}
+use Rattle.history.specs.Operating.{tokens_placed}
+use Rattle.history.specs.Tell.{broken_told}
+use Rattle.history.specs.declared.event.Event.TheVariants as event
+use Rattle.map_tables.specs.Home.{home_of}
+use Rattle.map_tables.specs.Place.{place_of}
+use Rattle.map_tables.specs.declared.lay.Lay.{Lay}
+use Rattle.map_tables.specs.declared.place.Place.{Place}
+use Rattle.market.specs.Moves.{left_of}
+use Rattle.market.specs.Token.{with_move}
+use Rattle.tables.specs.declared.roster.Company.{Company}
+
+-- with HOME, where the company has placed no token yet
+abbrev pub with_home : Game → Company → Game
+with_home game company =
+    if tokens_placed game.events company == 0 then with_event game (event.Home company (place_of (home_of company))) else game
+
+-- after a lay at this cost
+abbrev pub after_lay : Game → Company → Lay → ℕ → Game
+after_lay game company lay cost = with_event game (event.Laid company lay cost)
+
+-- after a token at this cost
+abbrev pub after_token : Game → Company → Place → ℕ → Game
+after_token game company place cost = with_event game (event.Token company place cost)
+
+-- with the token of a company moved left on the chart
+abbrev pub moved_left : Game → Company → Game
+moved_left game company = record { seats = game.seats; events = with_move left_of game.events company }
+
+-- after the company has withheld so much
+abbrev pub withheld : Game → Company → ℕ → Game
+withheld game company amount = moved_left (broken_told (with_event game (event.Withheld company amount))) company

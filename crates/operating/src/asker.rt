@@ -1,0 +1,71 @@
+ghost use Rattle.std.specs.Prelude.{◌≡◌, map};
+ghost use Rattle.history.specs.LookBack.{owner_in};
+ghost use Rattle.operating.specs.Judgement.{asker_of, is_companys as companys_own, is_players as players_own};
+ghost use Rattle.tables.specs.Roster.{privates};
+
+use crate::progress::Progress;
+use board::Asker;
+use history::{History, Holder, Owners, Party};
+use tables::{Company, Private};
+
+/// A company as the rules of the board see it, where its turn has come so far.
+pub(crate) fn asker(history: &History, company: Company, progress: Progress) -> Asker
+    ensures { result ≡ asker_of history.now company progress }
+{
+    let owners = history.owners();
+    Asker {
+        company,
+        cash: history.cash(Party::of_company(company)),
+        pointer: progress.pointer,
+        lay_used: progress.lay_used,
+        dh_laid: false,
+        own_privates: of_company(&owners, company),
+        player_privates: of_players(&owners),
+    }
+}
+
+/// Which privates a company owns, by their places in the roster.
+fn of_company(owners: &Owners, company: Company) -> [bool; 6]
+    ensures { result
+        ≡ map (λ private. companys_own company (owner_in owners.now private)) privates }
+{
+    [
+        is_companys(company, owners.owner(Private::SchuylkillValley)),
+        is_companys(company, owners.owner(Private::ChamplainStLawrence)),
+        is_companys(company, owners.owner(Private::DelawareHudson)),
+        is_companys(company, owners.owner(Private::MohawkHudson)),
+        is_companys(company, owners.owner(Private::CamdenAmboy)),
+        is_companys(company, owners.owner(Private::BaltimoreOhio)),
+    ]
+}
+
+/// Which privates players own, by their places in the roster.
+fn of_players(owners: &Owners) -> [bool; 6]
+    ensures { result ≡ map (λ private. players_own (owner_in owners.now private)) privates }
+{
+    [
+        is_players(owners.owner(Private::SchuylkillValley)),
+        is_players(owners.owner(Private::ChamplainStLawrence)),
+        is_players(owners.owner(Private::DelawareHudson)),
+        is_players(owners.owner(Private::MohawkHudson)),
+        is_players(owners.owner(Private::CamdenAmboy)),
+        is_players(owners.owner(Private::BaltimoreOhio)),
+    ]
+}
+
+/// Whether an owner is this company.
+fn is_companys(company: Company, owner: Option<Holder>) -> bool
+    ensures { result ≡ companys_own company owner }
+{
+    match owner {
+        Some(Holder::Company(owner)) => owner == company,
+        _ => false,
+    }
+}
+
+/// Whether an owner is a player.
+fn is_players(owner: Option<Holder>) -> bool
+    ensures { result ≡ players_own owner }
+{
+    matches!(owner, Some(Holder::Seat(_)))
+}

@@ -1,0 +1,24 @@
+ghost use Rattle.std.specs.Prelude.{◌≡◌, OnOk};
+ghost use Rattle.operating.specs.Act.{with_home};
+ghost use Rattle.operating.specs.Ground.{IsPlayable};
+
+use history::{Event, History};
+use map_tables::home;
+use std::alloc::AllocError;
+use tables::Company;
+
+/// A company that has placed no token yet places that of its home, for nothing.
+pub(crate) fn place_home(history: &mut History, company: Company) -> Result<(), AllocError>
+    requires { IsPlayable history.old }
+    ensures event { OnOk result (history.new ≡ with_home history.old company) }
+    ensures playable { OnOk result (IsPlayable history.new) }
+{
+    if history.tokens_placed(company) > 0 {
+        return Ok(());
+    }
+    history.tell(Event::Home {
+        company,
+        place: home(company).place(),
+    })?;
+    Ok(())
+}

@@ -1,0 +1,68 @@
+ghost use Rattle.std.specs.Prelude.{◌≡◌, IfOk, OnOk, Some};
+ghost use Rattle.operating.specs.Ground.{IsPlayable};
+ghost use Rattle.operating.specs.Judgement.{rule_of_lay};
+ghost use Rattle.operating.specs.Turn.{LayLeads, in_turn};
+
+use crate::asker::asker;
+use crate::cost::amount_of;
+use crate::ground::board;
+use crate::operator::Operator;
+use crate::progress::Progress;
+use crate::ruling::tell_ruling;
+use board::LayFault;
+use history::{Event, History, LayRule, Refusal, Ruling};
+use map_tables::Lay;
+use order_grammar::Order;
+use std::alloc::{AllocError, Global};
+
+/// Rules a LAY of a line with this number, and lays the tile if it is obeyed. Answers how far the
+/// turn has come then.
+pub(crate) fn rule_lay(
+    alloc: Global,
+    history: &mut History,
+    by: Operator,
+    line: u32,
+    lay: Lay,
+    progress: Progress,
+) -> Result<Progress, AllocError>
+    requires { IsPlayable history.old }
+    ensures turn { IfOk result (λ now. LayLeads by (in_turn history.old progress) line lay
+        (in_turn history.new now)) }
+    ensures playable { OnOk result (IsPlayable history.new) }
+{
+    let board = board(alloc, history)?;
+    let order = history.keep(&Order::Lay(lay))?;
+    match board.try_lay(&asker(history, by.company, progress), lay) {
+        Ok(cost) => {
+            tell_ruling(history, by.president, line, Ruling::Obeyed(order))?;
+            let company = by.company;
+            let cost = amount_of(cost);
+            history.append(Event::Laid { company, lay, cost })?;
+            Ok(progress.with_lay())
+        }
+        Err(fault) => {
+            let refusal = Refusal::Lay(lay_rule(fault)?);
+            tell_ruling(history, by.president, line, Ruling::Refused(refusal, order))?;
+            Ok(progress)
+        }
+    }
+}
+
+/// The rule that a refused lay broke. The error is want of memory, which is none.
+fn lay_rule(fault: LayFault) -> Result<LayRule, AllocError>
+    ensures { IfOk result (λ rule. rule_of_lay fault ≡ Some rule) }
+{
+    match fault {
+        LayFault::StepUsed => Ok(LayRule::StepUsed),
+        LayFault::GreyOrRed => Ok(LayRule::GreyOrRed),
+        LayFault::NoneLeft => Ok(LayRule::NoneLeft),
+        LayFault::ColourClosed => Ok(LayRule::ColourClosed),
+        LayFault::WrongTile => Ok(LayRule::WrongTile),
+        LayFault::TrackLost => Ok(LayRule::TrackLost),
+        LayFault::BadSide => Ok(LayRule::BadSide),
+        LayFault::Blocked => Ok(LayRule::Blocked),
+        LayFault::NotReached => Ok(LayRule::NotReached),
+        LayFault::CashTooSmall => Ok(LayRule::CashTooSmall),
+        LayFault::Memory => Err(AllocError),
+    }
+}

@@ -1,0 +1,62 @@
+ghost use Rattle.std.specs.Prelude.{◌≡◌, IfOk, OnOk};
+ghost use Rattle.history.specs.Sound.{IsSound};
+ghost use Rattle.operating.specs.Ground.{GroundFits, IsPlayable};
+ghost use Rattle.operating.specs.Turn.{BlockLeads, IsCompanyTurn, at_start, in_turn};
+
+use crate::home::place_home;
+use crate::operator::Operator;
+use crate::progress::Progress;
+use crate::turn::rule_lines;
+use crate::withholding::settle;
+use history::History;
+use sheets::Sheets;
+use std::alloc::{AllocError, Global};
+use tables::{Company, Round, Seat};
+
+/// Plays the turn of a company in an operating round, with the sheets for it. The list of events
+/// must be sound, and what lies on the map by it must fit there. It is meant for a company that has
+/// floated and has not operated in this round. An `Err` comes from want of memory alone, and the
+/// game is dropped.
+pub fn play_company(
+    alloc: Global,
+    mut history: History,
+    sheets: &Sheets,
+    round: Round,
+    company: Company,
+) -> Result<History, AllocError>
+    requires sound { IsSound history }
+    requires ground { GroundFits history }
+    ensures turn { IfOk result (IsCompanyTurn sheets.now round company history) }
+    ensures seats { IfOk result (λ new. new.seats ≡ history.seats) }
+    ensures sound { IfOk result IsSound }
+    ensures ground { IfOk result GroundFits }
+{
+    let president = history.president(company);
+    place_home(&mut history, company)?;
+    let progress = rule_block(alloc, &mut history, sheets, round, company, president)?;
+    settle(&mut history, company, progress)?;
+    Ok(history)
+}
+
+/// Rules the block that the sheet of a company's president has for it, if it has a president.
+/// Answers how far the turn has come then.
+fn rule_block(
+    alloc: Global,
+    history: &mut History,
+    sheets: &Sheets,
+    round: Round,
+    company: Company,
+    president: Option<Seat>,
+) -> Result<Progress, AllocError>
+    requires { IsPlayable history.old }
+    ensures turn { IfOk result (λ now. BlockLeads sheets.now round company
+        (in_turn history.old at_start) president (in_turn history.new now)) }
+    ensures playable { OnOk result (IsPlayable history.new) }
+{
+    let Some(president) = president else {
+        return Ok(Progress::start());
+    };
+    let mut block = sheets.block(president, &round, company);
+    let by = Operator { company, president };
+    rule_lines(alloc, history, by, &mut block)
+}

@@ -1,0 +1,62 @@
+ghost use Rattle.std.specs.Prelude.{◌≡◌};
+ghost use Rattle.operating.specs.Turn.{at_start, is_unpaid as not_past_pay, lay_done, pay_done, token_done};
+
+use board::TurnStep;
+
+/// How far a company's turn has come.
+#[derive(Clone, Copy, Debug)]
+pub(crate) struct Progress {
+    /// The first step that the turn may still take.
+    pub(crate) pointer: TurnStep,
+    /// Whether the company has used its lay.
+    pub(crate) lay_used: bool,
+}
+
+impl Progress {
+    /// A turn that begins.
+    pub(crate) fn start() -> Progress
+        ensures { result ≡ at_start }
+    {
+        Progress {
+            pointer: TurnStep::Lay,
+            lay_used: false,
+        }
+    }
+
+    /// Once a tile is laid.
+    pub(crate) fn with_lay(self) -> Progress
+        ensures { result ≡ lay_done self }
+    {
+        Progress {
+            lay_used: true,
+            ..self
+        }
+    }
+
+    /// Once a token is placed: the turn is past its lay, too.
+    pub(crate) fn with_token(self) -> Progress
+        ensures { result ≡ token_done self }
+    {
+        Progress {
+            pointer: TurnStep::Run,
+            ..self
+        }
+    }
+
+    /// Once the company has paid or withheld.
+    pub(crate) fn with_pay(self) -> Progress
+        ensures { result ≡ pay_done self }
+    {
+        Progress {
+            pointer: TurnStep::Trains,
+            ..self
+        }
+    }
+
+    /// Whether the turn is not past its pay.
+    pub(crate) fn is_unpaid(&self) -> bool
+        ensures { result ≡ not_past_pay self.now }
+    {
+        self.pointer.number() < TurnStep::Trains.number()
+    }
+}

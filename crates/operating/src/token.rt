@@ -1,0 +1,68 @@
+ghost use Rattle.std.specs.Prelude.{◌≡◌, IfOk, OnOk, Some};
+ghost use Rattle.operating.specs.Ground.{IsPlayable};
+ghost use Rattle.operating.specs.Judgement.{rule_of_token};
+ghost use Rattle.operating.specs.Turn.{TokenLeads, in_turn};
+
+use crate::asker::asker;
+use crate::cost::amount_of;
+use crate::ground::board;
+use crate::operator::Operator;
+use crate::progress::Progress;
+use crate::ruling::tell_ruling;
+use board::TokenFault;
+use history::{Event, History, Refusal, Ruling, TokenRule};
+use map_tables::Place;
+use order_grammar::Order;
+use std::alloc::{AllocError, Global};
+
+/// Rules a TOKEN of a line with this number, and places the token if it is obeyed. Answers how far
+/// the turn has come then.
+pub(crate) fn rule_token(
+    alloc: Global,
+    history: &mut History,
+    by: Operator,
+    line: u32,
+    place: Place,
+    progress: Progress,
+) -> Result<Progress, AllocError>
+    requires { IsPlayable history.old }
+    ensures turn { IfOk result (λ now. TokenLeads by (in_turn history.old progress) line place
+        (in_turn history.new now)) }
+    ensures playable { OnOk result (IsPlayable history.new) }
+{
+    let board = board(alloc, history)?;
+    let order = history.keep(&Order::Token(place))?;
+    match board.try_token(&asker(history, by.company, progress), place) {
+        Ok(cost) => {
+            tell_ruling(history, by.president, line, Ruling::Obeyed(order))?;
+            let company = by.company;
+            let cost = amount_of(cost);
+            history.append(Event::Token {
+                company,
+                place,
+                cost,
+            })?;
+            Ok(progress.with_token())
+        }
+        Err(fault) => {
+            let refusal = Refusal::Token(token_rule(fault)?);
+            tell_ruling(history, by.president, line, Ruling::Refused(refusal, order))?;
+            Ok(progress)
+        }
+    }
+}
+
+/// The rule that a refused token broke. The error is want of memory, which is none.
+fn token_rule(fault: TokenFault) -> Result<TokenRule, AllocError>
+    ensures { IfOk result (λ rule. rule_of_token fault ≡ Some rule) }
+{
+    match fault {
+        TokenFault::StepUsed => Ok(TokenRule::StepUsed),
+        TokenFault::NoTokenLeft => Ok(TokenRule::NoTokenLeft),
+        TokenFault::NoFreeSlot => Ok(TokenRule::NoFreeSlot),
+        TokenFault::InHexAlready => Ok(TokenRule::InHexAlready),
+        TokenFault::NotReached => Ok(TokenRule::NotReached),
+        TokenFault::CashTooSmall => Ok(TokenRule::CashTooSmall),
+        TokenFault::Memory => Err(AllocError),
+    }
+}

@@ -1,0 +1,82 @@
+ghost use Rattle.std.specs.Prelude.{◌≡◌, IfOk, OnOk};
+ghost use Rattle.operating.specs.Ground.{IsPlayable};
+ghost use Rattle.operating.specs.Turn.{LineLeads, LinesLead, OrderLeads, at_start, in_turn};
+ghost use Rattle.sheets.specs.Part.{line_read};
+
+use crate::lay::rule_lay;
+use crate::operator::Operator;
+use crate::progress::Progress;
+use crate::ruling::tell_ruling;
+use crate::token::rule_token;
+use history::{History, Ruling};
+use order_grammar::{Fault, Order};
+use sheets::{NumberedLine, PartsLeft};
+use std::alloc::{AllocError, Global};
+
+/// Rules the lines of a company's block. Answers how far its turn has come then.
+pub(crate) fn rule_lines(
+    alloc: Global,
+    history: &mut History,
+    by: Operator,
+    block: &mut PartsLeft,
+) -> Result<Progress, AllocError>
+    requires { IsPlayable history.old }
+    ensures turn { IfOk result (λ now. LinesLead by (in_turn history.old at_start)
+        block.old.before (in_turn history.new now)) }
+    ensures playable { OnOk result (IsPlayable history.new) }
+{
+    let mut progress = Progress::start();
+    while let Some(line) = block.take_line() {
+        progress = rule_line(alloc, history, by, &line, progress)?;
+    }
+    Ok(progress)
+}
+
+/// Rules a line of a company's block, and does what it orders if it is obeyed. Answers how far the
+/// turn has come then.
+fn rule_line(
+    alloc: Global,
+    history: &mut History,
+    by: Operator,
+    line: &NumberedLine,
+    progress: Progress,
+) -> Result<Progress, AllocError>
+    requires { IsPlayable history.old }
+    ensures turn { IfOk result (λ now. LineLeads by (in_turn history.old progress)
+        (line_read line.now) (in_turn history.new now)) }
+    ensures playable { OnOk result (IsPlayable history.new) }
+{
+    match line.order() {
+        Ok(order) => rule_order(alloc, history, by, line.number, order, progress),
+        Err(fault) => {
+            tell_ruling(history, by.president, line.number, Ruling::Faulty(fault))?;
+            Ok(progress)
+        }
+    }
+}
+
+/// Rules an order of a company's block, in a line with this number, and does it if it is obeyed.
+/// Answers how far the turn has come then. An order that is not named here has no place.
+fn rule_order(
+    alloc: Global,
+    history: &mut History,
+    by: Operator,
+    line: u32,
+    order: &Order,
+    progress: Progress,
+) -> Result<Progress, AllocError>
+    requires { IsPlayable history.old }
+    ensures turn { IfOk result (λ now. OrderLeads by (in_turn history.old progress) line
+        order.now (in_turn history.new now)) }
+    ensures playable { OnOk result (IsPlayable history.new) }
+{
+    match order {
+        Order::Lay(lay) => rule_lay(alloc, history, by, line, *lay, progress),
+        Order::Token(place) => rule_token(alloc, history, by, line, *place, progress),
+        _ => {
+            let fault = Fault::OutOfPlace;
+            tell_ruling(history, by.president, line, Ruling::Faulty(fault))?;
+            Ok(progress)
+        }
+    }
+}

@@ -1,0 +1,42 @@
+ghost use Rattle.std.specs.Prelude.{◌≡◌, ◌≤◌, IfOk, OnOk};
+ghost use Rattle.operating.specs.Act.{withheld};
+ghost use Rattle.operating.specs.Ground.{IsPlayable};
+ghost use Rattle.operating.specs.Turn.{in_turn, settled};
+
+use crate::progress::Progress;
+use history::{Event, History};
+use market::move_token_left;
+use std::alloc::AllocError;
+use tables::{Amount, Company};
+
+/// A company whose turn is not past its pay withholds by itself. Answers how far the turn has come
+/// then.
+pub(crate) fn settle(
+    history: &mut History,
+    company: Company,
+    progress: Progress,
+) -> Result<Progress, AllocError>
+    requires { IsPlayable history.old }
+    ensures turn { IfOk result (λ now. in_turn history.new now
+        ≡ settled company (in_turn history.old progress)) }
+    ensures playable { OnOk result (IsPlayable history.new) }
+{
+    if !progress.is_unpaid() {
+        return Ok(progress);
+    }
+    withhold(history, company, 0)?;
+    Ok(progress.with_pay())
+}
+
+/// The bank pays a company what it withholds, and its token on the chart moves left.
+fn withhold(history: &mut History, company: Company, amount: Amount) -> Result<(), AllocError>
+    requires playable { IsPlayable history.old }
+    requires sum { amount ≤ 1000000 }
+    ensures after { OnOk result (history.new ≡ withheld history.old company amount) }
+    ensures playable { OnOk result (IsPlayable history.new) }
+{
+    history.append(Event::Withheld { company, amount })?;
+    history.tell_broken()?;
+    move_token_left(history, company)?;
+    Ok(())
+}

@@ -1,0 +1,30 @@
+-- The families of keywords and of orders, by which the code takes them.
+use Rattle.std.specs.Prelude.{⊤}
+use Rattle.order_grammar.specs.declared.keyword.Keyword.{Keyword}
+use Rattle.order_grammar.specs.declared.keyword.Keyword.TheVariants as keyword
+use Rattle.order_grammar.specs.declared.order.Order.{Order}
+use Rattle.order_grammar.specs.declared.order.Order.TheVariants.{Bid, Limit, Par, Sell}
+
+-- a line of the file or a head of its sheets begins with it
+abbrev pub IsOfFile : Keyword → Type 0
+IsOfFile keyword.Game = ⊤
+IsOfFile keyword.Sheet = ⊤
+IsOfFile keyword.Turn = ⊤
+IsOfFile keyword.Company = ⊤
+IsOfFile other = ⊥
+
+-- an order begins with it that names a number of dollars or of tenths
+abbrev pub IsOfAmount : Keyword → Type 0
+IsOfAmount keyword.Bid = ⊤
+IsOfAmount keyword.Limit = ⊤
+IsOfAmount keyword.Par = ⊤
+IsOfAmount keyword.Sell = ⊤
+IsOfAmount other = ⊥
+
+-- the order names a number of dollars or of tenths
+abbrev pub HasAmount : Order → Type 0
+HasAmount (Bid private amount) = ⊤
+HasAmount (Limit private amount) = ⊤
+HasAmount (Par company price) = ⊤
+HasAmount (Sell company tenths) = ⊤
+HasAmount other = ⊥

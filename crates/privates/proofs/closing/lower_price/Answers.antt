@@ -1,0 +1,8 @@
+use Rattle.std.proofs.Common.{◌<◌, sym, subst}
+use Rattle.privates.proofs.Turns.{priority_within}
+use Rattle.tables.specs.declared.seat.Seat.{Seat}
+use Rattle.privates.proofs.closing.lower_price.Goals as goal
+
+pub give_away-requires-clause-at_table : goal.give_away-requires-clause-at_table
+give_away-requires-clause-at_table c =
+    subst (λ (seat : Seat). seat.0 < c.args.history.now.seats) (sym c.priority-holder.ensures) (priority_within c.args.history.now.seats c.args.history.now.events c.requires.some)

@@ -1,0 +1,55 @@
+-- Each round that comes stands within its set.
+use Rattle.std.proofs.Common.{◌≡◌, ℕ, zero, suc, ◌+◌, ◌<◌, ◌≤◌, Bool, true, false, nat_lt, if◌then◌else◌, List, refl, sym, ap, subst, ◌∙◌, arith}
+use Rattle.std.proofs.lemmas.Bool.{ltb-true}
+use Rattle.privates.specs.Turn.{all_sold}
+use Rattle.rounds.specs.Play.{AreRounds, Between, IsRound, before_play, in_set_before}
+use Rattle.rounds.specs.Sequence.{round_after, turn_in_set}
+use Rattle.tables.specs.Round.{operating_most}
+use Rattle.tables.specs.declared.round.Round.{Round}
+use Rattle.tables.specs.declared.round.Round.TheVariants.{Opening, Stock, Operating}
+
+-- the set has one to three operating rounds, and if the round is one of them it is not past the last
+pub record StandsInSet (round : Round) (in_set : ℕ) : Type 0 where
+  pub some : 1 ≤ in_set
+  pub few : in_set ≤ operating_most
+  pub within : turn_in_set round ≤ in_set
+
+-- a round stands within its set, and so within the most that a set has
+pub in_any_set : (round : Round) (in_set : ℕ) → StandsInSet round in_set → turn_in_set round ≤ operating_most
+in_any_set round in_set stands = let few = stands.few in let within = stands.within in omega (arith, few, within)
+
+-- the first round does
+pub first_in_set : (file : List ℕ) → StandsInSet (before_play file).next (before_play file).in_set
+first_in_set file = record { some = omega arith; few = omega arith; within = omega arith }
+
+-- so does what follows an operating round
+after_operating : (set number in_set : ℕ) (more : Bool) → nat_lt number in_set ≡ more → StandsInSet (Operating set number) in_set → StandsInSet (if more then Operating set (number + 1) else Stock (set + 1)) (in_set_before (if more then Operating set (number + 1) else Stock (set + 1)) in_set)
+after_operating set number in_set true less stands =
+    let before : number < in_set = ltb-true number in_set less in
+    record { some = stands.some; few = stands.few; within = omega (arith, before) }
+after_operating set number in_set false less stands =
+    record { some = omega arith; few = omega arith; within = omega arith }
+
+-- so does what follows each round
+pub next_in_set : (round : Round) (in_set : ℕ) (all_sold : Bool) → StandsInSet round in_set → StandsInSet (round_after round in_set all_sold) (in_set_before (round_after round in_set all_sold) in_set)
+next_in_set (Opening number) in_set true stands = record { some = omega arith; few = omega arith; within = omega arith }
+next_in_set (Opening number) in_set false stands = record { some = stands.some; few = stands.few; within = stands.within }
+next_in_set (Stock set) in_set all_sold stands =
+    let some = stands.some in record { some = stands.some; few = stands.few; within = omega (arith, some) }
+next_in_set (Operating set number) in_set all_sold stands =
+    after_operating set number in_set (nat_lt number in_set) refl stands
+
+-- so does what follows a round that was played
+pub round_in_set : (file : List ℕ) (old new : Between) → StandsInSet old.next old.in_set → IsRound file old new → StandsInSet new.next new.in_set
+round_in_set file old new stands round =
+    let next : Round = round_after old.next old.in_set (all_sold new.game.events) in
+    let in_set : new.in_set ≡ in_set_before next old.in_set = round.in_set_then ∙ ap (λ (round : Round). in_set_before round old.in_set) round.next_then in
+    subst (λ (after : Round). StandsInSet after new.in_set) (sym round.next_then)
+    (subst (λ (count : ℕ). StandsInSet next count) (sym in_set) (next_in_set old.next old.in_set (all_sold new.game.events) stands))
+
+-- and each round to which a game comes
+pub comes_in_set : (file : List ℕ) (rounds : ℕ) (there : Between) → AreRounds file rounds (before_play file) there → StandsInSet there.next there.in_set
+comes_in_set file zero there played =
+    subst (λ (at : Between). StandsInSet at.next at.in_set) played (first_in_set file)
+comes_in_set file (suc rounds) there played =
+    round_in_set file played.0 there (comes_in_set file rounds played.0 played.1) played.2

@@ -1,0 +1,87 @@
+-- An operating round, from a list to a list: the ROUND event, the standing lines seat by seat, and the revenues
+-- of the privates in roster order; then the companies take their turns, and at the end it tells how many lines
+-- of each sheet were not taken up. The next company is the first in operating order, as that is at the time, of
+-- those that have not operated in the round; it is over once there is none.
+use Rattle.std.specs.Prelude.{◌≡◌, ℕ, ◌-◌, ◌≤◌, not, true, List, [], ◌∷◌, ◌++◌, length, find, Option, Some, None}
+use Rattle.std.specs.List.{range_with_len}
+use Rattle.history.specs.LookBack.{Game}
+use Rattle.history.specs.Operating.{has_operated, rulings_in_round}
+use Rattle.history.specs.Tell.{revenues_told, with_left}
+use Rattle.history.specs.declared.event.Event.{Event}
+use Rattle.history.specs.declared.event.Event.TheVariants as event
+use Rattle.market.specs.OperatingOrder.{operates, operating_order_of, times}
+use Rattle.operating.specs.Standing.{after_standing}
+use Rattle.operating.specs.Turn.{IsCompanyTurn}
+use Rattle.sheets.specs.Part.{lines_in, parts_for}
+use Rattle.tables.specs.Seat.{seat_at}
+use Rattle.tables.specs.declared.roster.Company.{Company}
+use Rattle.tables.specs.declared.round.Round.{Round}
+use Rattle.tables.specs.declared.seat.Seat.{Seat}
+
+-- the round before its first company: its standing lines are ruled, and the privates have paid
+abbrev pub opened : List ℕ → Round → Game → Game
+opened file round old =
+    revenues_told (record { seats = old.seats; events = after_standing old.seats file round (old.events ++ event.Round round ∷ []) })
+
+-- the company whose turn it is: the first in operating order that has not operated in the round
+abbrev pub next_company : List Event → Option Company
+next_company events = find (λ company. not (has_operated events company)) (operating_order_of events)
+
+-- a company takes its turn as the next
+pub record TakesTurn (file : List ℕ) (round : Round) (company : Company) (old new : Game) : Type 0 where
+  pub is_next : next_company old.events ≡ Some company
+  pub turn : IsCompanyTurn file round company old new
+
+-- these companies take their turns, one after another
+abbrev pub TakeTurns : List ℕ → Round → List Company → Game → Game → Type 0
+TakeTurns file round [] old new = old ≡ new
+TakeTurns file round (company ∷ others) old new =
+    (mid : Game) × TakesTurn file round company old mid × TakeTurns file round others mid new
+
+-- companies take turns between them, until there is no next
+pub record TurnsLead (file : List ℕ) (round : Round) (old new : Game) : Type 0 where
+  pub companies : List Company
+  pub turns : TakeTurns file round companies old new
+  pub over_then : next_company new.events ≡ None
+
+-- the lines of a seat's sheet that were not taken up, heads of blocks not counted
+abbrev pub lines_left : List ℕ → Round → List Event → Seat → ℕ
+lines_left file round events seat = lines_in (parts_for file round seat.0) - rulings_in_round events seat
+
+-- what is told of those of these seats, in order
+abbrev pub told_left : List ℕ → Round → List Event → List ℕ → List Event
+told_left file round events [] = []
+told_left file round events (seat ∷ seats) =
+    with_left (seat_at seat) (lines_left file round events (seat_at seat)) (told_left file round events seats)
+
+-- the list at the end of the round, where the turns have led to these events
+abbrev pub finished : List ℕ → Round → ℕ → List Event → List Event
+finished file round seats events = events ++ told_left file round events (range_with_len 0 seats)
+
+-- new is old after an operating round with the sheets of the file
+pub record IsOperatingRound (file : List ℕ) (round : Round) (old new : Game) : Type 0 where
+  pub turned : Game
+  pub turns : TurnsLead file round (opened file round old) turned
+  pub after : new ≡ record { seats = old.seats; events = finished file round old.seats turned.events }
+
+-- an operating round has at most one outcome
+abbrev pub OneOperatingRound : Type 0
+OneOperatingRound =
+    (file : List ℕ) (round : Round) (old a b : Game) → IsOperatingRound file round old a → IsOperatingRound file round old b → a ≡ b
+
+-- an operating round with the sheets of the file has an outcome
+pub record EndsSoon (file : List ℕ) (round : Round) (old : Game) : Type 0 where
+  pub new : Game
+  pub played : IsOperatingRound file round old new
+
+-- in an operating round at most eight companies take turns, none of them twice, and all take one that have
+-- floated by its end and whose tokens have a square
+pub record OperateOnceEach (companies : List Company) (turned : List Event) : Type 0 where
+  pub at_most_eight : length companies ≤ 8
+  pub no_second : (company : Company) → times company companies ≤ 1
+  pub no_one_missed : (company : Company) → operates turned company ≡ true → times company companies ≡ 1
+
+-- so it is in each operating round
+abbrev pub CompaniesOperateOnce : Type 0
+CompaniesOperateOnce =
+    (file : List ℕ) (round : Round) (old new : Game) (played : IsOperatingRound file round old new) → OperateOnceEach played.turns.companies played.turned.events

@@ -1,0 +1,123 @@
+ghost use Rattle.std.specs.Prelude.{◌≡◌, ◌++◌, ◌≤◌, [], IfOk, OnOk, length};
+ghost use Rattle.history.specs.LookBack.{with_event};
+ghost use Rattle.history.specs.Sound.{IsSound};
+ghost use Rattle.history.specs.Tell.{with_left};
+ghost use Rattle.history.specs.declared.event.Event.TheVariants as event;
+ghost use Rattle.operating.specs.Ground.{GroundFits};
+ghost use Rattle.rounds.specs.OperatingRound.{IsOperatingRound, TurnsLead, finished, lines_left, next_company as company_to_operate};
+ghost use Rattle.sheets.specs.File.{players_of};
+
+use history::{Event, History, rulings_are_counted};
+use market::{floated_companies_in_order, operating_order};
+use operating::{company_operates, play_company, rule_standing_lines};
+use sheets::Sheets;
+use std::alloc::{AllocError, Global};
+use tables::{Company, Round, Seat};
+
+/// Plays an operating round with the sheets for it: the standing lines and the revenues of the
+/// privates, and then the turn of each company, in operating order as it is at the time. The list
+/// of events must be sound, with a ground that fits, and its seats those of the sheets' players. An
+/// `Err` comes from want of memory alone, and the game is dropped.
+pub(crate) fn play_operating(
+    alloc: Global,
+    history: History,
+    sheets: &Sheets,
+    round: Round,
+) -> Result<History, AllocError>
+    requires sound { IsSound history }
+    requires fits { GroundFits history }
+    requires seats { history.seats ≡ length (players_of sheets.now) }
+    ensures round { IfOk result (λ new. IsOperatingRound sheets.now round history new) }
+    ensures seats { IfOk result (λ new. new.seats ≡ history.seats) }
+    ensures sound { IfOk result IsSound }
+    ensures fits { IfOk result GroundFits }
+{
+    let mut history = history;
+    begin(&mut history, round)?;
+    rule_standing_lines(&mut history, sheets, round)?;
+    history.tell_revenues()?;
+    let mut history = take_turns(alloc, history, sheets, round)?;
+    tell_all_left(&mut history, sheets, round)?;
+    Ok(history)
+}
+
+/// Tells that the round begins.
+fn begin(history: &mut History, round: Round) -> Result<(), AllocError>
+    requires { IsSound history.old }
+    ensures event { OnOk result (history.new ≡ with_event history.old (event.Round round)) }
+    ensures sound { OnOk result (IsSound history.new) }
+{
+    history.tell(Event::Round(round))?;
+    Ok(())
+}
+
+/// The companies take their turns, until each that operates has had one.
+fn take_turns(
+    alloc: Global,
+    mut history: History,
+    sheets: &Sheets,
+    round: Round,
+) -> Result<History, AllocError>
+    requires sound { IsSound history }
+    requires fits { GroundFits history }
+    requires seats { history.seats ≡ length (players_of sheets.now) }
+    ensures turns { IfOk result (λ turned. TurnsLead sheets.now round history turned) }
+    ensures seats { IfOk result (λ turned. turned.seats ≡ history.seats) }
+    ensures sound { IfOk result IsSound }
+    ensures fits { IfOk result GroundFits }
+{
+    // Laws, which do nothing when they run: by them the next company has floated, and the loop
+    // comes to an end.
+    floated_companies_in_order();
+    company_operates();
+    while let Some(company) = next_company(&history) {
+        history = play_company(alloc, history, sheets, round, company)?;
+    }
+    Ok(history)
+}
+
+/// The company whose turn it is: the first in operating order that has not operated in the round.
+fn next_company(history: &History) -> Option<Company>
+    ensures { result ≡ company_to_operate history.now.events }
+{
+    operating_order(history)
+        .as_slice()
+        .iter()
+        .copied()
+        .find(|company| !history.has_operated(*company))
+}
+
+/// Tells how many lines of each sheet were not taken up, heads of blocks not counted.
+fn tell_all_left(history: &mut History, sheets: &Sheets, round: Round) -> Result<(), AllocError>
+    requires { IsSound history.old }
+    ensures seats { OnOk result (history.new.seats ≡ history.old.seats) }
+    ensures events { OnOk result (history.new.events
+        ≡ finished sheets.now round (length (players_of sheets.now)) history.old.events) }
+    ensures sound { OnOk result (IsSound history.new) }
+{
+    // A law: a count of lines that were left changes no count of rulings.
+    rulings_are_counted();
+    for seat in 0..sheets.seats() {
+        tell_left(history, sheets, round, Seat::at(seat))?;
+    }
+    Ok(())
+}
+
+/// Tells how many lines of a seat's sheet were not taken up.
+fn tell_left(
+    history: &mut History,
+    sheets: &Sheets,
+    round: Round,
+    seat: Seat,
+) -> Result<(), AllocError>
+    requires { IsSound history.old }
+    ensures seats { OnOk result (history.new.seats ≡ history.old.seats) }
+    ensures events { OnOk result (history.new.events ≡ history.old.events
+        ++ with_left seat (lines_left sheets.now round history.old.events seat) []) }
+    ensures sound { OnOk result (IsSound history.new) }
+{
+    let lines = sheets.parts(seat, round).count() as usize;
+    let left = lines.saturating_sub(history.rulings_in_round(seat));
+    history.tell_left(seat, left as u32)?;
+    Ok(())
+}
