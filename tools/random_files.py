@@ -5,9 +5,8 @@ The reference plays with lines that are made as they are taken up, so that many 
 strewn in. What was taken up is written as an order file."""
 import random
 import sys
-sys.path.insert(0, "/tmp/ref")
-import umpire
-from umpire import *
+import reference as umpire
+from reference import *
 
 JUNK = ["X", "BUY", "BUY SV CS", "TURN 1", "COMPANY", "COMPANY XX", "LAY", "LAY 57 H10", "LAY 57 Z10 1", "LAY 57 H10 6",
         "LAY 57 H10 1 SWAP SWAP", "LAY 057 H10 1", "LAY 99 H10 1", "TOKEN", "TOKEN H10.2", "TOKEN H11.0", "TOKEN H10.0 1",
