@@ -3,6 +3,7 @@ use Rattle.std.proofs.Common.{◌≡◌, ℕ, ◌≤◌, inl, inr, Bool, true, f
 use Rattle.std.proofs.lemmas.Bool.{cases_eq}
 use Rattle.std.proofs.lemmas.Int.{ints}
 use Rattle.std.specs.Option.{option_flatten, option_or}
+use Rattle.history.proofs.Rolling.{trains_kept}
 use Rattle.history.proofs.Choices.{chosen, passed_over}
 use Rattle.history.proofs.BidWords.{differ_after_bid, differ_after_sale, elsewhere_kept, bid_silent, sale_silent, same_private_is, seated_after_bid, seated_after_sale, small_after_bid, small_after_sale, tied_by_bid, untied_by_sale}
 use Rattle.history.proofs.EventAtEnd.{bids_of_before, cash_of_at_end, cash_of_before, is_sold_before, last_said_at_end, shares_of_before, square_of_before, sv_price_of_at_end}
@@ -61,6 +62,7 @@ bid_sound game private seat amount low seated apart affordable sound =
       led = led_kept game.events (Bids private seat amount) refl refl refl refl sound.led;
       floated = floated_kept game.events (Bids private seat amount) refl refl refl refl sound.floated;
       within = within_kept game.seats game.events (Bids private seat amount) refl sound.within;
+      trains = trains_kept game.events (Bids private seat amount) refl sound.trains;
     }
 
 -- after a sale each seat still has what its bids tie
@@ -96,7 +98,7 @@ stays_sold events event private sold =
     ap is_some (last_said_at_end (λ e. owner_said private (ownership_of e)) events event) ∙ stays_said (owner_said private (ownership_of event)) (last_said (λ e. owner_said private (ownership_of e)) events) sold
 
 -- fewer tenths are to stay where something is so that was not
-fewer : (before after : Bool) → (before ≡ true → after ≡ true) → (if after then 8 else 9) ≤ (if before then 8 else 9)
+pub fewer : (before after : Bool) → (before ≡ true → after ≡ true) → (if after then 8 else 9) ≤ (if before then 8 else 9)
 fewer true after stays = subst (λ (now : Bool). (if now then 8 else 9) ≤ 8) (sym (stays refl)) (omega arith)
 fewer false true stays = omega arith
 fewer false false stays = omega arith
@@ -153,6 +155,7 @@ sale_sound game private seat price unsold seated affordable sound =
       led = led_kept game.events (Sold private seat price) refl refl refl refl sound.led;
       floated = floated_kept game.events (Sold private seat price) refl refl refl refl sound.floated;
       within = within_after game.seats game.events (Sold private seat price) (seated, tt) sound.within;
+      trains = trains_kept game.events (Sold private seat price) refl sound.trains;
     }
 
 -- a revenue takes nothing from a holder
@@ -176,6 +179,7 @@ revenue_sound game private owner amount owns sound =
       led = led_kept game.events (Revenue private owner amount) refl refl refl refl sound.led;
       floated = floated_kept game.events (Revenue private owner amount) refl refl refl refl sound.floated;
       within = within_after game.seats game.events (Revenue private owner amount) (tt, owner_is_party game private owner sound owns) sound.within;
+      trains = trains_kept game.events (Revenue private owner amount) refl sound.trains;
     }
 
 -- a new price of SV, which is 0 only once SV is sold
@@ -196,6 +200,7 @@ price_sound game price some given sound =
       led = led_kept game.events (Price price) refl refl refl refl sound.led;
       floated = floated_kept game.events (Price price) refl refl refl refl sound.floated;
       within = within_kept game.seats game.events (Price price) refl sound.within;
+      trains = trains_kept game.events (Price price) refl sound.trains;
     }
 
 -- SV, once its price is 0, is given away to a seat at the table
@@ -222,4 +227,5 @@ gift_sound game seat unsold seated sound =
       led = led_kept priced.events (Sold SchuylkillValley seat 0) refl refl refl refl (led_kept game.events (Price 0) refl refl refl refl sound.led);
       floated = floated_kept priced.events (Sold SchuylkillValley seat 0) refl refl refl refl (floated_kept game.events (Price 0) refl refl refl refl sound.floated);
       within = within_after priced.seats priced.events (Sold SchuylkillValley seat 0) (seated, tt) (within_kept game.seats game.events (Price 0) refl sound.within);
+      trains = trains_kept priced.events (Sold SchuylkillValley seat 0) refl (trains_kept game.events (Price 0) refl sound.trains);
     }

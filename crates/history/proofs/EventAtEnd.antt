@@ -1,22 +1,25 @@
 -- What a list of events says once one more event stands at its end: what that event says, and what
 -- the list said before.
-use Rattle.std.proofs.Common.{◌≡◌, ℕ, List, [], ◌∷◌, ◌++◌, Option, Some, None, Bool, pos, ◌-ℤ◌, ◌+ℤ◌, unwrap_or, is_some, is_none, ◌&&◌, sum_by, refl, ap, ◌∙◌, sym, arith}
+use Rattle.std.proofs.Common.{◌≡◌, ℕ, List, [], ◌∷◌, ◌++◌, Option, Some, None, Bool, if◌then◌else◌, pos, ◌-ℤ◌, ◌+ℤ◌, unwrap_or, is_some, is_none, ◌&&◌, sum_by, refl, ap, ◌∙◌, sym, arith}
 use Rattle.std.proofs.lemmas.Int.{ints}
 use Rattle.std.proofs.lemmas.List.Sums.{sum_by_push}
 use Rattle.std.specs.Option.{option_or, option_flatten}
 use std.Path.{fun_ext}
 use Rattle.std.specs.List.{flat_map}
 use Rattle.history.specs.Bids.{as_bid, bid_of, bid_said, bids_of, bids_on}
-use Rattle.history.specs.Event.{bidding_of, floated_by, office_of, ownership_of, par_set, payment_of, square_set, sv_price_set, transfer_of}
+use Rattle.history.specs.Event.{bidding_of, floated_by, office_of, ownership_of, par_set, payment_of, square_set, sv_price_set, train_moved, transfer_of}
 use Rattle.history.specs.Laws.{CashMoves, LastWordIsLast, QuietSaysTheSame}
 use Rattle.history.specs.LookBack.{balance, cash_of, first_unsold, is_closed, is_sold, last_said, now_said, owner_of, owner_said, paid_by, paid_to, sv_price_of}
 use Rattle.history.specs.Shares.{brought_to, float_said, is_floated, par_of, par_said, president_of, president_said, shares_of, square_of, square_said, taken_from}
+use Rattle.history.specs.Trains.{one_if, train_comes, train_goes, trains_at}
 use Rattle.history.specs.declared.event.Event.{Event}
 use Rattle.history.specs.declared.event.Holder.{Holder}
 use Rattle.history.specs.declared.event.Party.{Party}
 use Rattle.history.specs.declared.event.Shareholder.{Shareholder}
+use Rattle.history.specs.declared.event.TrainPlace.{TrainPlace}
 use Rattle.tables.specs.Roster.{face_of, privates}
 use Rattle.tables.specs.Seat.{all_seats}
+use Rattle.tables.specs.declared.rolling_stock.Kind.{Kind}
 use Rattle.tables.specs.declared.roster.Company.{Company}
 use Rattle.tables.specs.declared.roster.Private.{Private}
 use Rattle.tables.specs.declared.roster.Private.TheVariants.{SchuylkillValley}
@@ -160,6 +163,16 @@ pub is_floated_before : (events : List Event) (event : Event) (company : Company
 is_floated_before events event company none =
     ap is_some (last_said_before (λ e. float_said company (floated_by e)) _ events event refl (ap (float_said company) none))
 
+-- the trains of a kind at a place: one that the event brings is added, and one that it takes is taken off
+pub trains_at_end : (events : List Event) (event : Event) (place : TrainPlace) (kind : Kind) → trains_at (events ++ event ∷ []) place kind ≡ (trains_at events place kind +ℤ pos (one_if (train_comes place kind (train_moved event)))) -ℤ pos (one_if (train_goes place kind (train_moved event)))
+trains_at_end events event place kind =
+    balance_at_end 0 (λ e. one_if (train_comes place kind (train_moved e))) (λ e. one_if (train_goes place kind (train_moved e))) events event
+
+-- where an event moves no train, they lie as before
+pub trains_at_before : (events : List Event) (event : Event) (place : TrainPlace) (kind : Kind) → train_moved event ≡ None → trains_at (events ++ event ∷ []) place kind ≡ trains_at events place kind
+trains_at_before events event place kind none =
+    balance_before 0 (λ e. one_if (train_comes place kind (train_moved e))) (λ e. one_if (train_goes place kind (train_moved e))) events event (ap (λ move. one_if (train_comes place kind move)) none) (ap (λ move. one_if (train_goes place kind move)) none)
+
 -- a quiet event changes nothing of what parties have and own
 pub quiet_same : QuietSaysTheSame
 quiet_same events event quiet =
@@ -177,4 +190,5 @@ quiet_same events event quiet =
       president = λ company. president_of_before events event company quiet.office;
       floated = λ company. is_floated_before events event company quiet.float;
       sv_price = sv_price_of_before events event quiet.sv_price;
+      trains = λ place kind. trains_at_before events event place kind quiet.train;
     }

@@ -2,10 +2,11 @@
 -- president has at least as many as before, and enough are left in each initial offering, where there were.
 use Rattle.std.proofs.Common.{◌≡◌, ℕ, ◌+◌, List, [], ◌∷◌, ◌++◌, Some, None, pos, ◌≤ℤ◌, refl, sym, ◌∙◌, arith}
 use Rattle.std.proofs.lemmas.Int.{ints}
+use Rattle.history.proofs.Rolling.{trains_kept}
 use Rattle.history.proofs.EventAtEnd.{is_floated_before, par_of_before, president_of_before, square_of_before}
 use Rattle.history.proofs.Soundness.{differ_kept, given_kept, least_offered_before, price_kept, seated_kept, small_kept, within_after}
 use Rattle.history.proofs.Tenths.{IsAtTable, held_after, moved, part, shares_after, ten_after}
-use Rattle.history.specs.Event.{bidding_of, floated_by, office_of, ownership_of, par_set, payment_of, place_of_source, square_set, sv_price_set, transfer_of}
+use Rattle.history.specs.Event.{bidding_of, floated_by, office_of, ownership_of, par_set, payment_of, place_of_source, square_set, sv_price_set, train_moved, transfer_of}
 use Rattle.history.specs.LookBack.{Game, with_event}
 use Rattle.history.specs.Money.{IsWithin}
 use Rattle.history.specs.Shares.{shares_of, square_of}
@@ -55,6 +56,7 @@ pub record Gains (seats : ℕ) (event : Event) (transfer : Transfer) : Type 0 wh
   pub no_office : office_of event ≡ None
   pub no_float : floated_by event ≡ None
   pub no_price : sv_price_set event ≡ None
+  pub no_train : train_moved event ≡ None
   pub pays : IsWithin seats (payment_of event)
 
 -- no seat has fewer tenths
@@ -113,4 +115,5 @@ gain_sound game event transfer gains many enough solvent companies sound =
       led = led_gained game.events event transfer gains.moves gains.from_bank gains.no_par gains.no_square gains.no_office sound.led;
       floated = floated_gained game.events event transfer gains.moves gains.from_bank gains.no_par gains.no_float gains.no_office sound.floated;
       within = within_after game.seats game.events event gains.pays sound.within;
+      trains = trains_kept game.events event gains.no_train sound.trains;
     }

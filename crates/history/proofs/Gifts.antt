@@ -40,6 +40,7 @@ gift_gains seats company seat tenths seated =
       no_office = refl;
       no_float = refl;
       no_price = refl;
+      no_train = refl;
       pays = tt;
     }
 

@@ -1,5 +1,6 @@
 pub mod Choices
 pub mod EventAtEnd
+pub mod Rolling
 pub mod Places
 pub mod Words
 pub mod Standing
@@ -17,7 +18,10 @@ pub mod Settled
 pub mod Blocks
 pub mod Arrivals
 pub mod Money
+pub mod AllTrains
+pub mod Stables
 pub mod Payments
+pub mod TrainActs
 pub mod InOrder
 pub mod Revenues
 pub mod Cheapest

@@ -6,7 +6,7 @@ use Rattle.history.specs.Laws.{OwnersAreParties}
 use Rattle.history.specs.LookBack.{last_said, owner_said}
 use Rattle.history.specs.Money.{AreWithin, IsParty, IsWithin}
 use Rattle.history.specs.declared.event.Event.{Event}
-use Rattle.history.specs.declared.event.Event.TheVariants.{Exchanged, Sold}
+use Rattle.history.specs.declared.event.Event.TheVariants.{Closed, Exchanged, Sold}
 use Rattle.history.specs.declared.event.Holder.{Holder}
 use Rattle.history.specs.declared.event.Holder.TheVariants as holder
 use Rattle.history.specs.declared.event.Party.TheVariants as party
@@ -31,6 +31,7 @@ none_named false owner names = absurd (cc)
 named_is_party : (seats : ℕ) (event : Event) (private : Private) (owner : Holder) → IsWithin seats (payment_of event) → owner_said private (ownership_of event) ≡ Some (Some owner) → IsParty seats (party.Holder owner)
 named_is_party seats (Sold sold seat price) private owner pays names = sold_within (same_private sold private) seats seat owner pays.0 names
 named_is_party seats (Exchanged seat from) private owner pays names = absurd (none_named (same_private MohawkHudson private) owner names)
+named_is_party seats (Closed closed) private owner pays names = absurd (none_named (same_private closed private) owner names)
 named_is_party seats other private owner pays names = absurd (cc)
 
 -- the last word is the later one, or the earlier

@@ -3,6 +3,7 @@ use Rattle.std.proofs.Common.{◌≡◌, ℕ, ◌≤◌, ◌<◌, inl, inr, Bool
 use Rattle.std.proofs.lemmas.Bool.{cases_eq}
 use Rattle.std.proofs.lemmas.Int.{ints}
 use Rattle.std.specs.Option.{option_flatten}
+use Rattle.history.proofs.Rolling.{trains_kept}
 use Rattle.history.proofs.Choices.{chosen, passed_over, same_company_is, truth}
 use Rattle.history.proofs.Acts.{stays_sold}
 use Rattle.history.proofs.EventAtEnd.{bids_of_before, cash_of_at_end, last_said_at_end, square_of_before, sv_price_of_before}
@@ -70,6 +71,7 @@ purchase_gains seats company seat tenths from price seated =
       no_office = refl;
       no_float = refl;
       no_price = refl;
+      no_train = refl;
       pays = (seated, tt);
     }
 
@@ -174,4 +176,5 @@ exchange_sound game seat from owner seated many sound =
       led = led_gained game.events (Exchanged seat from) (exchange seat from) refl (source_of_bank from) refl refl refl sound.led;
       floated = floated_gained game.events (Exchanged seat from) (exchange seat from) refl (source_of_bank from) refl refl refl sound.floated;
       within = within_kept game.seats game.events (Exchanged seat from) refl sound.within;
+      trains = trains_kept game.events (Exchanged seat from) refl sound.trains;
     }

@@ -1,6 +1,7 @@
 -- A list that is sound but perhaps for who leads the companies; and the word that the bank is broken, which
 -- changes nothing else.
 use Rattle.std.proofs.Common.{true, false, if◌then◌else◌, List, [], ◌∷◌, ◌++◌, refl}
+use Rattle.history.proofs.Rolling.{trains_kept}
 use Rattle.history.proofs.EventAtEnd.{quiet_same}
 use Rattle.history.proofs.Soundness.{companies_kept, differ_kept, given_kept, held_kept, offered_kept, price_kept, seated_kept, small_kept, solvent_kept, ten_kept, within_kept}
 use Rattle.history.specs.Event.{IsQuiet}
@@ -9,6 +10,7 @@ use Rattle.history.specs.LookBack.{Game, sv_price_of, with_event}
 use Rattle.history.specs.Money.{AreWithin}
 use Rattle.history.specs.Sound.{AreLed, AreOffered, AreTenInAll, BiddersAreSeated, BidsAreSmall, BidsDiffer, CompaniesAreSolvent, FloatedAreLed, IsGivenAway, IsSound, IsSvPrice, SeatsAreSolvent, TenthsAreHeld}
 use Rattle.history.specs.Tell.{breaks, broken_told}
+use Rattle.history.specs.Trains.{TrainsAreHeld}
 use Rattle.history.specs.declared.event.Event.{Event}
 use Rattle.history.specs.declared.event.Event.TheVariants.{Broken}
 
@@ -25,6 +27,7 @@ pub record IsSettled (game : Game) : Type 0 where
   pub ten : AreTenInAll game
   pub offered : AreOffered game.events
   pub within : AreWithin game.seats game.events
+  pub trains : TrainsAreHeld game.events
 
 -- a list where they are led too
 pub sound_of : (game : Game) → IsSettled game → AreLed game.events → FloatedAreLed game.events → IsSound game
@@ -43,6 +46,7 @@ sound_of game settled led floated =
       led = led;
       floated = floated;
       within = settled.within;
+      trains = settled.trains;
     }
 
 -- a quiet event keeps it so
@@ -60,6 +64,7 @@ settled_quiet game event quiet settled =
       ten = ten_kept game event quiet.transfer settled.ten;
       offered = offered_kept game.events event quiet.ownership quiet.square quiet.transfer settled.offered;
       within = within_kept game.seats game.events event quiet.payment settled.within;
+      trains = trains_kept game.events event quiet.train settled.trains;
     }
 
 -- BROKEN is quiet
@@ -75,6 +80,7 @@ broken_quiet =
       office = refl;
       float = refl;
       sv_price = refl;
+      train = refl;
     }
 
 -- a list says the same as itself
@@ -94,6 +100,7 @@ same_itself events =
       president = λ company. refl;
       floated = λ company. refl;
       sv_price = refl;
+      trains = λ place kind. refl;
     }
 
 -- the word that the bank is broken changes nothing of what parties have and own

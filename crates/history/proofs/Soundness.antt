@@ -1,6 +1,7 @@
 -- What keeps a list sound: an event without the aspects of a fact keeps that fact.
 use Rattle.std.proofs.Common.{◌≡◌, ℕ, ◌≤◌, List, [], ◌∷◌, ◌++◌, None, pos, ◌≤ℤ◌, ◌-ℤ◌, ◌+ℤ◌, ℤ, refl, sym, subst, ap, ◌∙◌, arith, if◌then◌else◌, inl}
 use Rattle.std.proofs.lemmas.Int.{ints}
+use Rattle.history.proofs.Rolling.{no_trains, trains_kept}
 use Rattle.history.proofs.EventAtEnd.{bid_of_before, bids_of_before, cash_of_before, is_closed_before, is_floated_before, is_sold_before, par_of_before, president_of_before, shares_of_before, square_of_before, sv_price_of_before}
 use Rattle.history.specs.Bids.{bids_of, free_cash_of}
 use Rattle.history.specs.Event.{bidding_of, floated_by, office_of, ownership_of, par_set, party_at, payment_of, square_set, sv_price_set, transfer_of}
@@ -140,6 +141,7 @@ quiet_sound game event quiet sound =
       led = led_kept game.events event quiet.par quiet.square quiet.office quiet.transfer sound.led;
       floated = floated_kept game.events event quiet.par quiet.float quiet.office quiet.transfer sound.floated;
       within = within_kept game.seats game.events event quiet.payment sound.within;
+      trains = trains_kept game.events event quiet.train sound.trains;
     }
 
 -- at first nobody bids
@@ -179,4 +181,5 @@ start_sound seats =
       led = λ company square placed. absurd (cc);
       floated = λ company floated. absurd (cc);
       within = tt;
+      trains = no_trains;
     }

@@ -3,6 +3,7 @@ use Rattle.std.proofs.Common.{◌≡◌, ℕ, ◌≤◌, ◌==◌, inl, inr, Boo
 use Rattle.std.proofs.lemmas.Bool.Decides.{nat_tests}
 use Rattle.std.proofs.lemmas.Int.{ints}
 use Rattle.std.specs.Option.{option_or}
+use Rattle.history.proofs.Rolling.{trains_kept}
 use Rattle.history.proofs.Choices.{new_word, old_word, same_company_is, something, truth}
 use Rattle.history.proofs.EventAtEnd.{is_floated_before, last_said_at_end, par_of_before, president_of_before, shares_of_before, square_of_before}
 use Rattle.history.proofs.Gains.{Gains}
@@ -180,6 +181,7 @@ start_sound_by game company seat price event gains is_par unplaced solvent compa
       led = all_led game company seat price at.0 event at.1 gains is_par (sound.held company (OfSeat seat)) sound.led;
       floated = all_floated_led game company seat price at.0 event at.1 gains is_par (sound.held company (OfSeat seat)) sound.floated;
       within = within_kept game.seats given.events (President company seat) refl (within_after game.seats par.events event gains.pays (within_kept game.seats game.events (Par company price) refl sound.within));
+      trains = trains_kept given.events (President company seat) refl (trains_kept par.events event gains.no_train (trains_kept game.events (Par company price) refl sound.trains));
     }
 
 -- the two tenths are given
@@ -196,6 +198,7 @@ started_sound game company seat price is_par unplaced seated sound =
       no_office = refl;
       no_float = refl;
       no_price = refl;
+      no_train = refl;
       pays = tt;
     }
     in

@@ -1,9 +1,9 @@
 -- An event has a few aspects: the payment that it makes, the tenths that it moves, what it says of a
 -- private's owner and of the bids on it, the par value, square and president of a company that it sets,
 -- the company that floats, the price of SV that it sets, the tile that it lays, the token that it places,
--- the company that it leaves without earnings, the round that it begins, the seat of a line that was ruled,
--- the order that was obeyed, and whether it tells that the bank is broken. Every fact about a game looks back
--- over one of them.
+-- the train that it moves, the phase that it sets, the company that has operated by it, the round that it
+-- begins, the seat of a line that was ruled, the order that was obeyed, and whether it tells that the bank is
+-- broken. Every fact about a game looks back over one of them.
 use Rattle.std.specs.Prelude.{◌≡◌, ℕ, Bool, true, false, List, codes, Option, Some, None}
 use Rattle.order_grammar.specs.declared.order.Order.{Order}
 use Rattle.order_grammar.specs.declared.order.Order.TheVariants as order
@@ -12,7 +12,7 @@ use Rattle.order_grammar.specs.declared.order.ShareSource.TheVariants as source
 use Rattle.history.specs.declared.event.Bidding.{Bidding}
 use Rattle.history.specs.declared.event.Bidding.TheVariants.{Made, Ended}
 use Rattle.history.specs.declared.event.Event.{Event}
-use Rattle.history.specs.declared.event.Event.TheVariants.{Round, Ruled, Bids, Sold, Price, Revenue, Given, Par, President, Bought, Sells, Exchanged, Floats, Moves, Home, Laid, Token, Withheld, Broken}
+use Rattle.history.specs.declared.event.Event.TheVariants.{Round, Ruled, Bids, Sold, Price, Revenue, Given, Par, President, Bought, Sells, Exchanged, Floats, Moves, Home, Laid, Token, Withheld, Runs, Dividend, Traded, Train, Phase, Rusted, Discarded, Closed, Broken}
 use Rattle.history.specs.declared.event.Holder.TheVariants as holder
 use Rattle.history.specs.declared.event.Office.{Office}
 use Rattle.history.specs.declared.event.Ownership.{Ownership}
@@ -23,25 +23,37 @@ use Rattle.history.specs.declared.event.Payment.{Payment}
 use Rattle.history.specs.declared.event.Placement.{Placement}
 use Rattle.history.specs.declared.event.Shareholder.{Shareholder}
 use Rattle.history.specs.declared.event.Shareholder.TheVariants as place
+use Rattle.history.specs.declared.event.TrainMove.{TrainMove}
+use Rattle.history.specs.declared.event.TrainPlace.{TrainPlace}
+use Rattle.history.specs.declared.event.TrainPlace.TheVariants as train_place
+use Rattle.history.specs.declared.event.TrainSeller.{TrainSeller}
+use Rattle.history.specs.declared.event.TrainSeller.TheVariants as seller
 use Rattle.history.specs.declared.event.Transfer.{Transfer}
 use Rattle.history.specs.declared.ruling.LayRule.{LayRule}
 use Rattle.history.specs.declared.ruling.LayRule.TheVariants as lay_rule
 use Rattle.history.specs.declared.ruling.OpeningRule.{OpeningRule}
 use Rattle.history.specs.declared.ruling.OpeningRule.TheVariants as opening
+use Rattle.history.specs.declared.ruling.PayRule.{PayRule}
+use Rattle.history.specs.declared.ruling.PayRule.TheVariants as pay_rule
 use Rattle.history.specs.declared.ruling.Refusal.{Refusal}
 use Rattle.history.specs.declared.ruling.Refusal.TheVariants as refusal
 use Rattle.history.specs.declared.ruling.Ruling.{Ruling}
 use Rattle.history.specs.declared.ruling.Ruling.TheVariants.{Obeyed}
+use Rattle.history.specs.declared.ruling.RunRule.{RunRule}
+use Rattle.history.specs.declared.ruling.RunRule.TheVariants as run_rule
 use Rattle.history.specs.declared.ruling.StockRule.{StockRule}
 use Rattle.history.specs.declared.ruling.StockRule.TheVariants as stock
 use Rattle.history.specs.declared.ruling.TokenRule.{TokenRule}
 use Rattle.history.specs.declared.ruling.TokenRule.TheVariants as token_rule
+use Rattle.history.specs.declared.ruling.TrainRule.{TrainRule}
+use Rattle.history.specs.declared.ruling.TrainRule.TheVariants as train_rule
 use Rattle.map_tables.specs.declared.lay.Lay.{Lay}
 use Rattle.map_tables.specs.declared.place.Place.{Place}
 use Rattle.tables.specs.Chart.{par_square_of}
 use Rattle.tables.specs.declared.roster.Company.{Company}
 use Rattle.tables.specs.declared.roster.Company.TheVariants.{NewYorkCentral}
 use Rattle.tables.specs.declared.roster.Private.TheVariants.{MohawkHudson}
+use Rattle.tables.specs.declared.rolling_stock.Kind.{Kind}
 use Rattle.tables.specs.declared.round.Round.{Round as TheRound}
 use Rattle.tables.specs.declared.seat.Seat.{Seat}
 use Rattle.tables.specs.declared.squares.Square.{Square}
@@ -59,8 +71,19 @@ abbrev pub place_of_source : ShareSource → Shareholder
 place_of_source source.InitialOffering = place.InitialOffering
 place_of_source source.BankPool = place.BankPool
 
--- the money that an event moves: a seat pays the bank for a private or for tenths, and a company for a lay
--- or a token; the bank pays a revenue, a seat for tenths, a company that floats, and one that withholds
+-- where a train lies that is bought from there
+abbrev pub place_of_seller : TrainSeller → TrainPlace
+place_of_seller seller.Bank = train_place.Bank
+place_of_seller seller.BankPool = train_place.BankPool
+
+-- where the trains of a company lie, or those of the bank pool where there is none
+abbrev pub stable_of : Option Company → TrainPlace
+stable_of None = train_place.BankPool
+stable_of (Some company) = train_place.Company company
+
+-- the money that an event moves: a seat pays the bank for a private or for tenths, and a company for a lay,
+-- a token or a train; the bank pays a revenue, a dividend, a seat for tenths, a company that floats, and one
+-- that withholds
 abbrev pub payment_of : Event → Option Payment
 payment_of (Sold private seat price) = Some (record { from = party_at seat; to = party.Bank; amount = price })
 payment_of (Revenue private owner amount) = Some (record { from = party.Bank; to = party.Holder owner; amount = amount })
@@ -70,6 +93,8 @@ payment_of (Floats company amount) = Some (record { from = party.Bank; to = part
 payment_of (Laid company lay cost) = Some (record { from = party_of_company company; to = party.Bank; amount = cost })
 payment_of (Token company place cost) = Some (record { from = party_of_company company; to = party.Bank; amount = cost })
 payment_of (Withheld company amount) = Some (record { from = party.Bank; to = party_of_company company; amount = amount })
+payment_of (Dividend company holder amount) = Some (record { from = party.Bank; to = party.Holder holder; amount = amount })
+payment_of (Train company kind from price) = Some (record { from = party_of_company company; to = party.Bank; amount = price })
 payment_of other = None
 
 -- the sum of money that an event names, or 0
@@ -85,12 +110,16 @@ sum_of (Floats company amount) = amount
 sum_of (Laid company lay cost) = cost
 sum_of (Token company place cost) = cost
 sum_of (Withheld company amount) = amount
+sum_of (Runs company revenue) = revenue
+sum_of (Dividend company holder amount) = amount
+sum_of (Train company kind from price) = price
 sum_of other = 0
 
 -- what an event says of a private: that this holder owns it from then on, or nobody
 abbrev pub ownership_of : Event → Option Ownership
 ownership_of (Sold private seat price) = Some (record { private = private; owner = Some (holder.Seat seat) })
 ownership_of (Exchanged seat from) = Some (record { private = MohawkHudson; owner = None })
+ownership_of (Closed private) = Some (record { private = private; owner = None })
 ownership_of other = None
 
 -- what an event says of the bids on a private: a seat bids on it, or its sale ends them
@@ -154,10 +183,26 @@ token_placed (Home company place) = Some (place, company)
 token_placed (Token company place cost) = Some (place, company)
 token_placed other = None
 
--- the company that has operated by an event: it withholds what it earned
+-- the company that has operated by an event: one of its trains has run, or it withholds what it earned
 abbrev pub operated_by : Event → Option Company
+operated_by (Runs company revenue) = Some company
 operated_by (Withheld company amount) = Some company
 operated_by other = None
+
+-- the train that an event moves: one that is bought comes to the company, one that is traded in or discarded
+-- goes from it to the pool, and one that rusts leaves play
+abbrev pub train_moved : Event → Option TrainMove
+train_moved (Train company kind from price) =
+    Some (record { kind = kind; from = place_of_seller from; to = train_place.Company company })
+train_moved (Traded company kind) = Some (record { kind = kind; from = train_place.Company company; to = train_place.BankPool })
+train_moved (Rusted owner kind) = Some (record { kind = kind; from = stable_of owner; to = train_place.OutOfPlay })
+train_moved (Discarded company kind) = Some (record { kind = kind; from = train_place.Company company; to = train_place.BankPool })
+train_moved other = None
+
+-- the phase that an event begins
+abbrev pub phase_set : Event → Option Kind
+phase_set (Phase kind) = Some kind
+phase_set other = None
 
 -- the round that an event begins
 abbrev pub round_of : Event → Option TheRound
@@ -209,6 +254,7 @@ pub record IsQuiet (event : Event) : Type 0 where
   pub office : office_of event ≡ None
   pub float : floated_by event ≡ None
   pub sv_price : sv_price_set event ≡ None
+  pub train : train_moved event ≡ None
 
 -- the code of a rule of the opening
 abbrev pub code_of_opening_rule : OpeningRule → List ℕ
@@ -259,9 +305,36 @@ code_of_token_rule token_rule.InHexAlready = codes "K4"
 code_of_token_rule token_rule.NotReached = codes "K5"
 code_of_token_rule token_rule.CashTooSmall = codes "K6"
 
+-- the code of a rule of runs
+abbrev pub code_of_run_rule : RunRule → List ℕ
+code_of_run_rule run_rule.StepUsed = codes "R1"
+code_of_run_rule run_rule.NoTrain = codes "R2"
+code_of_run_rule run_rule.NoTrack = codes "R3"
+code_of_run_rule run_rule.WrongNumber = codes "R4"
+code_of_run_rule run_rule.StopTwice = codes "R5"
+code_of_run_rule run_rule.BorderTwice = codes "R6"
+code_of_run_rule run_rule.PassesFull = codes "R7"
+code_of_run_rule run_rule.NoToken = codes "R8"
+code_of_run_rule run_rule.RedInside = codes "R9"
+
+-- the code of a rule of dividends
+abbrev pub code_of_pay_rule : PayRule → List ℕ
+code_of_pay_rule pay_rule.NothingToPay = codes "D1"
+
+-- the code of a rule of trains
+abbrev pub code_of_train_rule : TrainRule → List ℕ
+code_of_train_rule train_rule.NotOnSale = codes "T1"
+code_of_train_rule train_rule.TrainLimit = codes "T2"
+code_of_train_rule train_rule.CashTooSmall = codes "T3"
+code_of_train_rule train_rule.NoTradeIn = codes "T6"
+code_of_train_rule train_rule.NoDiscard = codes "T7"
+
 -- the code of a rule of play
 abbrev pub code_of_refusal : Refusal → List ℕ
 code_of_refusal (refusal.Opening rule) = code_of_opening_rule rule
 code_of_refusal (refusal.Stock rule) = code_of_stock_rule rule
 code_of_refusal (refusal.Lay rule) = code_of_lay_rule rule
 code_of_refusal (refusal.Token rule) = code_of_token_rule rule
+code_of_refusal (refusal.Run rule) = code_of_run_rule rule
+code_of_refusal (refusal.Pay rule) = code_of_pay_rule rule
+code_of_refusal (refusal.Train rule) = code_of_train_rule rule

@@ -10,10 +10,13 @@ use Rattle.history.specs.Shares.{arrival_of, is_floated, is_par_value, par_of, p
 use Rattle.history.specs.Sound.{IsSound, IsSvPrice, least_offered}
 use Rattle.history.specs.Tell.{broken_told}
 use Rattle.history.specs.declared.event.Event.{Event}
-use Rattle.history.specs.declared.event.Event.TheVariants.{Bids, Sold, Price, Revenue, Given, Par, President, Bought, Sells, Exchanged, Floats, Moves, Home, Laid, Token, Withheld}
+use Rattle.history.specs.declared.event.Event.TheVariants.{Bids, Sold, Price, Revenue, Given, Par, President, Bought, Sells, Exchanged, Floats, Moves, Home, Laid, Token, Withheld, Runs, Dividend, Traded, Train, Phase, Rusted, Discarded, Closed}
 use Rattle.history.specs.declared.event.Holder.{Holder}
 use Rattle.history.specs.declared.event.Holder.TheVariants as holder
 use Rattle.history.specs.declared.event.Party.{Party}
+use Rattle.history.specs.Trains.{IsThere, trains_at, trains_held}
+use Rattle.history.specs.declared.event.TrainPlace.{TrainPlace}
+use Rattle.history.specs.declared.event.TrainSeller.{TrainSeller}
 use Rattle.history.specs.declared.event.Party.TheVariants as party
 use Rattle.history.specs.declared.event.Shareholder.{Shareholder}
 use Rattle.history.specs.declared.event.Shareholder.TheVariants.{InitialOffering, Seat as OfSeat}
@@ -22,6 +25,7 @@ use Rattle.map_tables.specs.declared.place.Place.{Place}
 use Rattle.order_grammar.specs.declared.order.ShareSource.{ShareSource}
 use Rattle.order_grammar.specs.declared.order.ShareSource.TheVariants as source
 use Rattle.tables.specs.Roster.{face_of}
+use Rattle.tables.specs.declared.rolling_stock.Kind.{Kind}
 use Rattle.tables.specs.declared.roster.Company.{Company}
 use Rattle.tables.specs.declared.roster.Company.TheVariants.{Pennsylvania, NewYorkCentral}
 use Rattle.tables.specs.declared.roster.Private.{Private}
@@ -56,6 +60,7 @@ pub record SaysTheSame (before after : List Event) : Type 0 where
   pub president : (company : Company) → president_of after company ≡ president_of before company
   pub floated : (company : Company) → is_floated after company ≡ is_floated before company
   pub sv_price : sv_price_of after ≡ sv_price_of before
+  pub trains : (place : TrainPlace) (kind : Kind) → trains_at after place kind ≡ trains_at before place kind
 
 -- a game after the bank has paid a seat for tenths of a company; perhaps that breaks the bank
 abbrev pub block_sold : Game → Company → Seat → ℕ → ℕ → Game
@@ -205,6 +210,49 @@ LayKeepsSound =
 abbrev pub WithholdingKeepsSound : Type 0
 WithholdingKeepsSound =
     (game : Game) (company : Company) (amount : ℕ) → IsSound game → IsSound (with_event game (Withheld company amount))
+
+-- a run keeps a list sound
+abbrev pub RunKeepsSound : Type 0
+RunKeepsSound =
+    (game : Game) (company : Company) (revenue : ℕ) → IsSound game → IsSound (with_event game (Runs company revenue))
+
+-- a dividend of the bank to a party of the game keeps a list sound
+abbrev pub DividendKeepsSound : Type 0
+DividendKeepsSound =
+    (game : Game) (company : Company) (paid : Holder) (amount : ℕ) →
+    IsParty game.seats (party.Holder paid) → IsSound game → IsSound (with_event game (Dividend company paid amount))
+
+-- a train that is there keeps a list sound where it is bought by a company that can pay it
+abbrev pub TrainPurchaseKeepsSound : Type 0
+TrainPurchaseKeepsSound =
+    (game : Game) (company : Company) (kind : Kind) (from : TrainSeller) (price : ℕ) →
+    IsThere game.events from kind → pos price ≤ℤ cash_of game.seats game.events (party_of_company company) → IsSound game → IsSound (with_event game (Train company kind from price))
+
+-- a train that a company has keeps a list sound where it is traded in
+abbrev pub TradeKeepsSound : Type 0
+TradeKeepsSound =
+    (game : Game) (company : Company) (kind : Kind) →
+    pos 1 ≤ℤ trains_held game.events (Some company) kind → IsSound game → IsSound (with_event game (Traded company kind))
+
+-- so does one that it discards
+abbrev pub DiscardKeepsSound : Type 0
+DiscardKeepsSound =
+    (game : Game) (company : Company) (kind : Kind) →
+    pos 1 ≤ℤ trains_held game.events (Some company) kind → IsSound game → IsSound (with_event game (Discarded company kind))
+
+-- and one of a company or the pool that rusts
+abbrev pub RustingKeepsSound : Type 0
+RustingKeepsSound =
+    (game : Game) (owner : Option Company) (kind : Kind) →
+    pos 1 ≤ℤ trains_held game.events owner kind → IsSound game → IsSound (with_event game (Rusted owner kind))
+
+-- a phase that begins keeps a list sound
+abbrev pub PhaseKeepsSound : Type 0
+PhaseKeepsSound = (game : Game) (kind : Kind) → IsSound game → IsSound (with_event game (Phase kind))
+
+-- and a private that closes
+abbrev pub ClosingKeepsSound : Type 0
+ClosingKeepsSound = (game : Game) (private : Private) → IsSound game → IsSound (with_event game (Closed private))
 
 -- a tile that the event at the end lays is the last
 abbrev pub LaysGrow : Type 0

@@ -5,6 +5,7 @@ pub mod LookBack
 pub mod Bids
 pub mod Shares
 pub mod Operating
+pub mod Trains
 pub mod Orders
 pub mod Tell
 pub mod Sound

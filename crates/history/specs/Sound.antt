@@ -6,13 +6,15 @@
 -- eight are in its initial offering, nine of PRR while CA is unsold and of NYC while MH is open;
 -- a company that has a square or has floated has one of the six par values and a president with at least
 -- two tenths;
--- every payment goes between the bank, seats at the table and companies.
+-- every payment goes between the bank, seats at the table and companies;
+-- nobody has fewer than no trains of a kind, and the bank has sold no more of them than there are.
 -- Each fact is about a few aspects of events: an event without those keeps it.
 use Rattle.std.specs.Prelude.{◌≡◌, ◌⊎◌, ℕ, ◌<◌, ◌≤◌, true, if◌then◌else◌, List, Some, None, pos, ◌≤ℤ◌}
 use Rattle.history.specs.Bids.{bid_of, free_cash_of}
 use Rattle.history.specs.LookBack.{Game, cash_of, is_closed, is_sold, sv_price_of}
 use Rattle.history.specs.Money.{AreWithin}
 use Rattle.history.specs.Shares.{is_floated, is_par_value, par_of, president_of, shares_of, square_of, tenths_in_all}
+use Rattle.history.specs.Trains.{TrainsAreHeld}
 use Rattle.history.specs.declared.event.Event.{Event}
 use Rattle.history.specs.declared.event.Holder.TheVariants as holder
 use Rattle.history.specs.declared.event.Party.TheVariants as party
@@ -107,3 +109,4 @@ pub record IsSound (game : Game) : Type 0 where
   pub led : AreLed game.events
   pub floated : FloatedAreLed game.events
   pub within : AreWithin game.seats game.events
+  pub trains : TrainsAreHeld game.events

@@ -1,12 +1,12 @@
 ghost use Rattle.std.specs.Prelude.{◌≡◌};
-ghost use Rattle.history.specs.Event.{bidding_of, floated_by, office_of, operated_by, ownership_of, par_set, party_at, party_of_company, payment_of, place_of_source, round_of, ruled_by, square_set, sum_of, sv_price_set, tile_laid, token_placed, transfer_of};
+ghost use Rattle.history.specs.Event.{bidding_of, floated_by, office_of, operated_by, ownership_of, par_set, party_at, party_of_company, payment_of, phase_set, place_of_seller, place_of_source, round_of, ruled_by, square_set, stable_of, sum_of, sv_price_set, tile_laid, token_placed, train_moved, transfer_of};
 ghost use Rattle.history.specs.LookBack.{actor_of};
 ghost use Rattle.tables.specs.Seat.{seat_at};
 
 use crate::ruling::Ruling;
 use map_tables::{Lay, Place};
 use order_grammar::ShareSource;
-use tables::{Amount, Company, Private, Round, Seat, Square, par_square};
+use tables::{Amount, Company, Kind, Private, Round, Seat, Square, par_square};
 
 /// The greatest sum of money of an event.
 pub const SUM_MOST: Amount = 1_000_000;
@@ -156,12 +156,59 @@ pub enum Event {
         company: Company,
         amount: Amount,
     },
+    /// A company runs trains, which earn so much.
+    Runs {
+        company: Company,
+        revenue: Amount,
+    },
+    /// The bank pays a holder of a company's tenths its part of what the company earned. The
+    /// company itself is paid for those in the bank pool.
+    Dividend {
+        company: Company,
+        holder: Holder,
+        amount: Amount,
+    },
+    /// A company trades a train in, which goes to the bank pool.
+    Traded {
+        company: Company,
+        kind: Kind,
+    },
+    /// A company pays the bank for a train, which comes from there or from the bank pool.
+    Train {
+        company: Company,
+        kind: Kind,
+        from: TrainSeller,
+        price: Amount,
+    },
+    /// The phase that the first train of a kind begins.
+    Phase(Kind),
+    /// A train of a company, or of the bank pool where there is none, leaves play.
+    Rusted {
+        owner: Option<Company>,
+        kind: Kind,
+    },
+    /// A company has too many trains, and one goes to the bank pool.
+    Discarded {
+        company: Company,
+        kind: Kind,
+    },
+    /// Nobody owns a private from then on.
+    Closed(Private),
     /// The bank's cash came to 0 or less.
     Broken,
 }
 
 // An event is small, since a game keeps each one that ever happened.
 const _: () = prove!(size_of::<Event>() <= 48);
+
+/// Where a company buys a train that is no other company's.
+#[derive(Clone, Copy, Debug, PartialEq, Eq)]
+pub enum TrainSeller {
+    /// The bank, which sells it for the first time.
+    Bank,
+    /// The bank pool, to which a company gave it back.
+    BankPool,
+}
 
 /// Money that an event moves.
 #[derive(Clone, Copy, Debug, PartialEq, Eq)]
@@ -275,6 +322,52 @@ pub struct Office {
     pub president: Seat,
 }
 
+/// Where a train lies.
+#[derive(Clone, Copy, Debug, PartialEq, Eq)]
+pub enum TrainPlace {
+    /// With the bank, never sold yet.
+    Bank,
+    /// With the bank, given back to it by a company.
+    BankPool,
+    /// With a company.
+    Company(Company),
+    /// Rusted, and with nobody.
+    OutOfPlay,
+}
+
+impl TrainPlace {
+    /// Where a train lies that is bought from there.
+    pub fn of_seller(seller: TrainSeller) -> TrainPlace
+        ensures { result ≡ place_of_seller seller }
+    {
+        match seller {
+            TrainSeller::Bank => TrainPlace::Bank,
+            TrainSeller::BankPool => TrainPlace::BankPool,
+        }
+    }
+
+    /// Where the trains of a company lie, or those of the bank pool where there is none.
+    pub fn of_owner(owner: Option<Company>) -> TrainPlace
+        ensures { result ≡ stable_of owner }
+    {
+        match owner {
+            Some(company) => TrainPlace::Company(company),
+            None => TrainPlace::BankPool,
+        }
+    }
+}
+
+/// A train that an event moves.
+#[derive(Clone, Copy, Debug, PartialEq, Eq)]
+pub struct TrainMove {
+    /// Its kind.
+    pub kind: Kind,
+    /// Where it lay.
+    pub from: TrainPlace,
+    /// Where it lies from then on.
+    pub to: TrainPlace,
+}
+
 impl Event {
     /// The money that it moves.
     pub fn payment(&self) -> Option<Payment>
@@ -286,9 +379,14 @@ impl Event {
                 to: Party::Bank,
                 amount: *price,
             }),
-            Event::Revenue { owner, amount, .. } => Some(Payment {
+            Event::Revenue {
+                owner: holder,
+                amount,
+                ..
+            }
+            | Event::Dividend { holder, amount, .. } => Some(Payment {
                 from: Party::Bank,
-                to: Party::Holder(*owner),
+                to: Party::Holder(*holder),
                 amount: *amount,
             }),
             Event::Bought { seat, price, .. } => Some(Payment {
@@ -308,13 +406,17 @@ impl Event {
                     amount: *amount,
                 })
             }
-            Event::Laid { company, cost, .. } | Event::Token { company, cost, .. } => {
-                Some(Payment {
-                    from: Party::of_company(*company),
-                    to: Party::Bank,
-                    amount: *cost,
-                })
-            }
+            Event::Laid { company, cost, .. }
+            | Event::Token { company, cost, .. }
+            | Event::Train {
+                company,
+                price: cost,
+                ..
+            } => Some(Payment {
+                from: Party::of_company(*company),
+                to: Party::Bank,
+                amount: *cost,
+            }),
             _ => None,
         }
     }
@@ -329,6 +431,9 @@ impl Event {
             Event::Bought { price, .. } | Event::Sells { price, .. } => *price,
             Event::Floats { amount, .. } | Event::Withheld { amount, .. } => *amount,
             Event::Laid { cost, .. } | Event::Token { cost, .. } => *cost,
+            Event::Runs { revenue, .. } => *revenue,
+            Event::Dividend { amount, .. } => *amount,
+            Event::Train { price, .. } => *price,
             _ => 0,
         }
     }
@@ -344,6 +449,10 @@ impl Event {
             }),
             Event::Exchanged { .. } => Some(Ownership {
                 private: Private::MohawkHudson,
+                owner: None,
+            }),
+            Event::Closed(private) => Some(Ownership {
+                private: *private,
                 owner: None,
             }),
             _ => None,
@@ -507,12 +616,53 @@ impl Event {
         }
     }
 
-    /// The company that has operated by it.
+    /// The company that has operated by it: its train has run, or it withholds.
     pub fn operated(&self) -> Option<Company>
         ensures { result ≡ operated_by self.now }
     {
         match self {
-            Event::Withheld { company, .. } => Some(*company),
+            Event::Runs { company, .. } | Event::Withheld { company, .. } => Some(*company),
+            _ => None,
+        }
+    }
+
+    /// The train that it moves.
+    pub fn train(&self) -> Option<TrainMove>
+        ensures { result ≡ train_moved self.now }
+    {
+        match self {
+            Event::Train {
+                company,
+                kind,
+                from,
+                ..
+            } => Some(TrainMove {
+                kind: *kind,
+                from: TrainPlace::of_seller(*from),
+                to: TrainPlace::Company(*company),
+            }),
+            Event::Traded { company, kind } | Event::Discarded { company, kind } => {
+                Some(TrainMove {
+                    kind: *kind,
+                    from: TrainPlace::Company(*company),
+                    to: TrainPlace::BankPool,
+                })
+            }
+            Event::Rusted { owner, kind } => Some(TrainMove {
+                kind: *kind,
+                from: TrainPlace::of_owner(*owner),
+                to: TrainPlace::OutOfPlay,
+            }),
+            _ => None,
+        }
+    }
+
+    /// The phase that it begins.
+    pub fn phase(&self) -> Option<Kind>
+        ensures { result ≡ phase_set self.now }
+    {
+        match self {
+            Event::Phase(kind) => Some(*kind),
             _ => None,
         }
     }

@@ -1,7 +1,8 @@
 //! Laws of games: each function does nothing, and its contract is the law.
 
 ghost use Rattle.history.specs.Money.{AllMoneyStays};
-ghost use Rattle.history.specs.Laws.{ArrivalIsLast, ArrivalsDiffer, BidKeepsSound, BlockKeepsSound, BlockWithSuccessionKeepsSound, CaIsSoldWithItsGift, CashMoves, ExchangeKeepsSound, FirstIsCheapest, FloatKeepsSound, GiftKeepsSound, HomeKeepsSound, LastWordIsLast, LayKeepsSound, LaysGrow, MoveKeepsSound, OwnersAreParties, PriceKeepsSound, PurchaseKeepsSound, QuietKeepsSound, QuietSaysTheSame, RevenueKeepsSound, RulingsAreCounted, SaleKeepsSound, SoundMoneyStays, StartByPurchaseKeepsSound, StartKeepsSound, SuccessionKeepsSound, SvIsGivenAway, TokenKeepsSound, TokensGrow, WithholdingKeepsSound};
+ghost use Rattle.history.specs.Laws.{ArrivalIsLast, ArrivalsDiffer, BidKeepsSound, BlockKeepsSound, BlockWithSuccessionKeepsSound, CaIsSoldWithItsGift, CashMoves, ClosingKeepsSound, DiscardKeepsSound, DividendKeepsSound, ExchangeKeepsSound, FirstIsCheapest, FloatKeepsSound, GiftKeepsSound, HomeKeepsSound, LastWordIsLast, LayKeepsSound, LaysGrow, MoveKeepsSound, OwnersAreParties, PhaseKeepsSound, PriceKeepsSound, PurchaseKeepsSound, QuietKeepsSound, QuietSaysTheSame, RevenueKeepsSound, RulingsAreCounted, RunKeepsSound, RustingKeepsSound, SaleKeepsSound, SoundMoneyStays, StartByPurchaseKeepsSound, StartKeepsSound, SuccessionKeepsSound, SvIsGivenAway, TokenKeepsSound, TokensGrow, TradeKeepsSound, TrainPurchaseKeepsSound, WithholdingKeepsSound};
+ghost use Rattle.history.specs.Trains.{AllTrainsStay};
 
 /// What was said last of a thing is what the last event says, or else what was said before it.
 pub fn last_word_is_last<T>()
@@ -17,6 +18,12 @@ pub fn cash_moves()
 /// money goes only between them.
 pub fn all_money_stays()
     ensures { AllMoneyStays }
+{}
+
+/// The trains of a kind that the bank has sold are those of the bank pool and the companies, and
+/// those that have left play.
+pub fn all_trains_stay()
+    ensures { AllTrainsStay }
 {}
 
 /// So it is in each sound list: what its parties have together is 12,000, and who owns a private is
@@ -122,6 +129,28 @@ pub fn token_keeps_sound()
 /// A company that withholds what it earned keeps a list sound.
 pub fn withholding_keeps_sound()
     ensures { WithholdingKeepsSound }
+{}
+
+/// A run keeps a list sound, and so does a dividend of the bank to a party of the game.
+pub fn dividend_keeps_sound()
+    ensures run { RunKeepsSound }
+    ensures dividend { DividendKeepsSound }
+{}
+
+/// The purchase of a train that is there keeps a list sound, where the company can pay it; so does
+/// a train of the company that is traded in.
+pub fn train_purchase_keeps_sound()
+    ensures purchase { TrainPurchaseKeepsSound }
+    ensures trade { TradeKeepsSound }
+{}
+
+/// What a new phase brings keeps a list sound: that it begins, that trains rust, that privates
+/// close, and that companies discard trains.
+pub fn phase_keeps_sound()
+    ensures phase { PhaseKeepsSound }
+    ensures rusting { RustingKeepsSound }
+    ensures closing { ClosingKeepsSound }
+    ensures discard { DiscardKeepsSound }
 {}
 
 /// A tile that is laid is the last of those that were, and a token that is placed is the last.

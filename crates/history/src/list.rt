@@ -5,17 +5,19 @@ ghost use Rattle.history.specs.LookBack.{IsModerate, broken_in, cash_of, cheapes
 ghost use Rattle.history.specs.Operating.{has_operated, lays_of, rulings_in_round, tokens_of, tokens_placed};
 ghost use Rattle.history.specs.Shares.{arrival_of, has_sold_in_round, is_floated, is_started, par_of, president_of, shares_of, square_of};
 ghost use Rattle.history.specs.Sound.{IsSound};
+ghost use Rattle.history.specs.Trains.{phase_of, trains_held, trains_sold};
 
 use crate::event::{Event, Holder, Party, SUM_MOST, Shareholder};
 use crate::look_back::Past;
 use crate::owners::Owners;
 use crate::ruling::KeptOrder;
 use crate::shares::Tenths;
+use crate::trains::TrainCount;
 use map_tables::{Lay, Place};
 use order_grammar::Order;
 use std::alloc::{AllocError, Global};
 use std::marker::Model;
-use tables::{Company, Money, Private, Round, Seat, Square};
+use tables::{Company, Kind, Money, Private, Round, Seat, Square};
 
 /// A game: the number of its seats and the list of its events, oldest first.
 #[derive(Debug, Drop)]
@@ -265,6 +267,27 @@ impl History {
         ensures { result ≡ rulings_in_round self.now.events seat }
     {
         self.now().rulings_in_round(seat)
+    }
+
+    /// The trains of a kind that a company has, or the bank pool where there is none.
+    pub fn trains(&self, owner: Option<Company>, kind: Kind) -> TrainCount
+        ensures { result ≡ trains_held self.now.events owner kind }
+    {
+        self.now().trains(owner, kind)
+    }
+
+    /// How many trains of a kind the bank has sold; of the others there are `tables::train`'s.
+    pub fn trains_sold(&self, kind: Kind) -> usize
+        ensures { result ≡ trains_sold self.now.events kind }
+    {
+        self.now().trains_sold(kind)
+    }
+
+    /// The phase, at first that of the 2.
+    pub fn phase(&self) -> Kind
+        ensures { result ≡ phase_of self.now.events }
+    {
+        self.now().phase()
     }
 
     /// A seat's cash less its standing bids, in dollars.

@@ -1,7 +1,7 @@
 ghost use Rattle.std.specs.Prelude.{◌≡◌, IfOk};
 ghost use Rattle.history.specs.Orders.{limit_in, par_of_baltimore_in};
 ghost use Rattle.order_grammar.specs.declared.order.Order.TheVariants as order;
-ghost use Rattle.history.specs.Event.{code_of_lay_rule, code_of_opening_rule, code_of_refusal, code_of_stock_rule, code_of_token_rule, is_act};
+ghost use Rattle.history.specs.Event.{code_of_lay_rule, code_of_opening_rule, code_of_pay_rule, code_of_refusal, code_of_run_rule, code_of_stock_rule, code_of_token_rule, code_of_train_rule, is_act};
 
 use order_grammar::{Fault, Order, ShareSource};
 use std::alloc::{AllocError, Global};
@@ -19,6 +19,12 @@ pub enum Refusal {
     Lay(LayRule),
     /// A rule of tokens.
     Token(TokenRule),
+    /// A rule of runs.
+    Run(RunRule),
+    /// A rule of dividends.
+    Pay(PayRule),
+    /// A rule of trains.
+    Train(TrainRule),
 }
 
 impl Refusal {
@@ -31,6 +37,9 @@ impl Refusal {
             Refusal::Stock(rule) => rule.code(),
             Refusal::Lay(rule) => rule.code(),
             Refusal::Token(rule) => rule.code(),
+            Refusal::Run(rule) => rule.code(),
+            Refusal::Pay(rule) => rule.code(),
+            Refusal::Train(rule) => rule.code(),
         }
     }
 }
@@ -206,6 +215,98 @@ impl TokenRule {
             TokenRule::InHexAlready => "K4",
             TokenRule::NotReached => "K5",
             TokenRule::CashTooSmall => "K6",
+        }
+    }
+}
+
+/// A rule that the run of a train may break.
+#[derive(Clone, Copy, Debug, PartialEq, Eq)]
+pub enum RunRule {
+    /// R1: the turn is past its run.
+    StepUsed,
+    /// R2: the company has no train of the kind that has not run in this turn.
+    NoTrain,
+    /// R3: there is no such track, or an end of the run is no stop.
+    NoTrack,
+    /// R4: the run visits under two stops, or more than the train may; a stop that it visits again
+    /// counts again.
+    WrongNumber,
+    /// R5: the run visits a stop twice.
+    StopTwice,
+    /// R6: the run crosses a border that was crossed before.
+    BorderTwice,
+    /// R7: the run passes a city whose slots all hold tokens of others.
+    PassesFull,
+    /// R8: the company has no token at any stop of the run.
+    NoToken,
+    /// R9: the run passes a red stop.
+    RedInside,
+}
+
+impl RunRule {
+    /// The code that a report prints.
+    pub fn code(self) -> &'static str
+        ensures { result.now ≡ code_of_run_rule self }
+    {
+        match self {
+            RunRule::StepUsed => "R1",
+            RunRule::NoTrain => "R2",
+            RunRule::NoTrack => "R3",
+            RunRule::WrongNumber => "R4",
+            RunRule::StopTwice => "R5",
+            RunRule::BorderTwice => "R6",
+            RunRule::PassesFull => "R7",
+            RunRule::NoToken => "R8",
+            RunRule::RedInside => "R9",
+        }
+    }
+}
+
+/// A rule that the payment or the withholding of what a company earned may break.
+#[derive(Clone, Copy, Debug, PartialEq, Eq)]
+pub enum PayRule {
+    /// D1: the turn is past its payment, or a dividend is to be paid of nothing.
+    NothingToPay,
+}
+
+impl PayRule {
+    /// The code that a report prints.
+    pub fn code(self) -> &'static str
+        ensures { result.now ≡ code_of_pay_rule self }
+    {
+        match self {
+            PayRule::NothingToPay => "D1",
+        }
+    }
+}
+
+/// A rule that the purchase or the discarding of a train may break.
+#[derive(Clone, Copy, Debug, PartialEq, Eq)]
+pub enum TrainRule {
+    /// T1: such a train is not on sale.
+    NotOnSale,
+    /// T2: the company would have more trains than the phase allows.
+    TrainLimit,
+    /// T3: the train costs more than the company has.
+    CashTooSmall,
+    /// T6: the train to be traded in is none that the company has, or none that may be traded in.
+    NoTradeIn,
+    /// T7: the seat is not the president of the company that is to discard, or the company has no
+    /// such train.
+    NoDiscard,
+}
+
+impl TrainRule {
+    /// The code that a report prints.
+    pub fn code(self) -> &'static str
+        ensures { result.now ≡ code_of_train_rule self }
+    {
+        match self {
+            TrainRule::NotOnSale => "T1",
+            TrainRule::TrainLimit => "T2",
+            TrainRule::CashTooSmall => "T3",
+            TrainRule::NoTradeIn => "T6",
+            TrainRule::NoDiscard => "T7",
         }
     }
 }

@@ -1,16 +1,17 @@
 //! The things of which events speak, and the accounts that they change.
 ghost use Rattle.history.specs.Bids.{bid_said};
-ghost use Rattle.history.specs.Event.{bidding_of, floated_by, obeyed_of, office_of, operated_by, ownership_of, par_set, payment_of, round_of as round_begun, square_set, sv_price_set, tile_laid, token_placed, transfer_of};
+ghost use Rattle.history.specs.Event.{bidding_of, floated_by, obeyed_of, office_of, operated_by, ownership_of, par_set, payment_of, phase_set, round_of as round_begun, square_set, sv_price_set, tile_laid, token_placed, train_moved, transfer_of};
 ghost use Rattle.history.specs.LookBack.{actor_of, owner_said, paid_by, paid_to};
 ghost use Rattle.history.specs.Operating.{turn_said};
 ghost use Rattle.history.specs.Orders.{limit_in, par_of_baltimore_in, said_by};
 ghost use Rattle.history.specs.Shares.{brought_to, float_said, par_said, president_said, sale_said, square_said, taken_from};
+ghost use Rattle.history.specs.Trains.{any_comes, any_goes, one_if, train_comes, train_goes};
 
 use crate::aspect::{Account, Topic};
-use crate::event::{Bidding, Event, Holder, Party, Shareholder};
+use crate::event::{Bidding, Event, Holder, Party, Shareholder, TrainPlace};
 use crate::ruling::Ruling;
 use map_tables::{Lay, Place};
-use tables::{Amount, Company, Private, Round, Seat, Square};
+use tables::{Amount, Company, Kind, Private, Round, Seat, Square};
 
 /// The cash of a party.
 #[derive(Clone, Copy)]
@@ -315,5 +316,67 @@ impl Topic for RoundPlayed {
 
     fn word(&self, event: &Event) -> Option<Round> {
         event.round()
+    }
+}
+
+/// The trains of a kind at a place.
+#[derive(Clone, Copy)]
+pub(crate) struct TrainsAt(pub TrainPlace, pub Kind);
+
+impl Account for TrainsAt {
+    ghost brings = { λ a event. one_if (train_comes a.0 a.1 (train_moved event)) };
+
+    ghost takes = { λ a event. one_if (train_goes a.0 a.1 (train_moved event)) };
+
+    fn brings(&self, event: &Event) -> Amount {
+        match event.train() {
+            Some(train) if train.kind == self.1 && train.to == self.0 => 1,
+            _ => 0,
+        }
+    }
+
+    fn takes(&self, event: &Event) -> Amount {
+        match event.train() {
+            Some(train) if train.kind == self.1 && train.from == self.0 => 1,
+            _ => 0,
+        }
+    }
+}
+
+/// The trains of a company, or of the bank pool where there is none.
+#[derive(Clone, Copy)]
+pub(crate) struct AllTrainsAt(pub Option<Company>);
+
+impl Account for AllTrainsAt {
+    ghost brings = { λ a event. one_if (any_comes a.0 (train_moved event)) };
+
+    ghost takes = { λ a event. one_if (any_goes a.0 (train_moved event)) };
+
+    fn brings(&self, event: &Event) -> Amount {
+        match event.train() {
+            Some(train) if train.to == TrainPlace::of_owner(self.0) => 1,
+            _ => 0,
+        }
+    }
+
+    fn takes(&self, event: &Event) -> Amount {
+        match event.train() {
+            Some(train) if train.from == TrainPlace::of_owner(self.0) => 1,
+            _ => 0,
+        }
+    }
+}
+
+/// The phase.
+#[derive(Clone, Copy)]
+pub(crate) struct PhaseBegun;
+
+impl Topic for PhaseBegun {
+    type Word = Kind;
+
+    ghost word = { λ a event. phase_set event };
+
+    fn word(&self, event: &Event) -> Option<Kind> {
+        event.phase()
     }
 }

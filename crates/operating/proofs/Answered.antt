@@ -19,6 +19,7 @@ use Rattle.history.proofs.Payments.{lay_sound, token_sound}
 use Rattle.history.specs.Event.{party_of_company}
 use Rattle.history.specs.LookBack.{Game, cash_of, with_event}
 use Rattle.history.specs.Operating.{lays_of, tokens_of}
+use Rattle.history.specs.Trains.{phase_of}
 use Rattle.history.specs.declared.event.Event.{Event}
 use Rattle.history.specs.declared.event.Event.TheVariants as event
 use Rattle.history.specs.declared.ruling.LayRule.{LayRule}
@@ -32,21 +33,22 @@ use Rattle.operating.proofs.Allowed.{lay_allowed, token_allowed}
 use Rattle.operating.proofs.Fitting.{lay_fits, same_ground, token_fits}
 use Rattle.operating.specs.Ground.{IsPlayable, ground_now}
 use Rattle.operating.specs.Judgement.{asker_of, rule_of_lay, rule_of_token}
-use Rattle.operating.specs.Turn.{InTurn, in_turn, lay_answered, lay_done, lay_refused, token_answered, token_done, token_refused}
+use Rattle.operating.specs.InTurn.{InTurn, in_turn, lay_done, token_done}
+use Rattle.operating.specs.Turn.{lay_answered, lay_refused, token_answered, token_refused}
 use Rattle.operating.specs.declared.operator.Operator.{Operator}
 use Rattle.operating.specs.declared.progress.Progress.{Progress}
 use Rattle.order_grammar.specs.declared.order.Order.{Order}
 use Rattle.order_grammar.specs.declared.order.Order.TheVariants as order
 use Rattle.tables.specs.Rules.{first_broken}
 use Rattle.tables.specs.declared.roster.Company.{Company}
-use Rattle.tables.specs.declared.rolling_stock.Kind.TheVariants.{Two}
+use Rattle.tables.specs.declared.rolling_stock.Kind.{Kind}
 use Rattle.tables.specs.declared.seat.Seat.{Seat}
 
 -- what fits is refused as a board only for want of memory
-pub want_of_memory : (events : List Event) (lays : List Lay) (tokens : List (Place × Company)) (fault : BoardFault) → lays ≡ lays_of events → tokens ≡ tokens_of events → Fits (ground_now events) → (fault ≡ board_fault.Memory) ⊎ (board_fault_of (ground_of lays tokens Two) ≡ Some fault) → fault ≡ board_fault.Memory
-want_of_memory events lays tokens fault is_lays is_tokens fits (inl memory) = memory
-want_of_memory events lays tokens fault is_lays is_tokens fits (inr broken) =
-    let same : ground_of lays tokens Two ≡ ground_now events = ap (λ (l : List Lay). ground_of l tokens Two) is_lays ∙ ap (λ (t : List (Place × Company)). ground_of (lays_of events) t Two) is_tokens in
+pub want_of_memory : (events : List Event) (lays : List Lay) (tokens : List (Place × Company)) (phase : Kind) (fault : BoardFault) → lays ≡ lays_of events → tokens ≡ tokens_of events → phase ≡ phase_of events → Fits (ground_now events) → (fault ≡ board_fault.Memory) ⊎ (board_fault_of (ground_of lays tokens phase) ≡ Some fault) → fault ≡ board_fault.Memory
+want_of_memory events lays tokens phase fault is_lays is_tokens is_phase fits (inl memory) = memory
+want_of_memory events lays tokens phase fault is_lays is_tokens is_phase fits (inr broken) =
+    let same : ground_of lays tokens phase ≡ ground_now events = ap (λ (l : List Lay). ground_of l tokens phase) is_lays ∙ ap (λ (t : List (Place × Company)). ground_of (lays_of events) t phase) is_tokens ∙ ap (ground_of (lays_of events) (tokens_of events)) is_phase in
     let wrong : Some fault ≡ None = sym broken ∙ ap board_fault_of same ∙ fits_without_homes (ground_now events) fits in
     cc
 
@@ -126,7 +128,7 @@ token_refused_steps by turn number place fault rule ruled kept is_ruled is_kept 
 -- the same lies after a ruling, and the company has as much
 same_after_ruling : (game ruled : Game) (seat : Seat) (number : ℕ) (ruling : Ruling) → ruled ≡ with_event game (event.Ruled seat number ruling) → ground_now ruled.events ≡ ground_now game.events
 same_after_ruling game ruled seat number ruling is =
-    ap (λ (g : Game). ground_now g.events) is ∙ same_ground game.events (event.Ruled seat number ruling) refl refl
+    ap (λ (g : Game). ground_now g.events) is ∙ same_ground game.events (event.Ruled seat number ruling) refl refl refl
 
 same_cash : (game ruled : Game) (seat : Seat) (number : ℕ) (ruling : Ruling) (company : Company) → ruled ≡ with_event game (event.Ruled seat number ruling) → cash_of ruled.seats ruled.events (party_of_company company) ≡ cash_of game.seats game.events (party_of_company company)
 same_cash game ruled seat number ruling company is =

@@ -7,7 +7,8 @@ use Rattle.operating.proofs.Decided.{AllLawful, lay_answer, token_answer}
 use Rattle.operating.specs.Ground.{ground_now}
 use Rattle.operating.specs.Judgement.{asker_of}
 use Rattle.operating.specs.Laws.{CompanyTurnEnds}
-use Rattle.operating.specs.Turn.{BlockLeads, InTurn, LayLeads, LinesLead, OrderLeads, ReadingLeads, TokenLeads, begun, lay_answered, settled, token_answered}
+use Rattle.operating.specs.InTurn.{InTurn}
+use Rattle.operating.specs.Turn.{BlockLeads, LayLeads, LinesLead, OrderLeads, ReadingLeads, TokenLeads, begun, lay_answered, settled, token_answered}
 use Rattle.operating.specs.declared.operator.Operator.{Operator}
 use Rattle.order_grammar.specs.declared.fault.Fault.{Fault}
 use Rattle.order_grammar.specs.declared.order.Order.{Order}

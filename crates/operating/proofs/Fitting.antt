@@ -1,21 +1,25 @@
 -- What lies on the map by a list still fits after an event of a company's turn.
-use Rattle.std.proofs.Common.{◌≡◌, ℕ, ◌+◌, ◌<◌, Bool, true, false, ◌&&◌, ◌||◌, if◌then◌else◌, List, [], ◌∷◌, ◌++◌, length, take, get_or, Option, Some, None, refl, sym, subst, ap, ◌∙◌, arith}
+use Rattle.std.proofs.Common.{◌≡◌, ℕ, ◌+◌, ◌<◌, Bool, true, false, ◌&&◌, ◌||◌, if◌then◌else◌, List, [], ◌∷◌, ◌++◌, length, take, get_or, Option, Some, None, unwrap_or, refl, sym, subst, ap, ◌∙◌, arith}
 use Rattle.std.proofs.lemmas.List.{append-nil, take_more}
 use Rattle.std.proofs.lemmas.List.Sums.{sum_by-cons}
 use Rattle.std.specs.List.{count_by}
-use Rattle.board.proofs.FitLaws.{home_keeps_fit, lay_keeps_fit, token_keeps_fit}
+use Rattle.board.proofs.FitLaws.{home_keeps_fit, lay_keeps_fit, phase_keeps_fit, token_keeps_fit}
 use Rattle.board.specs.Ground.{ground_of, has_token, names, with_lay, with_token}
 use Rattle.board.specs.Homes.{Fits}
 use Rattle.board.specs.LayRules.{ground_rules}
 use Rattle.board.specs.TokenRules.{slot_rules}
 use Rattle.board.specs.declared.asker.Asker.{Asker}
+use Rattle.history.proofs.EventAtEnd.{last_said_before}
 use Rattle.history.proofs.InOrder.{lays_grow, tokens_grow}
 use Rattle.history.proofs.Payments.{withholding_sound}
+use Rattle.history.proofs.Settled.{broken_quiet}
 use Rattle.history.proofs.Soundness.{quiet_sound}
+use Rattle.history.specs.Event.{phase_set}
 use Rattle.history.specs.LookBack.{Game, with_event}
 use Rattle.history.specs.Operating.{lays_of, tokens_of, tokens_placed}
 use Rattle.history.specs.Shares.{square_of}
 use Rattle.history.specs.Tell.{breaks, broken_told}
+use Rattle.history.specs.Trains.{phase_of}
 use Rattle.history.specs.declared.event.Event.{Event}
 use Rattle.history.specs.declared.event.Event.TheVariants as event
 use Rattle.map_tables.specs.Home.{home_of}
@@ -31,6 +35,7 @@ use Rattle.operating.specs.Ground.{GroundFits, IsPlayable, ground_now}
 use Rattle.tables.specs.Roster.{same_company}
 use Rattle.tables.specs.Rules.{first_broken}
 use Rattle.tables.specs.declared.roster.Company.{Company}
+use Rattle.tables.specs.declared.rolling_stock.Kind.{Kind}
 use Rattle.tables.specs.declared.rolling_stock.Kind.TheVariants.{Two}
 use Rattle.tables.specs.declared.squares.Square.{Square}
 
@@ -42,42 +47,58 @@ lays_more events i d below = ap lays_of (take_more events i d below) ∙ lays_gr
 pub tokens_more : (events : List Event) (i : ℕ) (d : Event) → i < length events → tokens_of (take (i + 1) events) ≡ tokens_of (take i events) ++ tokens_of (get_or events i d ∷ [])
 tokens_more events i d below = ap tokens_of (take_more events i d below) ∙ tokens_grow (take i events) (get_or events i d)
 
--- what lies after an event: what lay before, with what the event adds
-grown : (events : List Event) (event : Event) → ground_now (events ++ event ∷ []) ≡ ground_of (lays_of events ++ lays_of (event ∷ [])) (tokens_of events ++ tokens_of (event ∷ [])) Two
+-- what lies after an event: what lay before, with what the event adds, in the phase then
+grown : (events : List Event) (event : Event) → ground_now (events ++ event ∷ []) ≡ ground_of (lays_of events ++ lays_of (event ∷ [])) (tokens_of events ++ tokens_of (event ∷ [])) (phase_of (events ++ event ∷ []))
 grown events event =
-    ap (λ (lays : List Lay). ground_of lays (tokens_of (events ++ event ∷ [])) Two) (lays_grow events event)
-    ∙ ap (λ (tokens : List (Place × Company)). ground_of (lays_of events ++ lays_of (event ∷ [])) tokens Two) (tokens_grow events event)
+    let phase : Kind = phase_of (events ++ event ∷ []) in
+    ap (λ (lays : List Lay). ground_of lays (tokens_of (events ++ event ∷ [])) phase) (lays_grow events event)
+    ∙ ap (λ (tokens : List (Place × Company)). ground_of (lays_of events ++ lays_of (event ∷ [])) tokens phase) (tokens_grow events event)
 
--- the same lies after an event that neither lays a tile nor places a token
-pub same_ground : (events : List Event) (event : Event) → lays_of (event ∷ []) ≡ [] → tokens_of (event ∷ []) ≡ [] → ground_now (events ++ event ∷ []) ≡ ground_now events
-same_ground events event no_lay no_token =
+-- the phase is the same after an event that begins none
+same_phase : (events : List Event) (event : Event) → phase_set event ≡ None → phase_of (events ++ event ∷ []) ≡ phase_of events
+same_phase events event none =
+    ap (λ (said : Option Kind). unwrap_or said Two) (last_said_before phase_set (events ++ event ∷ []) events event refl none)
+
+-- the same tiles and tokens lie after an event that neither lays a tile nor places a token
+same_laid : (events : List Event) (event : Event) → lays_of (event ∷ []) ≡ [] → tokens_of (event ∷ []) ≡ [] → ground_now (events ++ event ∷ []) ≡ ground_of (lays_of events) (tokens_of events) (phase_of (events ++ event ∷ []))
+same_laid events event no_lay no_token =
+    let phase : Kind = phase_of (events ++ event ∷ []) in
     grown events event
-    ∙ ap (λ (lays : List Lay). ground_of (lays_of events ++ lays) (tokens_of events ++ tokens_of (event ∷ [])) Two) no_lay
-    ∙ ap (λ (tokens : List (Place × Company)). ground_of (lays_of events ++ []) (tokens_of events ++ tokens) Two) no_token
-    ∙ ap (λ (lays : List Lay). ground_of lays (tokens_of events ++ []) Two) (append-nil (lays_of events))
-    ∙ ap (λ (tokens : List (Place × Company)). ground_of (lays_of events) tokens Two) (append-nil (tokens_of events))
+    ∙ ap (λ (lays : List Lay). ground_of (lays_of events ++ lays) (tokens_of events ++ tokens_of (event ∷ [])) phase) no_lay
+    ∙ ap (λ (tokens : List (Place × Company)). ground_of (lays_of events ++ []) (tokens_of events ++ tokens) phase) no_token
+    ∙ ap (λ (lays : List Lay). ground_of lays (tokens_of events ++ []) phase) (append-nil (lays_of events))
+    ∙ ap (λ (tokens : List (Place × Company)). ground_of (lays_of events) tokens phase) (append-nil (tokens_of events))
 
--- it fits still
+-- the same lies, where it begins no phase either
+pub same_ground : (events : List Event) (event : Event) → lays_of (event ∷ []) ≡ [] → tokens_of (event ∷ []) ≡ [] → phase_set event ≡ None → ground_now (events ++ event ∷ []) ≡ ground_now events
+same_ground events event no_lay no_token no_phase =
+    same_laid events event no_lay no_token ∙ ap (ground_of (lays_of events) (tokens_of events)) (same_phase events event no_phase)
+
+-- it fits still, in whatever phase
 pub same_fits : (game : Game) (event : Event) → lays_of (event ∷ []) ≡ [] → tokens_of (event ∷ []) ≡ [] → GroundFits game → GroundFits (with_event game event)
-same_fits game event no_lay no_token fits = subst Fits (sym (same_ground game.events event no_lay no_token)) fits
+same_fits game event no_lay no_token fits =
+    subst Fits (sym (same_laid game.events event no_lay no_token)) (phase_keeps_fit (ground_now game.events) (phase_of (game.events ++ event ∷ [])) fits)
 
 -- one more tile lies after a lay
 pub laid_ground : (events : List Event) (company : Company) (lay : Lay) (cost : ℕ) → ground_now (events ++ event.Laid company lay cost ∷ []) ≡ with_lay (ground_now events) lay
 laid_ground events company lay cost =
     grown events (event.Laid company lay cost)
-    ∙ ap (λ (tokens : List (Place × Company)). ground_of (lays_of events ++ lay ∷ []) tokens Two) (append-nil (tokens_of events))
+    ∙ ap (λ (tokens : List (Place × Company)). ground_of (lays_of events ++ lay ∷ []) tokens (phase_of (events ++ event.Laid company lay cost ∷ []))) (append-nil (tokens_of events))
+    ∙ ap (ground_of (lays_of events ++ lay ∷ []) (tokens_of events)) (same_phase events (event.Laid company lay cost) refl)
 
 -- one more token lies after a token
 pub token_ground : (events : List Event) (company : Company) (place : Place) (cost : ℕ) → ground_now (events ++ event.Token company place cost ∷ []) ≡ with_token (ground_now events) place company
 token_ground events company place cost =
     grown events (event.Token company place cost)
-    ∙ ap (λ (lays : List Lay). ground_of lays (tokens_of events ++ (place, company) ∷ []) Two) (append-nil (lays_of events))
+    ∙ ap (λ (lays : List Lay). ground_of lays (tokens_of events ++ (place, company) ∷ []) (phase_of (events ++ event.Token company place cost ∷ []))) (append-nil (lays_of events))
+    ∙ ap (ground_of (lays_of events) (tokens_of events ++ (place, company) ∷ [])) (same_phase events (event.Token company place cost) refl)
 
 -- and after that of a home
 home_ground : (events : List Event) (company : Company) (place : Place) → ground_now (events ++ event.Home company place ∷ []) ≡ with_token (ground_now events) place company
 home_ground events company place =
     grown events (event.Home company place)
-    ∙ ap (λ (lays : List Lay). ground_of lays (tokens_of events ++ (place, company) ∷ []) Two) (append-nil (lays_of events))
+    ∙ ap (λ (lays : List Lay). ground_of lays (tokens_of events ++ (place, company) ∷ []) (phase_of (events ++ event.Home company place ∷ []))) (append-nil (lays_of events))
+    ∙ ap (ground_of (lays_of events) (tokens_of events ++ (place, company) ∷ [])) (same_phase events (event.Home company place) refl)
 
 -- a lay by the rules
 pub lay_fits : (game : Game) (asker : Asker) (lay : Lay) (cost : ℕ) → first_broken (ground_rules (ground_now game.events) asker lay) ≡ None → GroundFits game → GroundFits (with_event game (event.Laid asker.company lay cost))
@@ -124,12 +145,12 @@ pub fits_after : (game new : Game) (event : Event) → new ≡ with_event game e
 fits_after game new event told no_lay no_token fits = subst GroundFits (sym told) (same_fits game event no_lay no_token fits)
 
 -- a game goes on once it is told whether the bank is broken
-broken_playable : (game : Game) → IsPlayable game → IsPlayable (broken_told game)
+pub broken_playable : (game : Game) → IsPlayable game → IsPlayable (broken_told game)
 broken_playable game playable =
     elim (breaks game.seats game.events) as (λ (b : Bool). IsPlayable (record { seats = game.seats; events = if b then game.events ++ event.Broken ∷ [] else game.events })) [
       | true ↦
           record {
-            sound = quiet_sound game event.Broken (record { payment = refl; ownership = refl; bidding = refl; transfer = refl; par = refl; square = refl; office = refl; float = refl; sv_price = refl }) playable.sound;
+            sound = quiet_sound game event.Broken broken_quiet playable.sound;
             ground = same_fits game event.Broken refl refl playable.ground;
           }
       | false ↦ playable

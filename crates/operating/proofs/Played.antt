@@ -4,7 +4,8 @@ use Rattle.history.specs.LookBack.{Game}
 use Rattle.history.specs.Shares.{president_of}
 use Rattle.operating.proofs.Adding.{only_adds}
 use Rattle.operating.specs.Act.{with_home}
-use Rattle.operating.specs.Turn.{BlockLeads, InTurn, IsCompanyTurn, at_start, in_turn, settled}
+use Rattle.operating.specs.InTurn.{InTurn, at_start, in_turn}
+use Rattle.operating.specs.Turn.{BlockLeads, IsCompanyTurn, settled}
 use Rattle.operating.specs.declared.progress.Progress.{Progress}
 use Rattle.tables.specs.declared.roster.Company.{Company}
 use Rattle.tables.specs.declared.round.Round.{Round}

@@ -5,12 +5,12 @@ use Rattle.board.specs.Homes.{Fits}
 use Rattle.history.specs.LookBack.{Game}
 use Rattle.history.specs.Operating.{lays_of, tokens_of}
 use Rattle.history.specs.Sound.{IsSound}
+use Rattle.history.specs.Trains.{phase_of}
 use Rattle.history.specs.declared.event.Event.{Event}
-use Rattle.tables.specs.declared.rolling_stock.Kind.TheVariants.{Two}
 
--- what lies; no later phase has come yet
+-- what lies
 abbrev pub ground_now : List Event → Ground
-ground_now events = ground_of (lays_of events) (tokens_of events) Two
+ground_now events = ground_of (lays_of events) (tokens_of events) (phase_of events)
 
 -- it fits on the map, with the home tokens of the companies that have not placed theirs
 abbrev pub GroundFits : Game → Type 0

@@ -1,6 +1,13 @@
 pub mod Ground
-pub mod Standing
 pub mod Judgement
 pub mod Act
+pub mod InTurn
+pub mod Runs
+pub mod Dividend
+pub mod Trains
+pub mod Discards
+pub mod Phases
+pub mod Standing
 pub mod Turn
 pub mod Laws
+pub mod TrainLaws

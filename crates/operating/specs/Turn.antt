@@ -2,72 +2,47 @@
 -- for it is ruled, line by line, each on the list that the one before left: a line's own fault first, and then
 -- an order without a place in a block. The steps of the turn are lay, token, run, pay and trains, and a pointer
 -- goes over them: a lay needs the first step and is made once; a token needs one of the first two, and the
--- turn is then past both. A company whose turn is not past its pay when the block ends withholds by itself.
-use Rattle.std.specs.Prelude.{◌≡◌, ℕ, Bool, true, false, nat_lt, if◌then◌else◌, List, [], ◌∷◌, Option, Some, None, Result, Ok, Err, ℤ}
+-- turn is then past both; a run needs one of the first three, and the turn is then past its token; to pay or to
+-- withhold needs one of the first four, and the turn is then past them. A company whose turn is not past its pay
+-- withholds by itself before a TRAIN line is ruled, whatever becomes of that, and when the block ends.
+use Rattle.std.specs.Prelude.{◌≡◌, ℕ, if◌then◌else◌, List, [], ◌∷◌, Option, Some, None, Result, Ok, Err, ℤ}
 use Rattle.std.specs.Int.RustNames.{unsigned_abs}
 use Rattle.board.specs.LayRules.{IsLayAnswer}
 use Rattle.board.specs.TokenRules.{IsTokenAnswer}
-use Rattle.board.specs.Turn.{place_of_step}
-use Rattle.board.specs.declared.asker.TurnStep.TheVariants as step
 use Rattle.board.specs.declared.fault.LayFault.{LayFault}
 use Rattle.board.specs.declared.fault.TokenFault.{TokenFault}
-use Rattle.history.specs.LookBack.{Game, with_event}
+use Rattle.history.specs.LookBack.{Game}
 use Rattle.history.specs.Shares.{president_of}
-use Rattle.history.specs.declared.event.Event.TheVariants as event
+use Rattle.history.specs.declared.event.TrainSeller.TheVariants as seller
 use Rattle.history.specs.declared.ruling.LayRule.{LayRule}
 use Rattle.history.specs.declared.ruling.Refusal.TheVariants as refusal
-use Rattle.history.specs.declared.ruling.Ruling.{Ruling}
 use Rattle.history.specs.declared.ruling.Ruling.TheVariants.{Obeyed, Refused, Faulty}
 use Rattle.history.specs.declared.ruling.TokenRule.{TokenRule}
+use Rattle.history.specs.declared.ruling.TrainRule.{TrainRule}
 use Rattle.map_tables.specs.declared.lay.Lay.{Lay}
 use Rattle.map_tables.specs.declared.place.Place.{Place}
 use Rattle.operating.specs.Act.{after_lay, after_token, with_home, withheld}
+use Rattle.operating.specs.Dividend.{after_pay, after_withhold}
 use Rattle.operating.specs.Ground.{ground_now}
+use Rattle.operating.specs.InTurn.{InTurn, at_start, in_turn, is_unpaid, lay_done, pay_done, token_done, told}
 use Rattle.operating.specs.Judgement.{asker_of, rule_of_lay, rule_of_token}
+use Rattle.operating.specs.Phases.{after_train}
+use Rattle.operating.specs.Runs.{after_run}
+use Rattle.operating.specs.Trains.{train_judgement}
 use Rattle.operating.specs.declared.operator.Operator.{Operator}
-use Rattle.operating.specs.declared.progress.Progress.{Progress}
+use Rattle.operating.specs.declared.purchase.Purchase.{Purchase}
 use Rattle.order_grammar.specs.declared.fault.Fault.{Fault}
 use Rattle.order_grammar.specs.declared.fault.Fault.TheVariants.{OutOfPlace}
 use Rattle.order_grammar.specs.declared.order.Order.{Order}
 use Rattle.order_grammar.specs.declared.order.Order.TheVariants as order
+use Rattle.order_grammar.specs.declared.order.TrainSource.{TrainSource}
+use Rattle.order_grammar.specs.declared.order.TrainSource.TheVariants as source
 use Rattle.sheets.specs.Block.{block_for}
 use Rattle.sheets.specs.Part.{Numbered}
+use Rattle.tables.specs.declared.rolling_stock.Kind.{Kind}
 use Rattle.tables.specs.declared.roster.Company.{Company}
 use Rattle.tables.specs.declared.round.Round.{Round}
 use Rattle.tables.specs.declared.seat.Seat.{Seat}
-
--- how far a turn has come that has just begun
-abbrev pub at_start : Progress
-at_start = record { pointer = step.Lay; lay_used = false }
-
--- once a tile is laid
-abbrev pub lay_done : Progress → Progress
-lay_done progress = record progress { lay_used = true }
-
--- once a token is placed
-abbrev pub token_done : Progress → Progress
-token_done progress = record progress { pointer = step.Run }
-
--- once the company has paid or withheld
-abbrev pub pay_done : Progress → Progress
-pay_done progress = record progress { pointer = step.Trains }
-
--- the turn is not past its pay
-abbrev pub is_unpaid : Progress → Bool
-is_unpaid progress = nat_lt (place_of_step progress.pointer) (place_of_step step.Trains)
-
--- in a turn: the game so far, and how far the turn has come
-pub record InTurn : Type 0 where
-  pub game : Game
-  pub progress : Progress
-
--- in a turn with this game, which has come so far
-abbrev pub in_turn : Game → Progress → InTurn
-in_turn game progress = record { game = game; progress = progress }
-
--- after the ruling of the line with this number
-abbrev pub told : Operator → InTurn → ℕ → Ruling → InTurn
-told by turn number ruling = in_turn (with_event turn.game (event.Ruled by.president number ruling)) turn.progress
 
 -- after a lay with this number was obeyed, or refused by this rule
 abbrev pub lay_refused : Operator → InTurn → ℕ → Lay → Option LayRule → InTurn
@@ -103,10 +78,36 @@ pub record TokenLeads (by : Operator) (turn : InTurn) (number : ℕ) (place : Pl
   pub answered : IsTokenAnswer (ground_now turn.game.events) (asker_of turn.game by.company turn.progress) place answer
   pub after : new ≡ token_answered by turn number place answer
 
+-- with what the company withholds by itself, where the turn is not past its pay
+abbrev pub settled : Company → InTurn → InTurn
+settled company turn =
+    if is_unpaid turn.progress then in_turn (withheld turn.game company turn.progress.runs.revenue) (pay_done turn.progress) else turn
+
+-- the purchase that a TRAIN line orders
+abbrev pub purchase_of : Kind → TrainSource → Purchase
+purchase_of kind source.Bank = record { kind = kind; from = seller.Bank; trade_in = None }
+purchase_of kind (source.Trade trade_in) = record { kind = kind; from = seller.Bank; trade_in = Some trade_in }
+purchase_of kind source.BankPool = record { kind = kind; from = seller.BankPool; trade_in = None }
+
+-- after a TRAIN with this number that orders this purchase, where this rule refuses it, if one does
+abbrev pub train_ruled : Operator → InTurn → ℕ → Order → Purchase → Option TrainRule → InTurn
+train_ruled by turn number order purchase None =
+    in_turn (after_train (told by turn number (Obeyed order)).game by.company purchase) turn.progress
+train_ruled by turn number order purchase (Some rule) = told by turn number (Refused (refusal.Train rule) order)
+
+-- after a TRAIN with this number
+abbrev pub after_buying : Operator → InTurn → ℕ → Kind → TrainSource → InTurn
+after_buying by turn number kind from =
+    train_ruled by turn number (order.BuyTrain kind from) (purchase_of kind from) (train_judgement turn.game by.company (purchase_of kind from))
+
 -- an order of the block with this number leads to new; those that are not named here have no place in a block
 abbrev pub OrderLeads : Operator → InTurn → ℕ → Order → InTurn → Type 0
 OrderLeads by turn number (order.Lay lay) new = LayLeads by turn number lay new
 OrderLeads by turn number (order.Token place) new = TokenLeads by turn number place new
+OrderLeads by turn number (order.Run kind run) new = new ≡ after_run by turn number (order.Run kind run) kind run
+OrderLeads by turn number order.Pay new = new ≡ after_pay by turn number order.Pay
+OrderLeads by turn number order.Withhold new = new ≡ after_withhold by turn number order.Withhold
+OrderLeads by turn number (order.BuyTrain kind from) new = new ≡ after_buying by (settled by.company turn) number kind from
 OrderLeads by turn number other new = new ≡ told by turn number (Faulty OutOfPlace)
 
 -- a line of the block with this number and this reading leads to new
@@ -128,11 +129,6 @@ abbrev pub BlockLeads : List ℕ → Round → Company → InTurn → Option Sea
 BlockLeads file round company turn None new = new ≡ turn
 BlockLeads file round company turn (Some seat) new =
     LinesLead (record { company = company; president = seat }) turn (block_for file round seat.0 company) new
-
--- with what the company withholds by itself, where the turn is not past its pay
-abbrev pub settled : Company → InTurn → InTurn
-settled company turn =
-    if is_unpaid turn.progress then in_turn (withheld turn.game company 0) (pay_done turn.progress) else turn
 
 -- the turn once its home token lies
 abbrev pub begun : Game → Company → InTurn

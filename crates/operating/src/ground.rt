@@ -7,7 +7,7 @@ use board::{Board, BoardFault};
 use history::{Event, History};
 use map_tables::{Lay, Place};
 use std::alloc::{AllocError, Global};
-use tables::{Company, Kind};
+use tables::Company;
 
 /// What lies on the map, which fits there. The only error is want of memory.
 pub(crate) fn board(alloc: Global, history: &History) -> Result<Board, AllocError>
@@ -16,7 +16,7 @@ pub(crate) fn board(alloc: Global, history: &History) -> Result<Board, AllocErro
 {
     let lays = lays(alloc, history)?;
     let tokens = tokens(alloc, history)?;
-    match Board::of(alloc, lays.as_slice(), tokens.as_slice(), Kind::Two) {
+    match Board::of(alloc, lays.as_slice(), tokens.as_slice(), history.now().phase()) {
         Ok(board) => Ok(board),
         Err(fault) => Err(want_of_memory(fault)),
     }

@@ -1,5 +1,7 @@
 //! Laws of the definitions, each the contract of a function that does nothing.
+ghost use Rattle.operating.specs.Dividend.{NoMoreIsPaid};
 ghost use Rattle.operating.specs.Laws.{CompanyOperates, CompanyTurnEnds, OneCompanyTurn, TurnOnlyAdds};
+ghost use Rattle.operating.specs.Runs.{ObeyedRunsAreLegal};
 
 use map_tables::{
     laid_links_are_in_order, neighbours_pair, printed_links_are_in_order, values_are_at_most_80,
@@ -29,3 +31,14 @@ pub fn company_turn_ends()
     laid_links_are_in_order();
     values_are_at_most_80();
 }
+
+/// A run that is obeyed is legal, so that the runs of a turn share no border.
+pub fn obeyed_runs_are_legal()
+    ensures { ObeyedRunsAreLegal }
+{}
+
+/// A company that pays out what its trains earned gets no more than that from the bank for those
+/// who hold its tenths.
+pub fn no_more_is_paid()
+    ensures { NoMoreIsPaid }
+{}

@@ -1,31 +1,46 @@
 //! Operating rounds: the turn of a company.
 //!
 //! At its first turn a company places its home token. Then the block is ruled that its president
-//! has for it: it may lay a tile and place a token. The steps of the turn stand in order, and a
-//! pointer goes over them; an order for a step that is past is refused. At the end the company
-//! withholds what it earned, and its token on the chart moves left.
+//! has for it: it may lay a tile, place a token, run its trains, pay out or withhold what they
+//! earned, and buy trains. The steps of the turn stand in order, and a pointer goes over them; an
+//! order for a step that is past is refused. A company that has neither paid nor withheld does so by
+//! itself before it buys trains, and at the end; its token on the chart then moves left.
 //!
-//! Reading order: `operator` (whose turn it is), `progress` (how far the turn has come), `ground`
-//! (what lies on the map), `asker` (the company as the rules of the board see it), `ruling`, `home`,
-//! `lay` and `token` (what orders do) with `cost`, `withholding`, `turn` (the lines of a block), `playing`,
-//! `standing` (the lines before the first block), `laws` (what holds of every turn).
+//! Reading order: `operator` (whose turn it is), `runs` (what its trains have done), `progress` (how
+//! far the turn has come), `ground` (what lies on the map), `asker` (the company as the rules of the
+//! board see it), `ruling`, `home`, `lay` and `token` (what orders do) with `cost`, `running`,
+//! `withholding`, `dividend`, `purchase` (the rules of trains), `discards`, `phases` (what a train
+//! brings), `train`, `turn` (the lines of a block), `playing`, `standing` (the lines before the first
+//! block), `laws` (what holds of every turn), `train_laws`.
 #![tactic(auto)]
 
 mod asker;
 mod cost;
+mod discards;
+mod dividend;
 mod ground;
 mod home;
 mod laws;
 mod lay;
 mod operator;
+mod phases;
 mod playing;
 mod progress;
+mod purchase;
 mod ruling;
+mod running;
+mod runs;
 mod standing;
 mod token;
+mod train;
+mod train_laws;
 mod turn;
 mod withholding;
 
-pub use laws::{company_operates, company_turn_ends, one_company_turn, turn_only_adds};
+pub use laws::{
+    company_operates, company_turn_ends, no_more_is_paid, obeyed_runs_are_legal, one_company_turn,
+    turn_only_adds,
+};
 pub use playing::play_company;
 pub use standing::rule_standing_lines;
+pub use train_laws::{all_trains_are_there, phases_go_on};

@@ -1,7 +1,9 @@
-ghost use Rattle.std.specs.Prelude.{◌≡◌, IfOk, OnOk};
+ghost use Rattle.std.specs.Prelude.{◌≡◌, ◌≤◌, IfOk, OnOk, length};
 ghost use Rattle.history.specs.Sound.{IsSound};
 ghost use Rattle.operating.specs.Ground.{GroundFits, IsPlayable};
-ghost use Rattle.operating.specs.Turn.{BlockLeads, IsCompanyTurn, at_start, in_turn};
+ghost use Rattle.operating.specs.InTurn.{at_start, in_turn};
+ghost use Rattle.operating.specs.Turn.{BlockLeads, IsCompanyTurn};
+ghost use Rattle.sheets.specs.File.{players_of};
 
 use crate::home::place_home;
 use crate::operator::Operator;
@@ -14,7 +16,8 @@ use std::alloc::{AllocError, Global};
 use tables::{Company, Round, Seat};
 
 /// Plays the turn of a company in an operating round, with the sheets for it. The list of events
-/// must be sound, and what lies on the map by it must fit there. It is meant for a company that has
+/// must be sound, its seats those of the sheets' players, and what lies on the map by it must fit
+/// there. It is meant for a company that has
 /// floated and has not operated in this round. An `Err` comes from want of memory alone, and the
 /// game is dropped.
 pub fn play_company(
@@ -26,12 +29,14 @@ pub fn play_company(
 ) -> Result<History, AllocError>
     requires sound { IsSound history }
     requires ground { GroundFits history }
+    requires seats { history.seats ≡ length (players_of sheets.now) }
     ensures turn { IfOk result (IsCompanyTurn sheets.now round company history) }
     ensures seats { IfOk result (λ new. new.seats ≡ history.seats) }
     ensures sound { IfOk result IsSound }
     ensures ground { IfOk result GroundFits }
 {
     let president = history.president(company);
+    let _few = sheets.seats();
     place_home(&mut history, company)?;
     let progress = rule_block(alloc, &mut history, sheets, round, company, president)?;
     settle(&mut history, company, progress)?;
@@ -48,7 +53,8 @@ fn rule_block(
     company: Company,
     president: Option<Seat>,
 ) -> Result<Progress, AllocError>
-    requires { IsPlayable history.old }
+    requires few { history.old.seats ≤ 6 }
+    requires playable { IsPlayable history.old }
     ensures turn { IfOk result (λ now. BlockLeads sheets.now round company
         (in_turn history.old at_start) president (in_turn history.new now)) }
     ensures playable { OnOk result (IsPlayable history.new) }

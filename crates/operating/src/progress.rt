@@ -1,6 +1,9 @@
 ghost use Rattle.std.specs.Prelude.{◌≡◌};
-ghost use Rattle.operating.specs.Turn.{at_start, is_unpaid as not_past_pay, lay_done, pay_done, token_done};
+ghost use Rattle.operating.specs.Dividend.{is_past_pay as past_pay};
+ghost use Rattle.operating.specs.Runs.{IsCounted, is_past_runs as past_runs, run_done};
+ghost use Rattle.operating.specs.InTurn.{at_start, is_unpaid as not_past_pay, lay_done, pay_done, token_done};
 
+use crate::runs::{Ran, Runs};
 use board::TurnStep;
 
 /// How far a company's turn has come.
@@ -10,6 +13,8 @@ pub(crate) struct Progress {
     pub(crate) pointer: TurnStep,
     /// Whether the company has used its lay.
     pub(crate) lay_used: bool,
+    /// What the trains of the company have done.
+    pub(crate) runs: Runs,
 }
 
 impl Progress {
@@ -20,6 +25,7 @@ impl Progress {
         Progress {
             pointer: TurnStep::Lay,
             lay_used: false,
+            runs: Runs::none(),
         }
     }
 
@@ -43,6 +49,17 @@ impl Progress {
         }
     }
 
+    /// Once a train has run: the turn is past its token, too.
+    pub(crate) fn with_run(self, ran: Ran) -> Progress
+        requires { IsCounted self.runs ran }
+        ensures { result ≡ run_done self ran }
+    {
+        Progress {
+            runs: self.runs.with(ran),
+            ..self.with_token()
+        }
+    }
+
     /// Once the company has paid or withheld.
     pub(crate) fn with_pay(self) -> Progress
         ensures { result ≡ pay_done self }
@@ -51,6 +68,20 @@ impl Progress {
             pointer: TurnStep::Trains,
             ..self
         }
+    }
+
+    /// Whether the turn is past its runs.
+    pub(crate) fn is_past_runs(&self) -> bool
+        ensures { result ≡ past_runs self.now }
+    {
+        TurnStep::Run.number() < self.pointer.number()
+    }
+
+    /// Whether the turn is past its pay.
+    pub(crate) fn is_past_pay(&self) -> bool
+        ensures { result ≡ past_pay self.now }
+    {
+        TurnStep::Pay.number() < self.pointer.number()
     }
 
     /// Whether the turn is not past its pay.

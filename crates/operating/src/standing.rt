@@ -1,11 +1,14 @@
-ghost use Rattle.std.specs.Prelude.{◌≡◌, OnOk, length};
+ghost use Rattle.std.specs.Prelude.{◌≡◌, IfOk, OnOk, length};
 ghost use Rattle.history.specs.Sound.{IsSound};
-ghost use Rattle.operating.specs.Standing.{after_standing, after_standing_line};
+ghost use Rattle.operating.specs.Standing.{after_standing, after_standing_line, standing_order_ruling, standing_ruling};
 ghost use Rattle.sheets.specs.File.{players_of};
+ghost use Rattle.sheets.specs.Part.{line_read};
 ghost use Rattle.sheets.specs.Taken.{after_each};
 
-use history::{Event, History, Ruling};
-use sheets::{PartsLeft, Sheets, fault_out_of_place};
+use crate::discards::judge_discard;
+use history::{Event, History, Refusal, Ruling};
+use order_grammar::{Fault, Order};
+use sheets::{NumberedLine, PartsLeft, Sheets};
 use std::alloc::AllocError;
 use tables::{Round, Seat};
 
@@ -29,9 +32,12 @@ pub fn rule_standing_lines(
     Ok(())
 }
 
-/// Rules the standing lines of a seat's sheet, those before its first head. No order has a place
-/// there.
-fn rule_standing(history: &mut History, seat: Seat, sheet: &mut PartsLeft) -> Result<(), AllocError>
+/// Rules the standing lines of a seat's sheet, those before its first head.
+fn rule_standing(
+    history: &mut History,
+    seat: Seat,
+    sheet: &mut PartsLeft,
+) -> Result<(), AllocError>
     requires { IsSound history.old }
     ensures seats { OnOk result (history.new.seats ≡ history.old.seats) }
     ensures events { OnOk result (history.new.events
@@ -39,9 +45,36 @@ fn rule_standing(history: &mut History, seat: Seat, sheet: &mut PartsLeft) -> Re
     ensures sound { OnOk result (IsSound history.new) }
 {
     while let Some(line) = sheet.take_line() {
-        let ruling = Ruling::Faulty(fault_out_of_place(&line));
+        let ruling = ruling_of(history, seat, &line)?;
         let line = line.number;
         history.tell(Event::Ruled { seat, line, ruling })?;
     }
     Ok(())
+}
+
+/// What becomes of a standing line of a seat.
+fn ruling_of(history: &History, seat: Seat, line: &NumberedLine) -> Result<Ruling, AllocError>
+    ensures { IfOk result (λ ruling. ruling
+        ≡ standing_ruling history.now.events seat (line_read line.now).reading) }
+{
+    match line.order() {
+        Ok(order) => ruling_of_order(history, seat, order),
+        Err(fault) => Ok(Ruling::Faulty(fault)),
+    }
+}
+
+/// What becomes of a standing order of a seat: no order has a place but DISCARD.
+fn ruling_of_order(history: &History, seat: Seat, order: &Order) -> Result<Ruling, AllocError>
+    ensures { IfOk result (λ ruling. ruling
+        ≡ standing_order_ruling history.now.events seat order.now) }
+{
+    let Order::Discard { company, kind } = order else {
+        return Ok(Ruling::Faulty(Fault::OutOfPlace));
+    };
+    let broken = judge_discard(history, seat, *company, *kind);
+    let kept = history.keep(order)?;
+    Ok(match broken {
+        Some(rule) => Ruling::Refused(Refusal::Train(rule), kept),
+        None => Ruling::Obeyed(kept),
+    })
 }

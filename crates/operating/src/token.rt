@@ -1,7 +1,8 @@
 ghost use Rattle.std.specs.Prelude.{◌≡◌, IfOk, OnOk, Some};
 ghost use Rattle.operating.specs.Ground.{IsPlayable};
 ghost use Rattle.operating.specs.Judgement.{rule_of_token};
-ghost use Rattle.operating.specs.Turn.{TokenLeads, in_turn};
+ghost use Rattle.operating.specs.InTurn.{in_turn};
+ghost use Rattle.operating.specs.Turn.{TokenLeads};
 
 use crate::asker::asker;
 use crate::cost::amount_of;

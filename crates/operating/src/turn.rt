@@ -1,13 +1,18 @@
-ghost use Rattle.std.specs.Prelude.{◌≡◌, IfOk, OnOk};
+ghost use Rattle.std.specs.Prelude.{◌≡◌, ◌≤◌, IfOk, OnOk};
 ghost use Rattle.operating.specs.Ground.{IsPlayable};
-ghost use Rattle.operating.specs.Turn.{LineLeads, LinesLead, OrderLeads, at_start, in_turn};
+ghost use Rattle.operating.specs.InTurn.{at_start, in_turn};
+ghost use Rattle.operating.specs.Turn.{LineLeads, LinesLead, OrderLeads};
 ghost use Rattle.sheets.specs.Part.{line_read};
 
+use crate::dividend::{rule_pay, rule_withhold};
 use crate::lay::rule_lay;
 use crate::operator::Operator;
 use crate::progress::Progress;
 use crate::ruling::tell_ruling;
+use crate::running::{judge_run, rule_run};
 use crate::token::rule_token;
+use crate::train::rule_train;
+use crate::withholding::settle;
 use history::{History, Ruling};
 use order_grammar::{Fault, Order};
 use sheets::{NumberedLine, PartsLeft};
@@ -20,7 +25,8 @@ pub(crate) fn rule_lines(
     by: Operator,
     block: &mut PartsLeft,
 ) -> Result<Progress, AllocError>
-    requires { IsPlayable history.old }
+    requires few { history.old.seats ≤ 6 }
+    requires playable { IsPlayable history.old }
     ensures turn { IfOk result (λ now. LinesLead by (in_turn history.old at_start)
         block.old.before (in_turn history.new now)) }
     ensures playable { OnOk result (IsPlayable history.new) }
@@ -41,7 +47,8 @@ fn rule_line(
     line: &NumberedLine,
     progress: Progress,
 ) -> Result<Progress, AllocError>
-    requires { IsPlayable history.old }
+    requires few { history.old.seats ≤ 6 }
+    requires playable { IsPlayable history.old }
     ensures turn { IfOk result (λ now. LineLeads by (in_turn history.old progress)
         (line_read line.now) (in_turn history.new now)) }
     ensures playable { OnOk result (IsPlayable history.new) }
@@ -65,7 +72,8 @@ fn rule_order(
     order: &Order,
     progress: Progress,
 ) -> Result<Progress, AllocError>
-    requires { IsPlayable history.old }
+    requires few { history.old.seats ≤ 6 }
+    requires playable { IsPlayable history.old }
     ensures turn { IfOk result (λ now. OrderLeads by (in_turn history.old progress) line
         order.now (in_turn history.new now)) }
     ensures playable { OnOk result (IsPlayable history.new) }
@@ -73,6 +81,16 @@ fn rule_order(
     match order {
         Order::Lay(lay) => rule_lay(alloc, history, by, line, *lay, progress),
         Order::Token(place) => rule_token(alloc, history, by, line, *place, progress),
+        Order::Run { kind, run } => {
+            let judged = judge_run(alloc, history, by.company, *kind, run, progress)?;
+            rule_run(history, by, line, order, judged, progress)
+        }
+        Order::Pay => rule_pay(history, by, line, order, progress),
+        Order::Withhold => rule_withhold(history, by, line, order, progress),
+        Order::BuyTrain { kind, from } => {
+            let progress = settle(history, by.company, progress)?;
+            rule_train(alloc, history, by, line, *kind, *from, progress)
+        }
         _ => {
             let fault = Fault::OutOfPlace;
             tell_ruling(history, by.president, line, Ruling::Faulty(fault))?;

@@ -1,7 +1,8 @@
 ghost use Rattle.std.specs.Prelude.{◌≡◌, ◌≤◌, IfOk, OnOk};
 ghost use Rattle.operating.specs.Act.{withheld};
 ghost use Rattle.operating.specs.Ground.{IsPlayable};
-ghost use Rattle.operating.specs.Turn.{in_turn, settled};
+ghost use Rattle.operating.specs.InTurn.{in_turn};
+ghost use Rattle.operating.specs.Turn.{settled};
 
 use crate::progress::Progress;
 use history::{Event, History};
@@ -24,12 +25,16 @@ pub(crate) fn settle(
     if !progress.is_unpaid() {
         return Ok(progress);
     }
-    withhold(history, company, 0)?;
+    withhold(history, company, progress.runs.revenue)?;
     Ok(progress.with_pay())
 }
 
 /// The bank pays a company what it withholds, and its token on the chart moves left.
-fn withhold(history: &mut History, company: Company, amount: Amount) -> Result<(), AllocError>
+pub(crate) fn withhold(
+    history: &mut History,
+    company: Company,
+    amount: Amount,
+) -> Result<(), AllocError>
     requires playable { IsPlayable history.old }
     requires sum { amount ≤ 1000000 }
     ensures after { OnOk result (history.new ≡ withheld history.old company amount) }

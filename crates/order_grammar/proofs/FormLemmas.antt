@@ -6,7 +6,7 @@ use Rattle.std.proofs.lemmas.List.Recursion.{and_at}
 use Rattle.std.proofs.lemmas.List.{append-nil, at_drop_all, drop_more, length-map, get_or-map}
 use Rattle.order_grammar.specs.Form.{Row, forms, tail_reading, values_reading, row_reading, rows_reading, words_reading, nearness, nearer}
 use Rattle.order_grammar.specs.Row.{row_of, is_short}
-use Rattle.order_grammar.specs.Token.{GivesFirst, placed}
+use Rattle.order_grammar.specs.Token.{GivesFirst}
 use Rattle.order_grammar.specs.Words.{Placed, raised, texts_of}
 use Rattle.order_grammar.specs.declared.class.Class.{Class}
 use Rattle.order_grammar.specs.declared.fault.Fault.{Fault}
@@ -17,6 +17,7 @@ use Rattle.order_grammar.specs.declared.order.Order.{Order}
 use Rattle.order_grammar.specs.declared.order.Tail.{Tail}
 use Rattle.order_grammar.specs.declared.order.Value.{Value}
 use Rattle.order_grammar.specs.declared.words.Token.{Token}
+use Rattle.order_grammar.proofs.WordLemmas.{next_words}
 
 -- values so far, with whether a number was too large, in front of those to come
 abbrev pub joined_values : List Value → Bool → Result (List Value × Tail) Fault → Result (List Value × Tail) Fault
@@ -87,10 +88,6 @@ values_reading-tail front too_large classes r i words found t le is some =
 
 -- the first of a line's words and the others, read by the rows of the table, are what the words are
 pub table_read : (words left : List Placed) (given : Option Token) (first : Token) (rows : List Row) (found : Result Order Fault) → GivesFirst words given left → given ≡ Some first → rows ≡ forms → found ≡ rows_reading rows (raised first.text.now) (texts_of left) → found ≡ words_reading (texts_of words)
-table_read [] left given first rows found gives is same by = let wrong = sym gives.0 ∙ is in absurd cc
-table_read (word ∷ words) left given first rows found gives is same by =
-    let one : gives.0 ≡ first = cc in
-    let word_is : placed first ≡ word = ap placed (sym one) ∙ gives.2 in
+table_read words left given first rows found gives is same by =
     by ∙ ap (λ (rs : List Row). rows_reading rs (raised first.text.now) (texts_of left)) same
-    ∙ ap (λ (others : List Placed). rows_reading forms (raised first.text.now) (texts_of others)) gives.3
-    ∙ ap (λ (p : Placed). rows_reading forms (raised p.text) (texts_of words)) word_is
+    ∙ sym (ap words_reading (next_words words left given first gives is))

@@ -7,6 +7,7 @@ pub mod ShapeLemmas
 pub mod ApartLemmas
 pub mod FormLemmas
 pub mod RowLemmas
+pub mod RunLemmas
 pub mod SpellsLemmas
 pub mod LineFaultLemmas
 pub mod WordLemmas

@@ -1,22 +1,26 @@
 -- Orders and their parts: an order is made of its parts, and words spell it as they spell those.
-use Rattle.std.proofs.Common.{◌≡◌, ℕ, Bool, true, false, inl, inr, List, [], ◌∷◌, Option, Some, None, unwrap_or, refl, sym, ap, subst, ◌∙◌}
+use Rattle.std.proofs.Common.{◌≡◌, ℕ, Bool, true, false, inl, inr, List, [], ◌∷◌, Option, Some, None, length, map, unwrap_or, refl, sym, ap, subst, ◌∙◌}
 use Rattle.std.specs.List.{list_any}
 use Rattle.std.proofs.lemmas.Bool.{cases_Bool, false≢true, le-leb, leb-true, and_parts}
 use Rattle.map_tables.specs.declared.hex.Hex.{Hex}
+use Rattle.map_tables.specs.Text.{text_of_place}
+use Rattle.map_tables.specs.declared.place.Place.{Place}
 use Rattle.map_tables.specs.declared.side.Rotation.{Rotation}
 use Rattle.map_tables.specs.declared.tiles.TileNo.{TileNo}
-use Rattle.order_grammar.specs.Form.{forms, is_row_of, has_form, are_names}
+use Rattle.tables.specs.declared.rolling_stock.Kind.{Kind}
+use Rattle.order_grammar.specs.Form.{forms, is_row_of, is_run_length, has_form, are_names}
 use Rattle.order_grammar.specs.Keyword.{text_of_keyword}
 use Rattle.order_grammar.specs.Order.{lay_of, made_of, parts_of, order_from}
-use Rattle.order_grammar.specs.Spells.{IsWord, IsNumber, IsName, IsRoundOfLine, IsPrivate, IsCompany, IsTile, IsHex, IsRotation, IsPlace, AreNames, Then, End, AreWordsFor}
+use Rattle.order_grammar.specs.Spells.{IsWord, IsNumber, IsName, IsRoundOfLine, IsPrivate, IsCompany, IsKind, IsTile, IsHex, IsRotation, IsPlace, AreNames, ArePlaces, Then, End, AreWordsFor}
 use Rattle.order_grammar.specs.declared.keyword.Keyword.{Keyword}
 use Rattle.order_grammar.specs.declared.keyword.Keyword.TheVariants as keyword
 use Rattle.order_grammar.specs.declared.order.Order.{Order}
-use Rattle.order_grammar.specs.declared.order.Order.TheVariants.{Blank, Game, Players, Sheet, Turn, BuyPrivate, Bid, Limit, Par, BuyShare, Sell, ExchangeMohawk, Company as CompanyTurn, Lay, Token}
+use Rattle.order_grammar.specs.declared.order.Order.TheVariants.{Blank, Game, Players, Sheet, Turn, BuyPrivate, Bid, Limit, Par, BuyShare, Sell, ExchangeMohawk, Company as CompanyTurn, Lay, Token, Run, Pay, Withhold, BuyTrain, Discard}
 use Rattle.order_grammar.specs.declared.order.Parts.{Parts}
 use Rattle.order_grammar.specs.declared.order.ShareSource.TheVariants.{InitialOffering, BankPool}
 use Rattle.order_grammar.specs.declared.order.Tail.{Tail}
 use Rattle.order_grammar.specs.declared.order.Tail.TheVariants as tail
+use Rattle.order_grammar.specs.declared.order.TrainSource.TheVariants as source
 use Rattle.order_grammar.specs.declared.order.Value.{Value}
 use Rattle.order_grammar.specs.declared.order.Value.TheVariants as value
 
@@ -44,6 +48,13 @@ formed keyword.Company ((value.Company company) ∷ []) tail.Nothing h = record 
 formed keyword.Lay ((value.Tile tile) ∷ (value.Hex hex) ∷ (value.Rotation rot) ∷ []) tail.Nothing h = record { order = Lay (lay_of tile hex rot false); made = refl; parts = refl }
 formed keyword.Lay ((value.Tile tile) ∷ (value.Hex hex) ∷ (value.Rotation rot) ∷ (value.Word keyword.Swap) ∷ []) tail.Nothing h = record { order = Lay (lay_of tile hex rot true); made = refl; parts = refl }
 formed keyword.Token ((value.Place place) ∷ []) tail.Nothing h = record { order = Token place; made = refl; parts = refl }
+formed keyword.Run ((value.Kind kind) ∷ []) (tail.Places run) h = record { order = Run kind run; made = refl; parts = refl }
+formed keyword.Pay [] tail.Nothing h = record { order = Pay; made = refl; parts = refl }
+formed keyword.Withhold [] tail.Nothing h = record { order = Withhold; made = refl; parts = refl }
+formed keyword.Train ((value.Kind kind) ∷ (value.Word keyword.Bank) ∷ []) tail.Nothing h = record { order = BuyTrain kind source.Bank; made = refl; parts = refl }
+formed keyword.Train ((value.Kind kind) ∷ (value.Word keyword.Bank) ∷ (value.Word keyword.Trade) ∷ (value.Kind other) ∷ []) tail.Nothing h = record { order = BuyTrain kind (source.Trade other); made = refl; parts = refl }
+formed keyword.Train ((value.Kind kind) ∷ (value.Word keyword.Pool) ∷ []) tail.Nothing h = record { order = BuyTrain kind source.BankPool; made = refl; parts = refl }
+formed keyword.Discard ((value.Company company) ∷ (value.Kind kind) ∷ []) tail.Nothing h = record { order = Discard company kind; made = refl; parts = refl }
 formed k values t h = absurd (false≢true h)
 
 -- an order is made again of its parts
@@ -59,6 +70,9 @@ pub made_again : (order : Order) → IsMadeAgain order (parts_of order)
 made_again Blank = refl
 made_again (BuyShare company InitialOffering) = refl
 made_again (BuyShare company BankPool) = refl
+made_again (BuyTrain kind source.Bank) = refl
+made_again (BuyTrain kind (source.Trade other)) = refl
+made_again (BuyTrain kind source.BankPool) = refl
 made_again (Lay lay) = lay_made_again lay.tile lay.hex lay.rot lay.swap
 made_again other = refl
 
@@ -69,6 +83,7 @@ IsTextOf (value.Name name) text = IsName name text
 IsTextOf (value.Round round) text = IsRoundOfLine round text
 IsTextOf (value.Private private) text = IsPrivate private text
 IsTextOf (value.Company company) text = IsCompany company text
+IsTextOf (value.Kind kind) text = IsKind kind text
 IsTextOf (value.Tile tile) text = IsTile tile text
 IsTextOf (value.Hex hex) text = IsHex hex text
 IsTextOf (value.Rotation rotation) text = IsRotation rotation text
@@ -79,6 +94,7 @@ IsTextOf (value.Word k) text = IsWord (text_of_keyword k) text
 abbrev pub AreWordsOfTail : Tail → List (List ℕ) → Type 0
 AreWordsOfTail tail.Nothing words = End words
 AreWordsOfTail (tail.Names names) words = words ≡ names.items
+AreWordsOfTail (tail.Places run) words = words ≡ map text_of_place run
 
 -- the words of values, and then of what is repeated
 abbrev pub AreTextsOf : List Value → Tail → List (List ℕ) → Type 0
@@ -100,6 +116,30 @@ players_by_parts (first ∷ words) names h =
     let each = h.1.each in
     ((h.0, h.1.same), rw (least, most, each) refl)
 
+-- the words of a run
+run_by_parts : (words : List (List ℕ)) (kind : Kind) (run : List Place) → AreWordsFor (Run kind run) words → AreWordsByParts (parts_of (Run kind run)) words
+run_by_parts [] kind run h = absurd h
+run_by_parts (first ∷ []) kind run h = absurd h.1
+run_by_parts (first ∷ second ∷ words) kind run h =
+    let least = le-leb 2 _ h.1.1.least in
+    let most = le-leb _ 280 h.1.1.most in
+    ((h.0, (h.1.0, h.1.1.named)), rw (least, most) refl)
+
+-- of the forms only that of a run has places
+run_counted : (kind : Kind) (run : List Place) → has_form (record { keyword = keyword.Run; values = record { items = value.Kind kind ∷ [] }; tail = tail.Places run }) ≡ true → is_run_length (length run) ≡ true
+run_counted kind run h =
+    elim (cases_Bool (is_run_length (length run))) [
+      | inl some ↦ some
+      | inr none ↦ let wrong = rw none at h in absurd (false≢true wrong)
+    ]
+
+run_of_parts : (words : List (List ℕ)) (kind : Kind) (run : List Place) → AreWordsByParts (parts_of (Run kind run)) words → AreWordsFor (Run kind run) words
+run_of_parts [] kind run h = absurd h.0
+run_of_parts (first ∷ []) kind run h = absurd h.0.1
+run_of_parts (first ∷ second ∷ words) kind run h =
+    let counted = and_parts _ _ (run_counted kind run h.1) in
+    (h.0.0, (h.0.1.0, record { named = h.0.1.1; least = leb-true 2 _ counted.0; most = leb-true _ 280 counted.1 }))
+
 -- the words of a lay
 lay_by_parts : (tile : TileNo) (hex : Hex) (rot : Rotation) (swap : Bool) (words : List (List ℕ)) → AreWordsFor (Lay (lay_of tile hex rot swap)) words → AreWordsByParts (parts_of (Lay (lay_of tile hex rot swap))) words
 lay_by_parts tile hex rot true words h = (h, refl)
@@ -115,6 +155,10 @@ by_parts Blank words h = h
 by_parts (Players names) words h = players_by_parts words names.items h
 by_parts (BuyShare company InitialOffering) words h = (h, refl)
 by_parts (BuyShare company BankPool) words h = (h, refl)
+by_parts (Run kind run) words h = run_by_parts words kind run h
+by_parts (BuyTrain kind source.Bank) words h = (h, refl)
+by_parts (BuyTrain kind (source.Trade other)) words h = (h, refl)
+by_parts (BuyTrain kind source.BankPool) words h = (h, refl)
 by_parts (Lay lay) words h = lay_by_parts lay.tile lay.hex lay.rot lay.swap words h
 by_parts other words h = (h, refl)
 
@@ -139,6 +183,10 @@ of_parts Blank words h = h
 of_parts (Players names) words h = players_of_parts words names.items h
 of_parts (BuyShare company InitialOffering) words h = h.0
 of_parts (BuyShare company BankPool) words h = h.0
+of_parts (Run kind run) words h = run_of_parts words kind run h
+of_parts (BuyTrain kind source.Bank) words h = h.0
+of_parts (BuyTrain kind (source.Trade other)) words h = h.0
+of_parts (BuyTrain kind source.BankPool) words h = h.0
 of_parts (Lay lay) words h = lay_of_parts lay.tile lay.hex lay.rot lay.swap words h
 of_parts other words h = h.0
 

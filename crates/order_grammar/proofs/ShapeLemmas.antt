@@ -1,9 +1,15 @@
 -- Words are read as values by a row exactly where they are texts of those values.
-use Rattle.std.proofs.Common.{◌≡◌, ℕ, Bool, true, false, cond, inl, inr, List, [], ◌∷◌, Some, None, Result, Ok, Err, refl, ap, ◌∙◌}
+use Rattle.std.proofs.Common.{◌≡◌, ℕ, Bool, true, false, cond, inl, inr, List, [], ◌∷◌, Option, Some, None, length, map, Result, Ok, Err, refl, sym, ap, ◌∙◌}
+use Rattle.std.specs.Option.{option_map}
 use Rattle.std.specs.List.{list_all}
 use Rattle.std.proofs.lemmas.Bool.{cases_Bool, and_parts, and_from, and_left, and_right, false≢true}
+use Rattle.std.proofs.lemmas.List.{length-map}
+use Rattle.std.proofs.lemmas.Option.{same_Some}
+use Rattle.map_tables.specs.Text.{place_of_text, text_of_place}
+use Rattle.map_tables.specs.declared.place.Place.{Place}
+use Rattle.map_tables.proofs.Texts.{texts_read}
 use Rattle.order_grammar.specs.Class.{class_reading, is_of_class}
-use Rattle.order_grammar.specs.Form.{are_names, tail_reading, with_value, values_reading, is_of_repeated, are_of_classes}
+use Rattle.order_grammar.specs.Form.{are_names, is_run_length, places_reading, with_place, tail_reading, with_value, values_reading, is_of_repeated, are_of_classes}
 use Rattle.order_grammar.specs.Spells.{is_small}
 use Rattle.order_grammar.specs.declared.class.Class.{Class}
 use Rattle.order_grammar.specs.declared.class.Reading.{Reading}
@@ -18,6 +24,29 @@ use Rattle.order_grammar.specs.declared.order.Value as values
 use Rattle.order_grammar.proofs.OrderLemmas.{AreTextsOf, AreWordsOfTail}
 use Rattle.order_grammar.proofs.TextLemmas.{value_read, large_value_read, IsValueOf, ReadAs, class_read}
 
+-- the words of places are read as them
+places_again : (run : List Place) → places_reading (map text_of_place run) ≡ Some run
+places_again [] = refl
+places_again (place ∷ run) =
+    let first : place_of_text (text_of_place place) ≡ Some place = (texts_read.places (text_of_place place) place).1 refl in
+    rw (first, places_again run) refl
+
+-- words of which each names a place are those of the places
+named_by : (word : List ℕ) (words : List (List ℕ)) (first : Option Place) (rest : Option (List Place)) (run : List Place) → place_of_text word ≡ first → ((places : List Place) → rest ≡ Some places → words ≡ map text_of_place places) → with_place first rest ≡ Some run → word ∷ words ≡ map text_of_place run
+named_by word words (Some place) (Some places) run is others e =
+    ap (λ (w : List ℕ). w ∷ words) ((texts_read.places word place).0 is) ∙ ap (λ (ws : List (List ℕ)). text_of_place place ∷ ws) (others places refl)
+    ∙ ap (map text_of_place) (same_Some (place ∷ places) run e)
+named_by word words (Some place) None run is others e = absurd cc
+named_by word words None rest run is others e = absurd cc
+
+places_named : (words : List (List ℕ)) (run : List Place) → places_reading words ≡ Some run → words ≡ map text_of_place run
+places_named [] run e = ap (map text_of_place) (same_Some [] run e)
+places_named (word ∷ words) run e = named_by word words (place_of_text word) (places_reading words) run refl (λ places is. places_named words places is) e
+
+-- as many words as places
+as_many : (run : List Place) (words : List (List ℕ)) → words ≡ map text_of_place run → is_run_length (length words) ≡ is_run_length (length run)
+as_many run words is = ap (λ (ws : List (List ℕ)). is_run_length (length ws)) is ∙ ap is_run_length (length-map run text_of_place)
+
 -- the words of what is repeated are read as it
 tail_read : (r : Repeated) (t : Tail) (words : List (List ℕ)) → is_of_repeated r t ≡ true → AreWordsOfTail t words → tail_reading r words ≡ Some t
 tail_read repeated.Nothing tail.Nothing [] of is = refl
@@ -25,6 +54,10 @@ tail_read repeated.Nothing tail.Nothing (word ∷ words) of is = absurd is
 tail_read (repeated.Names least most) (tail.Names names) words of is =
     let named : are_names least most words ≡ true = ap (are_names least most) is ∙ of in
     rw named (ap (λ (all : List (List ℕ)). Some (tail.Names (record { items = all }))) is)
+tail_read repeated.Places (tail.Places run) words of is =
+    let counted : is_run_length (length words) ≡ true = as_many run words is ∙ of in
+    let named : places_reading words ≡ Some run = ap places_reading is ∙ places_again run in
+    rw (counted, named) refl
 tail_read r t words of is = absurd (false≢true of)
 
 -- values, or that a number is too large
@@ -94,11 +127,23 @@ names_made : (least most : ℕ) (words : List (List ℕ)) (named : Bool) → are
 names_made least most words true e = (record { of_classes = e; texts = refl }, refl)
 names_made least most words false e = tt
 
+-- places at the end
+places_made : (words : List (List ℕ)) (found : Option (List Place)) → places_reading words ≡ found → is_run_length (length words) ≡ true → ReadThus [] repeated.Places words (elim (option_map tail.Places found) [ Some t ↦ Ok ([], t) | None ↦ Err WrongWords ])
+places_made words (Some run) e counted =
+    let named = places_named words run e in
+    (record { of_classes = sym (as_many run words named) ∙ counted; texts = named }, refl)
+places_made words None e counted = tt
+
+run_made : (words : List (List ℕ)) (counted : Bool) → is_run_length (length words) ≡ counted → ReadThus [] repeated.Places words (elim (option_map tail.Places (cond counted (places_reading words) None)) [ Some t ↦ Ok ([], t) | None ↦ Err WrongWords ])
+run_made words true e = places_made words (places_reading words) refl e
+run_made words false e = tt
+
 -- words that are read as what is repeated
 tail_made : (r : Repeated) (words : List (List ℕ)) → ReadThus [] r words (values_reading [] r words)
 tail_made repeated.Nothing [] = (record { of_classes = refl; texts = tt }, refl)
 tail_made repeated.Nothing (word ∷ words) = tt
 tail_made (repeated.Names least most) words = names_made least most words (are_names least most words) refl
+tail_made repeated.Places words = run_made words (is_run_length (length words)) refl
 
 -- what words are read as says of them
 pub values_made : (classes : List Class) (r : Repeated) (words : List (List ℕ)) → ReadThus classes r words (values_reading classes r words)

@@ -24,6 +24,9 @@ use Rattle.map_tables.specs.declared.side.Rotation.{Rotation}
 use Rattle.map_tables.specs.declared.side.Rotation.TheVariants.{Zero}
 use Rattle.map_tables.proofs.Texts.{column_short, hex_text-le, number_short, row_capital}
 use Rattle.tables.specs.Roster.{code_of_company, code_of_private}
+use Rattle.tables.specs.Train.{code_of_kind}
+use Rattle.tables.specs.declared.rolling_stock.Kind.{Kind}
+use Rattle.tables.specs.declared.rolling_stock.Kind.TheVariants as kind
 use Rattle.tables.specs.declared.roster.Company.{Company}
 use Rattle.tables.specs.declared.roster.Company.TheVariants as company
 use Rattle.tables.specs.declared.roster.Private.{Private}
@@ -37,10 +40,10 @@ use Rattle.order_grammar.specs.Limits.{line_most}
 use Rattle.tables.specs.Round.{number_most, operating_most}
 use Rattle.order_grammar.specs.Line.{reading_of}
 use Rattle.order_grammar.specs.Name.{is_name, is_capital, is_digit, is_letter_or_digit}
-use Rattle.order_grammar.specs.Order.{parts_of}
+use Rattle.order_grammar.specs.Order.{made_of, parts_of}
 use Rattle.order_grammar.specs.Print.{spaced, joined, text_of_value, words_of_tail, words_of_parts, spelling_of}
 use Rattle.order_grammar.specs.Row.{has_room, is_short}
-use Rattle.order_grammar.specs.Spells.{IsNumber, IsNumbered, IsOperating, is_small, are_small, is_round_of_line, has_word, have_words, IsOrder}
+use Rattle.order_grammar.specs.Spells.{IsNumber, IsNumbered, IsOperating, is_small, are_small, is_round_of_line, has_word, have_words, FitsLine, IsOrder}
 use Rattle.order_grammar.specs.Words.{before, with_word, words_from, raised, words_of, is_printable, same_word}
 use Rattle.order_grammar.specs.declared.class.Class.{Class}
 use Rattle.order_grammar.specs.declared.form.Repeated.{Repeated}
@@ -48,6 +51,7 @@ use Rattle.order_grammar.specs.declared.form.Repeated.TheVariants as repeated
 use Rattle.order_grammar.specs.declared.keyword.Keyword.{Keyword}
 use Rattle.order_grammar.specs.declared.keyword.Keyword.TheVariants as keyword
 use Rattle.order_grammar.specs.declared.order.Order.{Order}
+use Rattle.order_grammar.specs.declared.order.Order.TheVariants.{Run}
 use Rattle.order_grammar.specs.declared.order.Parts.{Parts}
 use Rattle.order_grammar.specs.declared.order.Tail.{Tail}
 use Rattle.order_grammar.specs.declared.order.Tail.TheVariants as tail
@@ -171,14 +175,20 @@ unfolding ArePlain
 raised-words [] h = refl
 raised-words (word ∷ words) h = rw (raised-plain word h.0.plain, raised-words words h.1) refl
 
--- at most 20 plain words with single spaces between them are what the words are
-reading_of-joined : (words : List (List ℕ)) → ArePlain words → length words ≤ 20 → reading_of (joined words) ≡ words_reading words
+-- 20 plain words fit a line
+few_fit : (words : List (List ℕ)) → ArePlain words → length words ≤ 20 → length (joined words) ≤ line_most
 unfolding ArePlain
-reading_of-joined [] h few = refl
-reading_of-joined (word ∷ words) h few =
+few_fit [] h few = omega arith
+few_fit (word ∷ words) h few = omega (arith, few, h.0.few, length-append word (spaced words), length-spaced words h.1)
+
+-- plain words that fit a line with single spaces between them are what the words are
+reading_of-joined : (words : List (List ℕ)) → ArePlain words → length (joined words) ≤ line_most → reading_of (joined words) ≡ words_reading words
+unfolding ArePlain
+reading_of-joined [] h fits = refl
+reading_of-joined (word ∷ words) h fits =
     let line = joined (word ∷ words) in
     let clear : before 35 line ≡ line = before-plain 35 word (spaced words) (λ byte p. p.no_comment) h.0.plain ∙ ap (λ (bytes : List ℕ). word ++ bytes) (before-spaced words h.1) in
-    let short : ltb line_most (length line) ≡ false = le-ltb line_most (length line) (omega (arith, h.0.few, length-append word (spaced words), length-spaced words h.1)) in
+    let short : ltb line_most (length line) ≡ false = le-ltb line_most (length line) fits in
     let printable : list_all is_printable (before 35 line) ≡ true =
     ap (list_all is_printable) clear ∙ list_all-append is_printable word (spaced words) ∙ and_from _ _ (printable-plain word h.0.plain) (printable-spaced words h.1) in
     let here : words_of line ≡ word ∷ words =
@@ -278,6 +288,10 @@ company_plain : (co : Company) → is_plain_word (code_of_company co) ≡ true
 company_plain company.Pennsylvania = refl
 company_plain other = refl
 
+kind_plain : (k : Kind) → is_plain_word (code_of_kind k) ≡ true
+kind_plain kind.Two = refl
+kind_plain other = refl
+
 -- what is known of the word of a value
 record IsSpelt (v : Value) : Type 0 where
   text : IsTextOf v (text_of_value v)
@@ -374,6 +388,7 @@ value_spelt (value.Name name) has = record { text = (refl, has); small = refl; p
 value_spelt (value.Round round) has = round_spelt round has
 value_spelt (value.Private p) has = record { text = refl; small = refl; plain = plain_word (code_of_private p) (code_plain p) }
 value_spelt (value.Company co) has = record { text = refl; small = refl; plain = plain_word (code_of_company co) (company_plain co) }
+value_spelt (value.Kind k) has = record { text = refl; small = refl; plain = plain_word (code_of_kind k) (kind_plain k) }
 value_spelt (value.Tile tile) has = record { text = refl; small = refl; plain = decimal_plain (number_of_tile tile) (omega (arith, number_short tile)) }
 value_spelt (value.Hex hex) has = record { text = refl; small = refl; plain = hex_plain hex }
 value_spelt (value.Rotation rotation) has = record { text = refl; small = refl; plain = decimal_plain (turns_of rotation) (leb-true (turns_of rotation) number_most (turns_small rotation)) }
@@ -390,6 +405,7 @@ record AreSpelt (values : List Value) (t : Tail) : Type 0 where
 tail_texts : (t : Tail) → AreWordsOfTail t (words_of_tail t)
 tail_texts tail.Nothing = tt
 tail_texts (tail.Names names) = refl
+tail_texts (tail.Places run) = refl
 
 values_spelt : (values : List Value) (t : Tail) → list_all has_word values ≡ true → ArePlain (words_of_tail t) → AreSpelt values t
 unfolding ArePlain
@@ -400,10 +416,20 @@ values_spelt (v ∷ values) t has plain =
     let rest = values_spelt values t parts.1 plain in
     record { texts = (first.text, rest.texts); small = and_from (is_small v) (list_all is_small values) first.small rest.small; plain = (first.plain, rest.plain) }
 
+-- what is repeated is not much, unless it is the places of a run
+abbrev IsFew : Tail → Type 0
+IsFew (tail.Places run) = Unit {0}
+IsFew t = length (words_of_tail t) ≤ 6
+
+places_plain : (run : List Place) → ArePlain (map text_of_place run)
+unfolding ArePlain
+places_plain [] = tt
+places_plain (place ∷ run) = (place_plain_from place.hex place.stop, places_plain run)
+
 -- what is repeated is plain, and not much
 record IsShortTail (t : Tail) : Type 0 where
   plain : ArePlain (words_of_tail t)
-  few : length (words_of_tail t) ≤ 6
+  few : IsFew t
 
 tail_short : (r : Repeated) (t : Tail) → has_room r ≡ true → is_of_repeated r t ≡ true → IsShortTail t
 unfolding ArePlain
@@ -412,6 +438,7 @@ tail_short (repeated.Names least most) (tail.Names names) room of =
     let named = and_parts (nat_le least (length names.items) && nat_le (length names.items) most) (list_all is_name names.items) of in
     let counted = and_parts (nat_le least (length names.items)) (nat_le (length names.items) most) named.0 in
     record { plain = names_plain names.items named.1; few = omega (arith, leb-true most 6 room, leb-true (length names.items) most counted.1) }
+tail_short repeated.Places (tail.Places run) room of = record { plain = places_plain run; few = tt }
 tail_short r t room of = absurd (false≢true of)
 
 -- as many values as classes, and then what is repeated
@@ -428,12 +455,34 @@ values_short (c ∷ classes) r (v ∷ values) t room of =
 forms_short : list_all is_short forms ≡ true
 forms_short = refl
 
+-- parts with the places of a run fit a line
+abbrev FitWithPlaces : Keyword → List Value → Tail → Type 0
+FitWithPlaces k values (tail.Places run) = length (joined (words_of_parts (made_of k values (tail.Places run)))) ≤ line_most
+FitWithPlaces k values t = Unit {0}
+
+abbrev FitsParts : Option Parts → Type 0
+FitsParts None = Unit {0}
+FitsParts (Some parts) = FitWithPlaces parts.keyword parts.values.items parts.tail
+
+-- so do those of an order that does
+fits_by_parts : (order : Order) → FitsLine order → FitsParts (parts_of order)
+fits_by_parts (Run k run) fits = fits
+fits_by_parts other fits = tt
+
+-- parts of a form that have words fit a line
+parts_fit : (k : Keyword) (values : List Value) (t : Tail) → length values ≤ 5 → IsFew t → ArePlain (words_of_parts (made_of k values t)) → FitWithPlaces k values t → length (joined (words_of_parts (made_of k values t))) ≤ line_most
+parts_fit k values tail.Nothing five few plain fits =
+    few_fit _ plain (omega (arith, length-append (map text_of_value values) [], length-map values text_of_value, five))
+parts_fit k values (tail.Names names) five few plain fits =
+    few_fit _ plain (omega (arith, length-append (map text_of_value values) names.items, length-map values text_of_value, five, few))
+parts_fit k values (tail.Places run) five few plain fits = fits
+
 -- parts of a form that have words are read as what they make
-parts_read : (order : Order) (parts : Option Parts) → parts_of order ≡ parts → have_words parts ≡ true → reading_of (joined (words_of_parts parts)) ≡ Ok order
+parts_read : (order : Order) (parts : Option Parts) → parts_of order ≡ parts → have_words parts ≡ true → FitsParts parts → reading_of (joined (words_of_parts parts)) ≡ Ok order
 unfolding ArePlain
-parts_read order None is has =
+parts_read order None is has fits =
     reading_of-joined [] tt (omega arith) ∙ spelt_words_read [] order (of_parts order [] (subst (λ (p : Option Parts). AreWordsByParts p []) (sym is) tt)) (ap are_small is)
-parts_read order (Some parts) is has =
+parts_read order (Some parts) is has fits =
     let values = parts.values.items in
     let h = and_parts (has_form parts) (list_all has_word values) has in
     let row = among_any (is_row_of parts.keyword values parts.tail) forms h.0 in
@@ -443,11 +492,10 @@ parts_read order (Some parts) is has =
     let spelt = values_spelt values parts.tail h.1 counted.1.plain in
     let words = words_of_parts (Some parts) in
     let plain : ArePlain words = (plain_word (text_of_keyword parts.keyword) (keyword_plain parts.keyword), spelt.plain) in
-    let few : length words ≤ 20 =
-    omega (arith, length-append (map text_of_value values) (words_of_tail parts.tail), length-map values text_of_value, counted.0, leb-true (length row.0.classes) 5 short.0, counted.1.few) in
-    reading_of-joined words plain few
+    let five : length values ≤ 5 = omega (arith, counted.0, leb-true (length row.0.classes) 5 short.0) in
+    reading_of-joined words plain (parts_fit parts.keyword values parts.tail five counted.1.few plain fits)
     ∙ spelt_words_read words order (of_parts order words (subst (λ (p : Option Parts). AreWordsByParts p words) (sym is) ((refl, spelt.texts), h.0))) (ap are_small is ∙ spelt.small)
 
 -- the spelling of an order is read as it
 pub spelling_read : (order : Order) → IsOrder order → reading_of (spelling_of order) ≡ Ok order
-spelling_read order is = parts_read order (parts_of order) refl is
+spelling_read order is = parts_read order (parts_of order) refl is.0 (fits_by_parts order is.1)

@@ -11,12 +11,15 @@ use Rattle.map_tables.specs.declared.side.Rotation.{Rotation}
 use Rattle.map_tables.specs.declared.tiles.TileNo.{TileNo}
 use Rattle.map_tables.proofs.Texts.{texts_read}
 use Rattle.tables.specs.Roster.{companies, code_of_company, privates, code_of_private}
+use Rattle.tables.specs.Train.{code_of_kind, kinds}
+use Rattle.tables.specs.declared.rolling_stock.Kind.{Kind}
+use Rattle.tables.specs.declared.rolling_stock.Kind.TheVariants as kind
 use Rattle.tables.specs.declared.roster.Company.{Company}
 use Rattle.tables.specs.declared.roster.Company.TheVariants as company
 use Rattle.tables.specs.declared.roster.Private.{Private}
 use Rattle.tables.specs.declared.roster.Private.TheVariants as private
 use Rattle.tables.specs.declared.round.Round.TheVariants.{Opening, Stock, Operating}
-use Rattle.order_grammar.specs.Class.{are_digits, value_of_digits, digits_reading, round_of_series, round_number_reading, number_in_set, operating_reading, round_reading, class_reading, code_reading, named_reading, private_reading, company_reading, is_of_class}
+use Rattle.order_grammar.specs.Class.{are_digits, value_of_digits, digits_reading, round_of_series, round_number_reading, number_in_set, operating_reading, round_reading, class_reading, code_reading, named_reading, private_reading, company_reading, kind_reading, is_of_class}
 use Rattle.order_grammar.specs.Keyword.{text_of_keyword}
 use Rattle.tables.specs.Round.{number_most, operating_most}
 use Rattle.tables.specs.declared.round.Round.{Round}
@@ -106,6 +109,10 @@ company_read : (co : Company) → company_reading (code_of_company co) ≡ Value
 company_read company.Pennsylvania = refl
 company_read other = refl
 
+kind_read : (k : Kind) → kind_reading (code_of_kind k) ≡ Value (value.Kind k)
+kind_read kind.Two = refl
+kind_read other = refl
+
 -- a text of a value of the class is read as the value, if that is small
 pub value_read : (c : Class) (v : values.Value) (text : List ℕ) → is_of_class c v ≡ true → IsTextOf v text → is_small v ≡ true → class_reading c text ≡ Value v
 value_read class.Number (value.Number number) text of is small = number_read value.Number text number is small
@@ -120,6 +127,7 @@ value_read class.Round (value.Round (Operating set number)) text of is small =
     round_read (numbered.Operating number) text set (operating_by text set number is) (Value (value.Round (Operating set number))) (λ digits one. number_read (λ n. value.Round (Operating n number)) digits set one small)
 value_read class.Private (value.Private p) text of is small = ap private_reading is ∙ private_read p
 value_read class.Company (value.Company co) text of is small = ap company_reading is ∙ company_read co
+value_read class.Kind (value.Kind k) text of is small = ap kind_reading is ∙ kind_read k
 value_read class.Tile (value.Tile tile) text of is small = ap (named_reading value.Tile) ((texts_read.tiles text tile).1 is)
 value_read class.Hex (value.Hex hex) text of is small = ap (named_reading value.Hex) ((texts_read.hexes text hex).1 is)
 value_read class.Rotation (value.Rotation rotation) text of is small = ap (named_reading value.Rotation) ((texts_read.rotations text rotation).1 is)
@@ -264,6 +272,11 @@ company_as text (Value v) h = rw h.1 (record { of_class = refl; text_of = h.2 },
 company_as text Wrong h = tt
 company_as text TooLarge h = absurd h
 
+kind_as : (text : List ℕ) (reading : Reading) → CodeAs code_of_kind value.Kind text reading → ReadAs class.Kind text reading
+kind_as text (Value v) h = rw h.1 (record { of_class = refl; text_of = h.2 }, refl)
+kind_as text Wrong h = tt
+kind_as text TooLarge h = absurd h
+
 -- a word that names something
 tile_as : (text : List ℕ) (found : Option TileNo) → tile_of_text text ≡ found → ReadAs class.Tile text (named_reading value.Tile found)
 tile_as text (Some tile) e = (record { of_class = refl; text_of = (texts_read.tiles text tile).0 e }, refl)
@@ -292,6 +305,7 @@ class_read class.Name text =
 class_read class.Round text = round_made text
 class_read class.Private text = private_as text (private_reading text) (code_made code_of_private value.Private privates text)
 class_read class.Company text = company_as text (company_reading text) (code_made code_of_company value.Company companies text)
+class_read class.Kind text = kind_as text (kind_reading text) (code_made code_of_kind value.Kind kinds text)
 class_read class.Tile text = tile_as text (tile_of_text text) refl
 class_read class.Hex text = hex_as text (hex_of_text text) refl
 class_read class.Rotation text = rotation_as text (rotation_of_text text) refl

@@ -6,7 +6,7 @@ use Rattle.std.proofs.lemmas.Bool.{cases_Bool, cases_lt, lt-ltb, le-ltb, ne_eqb}
 use Rattle.std.proofs.lemmas.List.{append-nil, drop_at, at_drop_all, drop-drop, take_at, length-append, append_assoc}
 use Rattle.std.proofs.lemmas.List.Sums.{prefix_len-le-length}
 use Rattle.std.proofs.lemmas.List.Recursion.{is_position_or_len}
-use Rattle.order_grammar.specs.Token.{GivesFirst}
+use Rattle.order_grammar.specs.Token.{GivesFirst, placed}
 use Rattle.order_grammar.specs.Words.{Placed, StandFrom, before, with_word, words_from, raised, same_word, with_placed, placed_from, first_of_words, has_words, texts_of}
 use Rattle.order_grammar.specs.declared.words.Token.{Token}
 
@@ -214,6 +214,14 @@ gives_first (word ∷ words) left given token h some =
 pub gives_no_first : (words left : List Placed) (given : Option Token) → GivesFirst words given left → given ≡ None → first_of_words (texts_of words) ≡ []
 gives_no_first [] left given h none = refl
 gives_no_first (word ∷ words) left given h none = absurd (let wrong : ◌≡◌ {A = Option Token} None (Some h.0) = sym none ∙ h.1 in cc)
+
+-- it stands before those that are left
+pub next_words : (words left : List Placed) (given : Option Token) (token : Token) → GivesFirst words given left → given ≡ Some token → texts_of words ≡ raised token.text.now ∷ texts_of left
+next_words [] left given token gives is = let wrong = sym gives.0 ∙ is in absurd cc
+next_words (word ∷ words) left given token gives is =
+    let one : gives.0 ≡ token = cc in
+    let word_is : placed token ≡ word = ap placed (sym one) ∙ gives.2 in
+    ap (λ (p : Placed). raised p.text ∷ texts_of words) (sym word_is) ∙ ap (λ (others : List Placed). raised token.text.now ∷ texts_of others) (sym gives.3)
 
 -- no words are left after none
 pub none_left : (words left : List Placed) (given : Option Token) → GivesFirst words given left → given ≡ None → texts_of words ≡ []

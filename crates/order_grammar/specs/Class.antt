@@ -5,6 +5,7 @@ use Rattle.std.specs.List.{list_all}
 use Rattle.tables.specs.declared.round.Round.{Round}
 use Rattle.tables.specs.declared.round.Round.TheVariants.{Opening, Stock, Operating}
 use Rattle.map_tables.specs.Text.{hex_of_text, place_of_text, rotation_of_text, tile_of_text}
+use Rattle.tables.specs.Train.{code_of_kind, kinds}
 use Rattle.tables.specs.Roster.{companies, code_of_company, privates, code_of_private}
 use Rattle.order_grammar.specs.Keyword.{text_of_keyword}
 use Rattle.tables.specs.Round.{number_most, operating_most}
@@ -92,6 +93,10 @@ private_reading word = code_reading code_of_private value.Private privates word
 abbrev pub company_reading : List ℕ → Reading
 company_reading word = code_reading code_of_company value.Company companies word
 
+-- a kind of train
+abbrev pub kind_reading : List ℕ → Reading
+kind_reading word = code_reading code_of_kind value.Kind kinds word
+
 -- what stands for that which a word names, if it names any
 abbrev pub named_reading : {X : Type 0} → (X → values.Value) → Option X → Reading
 named_reading stands_for (Some one) = Value (stands_for one)
@@ -104,6 +109,7 @@ class_reading class.Name word = if is_name word then Value (value.Name word) els
 class_reading class.Round word = round_reading word
 class_reading class.Private word = private_reading word
 class_reading class.Company word = company_reading word
+class_reading class.Kind word = kind_reading word
 class_reading class.Tile word = named_reading value.Tile (tile_of_text word)
 class_reading class.Hex word = named_reading value.Hex (hex_of_text word)
 class_reading class.Rotation word = named_reading value.Rotation (rotation_of_text word)
@@ -118,6 +124,7 @@ is_of_class class.Name (value.Name name) = true
 is_of_class class.Round (value.Round round) = true
 is_of_class class.Private (value.Private private) = true
 is_of_class class.Company (value.Company company) = true
+is_of_class class.Kind (value.Kind kind) = true
 is_of_class class.Tile (value.Tile tile) = true
 is_of_class class.Hex (value.Hex hex) = true
 is_of_class class.Rotation (value.Rotation rotation) = true

@@ -21,6 +21,14 @@ IsOfAmount keyword.Par = ⊤
 IsOfAmount keyword.Sell = ⊤
 IsOfAmount other = ⊥
 
+-- an order begins with it that tells of trains, or of what they earn
+abbrev pub IsOfTrains : Keyword → Type 0
+IsOfTrains keyword.Pay = ⊤
+IsOfTrains keyword.Withhold = ⊤
+IsOfTrains keyword.Train = ⊤
+IsOfTrains keyword.Discard = ⊤
+IsOfTrains other = ⊥
+
 -- the order names a number of dollars or of tenths
 abbrev pub HasAmount : Order → Type 0
 HasAmount (Bid private amount) = ⊤

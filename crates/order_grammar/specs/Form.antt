@@ -1,6 +1,8 @@
 -- The table of forms, and what the words of a line are by it: the order that they spell, or why they
 -- spell none.
-use Rattle.std.specs.Prelude.{ℕ, List, [], ◌∷◌, Option, Some, None, Result, Ok, Err, nat_lt, nat_le, Bool, true, false, ◌&&◌, length, fold, if◌then◌else◌}
+use Rattle.std.specs.Prelude.{ℕ, List, [], ◌∷◌, Option, Some, None, Result, Ok, Err, nat_lt, nat_le, Bool, true, false, ◌&&◌, length, fold, if◌then◌else◌, option_map}
+use Rattle.map_tables.specs.Text.{place_of_text}
+use Rattle.map_tables.specs.declared.place.Place.{Place}
 use Rattle.std.specs.List.{list_all, list_any}
 use Rattle.order_grammar.specs.Class.{class_reading, is_of_class}
 use Rattle.order_grammar.specs.Keyword.{text_of_keyword}
@@ -53,11 +55,36 @@ forms =
     ∷ row keyword.Lay (class.Tile ∷ class.Hex ∷ class.Rotation ∷ []) repeated.Nothing
     ∷ row keyword.Lay (class.Tile ∷ class.Hex ∷ class.Rotation ∷ class.Word keyword.Swap ∷ []) repeated.Nothing
     ∷ row keyword.Token (class.Place ∷ []) repeated.Nothing
+    ∷ row keyword.Run (class.Kind ∷ []) repeated.Places
+    ∷ row keyword.Pay [] repeated.Nothing
+    ∷ row keyword.Withhold [] repeated.Nothing
+    ∷ row keyword.Train (class.Kind ∷ class.Word keyword.Bank ∷ []) repeated.Nothing
+    ∷ row keyword.Train (class.Kind ∷ class.Word keyword.Bank ∷ class.Word keyword.Trade ∷ class.Kind ∷ []) repeated.Nothing
+    ∷ row keyword.Train (class.Kind ∷ class.Word keyword.Pool ∷ []) repeated.Nothing
+    ∷ row keyword.Discard (class.Company ∷ class.Kind ∷ []) repeated.Nothing
     ∷ []
 
 -- names, at least and at most so many
 abbrev pub are_names : ℕ → ℕ → List (List ℕ) → Bool
 are_names least most words = nat_le least (length words) && nat_le (length words) most && list_all is_name words
+
+-- a place in front of others
+abbrev pub with_place : Option Place → Option (List Place) → Option (List Place)
+with_place (Some place) (Some places) = Some (place ∷ places)
+with_place place places = None
+
+-- the places that words name, one for one
+abbrev pub places_reading : List (List ℕ) → Option (List Place)
+places_reading [] = Some []
+places_reading (word ∷ words) = with_place (place_of_text word) (places_reading words)
+
+-- as many places as a run has
+abbrev pub is_run_length : ℕ → Bool
+is_run_length number = nat_le 2 number && nat_le number 280
+
+-- the run whose places words name
+abbrev pub run_reading : List (List ℕ) → Option (List Place)
+run_reading words = if is_run_length (length words) then places_reading words else None
 
 -- what words are as those of a repeated class
 abbrev pub tail_reading : Repeated → List (List ℕ) → Option Tail
@@ -65,6 +92,7 @@ tail_reading repeated.Nothing [] = Some tail.Nothing
 tail_reading repeated.Nothing (word ∷ words) = None
 tail_reading (repeated.Names least most) words =
     if are_names least most words then Some (tail.Names (record { items = words })) else None
+tail_reading repeated.Places words = option_map tail.Places (run_reading words)
 
 -- the value of a word in front of the values of the later words; a word that is no text of its class
 -- spoils all, a number that is too large all but that
@@ -125,6 +153,7 @@ words_reading (first ∷ rest) = rows_reading forms first rest
 abbrev pub is_of_repeated : Repeated → Tail → Bool
 is_of_repeated repeated.Nothing tail.Nothing = true
 is_of_repeated (repeated.Names least most) (tail.Names names) = are_names least most names.items
+is_of_repeated repeated.Places (tail.Places run) = is_run_length (length run)
 is_of_repeated repeated other = false
 
 -- whether values are of these classes, one for one, and of the class that is repeated

@@ -9,12 +9,14 @@ use Rattle.order_grammar.specs.Keyword.{text_of_keyword}
 use Rattle.order_grammar.specs.declared.keyword.Keyword.{Keyword}
 use Rattle.order_grammar.specs.declared.keyword.Keyword.TheVariants as keyword
 use Rattle.order_grammar.specs.declared.order.Order.{Order}
-use Rattle.order_grammar.specs.declared.order.Order.TheVariants.{Blank, Game, Players, Sheet, Turn, BuyPrivate, Bid, Limit, Par, BuyShare, Sell, ExchangeMohawk, Company as CompanyTurn, Lay, Token}
+use Rattle.order_grammar.specs.declared.order.Order.TheVariants.{Blank, Game, Players, Sheet, Turn, BuyPrivate, Bid, Limit, Par, BuyShare, Sell, ExchangeMohawk, Company as CompanyTurn, Lay, Token, Run, Pay, Withhold, BuyTrain, Discard}
 use Rattle.order_grammar.specs.declared.order.Parts.{Parts}
 use Rattle.order_grammar.specs.declared.order.ShareSource.{ShareSource}
 use Rattle.order_grammar.specs.declared.order.ShareSource.TheVariants.{InitialOffering, BankPool}
 use Rattle.order_grammar.specs.declared.order.Tail.{Tail}
 use Rattle.order_grammar.specs.declared.order.Tail.TheVariants as tail
+use Rattle.order_grammar.specs.declared.order.TrainSource.{TrainSource}
+use Rattle.order_grammar.specs.declared.order.TrainSource.TheVariants as source
 use Rattle.order_grammar.specs.declared.order.Value.{Value}
 use Rattle.order_grammar.specs.declared.order.Value.TheVariants as value
 
@@ -31,6 +33,12 @@ text_of_source source = text_of_keyword (keyword_of_source source)
 abbrev pub swap_values : Bool → List Value
 swap_values true = value.Word keyword.Swap ∷ []
 swap_values false = []
+
+-- the words after the kind of train that is to be bought
+abbrev pub source_values : TrainSource → List Value
+source_values source.Bank = value.Word keyword.Bank ∷ []
+source_values (source.Trade kind) = value.Word keyword.Bank ∷ value.Word keyword.Trade ∷ value.Kind kind ∷ []
+source_values source.BankPool = value.Word keyword.Pool ∷ []
 
 -- a tile that is to be laid
 abbrev pub lay_of : TileNo → Hex → Rotation → Bool → lays.Lay
@@ -58,6 +66,11 @@ parts_of (CompanyTurn company) = made_of keyword.Company (value.Company company 
 parts_of (Lay lay) =
     made_of keyword.Lay (value.Tile lay.tile ∷ value.Hex lay.hex ∷ value.Rotation lay.rot ∷ swap_values lay.swap) tail.Nothing
 parts_of (Token place) = made_of keyword.Token (value.Place place ∷ []) tail.Nothing
+parts_of (Run kind run) = made_of keyword.Run (value.Kind kind ∷ []) (tail.Places run)
+parts_of Pay = made_of keyword.Pay [] tail.Nothing
+parts_of Withhold = made_of keyword.Withhold [] tail.Nothing
+parts_of (BuyTrain kind from) = made_of keyword.Train (value.Kind kind ∷ source_values from) tail.Nothing
+parts_of (Discard company kind) = made_of keyword.Discard (value.Company company ∷ value.Kind kind ∷ []) tail.Nothing
 
 -- the order of these parts, where there is one
 abbrev pub order_from : Keyword → List Value → Tail → Option Order
@@ -80,4 +93,12 @@ order_from keyword.Lay ((value.Tile tile) ∷ (value.Hex hex) ∷ (value.Rotatio
 order_from keyword.Lay ((value.Tile tile) ∷ (value.Hex hex) ∷ (value.Rotation rotation) ∷ (value.Word keyword.Swap) ∷ []) tail.Nothing =
     Some (Lay (lay_of tile hex rotation true))
 order_from keyword.Token ((value.Place place) ∷ []) tail.Nothing = Some (Token place)
+order_from keyword.Run ((value.Kind kind) ∷ []) (tail.Places run) = Some (Run kind run)
+order_from keyword.Pay [] tail.Nothing = Some Pay
+order_from keyword.Withhold [] tail.Nothing = Some Withhold
+order_from keyword.Train ((value.Kind kind) ∷ (value.Word keyword.Bank) ∷ []) tail.Nothing = Some (BuyTrain kind source.Bank)
+order_from keyword.Train ((value.Kind kind) ∷ (value.Word keyword.Bank) ∷ (value.Word keyword.Trade) ∷ (value.Kind other) ∷ []) tail.Nothing =
+    Some (BuyTrain kind (source.Trade other))
+order_from keyword.Train ((value.Kind kind) ∷ (value.Word keyword.Pool) ∷ []) tail.Nothing = Some (BuyTrain kind source.BankPool)
+order_from keyword.Discard ((value.Company company) ∷ (value.Kind kind) ∷ []) tail.Nothing = Some (Discard company kind)
 order_from other values tail = None

@@ -1,8 +1,10 @@
 -- The one spelling of an order: upper case, single spaces, no leading zeros.
 use Rattle.std.specs.Prelude.{◌≡◌, ℕ, List, [], ◌∷◌, ◌++◌, Option, Some, None, map, codes, decimal}
 use Rattle.std.specs.List.{flat_map}
+use Rattle.map_tables.specs.declared.place.Place.{Place}
 use Rattle.map_tables.specs.Text.{text_of_hex, text_of_place, text_of_rotation, text_of_tile}
 use Rattle.tables.specs.Roster.{code_of_company, code_of_private}
+use Rattle.tables.specs.Train.{code_of_kind}
 use Rattle.tables.specs.declared.round.Round.{Round}
 use Rattle.tables.specs.declared.round.Round.TheVariants.{Opening, Stock, Operating}
 use Rattle.order_grammar.specs.Keyword.{text_of_keyword}
@@ -27,6 +29,7 @@ text_of_value (value.Name name) = name
 text_of_value (value.Round round) = text_of_round round
 text_of_value (value.Private private) = code_of_private private
 text_of_value (value.Company company) = code_of_company company
+text_of_value (value.Kind kind) = code_of_kind kind
 text_of_value (value.Tile tile) = text_of_tile tile
 text_of_value (value.Hex hex) = text_of_hex hex
 text_of_value (value.Rotation rotation) = text_of_rotation rotation
@@ -37,6 +40,7 @@ text_of_value (value.Word keyword) = text_of_keyword keyword
 abbrev pub words_of_tail : Tail → List (List ℕ)
 words_of_tail tail.Nothing = []
 words_of_tail (tail.Names names) = names.items
+words_of_tail (tail.Places run) = map text_of_place run
 
 -- words, each with a space before it
 abbrev pub spaced : List (List ℕ) → List ℕ
@@ -45,6 +49,10 @@ spaced words = flat_map (λ word. 32 ∷ word) words
 -- the words of values, each with a space before it
 abbrev pub values_text : List Value → List ℕ
 values_text values = spaced (map text_of_value values)
+
+-- the words of places, each with a space before it
+abbrev pub places_text : List Place → List ℕ
+places_text places = spaced (map text_of_place places)
 
 -- words with one space between them
 abbrev pub joined : List (List ℕ) → List ℕ

@@ -24,6 +24,7 @@ values_of (Err fault) = Err fault
 abbrev pub has_room : Repeated → Bool
 has_room repeated.Nothing = true
 has_room (repeated.Names least most) = nat_le most 6
+has_room repeated.Places = true
 
 -- whether the code has room for the values of a row
 abbrev pub is_short : Row → Bool

@@ -1,6 +1,6 @@
 -- Which lines spell which orders, each form by itself, and which orders have a spelling. A line is
 -- loosely spelt where it would spell an order if numbers had no greatest value.
-use Rattle.std.specs.Prelude.{◌≡◌, ◌≢◌, ℕ, ◌≤◌, Bool, true, false, ◌&&◌, nat_le, IsTrue, List, [], ◌∷◌, ◌++◌, Option, Some, None, length, codes, decimal, slice_index}
+use Rattle.std.specs.Prelude.{◌≡◌, ◌≢◌, ⊤, ℕ, ◌≤◌, Bool, true, false, ◌&&◌, nat_le, IsTrue, List, [], ◌∷◌, ◌++◌, Option, Some, None, length, map, codes, decimal, slice_index}
 use Rattle.std.specs.List.{list_all}
 use Rattle.map_tables.specs.Text.{text_of_hex, text_of_place, text_of_rotation, text_of_tile}
 use Rattle.map_tables.specs.declared.hex.Hex.{Hex}
@@ -8,6 +8,8 @@ use Rattle.map_tables.specs.declared.place.Place.{Place}
 use Rattle.map_tables.specs.declared.side.Rotation.{Rotation}
 use Rattle.map_tables.specs.declared.tiles.TileNo.{TileNo}
 use Rattle.tables.specs.Roster.{code_of_company, code_of_private}
+use Rattle.tables.specs.Train.{code_of_kind}
+use Rattle.tables.specs.declared.rolling_stock.Kind.{Kind}
 use Rattle.tables.specs.declared.roster.Company.{Company}
 use Rattle.tables.specs.declared.roster.Private.{Private}
 use Rattle.tables.specs.declared.round.Round.{Round}
@@ -18,11 +20,14 @@ use Rattle.order_grammar.specs.Limits.{line_most}
 use Rattle.tables.specs.Round.{number_most, operating_most}
 use Rattle.order_grammar.specs.Name.{is_name}
 use Rattle.order_grammar.specs.Order.{parts_of}
+use Rattle.order_grammar.specs.Print.{spelling_of}
 use Rattle.order_grammar.specs.Words.{words_of, before_comment, is_printable}
 use Rattle.order_grammar.specs.declared.order.Order.{Order}
-use Rattle.order_grammar.specs.declared.order.Order.TheVariants.{Blank, Game, Players, Sheet, Turn, BuyPrivate, Bid, Limit, Par, BuyShare, Sell, ExchangeMohawk, Company as CompanyTurn, Lay, Token}
+use Rattle.order_grammar.specs.declared.order.Order.TheVariants.{Blank, Game, Players, Sheet, Turn, BuyPrivate, Bid, Limit, Par, BuyShare, Sell, ExchangeMohawk, Company as CompanyTurn, Lay, Token, Run, Pay, Withhold, BuyTrain, Discard}
 use Rattle.order_grammar.specs.declared.order.Parts.{Parts}
 use Rattle.order_grammar.specs.declared.order.ShareSource.TheVariants.{InitialOffering, BankPool}
+use Rattle.order_grammar.specs.declared.order.TrainSource.{TrainSource}
+use Rattle.order_grammar.specs.declared.order.TrainSource.TheVariants as source
 use Rattle.order_grammar.specs.declared.order.Value.{Value}
 use Rattle.order_grammar.specs.declared.order.Value.TheVariants as value
 
@@ -66,6 +71,10 @@ IsPrivate private text = text ≡ code_of_private private
 abbrev pub IsCompany : Company → List ℕ → Type 0
 IsCompany company text = text ≡ code_of_company company
 
+-- the code of a kind of train
+abbrev pub IsKind : Kind → List ℕ → Type 0
+IsKind kind text = text ≡ code_of_kind kind
+
 -- the number of a tile of the manifest
 abbrev pub IsTile : TileNo → List ℕ → Type 0
 IsTile tile text = text ≡ text_of_tile tile
@@ -89,6 +98,12 @@ pub record AreNames (names : List (List ℕ)) (words : List (List ℕ)) : Type 0
   pub most : length names ≤ 6
   pub each : IsTrue (list_all is_name names)
 
+-- two to 280 places
+pub record ArePlaces (places : List Place) (words : List (List ℕ)) : Type 0 where
+  pub named : words ≡ map text_of_place places
+  pub least : 2 ≤ length places
+  pub most : length places ≤ 280
+
 -- a word, and then other words
 abbrev pub Then : (List ℕ → Type 0) → (List (List ℕ) → Type 0) → List (List ℕ) → Type 0
 Then first rest [] = ⊥
@@ -103,6 +118,13 @@ End (word ∷ words) = ⊥
 abbrev pub AreSwapWords : Bool → List (List ℕ) → Type 0
 AreSwapWords true words = Then (IsWord (codes "SWAP")) End words
 AreSwapWords false words = End words
+
+-- BANK, BANK TRADE and the kind that is traded in, or POOL
+abbrev pub AreSourceWords : TrainSource → List (List ℕ) → Type 0
+AreSourceWords source.Bank words = Then (IsWord (codes "BANK")) End words
+AreSourceWords (source.Trade kind) words =
+    Then (IsWord (codes "BANK")) (Then (IsWord (codes "TRADE")) (Then (IsKind kind) End)) words
+AreSourceWords source.BankPool words = Then (IsWord (codes "POOL")) End words
 
 -- these words spell the order, but that its numbers may be too large
 abbrev pub AreWordsFor : Order → List (List ℕ) → Type 0
@@ -131,6 +153,12 @@ AreWordsFor (CompanyTurn company) words = Then (IsWord (codes "COMPANY")) (Then 
 AreWordsFor (Lay lay) words =
     Then (IsWord (codes "LAY")) (Then (IsTile lay.tile) (Then (IsHex lay.hex) (Then (IsRotation lay.rot) (AreSwapWords lay.swap)))) words
 AreWordsFor (Token place) words = Then (IsWord (codes "TOKEN")) (Then (IsPlace place) End) words
+AreWordsFor (Run kind run) words = Then (IsWord (codes "RUN")) (Then (IsKind kind) (ArePlaces run)) words
+AreWordsFor Pay words = Then (IsWord (codes "PAY")) End words
+AreWordsFor Withhold words = Then (IsWord (codes "WITHHOLD")) End words
+AreWordsFor (BuyTrain kind from) words = Then (IsWord (codes "TRAIN")) (Then (IsKind kind) (AreSourceWords from)) words
+AreWordsFor (Discard company kind) words =
+    Then (IsWord (codes "DISCARD")) (Then (IsCompany company) (Then (IsKind kind) End)) words
 
 -- the line would spell the order if numbers had no greatest value
 pub record LooselySpells (line : List ℕ) (order : Order) : Type 0 where
@@ -183,6 +211,11 @@ abbrev pub have_words : Option Parts → Bool
 have_words None = true
 have_words (Some parts) = has_form parts && list_all has_word parts.values.items
 
+-- the spelling is no longer than a line: only a run may have too many places for that
+abbrev pub FitsLine : Order → Type 0
+FitsLine (Run kind run) = length (spelling_of (Run kind run)) ≤ line_most
+FitsLine other = ⊤
+
 -- an order that has a spelling
 abbrev pub IsOrder : Order → Type 0
-IsOrder order = IsTrue (have_words (parts_of order))
+IsOrder order = IsTrue (have_words (parts_of order)) × FitsLine order

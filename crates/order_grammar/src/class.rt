@@ -3,6 +3,7 @@ ghost use Rattle.order_grammar.specs.Class.{
   capped_value,
   class_reading,
   company_reading,
+  kind_reading,
   number_in_set,
   number_reading,
   operating_reading,
@@ -18,7 +19,7 @@ use crate::name::Name;
 use crate::order::Value;
 use crate::words::is_word;
 use map_tables::{Hex, Place, Rotation, TileNo};
-use tables::{Company, NUMBER_MOST, OPERATING_MOST, Private, Round};
+use tables::{Company, Kind, NUMBER_MOST, OPERATING_MOST, Private, Round};
 
 /// A class of words: the texts that may stand at one place of a form.
 #[derive(Clone, Copy, Debug, PartialEq, Eq)]
@@ -34,6 +35,8 @@ pub(crate) enum Class {
     Private,
     /// The code of a company: PRR, NYC, CPR, BO, CO, ERIE, NYNH or BM.
     Company,
+    /// A kind of train: 2, 3, 4, 5, 6 or D.
+    Kind,
     /// The number of a tile of the manifest, without leading zeros.
     Tile,
     /// A hex of the map, as `H12`.
@@ -95,6 +98,7 @@ impl Class {
             Class::Round => read_round(word),
             Class::Private => read_private(word),
             Class::Company => read_company(word),
+            Class::Kind => read_kind(word),
             Class::Tile => match TileNo::from_text(word) {
                 Some(tile) => Reading::Value(Value::Tile(tile)),
                 None => Reading::Wrong,
@@ -220,6 +224,17 @@ fn read_company(word: &[u8]) -> Reading
     for company in Company::ALL {
         if is_word(word, company.code().as_bytes()) {
             return Reading::Value(Value::Company(company));
+        }
+    }
+    Reading::Wrong
+}
+
+fn read_kind(word: &[u8]) -> Reading
+    ensures { result ≡ kind_reading (raised word.now) }
+{
+    for kind in Kind::ALL {
+        if is_word(word, kind.code().as_bytes()) {
+            return Reading::Value(Value::Kind(kind));
         }
     }
     Reading::Wrong

@@ -4,6 +4,7 @@ ghost use Rattle.order_grammar.specs.Form.{
   nearer,
   row_reading,
   rows_reading,
+  run_reading,
   tail_reading,
   values_by_row,
   words_reading,
@@ -18,6 +19,7 @@ use crate::name::Name;
 use crate::order::{Order, Parts, Tail, Values, order_from};
 use crate::words::{Words, is_word};
 use arrayvec::ArrayVec;
+use map_tables::{Place, Run};
 use tables::{PLAYERS_LEAST, PLAYERS_MOST};
 
 /// A form of line: its first word, the classes of the words after it, and the class that is
@@ -33,10 +35,12 @@ pub(crate) struct Form {
 pub(crate) enum Repeated {
     Nothing,
     Names { least: usize, most: usize },
+    /// The places of a run.
+    Places,
 }
 
 /// The forms of lines. A line spells an order where its words fit a row.
-pub(crate) const FORMS: [Form; 16] = [
+pub(crate) const FORMS: [Form; 23] = [
     Form {
         keyword: Keyword::Game,
         classes: &[Class::Number, Class::Number],
@@ -123,6 +127,46 @@ pub(crate) const FORMS: [Form; 16] = [
     Form {
         keyword: Keyword::Token,
         classes: &[Class::Place],
+        repeated: Repeated::Nothing,
+    },
+    Form {
+        keyword: Keyword::Run,
+        classes: &[Class::Kind],
+        repeated: Repeated::Places,
+    },
+    Form {
+        keyword: Keyword::Pay,
+        classes: &[],
+        repeated: Repeated::Nothing,
+    },
+    Form {
+        keyword: Keyword::Withhold,
+        classes: &[],
+        repeated: Repeated::Nothing,
+    },
+    Form {
+        keyword: Keyword::Train,
+        classes: &[Class::Kind, Class::Word(Keyword::Bank)],
+        repeated: Repeated::Nothing,
+    },
+    Form {
+        keyword: Keyword::Train,
+        classes: &[
+            Class::Kind,
+            Class::Word(Keyword::Bank),
+            Class::Word(Keyword::Trade),
+            Class::Kind,
+        ],
+        repeated: Repeated::Nothing,
+    },
+    Form {
+        keyword: Keyword::Train,
+        classes: &[Class::Kind, Class::Word(Keyword::Pool)],
+        repeated: Repeated::Nothing,
+    },
+    Form {
+        keyword: Keyword::Discard,
+        classes: &[Class::Company, Class::Kind],
         repeated: Repeated::Nothing,
     },
 ];
@@ -235,6 +279,7 @@ impl Repeated {
                 }
             }
             Repeated::Names { least, most } => Some(Tail::Names(read_names(words, least, most)?)),
+            Repeated::Places => Some(Tail::Places(read_run(words)?)),
         }
     }
 }
@@ -256,4 +301,19 @@ fn read_names(words: &Words, least: usize, most: usize) -> Option<ArrayVec<Name,
         return None;
     }
     Some(names)
+}
+
+/// The run whose places words name; `None` where one is no place, or they are too few or too many.
+fn read_run(words: &Words) -> Option<Run>
+    ensures { result ≡ run_reading (texts_of words.now) }
+{
+    let mut rest = words.duplicate();
+    let mut places = ArrayVec::new();
+    while let Some(word) = rest.next() {
+        if places.is_full() {
+            return None;
+        }
+        places.push(Place::from_text(word.text)?);
+    }
+    Run::from_places(places)
 }

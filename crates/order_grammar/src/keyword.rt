@@ -17,10 +17,17 @@ pub(crate) enum Keyword {
     Company,
     Lay,
     Token,
+    Run,
+    Pay,
+    Withhold,
+    Train,
+    Discard,
     InitialOffering,
     Pool,
     Mohawk,
     Swap,
+    Bank,
+    Trade,
 }
 
 impl Keyword {
@@ -42,10 +49,17 @@ impl Keyword {
             Keyword::Company => b"COMPANY",
             Keyword::Lay => b"LAY",
             Keyword::Token => b"TOKEN",
+            Keyword::Run => b"RUN",
+            Keyword::Pay => b"PAY",
+            Keyword::Withhold => b"WITHHOLD",
+            Keyword::Train => b"TRAIN",
+            Keyword::Discard => b"DISCARD",
             Keyword::InitialOffering => b"IPO",
             Keyword::Pool => b"POOL",
             Keyword::Mohawk => b"MH",
             Keyword::Swap => b"SWAP",
+            Keyword::Bank => b"BANK",
+            Keyword::Trade => b"TRADE",
         }
     }
 }

@@ -1,7 +1,7 @@
 ghost use Rattle.std.specs.Prelude.{◌≡◌, ◌≤◌, Some, length};
-ghost use Rattle.order_grammar.specs.Family.{HasAmount, IsOfAmount, IsOfFile};
-ghost use Rattle.order_grammar.specs.declared.keyword.Keyword.TheVariants.{Buy, Lay as LayWord};
-ghost use Rattle.order_grammar.specs.declared.order.Order.TheVariants.{Lay as LayOrder};
+ghost use Rattle.order_grammar.specs.Family.{HasAmount, IsOfAmount, IsOfFile, IsOfTrains};
+ghost use Rattle.order_grammar.specs.declared.keyword.Keyword.TheVariants.{Buy, Lay as LayWord, Train};
+ghost use Rattle.order_grammar.specs.declared.order.Order.TheVariants.{BuyShare, BuyTrain, Discard, Lay as LayOrder, Run as RunOrder};
 ghost use Rattle.order_grammar.specs.declared.order.Tail.TheVariants.{Nothing};
 ghost use Rattle.order_grammar.specs.declared.order.Value.TheVariants.{Number};
 ghost use Rattle.order_grammar.specs.Order.{keyword_of_source, order_from, parts_of, text_of_source};
@@ -9,8 +9,8 @@ ghost use Rattle.order_grammar.specs.Order.{keyword_of_source, order_from, parts
 use crate::keyword::Keyword;
 use crate::name::Name;
 use arrayvec::ArrayVec;
-use map_tables::{Hex, Lay, Place, Rotation, TileNo};
-use tables::{Amount, Company, PLAYERS_MOST, Private, Round};
+use map_tables::{Hex, Lay, Place, Rotation, Run, TileNo};
+use tables::{Amount, Company, Kind, PLAYERS_MOST, Private, Round};
 
 /// What a line orders or says.
 #[derive(Debug, Drop, PartialEq, Eq)]
@@ -46,6 +46,16 @@ pub enum Order {
     Lay(Lay),
     /// `TOKEN place`: place a token at a stop.
     Token(Place),
+    /// `RUN kind place place ..`: run a train of a kind through 2 to 280 places.
+    Run { kind: Kind, run: Run },
+    /// `PAY`: pay the revenue of the turn out.
+    Pay,
+    /// `WITHHOLD`: keep the revenue of the turn.
+    Withhold,
+    /// `TRAIN kind BANK`, `TRAIN kind BANK TRADE kind` or `TRAIN kind POOL`: buy a train of a kind.
+    BuyTrain { kind: Kind, from: TrainSource },
+    /// `DISCARD co kind`: where a company has too many trains, give up one of this kind.
+    Discard { company: Company, kind: Kind },
 }
 
 /// Where a tenth is bought that is no seat's.
@@ -54,6 +64,17 @@ pub enum ShareSource {
     /// `IPO`: what the bank has not sold yet.
     InitialOffering,
     /// `POOL`: what seats have sold to the bank.
+    BankPool,
+}
+
+/// Where a train is bought that is no company's.
+#[derive(Clone, Copy, Debug, PartialEq, Eq)]
+pub enum TrainSource {
+    /// `BANK`: what the bank sells.
+    Bank,
+    /// `BANK TRADE kind`: what the bank sells, with a train of this kind traded in.
+    Trade(Kind),
+    /// `POOL`: what was traded in or discarded.
     BankPool,
 }
 
@@ -83,6 +104,7 @@ pub(crate) enum Value {
     Round(Round),
     Private(Private),
     Company(Company),
+    Kind(Kind),
     Tile(TileNo),
     Hex(Hex),
     Rotation(Rotation),
@@ -111,6 +133,7 @@ pub(crate) enum Tail {
     /// No class is repeated.
     Nothing,
     Names(ArrayVec<Name, PLAYERS_MOST>),
+    Places(Run),
 }
 
 /// What an order is made of, in the order of its line's words.
@@ -164,18 +187,18 @@ impl Order {
             Order::Bid { .. } | Order::Limit { .. } | Order::Par { .. } | Order::Sell { .. } => {
                 self.parts_of_amount()
             }
-            Order::BuyShare { company, from } => {
-                Parts::of(
-                    Keyword::Buy,
-                    &[Value::Company(*company), Value::Word(from.keyword())],
-                )
-            }
+            Order::BuyShare { company, from } => parts_of_share(*company, *from),
             Order::ExchangeMohawk => {
                 Parts::of(Keyword::Exchange, &[Value::Word(Keyword::Mohawk)])
             }
             Order::Company(company) => Parts::of(Keyword::Company, &[Value::Company(*company)]),
             Order::Lay(lay) => parts_of_lay(*lay),
             Order::Token(place) => Parts::of(Keyword::Token, &[Value::Place(*place)]),
+            Order::Run { kind, run } => parts_of_run(*kind, run),
+            Order::Pay => Parts::of(Keyword::Pay, &[]),
+            Order::Withhold => Parts::of(Keyword::Withhold, &[]),
+            Order::BuyTrain { kind, from } => parts_of_purchase(*kind, *from),
+            Order::Discard { company, kind } => parts_of_discard(*company, *kind),
         };
         Some(parts)
     }
@@ -212,6 +235,47 @@ fn parts_of_lay(lay: Lay) -> Parts
     }
 }
 
+/// What the order to buy a tenth of a company is made of.
+fn parts_of_share(company: Company, from: ShareSource) -> Parts
+    ensures { Some result ≡ parts_of (BuyShare company from) }
+{
+    let (company, from) = (Value::Company(company), Value::Word(from.keyword()));
+    Parts::of(Keyword::Buy, &[company, from])
+}
+
+/// What the order of a run is made of.
+fn parts_of_run(kind: Kind, run: &Run) -> Parts
+    ensures { Some result ≡ parts_of (RunOrder kind run.now) }
+{
+    let places = Tail::Places(run.duplicate());
+    Parts::with_tail(Keyword::Run, &[Value::Kind(kind)], places)
+}
+
+/// What the order to buy a train is made of.
+fn parts_of_purchase(kind: Kind, from: TrainSource) -> Parts
+    ensures { Some result ≡ parts_of (BuyTrain kind from) }
+{
+    let (kind, bank) = (Value::Kind(kind), Value::Word(Keyword::Bank));
+    match from {
+        TrainSource::Bank => Parts::of(Keyword::Train, &[kind, bank]),
+        TrainSource::Trade(other) => {
+            let trade = Value::Word(Keyword::Trade);
+            Parts::of(Keyword::Train, &[kind, bank, trade, Value::Kind(other)])
+        }
+        TrainSource::BankPool => Parts::of(Keyword::Train, &[kind, Value::Word(Keyword::Pool)]),
+    }
+}
+
+/// What the order to discard a train is made of.
+fn parts_of_discard(company: Company, kind: Kind) -> Parts
+    ensures { Some result ≡ parts_of (Discard company kind) }
+{
+    Parts::of(
+        Keyword::Discard,
+        &[Value::Company(company), Value::Kind(kind)],
+    )
+}
+
 /// The order of these parts; `None` where there is none.
 pub(crate) fn order_from(keyword: Keyword, values: &[Value], tail: Tail) -> Option<Order>
     ensures { result ≡ order_from keyword values.now tail }
@@ -220,6 +284,10 @@ pub(crate) fn order_from(keyword: Keyword, values: &[Value], tail: Tail) -> Opti
         Tail::Nothing => order_of_values(keyword, values),
         Tail::Names(names) => match keyword {
             Keyword::Players if values.is_empty() => Some(Order::Players(names)),
+            _ => None,
+        },
+        Tail::Places(run) => match (keyword, values) {
+            (Keyword::Run, [Value::Kind(kind)]) => Some(Order::Run { kind: *kind, run }),
             _ => None,
         },
     }
@@ -246,8 +314,12 @@ fn order_of_values(keyword: Keyword, values: &[Value]) -> Option<Order>
             [Value::Place(place)] => Some(Order::Token(*place)),
             _ => None,
         },
-        Keyword::Players => None,
+        Keyword::Pay | Keyword::Withhold | Keyword::Train | Keyword::Discard => {
+            order_of_trains(keyword, values)
+        }
+        Keyword::Players | Keyword::Run => None,
         Keyword::InitialOffering | Keyword::Pool | Keyword::Mohawk | Keyword::Swap => None,
+        Keyword::Bank | Keyword::Trade => None,
     }
 }
 
@@ -362,6 +434,46 @@ fn order_to_lay(values: &[Value]) -> Option<Order>
         rot,
         swap,
     }))
+}
+
+/// The order of these parts that tells of trains or of what they earn.
+fn order_of_trains(keyword: Keyword, values: &[Value]) -> Option<Order>
+    requires { IsOfTrains keyword }
+    ensures { result ≡ order_from keyword values.now Nothing }
+{
+    match keyword {
+        Keyword::Pay if values.is_empty() => Some(Order::Pay),
+        Keyword::Pay => None,
+        Keyword::Withhold if values.is_empty() => Some(Order::Withhold),
+        Keyword::Withhold => None,
+        Keyword::Train => order_to_buy_train(values),
+        Keyword::Discard => match values {
+            [Value::Company(company), Value::Kind(kind)] => Some(Order::Discard {
+                company: *company,
+                kind: *kind,
+            }),
+            _ => None,
+        },
+        _ => unreachable!(),
+    }
+}
+
+/// The order to buy a train that has these values.
+fn order_to_buy_train(values: &[Value]) -> Option<Order>
+    ensures { result ≡ order_from Train values.now Nothing }
+{
+    let (kind, from) = match values {
+        [Value::Kind(kind), Value::Word(Keyword::Bank)] => (*kind, TrainSource::Bank),
+        [
+            Value::Kind(kind),
+            Value::Word(Keyword::Bank),
+            Value::Word(Keyword::Trade),
+            Value::Kind(other),
+        ] => { (*kind, TrainSource::Trade(*other)) }
+        [Value::Kind(kind), Value::Word(Keyword::Pool)] => (*kind, TrainSource::BankPool),
+        _ => return None,
+    };
+    Some(Order::BuyTrain { kind, from })
 }
 
 impl Parts {

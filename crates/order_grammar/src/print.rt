@@ -1,9 +1,11 @@
 ghost use Rattle.std.specs.Prelude.{◌≡◌, ◌++◌, IfOk, OnErr, OnOk};
-ghost use Rattle.order_grammar.specs.Print.{AddsFront, spaced, values_text, spelling_of, text_of_round, text_of_value};
+ghost use Rattle.map_tables.specs.Text.{text_of_place};
+ghost use Rattle.order_grammar.specs.Print.{AddsFront, places_text, spaced, values_text, spelling_of, text_of_round, text_of_value};
 
 use crate::name::Name;
 use crate::order::{Order, Tail, Value};
 use itoa::Integer;
+use map_tables::Place;
 use std::alloc::{AllocError, Global};
 use tables::Round;
 
@@ -30,6 +32,7 @@ pub fn print_order(text: &mut Vec<u8>, order: &Order) -> Result<(), AllocError>
     match parts.tail {
         Tail::Nothing => Ok(()),
         Tail::Names(names) => print_names(text, names.as_slice()),
+        Tail::Places(run) => print_places(text, run.as_slice()),
     }
 }
 
@@ -57,6 +60,26 @@ fn print_names(text: &mut Vec<u8>, names: &[Name]) -> Result<(), AllocError>
     Ok(())
 }
 
+/// Adds places, each with a space before it.
+fn print_places(text: &mut Vec<u8>, places: &[Place]) -> Result<(), AllocError>
+    ensures ok { OnOk result (text.new.items ≡ text.old.items ++ places_text places.now) }
+    ensures err { OnErr result (AddsFront text.old.items text.new.items (places_text places.now)) }
+{
+    for place in places {
+        text.push(b' ')?;
+        print_place(text, *place)?;
+    }
+    Ok(())
+}
+
+/// Adds a place. At want of memory the text is as it was.
+fn print_place(text: &mut Vec<u8>, place: Place) -> Result<(), AllocError>
+    ensures ok { OnOk result (text.new.items ≡ text.old.items ++ text_of_place place) }
+    ensures err { OnErr result (text.new.items ≡ text.old.items) }
+{
+    text.extend_from_slice(place.text().as_slice())
+}
+
 /// Adds the word of a value. At want of memory a front of that may have been added.
 fn print_value(text: &mut Vec<u8>, value: &Value) -> Result<(), AllocError>
     ensures ok { OnOk result (text.new.items ≡ text.old.items ++ text_of_value value.now) }
@@ -68,6 +91,7 @@ fn print_value(text: &mut Vec<u8>, value: &Value) -> Result<(), AllocError>
         Value::Round(round) => print_round(text, round),
         Value::Private(private) => text.extend_from_slice(private.code().as_bytes()),
         Value::Company(company) => text.extend_from_slice(company.code().as_bytes()),
+        Value::Kind(kind) => text.extend_from_slice(kind.code().as_bytes()),
         Value::Tile(tile) => print_number(text, tile.number()),
         Value::Hex(hex) => text.extend_from_slice(hex.text().as_slice()),
         Value::Rotation(rotation) => print_number(text, rotation.turns()),

@@ -2,9 +2,11 @@
 use Rattle.std.specs.Prelude.{ℕ, Bool, if◌then◌else◌, List, [], ◌∷◌, ◌++◌, Option, Some, None, map, codes, decimal, unwrap_or, slice_get, ⊤}
 use Rattle.history.specs.Event.{code_of_refusal}
 use Rattle.history.specs.declared.event.Event.{Event}
-use Rattle.history.specs.declared.event.Event.TheVariants.{Round, Ruled, Passes, Left, Sold, Bids, Price, Revenue, Given, Par, President, Bought, Sells, Exchanged, Floats, Moves, Home, Laid, Token, Withheld, Broken}
+use Rattle.history.specs.declared.event.Event.TheVariants.{Round, Ruled, Passes, Left, Sold, Bids, Price, Revenue, Given, Par, President, Bought, Sells, Exchanged, Floats, Moves, Home, Laid, Token, Withheld, Runs, Dividend, Traded, Train, Phase, Rusted, Discarded, Closed, Broken}
 use Rattle.history.specs.declared.event.Holder.{Holder}
 use Rattle.history.specs.declared.event.Holder.TheVariants as holder
+use Rattle.history.specs.declared.event.TrainSeller.{TrainSeller}
+use Rattle.history.specs.declared.event.TrainSeller.TheVariants as seller
 use Rattle.history.specs.declared.ruling.Ruling.{Ruling}
 use Rattle.history.specs.declared.ruling.Ruling.TheVariants.{Obeyed, Refused, Faulty}
 use Rattle.map_tables.specs.Text.{text_of_hex, text_of_place, text_of_rotation, text_of_tile}
@@ -18,6 +20,8 @@ use Rattle.report.specs.declared.line.Field.TheVariants.{Word, Name, Holds, Numb
 use Rattle.sheets.specs.File.{players_of}
 use Rattle.tables.specs.Chart.{price_of}
 use Rattle.tables.specs.Roster.{code_of_company, code_of_private}
+use Rattle.tables.specs.Train.{code_of_kind}
+use Rattle.tables.specs.declared.rolling_stock.Kind.{Kind}
 use Rattle.tables.specs.declared.roster.Company.{Company}
 use Rattle.tables.specs.declared.roster.Private.{Private}
 use Rattle.tables.specs.declared.seat.Seat.{Seat}
@@ -75,6 +79,21 @@ lay_line company lay cost = line_of (codes "LAID") (code_of_company company ∷ 
 abbrev pub exchange_line : List ℕ → Seat → ShareSource → List ℕ
 exchange_line file seat from = line_of (codes "EXCHANGED") (codes "MH" ∷ name_of file seat ∷ text_of_source from ∷ [])
 
+-- the word for where a company buys a train that is no other company's
+abbrev pub text_of_seller : TrainSeller → List ℕ
+text_of_seller seller.Bank = codes "BANK"
+text_of_seller seller.BankPool = codes "POOL"
+
+-- a company's code, or the word for the bank pool where there is none
+abbrev pub text_of_stable : Option Company → List ℕ
+text_of_stable None = codes "POOL"
+text_of_stable (Some company) = code_of_company company
+
+-- the line of a train that a company buys
+abbrev pub train_line : Company → Kind → TrainSeller → ℕ → List ℕ
+train_line company kind from price =
+    line_of (codes "TRAIN") (code_of_company company ∷ code_of_kind kind ∷ text_of_seller from ∷ decimal price ∷ [])
+
 -- an event as its line
 abbrev pub event_line : List ℕ → Event → List ℕ
 event_line file (Round round) = line_of (codes "ROUND") (text_of_round round ∷ [])
@@ -101,14 +120,25 @@ event_line file (Laid company lay cost) = lay_line company lay cost
 event_line file (Token company place cost) =
     line_of (codes "TOKEN") (code_of_company company ∷ text_of_place place ∷ decimal cost ∷ [])
 event_line file (Withheld company amount) = line_of (codes "WITHHELD") (code_of_company company ∷ decimal amount ∷ [])
+event_line file (Runs company revenue) = line_of (codes "RUNS") (code_of_company company ∷ decimal revenue ∷ [])
+event_line file (Dividend company holder amount) =
+    line_of (codes "DIVIDEND") (code_of_company company ∷ holder_text file holder ∷ decimal amount ∷ [])
+event_line file (Traded company kind) = line_of (codes "TRADED") (code_of_company company ∷ code_of_kind kind ∷ [])
+event_line file (Train company kind from price) = train_line company kind from price
+event_line file (Phase kind) = line_of (codes "PHASE") (code_of_kind kind ∷ [])
+event_line file (Rusted owner kind) = line_of (codes "RUSTED") (text_of_stable owner ∷ code_of_kind kind ∷ [])
+event_line file (Discarded company kind) = line_of (codes "DISCARDED") (code_of_company company ∷ code_of_kind kind ∷ [])
+event_line file (Closed private) = line_of (codes "CLOSED") (code_of_private private ∷ [])
 event_line file Broken = line_of (codes "BROKEN") []
 
--- the event tells of a private: of its sale, of a bid on it, of its revenue, or of the price of SV
+-- the event tells of a private: of its sale, of a bid on it, of its revenue, of its closing, or of the price of
+-- SV
 abbrev pub IsOfPrivate : Event → Type 0
 IsOfPrivate (Sold private seat price) = ⊤
 IsOfPrivate (Bids private seat amount) = ⊤
 IsOfPrivate (Price price) = ⊤
 IsOfPrivate (Revenue private owner amount) = ⊤
+IsOfPrivate (Closed private) = ⊤
 IsOfPrivate other = ⊥
 
 -- the event tells of tenths: that they are given, bought or sold, or that one is had for MH
@@ -127,13 +157,26 @@ IsOfCompany (Floats company amount) = ⊤
 IsOfCompany (Moves company square) = ⊤
 IsOfCompany other = ⊥
 
--- the event tells of a company's turn: of its home, of a tile, of a token, or of what it withholds
+-- the event tells of a company's turn: of its home, of a tile, of a token, of a run, of a dividend, or of what
+-- it withholds
 abbrev pub IsOfTurn : Event → Type 0
 IsOfTurn (Home company place) = ⊤
 IsOfTurn (Laid company lay cost) = ⊤
 IsOfTurn (Token company place cost) = ⊤
+IsOfTurn (Runs company revenue) = ⊤
+IsOfTurn (Dividend company holder amount) = ⊤
 IsOfTurn (Withheld company amount) = ⊤
 IsOfTurn other = ⊥
+
+-- the event tells of trains: of one that is traded in, bought, rusted or discarded, or of the phase that one
+-- begins
+abbrev pub IsOfTrains : Event → Type 0
+IsOfTrains (Traded company kind) = ⊤
+IsOfTrains (Train company kind from price) = ⊤
+IsOfTrains (Phase kind) = ⊤
+IsOfTrains (Rusted owner kind) = ⊤
+IsOfTrains (Discarded company kind) = ⊤
+IsOfTrains other = ⊥
 
 -- a field of a line as its text
 abbrev pub field_text : List ℕ → Field → List ℕ

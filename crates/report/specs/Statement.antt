@@ -1,5 +1,5 @@
 -- The statement after a round: what each player holds, what each started company has, and the bank's cash.
-use Rattle.std.specs.Prelude.{◌≡◌, ℕ, Bool, false, if◌then◌else◌, List, [], ◌∷◌, ◌++◌, codes, decimal, Option, Some, None}
+use Rattle.std.specs.Prelude.{◌≡◌, ℕ, zero, suc, Bool, false, if◌then◌else◌, List, [], ◌∷◌, ◌++◌, codes, decimal, Option, Some, None}
 use Rattle.certs.specs.Counted.{counted_of}
 use Rattle.std.specs.List.{flat_map, range_with_len}
 use Rattle.std.specs.Fmt.{signed_decimal}
@@ -7,6 +7,7 @@ use Rattle.history.specs.Event.{party_at}
 use Rattle.history.specs.LookBack.{cash_of, owner_in, owner_of, same_holder}
 use Rattle.history.specs.Operating.{tokens_placed}
 use Rattle.history.specs.Shares.{president_of, shares_of, square_of}
+use Rattle.history.specs.Trains.{so_many, trains_held}
 use Rattle.history.specs.declared.event.Event.{Event}
 use Rattle.history.specs.declared.event.Holder.{Holder}
 use Rattle.history.specs.declared.event.Holder.TheVariants as holder
@@ -20,6 +21,8 @@ use Rattle.report.specs.Column.{at_left, at_right}
 use Rattle.report.specs.Line.{name_of}
 use Rattle.tables.specs.Chart.{price_of}
 use Rattle.tables.specs.Roster.{code_of_company, code_of_private, companies, privates}
+use Rattle.tables.specs.Train.{code_of_kind, kinds}
+use Rattle.tables.specs.declared.rolling_stock.Kind.{Kind}
 use Rattle.tables.specs.declared.roster.Company.{Company}
 use Rattle.tables.specs.declared.roster.Private.{Private}
 use Rattle.tables.specs.declared.seat.Seat.{Seat}
@@ -90,11 +93,24 @@ company_figures seats events company square =
 abbrev pub company_figures_at : Past → Company → Square → List ℕ
 company_figures_at past company square = company_figures past.seats past.events.now company square
 
--- the line of a company on this square; it has no trains before the first operating round
+-- a kind after a space, so many times
+abbrev pub codes_of_kind : Kind → ℕ → List ℕ
+codes_of_kind kind zero = []
+codes_of_kind kind (suc n) = codes_of_kind kind n ++ 32 ∷ code_of_kind kind
+
+-- the trains of a kind that a company has, each as its kind after a space
+abbrev pub codes_of_trains : List Event → Company → Kind → List ℕ
+codes_of_trains events company kind = codes_of_kind kind (so_many (trains_held events (Some company) kind))
+
+-- the trains of a company, least first
+unfoldable pub trains_text : List Event → Company → List ℕ
+trains_text events company = flat_map (λ kind. codes_of_trains events company kind) kinds
+
+-- the line of a company on this square
 unfoldable pub company_line : List ℕ → ℕ → List Event → Company → Square → List ℕ
 company_line file seats events company square =
     codes "COMPANY " ++ at_left 4 (code_of_company company) ++ company_figures seats events company square
-    ++ 32 ∷ president_name file (president_of events company) ++ 10 ∷ []
+    ++ 32 ∷ president_name file (president_of events company) ++ trains_text events company ++ 10 ∷ []
 
 -- the same, as a game stood
 abbrev pub company_line_at : List ℕ → Past → Company → Square → List ℕ

@@ -1,9 +1,9 @@
 ghost use Rattle.std.specs.Prelude.{◌≡◌, OnOk};
 ghost use Rattle.report.specs.Column.{Adds};
-ghost use Rattle.report.specs.Line.{IsOfCompany, IsOfPrivate, IsOfTenths, IsOfTurn, event_line, exchange_line, field_text, lay_line, line_of_company, line_of_fields, line_of_seat, line_of_word, name_of, private_line, ruled_line, text_of_square};
+ghost use Rattle.report.specs.Line.{IsOfCompany, IsOfPrivate, IsOfTenths, IsOfTrains, IsOfTurn, event_line, exchange_line, field_text, lay_line, line_of_company, line_of_fields, line_of_seat, line_of_word, name_of, private_line, ruled_line, text_of_seller, text_of_square, text_of_stable};
 
 use Field::{At, Holds, In, Name, Number, OfRound, On, Source, Spelt, Tenths, Tile, Turned, Word};
-use history::{Event, Holder, KeptOrder, Ruling};
+use history::{Event, Holder, KeptOrder, Ruling, TrainSeller};
 use map_tables::{Hex, Lay, Place, Rotation, TileNo};
 use order_grammar::{ShareSource, print_number, print_order, print_round};
 use sheets::Sheets;
@@ -57,23 +57,34 @@ pub(crate) fn push_event(
         Event::Ruled { seat, line, ruling } => push_ruled(out, sheets, *seat, *line, ruling),
         Event::Passes(seat) => tell_of(out, sheets, *seat, &[Word("PASSES")]),
         Event::Left { seat, lines } => tell(out, sheets, "LEFT", &[Name(*seat), Number(*lines)]),
-        Event::Sold { .. } | Event::Bids { .. } | Event::Price { .. } | Event::Revenue { .. } => {
-            push_of_private(out, sheets, event)
-        }
+        Event::Sold { .. }
+        | Event::Bids { .. }
+        | Event::Price { .. }
+        | Event::Revenue { .. }
+        | Event::Closed(_) => { push_of_private(out, sheets, event) }
         Event::Given { .. }
         | Event::Bought { .. }
         | Event::Sells { .. }
         | Event::Exchanged { .. } => { push_of_tenths(out, sheets, event) }
         Event::Par { .. } | Event::President { .. } | Event::Floats { .. } | Event::Moves { .. } =>
             { push_of_company(out, sheets, event) }
-        Event::Home { .. } | Event::Laid { .. } | Event::Token { .. } | Event::Withheld { .. } => {
-            push_of_turn(out, sheets, event)
-        }
+        Event::Home { .. }
+        | Event::Laid { .. }
+        | Event::Token { .. }
+        | Event::Runs { .. }
+        | Event::Dividend { .. }
+        | Event::Withheld { .. } => { push_of_turn(out, sheets, event) }
+        Event::Traded { .. }
+        | Event::Train { .. }
+        | Event::Phase(_)
+        | Event::Rusted { .. }
+        | Event::Discarded { .. } => { push_of_trains(out, sheets, event) }
         Event::Broken => tell(out, sheets, "BROKEN", &[]),
     }
 }
 
-/// Adds an event of a private as its line: its sale, a bid on it, its revenue, or the price of SV.
+/// Adds an event of a private as its line: its sale, a bid on it, its revenue, its closing, or the
+/// price of SV.
 fn push_of_private(out: &mut Vec<u8>, sheets: &Sheets, event: &Event) -> Result<(), AllocError>
     requires { IsOfPrivate event.now }
     ensures { OnOk result (Adds out.old out.new (event_line sheets.now event.now)) }
@@ -95,6 +106,7 @@ fn push_of_private(out: &mut Vec<u8>, sheets: &Sheets, event: &Event) -> Result<
             owner,
             amount,
         } => tell_private(out, sheets, "REVENUE", *private, *owner, *amount),
+        Event::Closed(private) => tell(out, sheets, "CLOSED", &[Word(private.code())]),
         _ => unreachable!(),
     }
 }
@@ -180,7 +192,7 @@ fn push_of_company(out: &mut Vec<u8>, sheets: &Sheets, event: &Event) -> Result<
 }
 
 /// Adds an event of a company's turn in an operating round as its line: its home, a tile, a token,
-/// or what it withholds.
+/// a run, a dividend, or what it withholds.
 fn push_of_turn(out: &mut Vec<u8>, sheets: &Sheets, event: &Event) -> Result<(), AllocError>
     requires { IsOfTurn event.now }
     ensures { OnOk result (Adds out.old out.new (event_line sheets.now event.now)) }
@@ -195,10 +207,72 @@ fn push_of_turn(out: &mut Vec<u8>, sheets: &Sheets, event: &Event) -> Result<(),
             place,
             cost,
         } => tell_company(out, sheets, "TOKEN", *company, &[At(*place), Number(*cost)]),
+        Event::Runs { company, revenue } => {
+            tell_company(out, sheets, "RUNS", *company, &[Number(*revenue)])
+        }
+        Event::Dividend {
+            company,
+            holder,
+            amount,
+        } => {
+            let fields = [Holds(*holder), Number(*amount)];
+            tell_company(out, sheets, "DIVIDEND", *company, &fields)
+        }
         Event::Withheld { company, amount } => {
             tell_company(out, sheets, "WITHHELD", *company, &[Number(*amount)])
         }
         _ => unreachable!(),
+    }
+}
+
+/// Adds an event of trains as its line: one that is traded in, bought, rusted or discarded, or the
+/// phase that one begins.
+fn push_of_trains(out: &mut Vec<u8>, sheets: &Sheets, event: &Event) -> Result<(), AllocError>
+    requires { IsOfTrains event.now }
+    ensures { OnOk result (Adds out.old out.new (event_line sheets.now event.now)) }
+{
+    match event {
+        Event::Traded { company, kind } => {
+            tell_company(out, sheets, "TRADED", *company, &[Word(kind.code())])
+        }
+        Event::Train {
+            company,
+            kind,
+            from,
+            price,
+        } => {
+            let fields = [Word(kind.code()), Word(seller_word(*from)), Number(*price)];
+            tell_company(out, sheets, "TRAIN", *company, &fields)
+        }
+        Event::Phase(kind) => tell(out, sheets, "PHASE", &[Word(kind.code())]),
+        Event::Rusted { owner, kind } => {
+            let fields = [Word(stable_word(*owner)), Word(kind.code())];
+            tell(out, sheets, "RUSTED", &fields)
+        }
+        Event::Discarded { company, kind } => {
+            tell_company(out, sheets, "DISCARDED", *company, &[Word(kind.code())])
+        }
+        _ => unreachable!(),
+    }
+}
+
+/// The word for where a company buys a train that is no other company's.
+fn seller_word(seller: TrainSeller) -> &'static str
+    ensures { result.now ≡ text_of_seller seller }
+{
+    match seller {
+        TrainSeller::Bank => "BANK",
+        TrainSeller::BankPool => "POOL",
+    }
+}
+
+/// A company's code, or the word for the bank pool where there is none.
+fn stable_word(owner: Option<Company>) -> &'static str
+    ensures { result.now ≡ text_of_stable owner }
+{
+    match owner {
+        Some(company) => company.code(),
+        None => "POOL",
     }
 }
 

@@ -4,17 +4,17 @@ ghost use Rattle.certs.specs.Holdings.{AreHoldingsAt};
 ghost use Rattle.certs.specs.Rows.{HasPlace};
 ghost use Rattle.history.specs.LookBack.{owner_in};
 ghost use Rattle.report.specs.Column.{Adds};
-ghost use Rattle.report.specs.Statement.{AreOwnersIn, bank_line_at, cash_column_at, code_owned, codes_owned, company_figures_at, company_line_at, company_lines_at, counted_column, holdings, is_seat, player_line_at, player_lines_at, president_name, started_line_at, statement_at, tenths_column};
+ghost use Rattle.report.specs.Statement.{AreOwnersIn, bank_line_at, cash_column_at, code_owned, codes_owned, company_figures_at, company_line_at, company_lines_at, counted_column, holdings, codes_of_kind, codes_of_trains, is_seat, player_line_at, player_lines_at, president_name, started_line_at, statement_at, tenths_column, trains_text};
 ghost use Rattle.sheets.specs.File.{players_of};
 
 use crate::column::{push_left, push_right};
 use crate::line::{name, push_name};
 use certs::{Holdings, counted_by_the_game};
-use history::{Holder, Owners, Party, Past, Shareholder, Tenths};
+use history::{Holder, Owners, Party, Past, Shareholder, Tenths, so_many};
 use order_grammar::NAME_MOST;
 use sheets::Sheets;
 use std::alloc::AllocError;
-use tables::{Company, Private, Seat, Square, price};
+use tables::{Company, Kind, Private, Seat, Square, price};
 
 /// The width of the column of names.
 const NAME_WIDTH: usize = NAME_MOST;
@@ -171,7 +171,7 @@ fn owns(owners: &Owners, seat: Seat, private: Private) -> bool
 }
 
 /// Adds the line of a company, if it is started: code, cash, market price, tenths in the initial
-/// offering and the bank pool, tokens, president.
+/// offering and the bank pool, tokens, president, trains.
 fn push_company(
     out: &mut Vec<u8>,
     sheets: &Sheets,
@@ -203,6 +203,7 @@ fn push_started(
     push_left(out, company.code().as_bytes(), CODE_WIDTH)?;
     push_figures(out, standing, company, square)?;
     push_president(out, sheets, standing.past.president(company))?;
+    push_trains(out, standing, company)?;
     out.push(b'\n')?;
     Ok(())
 }
@@ -282,4 +283,44 @@ fn push_president(
         None => Ok(()),
         Some(seat) => push_name(out, sheets, seat),
     }
+}
+
+/// Adds the trains of a company, least first, each as its kind after a space.
+#[tactic(auto, unfolding(crate::specs::Statement::trains_text))]
+fn push_trains(out: &mut Vec<u8>, standing: &Standing, company: Company) -> Result<(), AllocError>
+    ensures { OnOk result
+        (Adds out.old out.new (trains_text standing.now.past.events.now company)) }
+{
+    for kind in &Kind::ALL {
+        push_trains_of_kind(out, standing, company, *kind)?;
+    }
+    Ok(())
+}
+
+/// Adds the trains of a kind that a company has, each as its kind after a space.
+fn push_trains_of_kind(
+    out: &mut Vec<u8>,
+    standing: &Standing,
+    company: Company,
+    kind: Kind,
+) -> Result<(), AllocError>
+    ensures { OnOk result
+        (Adds out.old out.new (codes_of_trains standing.now.past.events.now company kind)) }
+{
+    push_kind(
+        out,
+        kind,
+        so_many(standing.past.trains(Some(company), kind)),
+    )
+}
+
+/// Adds a kind after a space so many times.
+fn push_kind(out: &mut Vec<u8>, kind: Kind, count: u128) -> Result<(), AllocError>
+    ensures { OnOk result (Adds out.old out.new (codes_of_kind kind count)) }
+{
+    for _ in 0..count {
+        out.push(b' ')?;
+        out.extend_from_slice(kind.code().as_bytes())?;
+    }
+    Ok(())
 }

@@ -45,9 +45,9 @@ module _ (opening_ends : EachOpeningEnds) (stock_ends : EachStockRoundEnds) (ope
   one_more : SheetsAreNumbered → (old : Between) → 0 < length (players_of file) → StandsInSet old.next old.in_set → all_posted file old.next ≡ true → (new : Between) × IsRound file old new × StandsInSet new.next new.in_set × (places_left new.next < places_left old.next)
   one_more numbered old some stands posted =
       let played = played_ends old.next old.game in (
-        record { game = played.0; in_set = in_set_before (round_after old.next old.in_set (all_sold played.0.events)) old.in_set; next = round_after old.next old.in_set (all_sold played.0.events) },
+        record { game = played.0; in_set = in_set_before (round_after old.next old.in_set (all_sold played.0.events)) played.0.events old.in_set; next = round_after old.next old.in_set (all_sold played.0.events) },
         record { posted = posted; played = played.1; next_then = refl; in_set_then = refl },
-        next_in_set old.next old.in_set (all_sold played.0.events) stands,
+        next_in_set old.next old.in_set (all_sold played.0.events) played.0.events stands,
         fewer_places numbered file old.next old.in_set (all_sold played.0.events) some stands posted,
       )
 

@@ -1,10 +1,17 @@
 -- Each round that comes stands within its set.
-use Rattle.std.proofs.Common.{◌≡◌, ℕ, zero, suc, ◌+◌, ◌<◌, ◌≤◌, Bool, true, false, nat_lt, if◌then◌else◌, List, refl, sym, ap, subst, ◌∙◌, arith}
+use Rattle.std.proofs.Common.{◌≡◌, ℕ, zero, suc, ◌+◌, ◌<◌, ◌≤◌, Bool, true, false, nat_lt, if◌then◌else◌, List, [], length, refl, sym, ap, subst, ◌∙◌, arith}
 use Rattle.std.proofs.lemmas.Bool.{ltb-true}
+use Rattle.history.specs.LookBack.{Game}
+use Rattle.history.specs.Trains.{phase_of}
+use Rattle.history.specs.declared.event.Event.{Event}
 use Rattle.privates.specs.Turn.{all_sold}
-use Rattle.rounds.specs.Play.{AreRounds, Between, IsRound, before_play, in_set_before}
+use Rattle.rounds.specs.Play.{AreRounds, Between, IsRound, before_play, in_set_before, rounds_of_new_set}
 use Rattle.rounds.specs.Sequence.{round_after, turn_in_set}
+use Rattle.sheets.specs.File.{players_of}
 use Rattle.tables.specs.Round.{operating_most}
+use Rattle.tables.specs.Train.{rounds_in_set_of}
+use Rattle.tables.specs.declared.rolling_stock.Kind.{Kind}
+use Rattle.tables.specs.declared.rolling_stock.Kind.TheVariants.{Two, Three, Four, Five, Six, Diesel}
 use Rattle.tables.specs.declared.round.Round.{Round}
 use Rattle.tables.specs.declared.round.Round.TheVariants.{Opening, Stock, Operating}
 
@@ -22,30 +29,44 @@ in_any_set round in_set stands = let few = stands.few in let within = stands.wit
 pub first_in_set : (file : List ℕ) → StandsInSet (before_play file).next (before_play file).in_set
 first_in_set file = record { some = omega arith; few = omega arith; within = omega arith }
 
+-- a set that begins has one to three
+new_set_few : (phase : Kind) → (1 ≤ rounds_in_set_of phase) × (rounds_in_set_of phase ≤ operating_most)
+new_set_few Two = (omega arith, omega arith)
+new_set_few Three = (omega arith, omega arith)
+new_set_few Four = (omega arith, omega arith)
+new_set_few Five = (omega arith, omega arith)
+new_set_few Six = (omega arith, omega arith)
+new_set_few Diesel = (omega arith, omega arith)
+
+-- its stock round stands within it
+new_set : (set : ℕ) (events : List Event) → StandsInSet (Stock set) (rounds_of_new_set events)
+new_set set events =
+    let few = new_set_few (phase_of events) in record { some = few.0; few = few.1; within = omega arith }
+
 -- so does what follows an operating round
-after_operating : (set number in_set : ℕ) (more : Bool) → nat_lt number in_set ≡ more → StandsInSet (Operating set number) in_set → StandsInSet (if more then Operating set (number + 1) else Stock (set + 1)) (in_set_before (if more then Operating set (number + 1) else Stock (set + 1)) in_set)
-after_operating set number in_set true less stands =
+after_operating : (set number in_set : ℕ) (events : List Event) (more : Bool) → nat_lt number in_set ≡ more → StandsInSet (Operating set number) in_set → StandsInSet (if more then Operating set (number + 1) else Stock (set + 1)) (in_set_before (if more then Operating set (number + 1) else Stock (set + 1)) events in_set)
+after_operating set number in_set events true less stands =
     let before : number < in_set = ltb-true number in_set less in
     record { some = stands.some; few = stands.few; within = omega (arith, before) }
-after_operating set number in_set false less stands =
-    record { some = omega arith; few = omega arith; within = omega arith }
+after_operating set number in_set events false less stands = new_set (set + 1) events
 
 -- so does what follows each round
-pub next_in_set : (round : Round) (in_set : ℕ) (all_sold : Bool) → StandsInSet round in_set → StandsInSet (round_after round in_set all_sold) (in_set_before (round_after round in_set all_sold) in_set)
-next_in_set (Opening number) in_set true stands = record { some = omega arith; few = omega arith; within = omega arith }
-next_in_set (Opening number) in_set false stands = record { some = stands.some; few = stands.few; within = stands.within }
-next_in_set (Stock set) in_set all_sold stands =
+pub next_in_set : (round : Round) (in_set : ℕ) (all_sold : Bool) (events : List Event) → StandsInSet round in_set → StandsInSet (round_after round in_set all_sold) (in_set_before (round_after round in_set all_sold) events in_set)
+next_in_set (Opening number) in_set true events stands = new_set 1 events
+next_in_set (Opening number) in_set false events stands =
+    record { some = stands.some; few = stands.few; within = stands.within }
+next_in_set (Stock set) in_set all_sold events stands =
     let some = stands.some in record { some = stands.some; few = stands.few; within = omega (arith, some) }
-next_in_set (Operating set number) in_set all_sold stands =
-    after_operating set number in_set (nat_lt number in_set) refl stands
+next_in_set (Operating set number) in_set all_sold events stands =
+    after_operating set number in_set events (nat_lt number in_set) refl stands
 
 -- so does what follows a round that was played
 pub round_in_set : (file : List ℕ) (old new : Between) → StandsInSet old.next old.in_set → IsRound file old new → StandsInSet new.next new.in_set
 round_in_set file old new stands round =
     let next : Round = round_after old.next old.in_set (all_sold new.game.events) in
-    let in_set : new.in_set ≡ in_set_before next old.in_set = round.in_set_then ∙ ap (λ (round : Round). in_set_before round old.in_set) round.next_then in
+    let in_set : new.in_set ≡ in_set_before next new.game.events old.in_set = round.in_set_then ∙ ap (λ (round : Round). in_set_before round new.game.events old.in_set) round.next_then in
     subst (λ (after : Round). StandsInSet after new.in_set) (sym round.next_then)
-    (subst (λ (count : ℕ). StandsInSet next count) (sym in_set) (next_in_set old.next old.in_set (all_sold new.game.events) stands))
+    (subst (λ (count : ℕ). StandsInSet next count) (sym in_set) (next_in_set old.next old.in_set (all_sold new.game.events) new.game.events stands))
 
 -- and each round to which a game comes
 pub comes_in_set : (file : List ℕ) (rounds : ℕ) (there : Between) → AreRounds file rounds (before_play file) there → StandsInSet there.next there.in_set
@@ -53,3 +74,10 @@ comes_in_set file zero there played =
     subst (λ (at : Between). StandsInSet at.next at.in_set) played (first_in_set file)
 comes_in_set file (suc rounds) there played =
     round_in_set file played.0 there (comes_in_set file rounds played.0 played.1) played.2
+
+-- before the first round
+pub begins_so : (file : List ℕ) (history : Game) (seats in_set : ℕ) → history ≡ record { seats = seats; events = [] } → seats ≡ length (players_of file) → in_set ≡ rounds_of_new_set history.events → before_play file ≡ record { game = history; in_set = in_set; next = Opening 1 }
+begins_so file history seats in_set is_new players counted =
+    let game : history ≡ record { seats = length (players_of file); events = [] } = is_new ∙ ap (λ (n : ℕ). record { seats = n; events = [] }) players in
+    let count : in_set ≡ rounds_of_new_set [] = counted ∙ ap (λ (g : Game). rounds_of_new_set g.events) game in
+    λ i. record { game = sym game i; in_set = sym count i; next = Opening 1 }

@@ -156,4 +156,4 @@ module _ (first second : List ℕ) where
   -- the files begin alike
   pub same_before : players_of first ≡ players_of second → before_play first ≡ before_play second
   same_before players =
-      λ i. record { game = record { seats = length (players i); events = [] }; in_set = rounds_of_new_set; next = Opening 1 }
+      λ i. record { game = record { seats = length (players i); events = [] }; in_set = rounds_of_new_set []; next = Opening 1 }

@@ -3,6 +3,8 @@
 use Rattle.std.specs.Prelude.{◌≡◌, ℕ, zero, suc, Bool, true, false, List, [], length, is_some}
 use Rattle.std.specs.List.{list_all, range_with_len}
 use Rattle.history.specs.LookBack.{Game}
+use Rattle.history.specs.Trains.{phase_of}
+use Rattle.history.specs.declared.event.Event.{Event}
 use Rattle.privates.specs.Opening.{IsOpeningRound}
 use Rattle.privates.specs.Turn.{all_sold}
 use Rattle.rounds.specs.OperatingRound.{IsOperatingRound}
@@ -12,7 +14,6 @@ use Rattle.rounds.specs.declared.game.End.TheVariants.{Awaiting}
 use Rattle.sheets.specs.File.{IsAccepted, sheet_of, players_of}
 use Rattle.stock_round.specs.StockRound.{IsStockRound}
 use Rattle.tables.specs.Train.{rounds_in_set_of}
-use Rattle.tables.specs.declared.rolling_stock.Kind.TheVariants.{Two}
 use Rattle.tables.specs.declared.round.Round.{Round}
 use Rattle.tables.specs.declared.round.Round.TheVariants.{Opening, Stock, Operating}
 
@@ -23,22 +24,21 @@ pub record Between : Type 0 where
   pub in_set : ℕ
   pub next : Round
 
--- how many operating rounds a set has that begins now: that goes by the phase, which is the first, since
--- no train has been sold
-abbrev pub rounds_of_new_set : ℕ
-rounds_of_new_set = rounds_in_set_of Two
+-- how many operating rounds a set has that begins now: that goes by the phase
+abbrev pub rounds_of_new_set : List Event → ℕ
+rounds_of_new_set events = rounds_in_set_of (phase_of events)
 
 -- how many the set has where this round comes next: its number is fixed as its stock round comes
-abbrev pub in_set_before : Round → ℕ → ℕ
-in_set_before (Stock set) in_set = rounds_of_new_set
-in_set_before round in_set = in_set
+abbrev pub in_set_before : Round → List Event → ℕ → ℕ
+in_set_before (Stock set) events in_set = rounds_of_new_set events
+in_set_before round events in_set = in_set
 
 -- before the first round
 abbrev pub before_play : List ℕ → Between
 before_play file =
     record {
       game = record { seats = length (players_of file); events = [] };
-      in_set = rounds_of_new_set;
+      in_set = rounds_of_new_set [];
       next = Opening 1;
     }
 
@@ -57,7 +57,7 @@ pub record IsRound (file : List ℕ) (old new : Between) : Type 0 where
   pub posted : all_posted file old.next ≡ true
   pub played : IsPlayed file old.next old.game new.game
   pub next_then : new.next ≡ round_after old.next old.in_set (all_sold new.game.events)
-  pub in_set_then : new.in_set ≡ in_set_before new.next old.in_set
+  pub in_set_then : new.in_set ≡ in_set_before new.next new.game.events old.in_set
 
 -- so many rounds were played between them
 abbrev pub AreRounds : List ℕ → ℕ → Between → Between → Type 0

@@ -14,7 +14,7 @@ use sheets::{Sheets, sheets_are_numbered};
 use std::alloc::{AllocError, Global};
 use std::marker::Model;
 use stock_round::play_stock;
-use tables::{Kind, Round, Seat, rounds_in_set};
+use tables::{Round, Seat, rounds_in_set};
 
 /// Why play stopped.
 #[derive(Clone, Copy, Debug, PartialEq, Eq)]
@@ -75,7 +75,7 @@ pub fn play<'a>(alloc: Global, sheets: &'a Sheets<'a>) -> Result<Game<'a>, Alloc
     ensures sound { IfOk result (λ game. IsSound game.game) }
 {
     let mut history = History::start(alloc, sheets.seats());
-    let mut in_set = rounds_of_new_set();
+    let mut in_set = rounds_of_new_set(&history);
     let mut upcoming = Round::Opening(1);
     // Laws, which do nothing when they run: by them the empty map fits, and the loop comes to an
     // end.
@@ -86,7 +86,7 @@ pub fn play<'a>(alloc: Global, sheets: &'a Sheets<'a>) -> Result<Game<'a>, Alloc
         let all_sold = history.now().cheapest_unsold().is_none();
         // The bank, broken or not, ends no game yet.
         upcoming = round_after(upcoming, in_set, all_sold);
-        in_set = in_set_before(upcoming, in_set);
+        in_set = in_set_before(&history, upcoming, in_set);
     }
     Ok(Game {
         sheets,
@@ -119,21 +119,20 @@ fn play_round(
     }
 }
 
-/// How many operating rounds a set has that begins now: in the first phase, since no train has been
-/// sold.
-fn rounds_of_new_set() -> u8
-    ensures { result ≡ rounds_of_new_set }
+/// How many operating rounds a set has that begins now: that goes by the phase.
+fn rounds_of_new_set(history: &History) -> u8
+    ensures { result ≡ rounds_of_new_set history.now.events }
 {
-    rounds_in_set(Kind::Two)
+    rounds_in_set(history.phase())
 }
 
 /// How many operating rounds the set has where this round comes next: the number is fixed as the
 /// stock round of the set comes.
-fn in_set_before(upcoming: Round, in_set: u8) -> u8
-    ensures { result ≡ set_before upcoming in_set }
+fn in_set_before(history: &History, upcoming: Round, in_set: u8) -> u8
+    ensures { result ≡ set_before upcoming history.now.events in_set }
 {
     match upcoming {
-        Round::Stock(_) => rounds_of_new_set(),
+        Round::Stock(_) => rounds_of_new_set(history),
         Round::Opening(_) | Round::Operating { .. } => in_set,
     }
 }

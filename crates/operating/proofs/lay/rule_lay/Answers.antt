@@ -4,7 +4,7 @@ use Rattle.operating.proofs.Allowed.{amount_small, cost_kept, lay_allowed}
 use Rattle.operating.proofs.Answered.{lay_breaks, lay_by, lay_costs, lay_refused_steps, laid_playable, laid_steps}
 use Rattle.operating.specs.Ground.{ground_now}
 use Rattle.operating.specs.Judgement.{asker_of}
-use Rattle.operating.specs.Turn.{in_turn}
+use Rattle.operating.specs.InTurn.{in_turn}
 use Rattle.operating.proofs.lay.rule_lay.Goals as goal
 
 pub amount_of-cost-requires : goal.amount_of-cost-requires

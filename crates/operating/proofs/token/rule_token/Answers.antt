@@ -4,7 +4,7 @@ use Rattle.operating.proofs.Allowed.{amount_small, cost_kept, token_allowed}
 use Rattle.operating.proofs.Answered.{token_breaks, token_by, token_costs, token_refused_steps, placed_playable, placed_steps}
 use Rattle.operating.specs.Ground.{ground_now}
 use Rattle.operating.specs.Judgement.{asker_of}
-use Rattle.operating.specs.Turn.{in_turn}
+use Rattle.operating.specs.InTurn.{in_turn}
 use Rattle.operating.proofs.token.rule_token.Goals as goal
 
 pub amount_of-cost-requires : goal.amount_of-cost-requires

@@ -1,6 +1,8 @@
-use Rattle.std.proofs.Common.{List, ap, sym, subst}
-use Rattle.operating.specs.Turn.{LinesLead, in_turn}
-use Rattle.sheets.specs.Part.{Numbered, Parts}
+use Rattle.std.proofs.Common.{List, ap, sym, subst, ◌∙◌}
+use Rattle.operating.proofs.Seats.{line_seats}
+use Rattle.operating.specs.InTurn.{in_turn}
+use Rattle.operating.specs.Turn.{LinesLead}
+use Rattle.sheets.specs.Part.{Numbered, Parts, line_read}
 use Rattle.operating.proofs.turn.rule_lines.Goals as goal
 
 pub loop-line-preserved : goal.loop-line-preserved
@@ -8,6 +10,7 @@ loop-line-preserved c =
     let turn = in_turn c.loop-line.history c.loop-line.progress in
     let by = c.args.by in
     record {
+      seats = line_seats by turn (line_read c.in-Some.field-0).number (line_read c.in-Some.field-0).reading _ c.in_ok-progress.ensures.turn ∙ c.loop-line.invariant.seats;
       turn = λ new rest. c.loop-line.invariant.turn new (subst (λ (lines : List Numbered). LinesLead by turn lines new) (sym (ap (λ (parts : Parts). parts.before) c.in-Some.ensures)) (_, c.in_ok-progress.ensures.turn, rest));
       playable = c.in_ok-progress.ensures.playable;
     }

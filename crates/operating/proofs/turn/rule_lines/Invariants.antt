@@ -1,11 +1,13 @@
-use Rattle.std.proofs.Common.{length}
+use Rattle.std.proofs.Common.{◌≡◌, length}
 use Rattle.operating.specs.Ground.{IsPlayable}
-use Rattle.operating.specs.Turn.{InTurn, LinesLead, at_start, in_turn}
+use Rattle.operating.specs.InTurn.{InTurn, at_start, in_turn}
+use Rattle.operating.specs.Turn.{LinesLead}
 use Rattle.operating.proofs.turn.rule_lines.Given as goal
 
 -- where the lines that are left lead from here, all lead from the start
 abbrev pub invariant-loop-line : goal.invariant-loop-line
 invariant-loop-line l = record {
+  seats : l.history.seats ≡ l.fn.history.seats;
   turn : (new : InTurn) → LinesLead l.by (in_turn l.history l.progress) l.block.before new → LinesLead l.by (in_turn l.fn.history at_start) l.fn.block.before new;
   playable : IsPlayable l.history;
 }

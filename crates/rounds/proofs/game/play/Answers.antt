@@ -1,25 +1,25 @@
-use Rattle.std.proofs.Common.{◌≡◌, ℕ, zero, suc, ◌<◌, Bool, true, is_none, length, subst, sym, ap, ◌∙◌, arith, rules}
+use Rattle.std.proofs.Common.{◌≡◌, zero, suc, ◌<◌, Bool, true, is_none, length, subst, sym, ap, ◌∙◌, arith, rules}
 use Rattle.history.specs.LookBack.{cheapest_of}
 use Rattle.operating.specs.Ground.{GroundFits}
 use Rattle.privates.specs.Turn.{all_sold}
 use Rattle.rounds.proofs.Forward.{fewer_places, gifts_go_on, places_left, posted_small}
-use Rattle.rounds.proofs.InSet.{StandsInSet, first_in_set, round_in_set}
+use Rattle.rounds.proofs.InSet.{StandsInSet, begins_so, first_in_set, round_in_set}
 use Rattle.rounds.proofs.Posted.{missing_from}
 use Rattle.rounds.specs.Gifts.{GiftsWait}
-use Rattle.rounds.specs.Play.{IsRound, all_posted}
+use Rattle.rounds.specs.Play.{Between, IsRound, all_posted}
 use Rattle.rounds.specs.Sequence.{round_after}
 use Rattle.sheets.specs.File.{players_of}
 use Rattle.tables.specs.declared.rolling_stock.Kind.TheVariants.{Two}
 use Rattle.tables.specs.declared.round.Round.{Round}
-use Rattle.tables.specs.declared.round.Round.TheVariants.{Opening}
 use Rattle.rounds.proofs.game.play.Goals as goal
 
 pub loop-alloc-init : goal.loop-alloc-init
 loop-alloc-init c =
+    let reached = begins_so c.args.sheets.now c.start-history.result c.seats.result c.rounds_of_new_set-in_set.result c.start-history.ensures.empty c.seats.ensures.value c.rounds_of_new_set-in_set.ensures in
     record {
       rounds = zero;
-      reached = search rules;
-      in_set = subst (λ (count : ℕ). StandsInSet (Opening 1) count) (sym c.rounds_of_new_set-in_set.ensures) (first_in_set c.args.sheets.now);
+      reached = reached;
+      in_set = subst (λ (there : Between). StandsInSet there.next there.in_set) reached (first_in_set c.args.sheets.now);
       sound = search rules;
       fits = subst GroundFits (sym c.start-history.ensures.empty) (c.nothing_fits.ensures Two);
       gifts = search rules;

@@ -1,0 +1,71 @@
+-- How many trains a company has: all that came to it, less all that went.
+use Rattle.std.proofs.Common.{◌≡◌, ℕ, ◌+◌, Bool, true, false, ◌&&◌, if◌then◌else◌, List, [], ◌∷◌, Option, Some, None, ℤ, pos, ◌-ℤ◌, ◌+ℤ◌, refl, arith}
+use Rattle.std.proofs.lemmas.Int.{ints}
+use Rattle.std.proofs.lemmas.List.Sums.{sum_by-cons}
+use Rattle.history.proofs.AllTrains.{trains_in_front}
+use Rattle.history.specs.Event.{stable_of, train_moved}
+use Rattle.history.specs.LookBack.{balance}
+use Rattle.history.specs.Trains.{any_comes, any_goes, one_if, stable_size, train_comes, train_goes}
+use Rattle.history.specs.declared.event.Event.{Event}
+use Rattle.history.specs.declared.event.TrainMove.{TrainMove}
+use Rattle.tables.specs.Train.{kinds, same_kind}
+use Rattle.tables.specs.declared.rolling_stock.Kind.{Kind}
+use Rattle.tables.specs.declared.rolling_stock.Kind.TheVariants.{Two, Three, Four, Five, Six, Diesel}
+use Rattle.tables.specs.declared.roster.Company.{Company}
+
+-- a train is of one of these kinds
+abbrev of_kinds : Kind → Bool → List Kind → ℕ
+of_kinds of here [] = 0
+of_kinds of here (kind ∷ others) = one_if (same_kind of kind && here) + of_kinds of here others
+
+of_one : (of : Kind) (here : Bool) → of_kinds of here kinds ≡ one_if here
+of_one Two here = omega arith
+of_one Three here = omega arith
+of_one Four here = omega arith
+of_one Five here = omega arith
+of_one Six here = omega arith
+of_one Diesel here = omega arith
+
+-- so a train that comes is one of one kind
+abbrev come_by_kind : Option Company → Option TrainMove → List Kind → ℕ
+come_by_kind owner move [] = 0
+come_by_kind owner move (kind ∷ others) = one_if (train_comes (stable_of owner) kind move) + come_by_kind owner move others
+
+come_once : (owner : Option Company) (move : Option TrainMove) → come_by_kind owner move kinds ≡ one_if (any_comes owner move)
+come_once owner None = refl
+come_once owner (Some move) = of_one move.kind (any_comes owner (Some move))
+
+-- and so is one that goes
+abbrev go_by_kind : Option Company → Option TrainMove → List Kind → ℕ
+go_by_kind owner move [] = 0
+go_by_kind owner move (kind ∷ others) = one_if (train_goes (stable_of owner) kind move) + go_by_kind owner move others
+
+go_once : (owner : Option Company) (move : Option TrainMove) → go_by_kind owner move kinds ≡ one_if (any_goes owner move)
+go_once owner None = refl
+go_once owner (Some move) = of_one move.kind (any_goes owner (Some move))
+
+-- how many there are with an event in front
+size_in_front : (event : Event) (events : List Event) (owner : Option Company) → stable_size (event ∷ events) owner ≡ (stable_size events owner +ℤ pos (one_if (any_comes owner (train_moved event)))) -ℤ pos (one_if (any_goes owner (train_moved event)))
+size_in_front event events owner =
+    omega (
+      arith,
+      ints,
+      trains_in_front event events (stable_of owner) Two,
+      trains_in_front event events (stable_of owner) Three,
+      trains_in_front event events (stable_of owner) Four,
+      trains_in_front event events (stable_of owner) Five,
+      trains_in_front event events (stable_of owner) Six,
+      trains_in_front event events (stable_of owner) Diesel,
+      come_once owner (train_moved event),
+      go_once owner (train_moved event))
+
+-- how many came less how many went, with an event in front
+balance_in_front : (event : Event) (events : List Event) (owner : Option Company) → balance 0 (λ e. one_if (any_comes owner (train_moved e))) (λ e. one_if (any_goes owner (train_moved e))) (event ∷ events) ≡ (balance 0 (λ e. one_if (any_comes owner (train_moved e))) (λ e. one_if (any_goes owner (train_moved e))) events +ℤ pos (one_if (any_comes owner (train_moved event)))) -ℤ pos (one_if (any_goes owner (train_moved event)))
+balance_in_front event events owner =
+    omega (arith, ints, sum_by-cons (λ e. one_if (any_comes owner (train_moved e))) event events, sum_by-cons (λ e. one_if (any_goes owner (train_moved e))) event events)
+
+-- both are the same
+pub size_is : (events : List Event) (owner : Option Company) → balance 0 (λ e. one_if (any_comes owner (train_moved e))) (λ e. one_if (any_goes owner (train_moved e))) events ≡ stable_size events owner
+size_is [] owner = refl
+size_is (event ∷ events) owner =
+    omega (arith, ints, balance_in_front event events owner, size_in_front event events owner, size_is events owner)

@@ -1,0 +1,142 @@
+-- What a company pays out: a game goes on after each dividend, no place has more than ten tenths, and what is paid to
+-- all is paid step by step.
+use Rattle.std.proofs.Common.{◌≡◌, ℕ, zero, suc, ◌+◌, ◌*◌, ◌-◌, ◌/◌, ◌<◌, ◌≤◌, ◌==◌, inl, inr, Bool, true, false, if◌then◌else◌, List, [], ◌∷◌, ◌++◌, map, Option, Some, None, ℤ, pos, negsuc, ◌≤ℤ◌, refl, sym, subst, ap, ◌∙◌, arith}
+use Rattle.std.proofs.Math.Nat.{mul-div-le, mul-le-mul_right}
+use Rattle.std.proofs.lemmas.Bool.{cases_eq}
+use Rattle.std.proofs.lemmas.Int.{ints}
+use Rattle.std.specs.List.{range_with_len}
+use Rattle.history.proofs.Payments.{dividend_sound}
+use Rattle.history.specs.LookBack.{Game, with_event}
+use Rattle.history.specs.Money.{IsParty}
+use Rattle.history.specs.Shares.{held_by, shares_of, square_of}
+use Rattle.history.specs.Sound.{IsSound, TenthsAreHeld}
+use Rattle.history.specs.Tell.{breaks, broken_told}
+use Rattle.history.specs.Trains.{so_many}
+use Rattle.history.specs.declared.event.Event.{Event}
+use Rattle.history.specs.declared.event.Event.TheVariants as event
+use Rattle.history.specs.declared.event.Holder.{Holder}
+use Rattle.history.specs.declared.event.Holder.TheVariants as holder
+use Rattle.history.specs.declared.event.Party.TheVariants as party
+use Rattle.history.specs.declared.event.Shareholder.TheVariants.{InitialOffering, BankPool, Seat as OfSeat}
+use Rattle.market.proofs.Tokens.{move_sound as token_moves}
+use Rattle.market.specs.Moves.{right_of}
+use Rattle.market.specs.Token.{moved_from, same_square, with_move}
+use Rattle.operating.proofs.Fitting.{broken_playable, same_fits}
+use Rattle.operating.specs.Dividend.{all_paid, moved_right, paid_for, paid_out, paid_to, paid_to_seats}
+use Rattle.operating.specs.Ground.{GroundFits, IsPlayable}
+use Rattle.tables.specs.Seat.{all_seats, seat_at}
+use Rattle.tables.specs.declared.roster.Company.{Company}
+use Rattle.tables.specs.declared.seat.Seat.{Seat}
+use Rattle.tables.specs.declared.squares.Square.{Square}
+
+-- seats have no fewer than no tenths together
+held_not_under : (events : List Event) (company : Company) (seats : List Seat) → TenthsAreHeld events → pos 0 ≤ℤ held_by events company seats
+held_not_under events company [] held = omega (arith, ints)
+held_not_under events company (seat ∷ others) held =
+    let here = held company (OfSeat seat) in omega (arith, ints, held_not_under events company others held)
+
+-- one of them has no more than all
+one_of_all : (events : List Event) (company : Company) (seat : Seat) (from count : ℕ) → TenthsAreHeld events → from ≤ seat.0 → seat.0 < from + count → shares_of events company (OfSeat seat) ≤ℤ held_by events company (map seat_at (range_with_len from count))
+one_of_all events company seat from zero held low high = absurd (omega arith)
+one_of_all events company seat from (suc count) held low high =
+    let rest : List Seat = map seat_at (range_with_len (from + 1) count) in
+    elim (cases_eq from seat.0) [
+      | inl same ↦
+          let its : shares_of events company (OfSeat (seat_at from)) ≡ shares_of events company (OfSeat seat) = ap (λ (n : ℕ). shares_of events company (OfSeat (seat_at n))) same in
+          omega (arith, ints, held_not_under events company rest held)
+      | inr apart ↦
+          let here = held company (OfSeat (seat_at from)) in
+          omega (arith, ints, one_of_all events company seat (from + 1) count held (omega arith) (omega arith))
+    ]
+
+-- a seat at the table has at most ten
+pub seat_most : (game : Game) (company : Company) (seat : Seat) → seat.0 < game.seats → IsSound game → shares_of game.events company (OfSeat seat) ≤ℤ pos 10
+seat_most game company seat seated sound =
+    let ten = sound.ten company in
+    let offered = sound.held company InitialOffering in
+    let pooled = sound.held company BankPool in
+    omega (arith, ints, one_of_all game.events company seat 0 game.seats sound.held (omega arith) (omega arith))
+
+-- so has the bank pool
+pub pool_most : (game : Game) (company : Company) → IsSound game → shares_of game.events company BankPool ≤ℤ pos 10
+pool_most game company sound =
+    let ten = sound.ten company in
+    let offered = sound.held company InitialOffering in
+    omega (arith, ints, held_not_under game.events company (all_seats game.seats) sound.held)
+
+-- a game goes on after a dividend
+pub dividend_playable : (game paid new : Game) (company : Company) (to : Holder) (amount : ℕ) → IsParty game.seats (party.Holder to) → paid ≡ with_event game (event.Dividend company to amount) → new ≡ broken_told paid → IsPlayable game → IsPlayable new
+dividend_playable game paid new company to amount of_game is_paid is_new playable =
+    subst IsPlayable (sym (is_new ∙ ap broken_told is_paid))
+    (broken_playable (with_event game (event.Dividend company to amount)) (record {
+      sound = dividend_sound game company to amount of_game playable.sound;
+      ground = same_fits game (event.Dividend company to amount) refl refl playable.ground;
+    }))
+
+-- a dividend that is something is told
+pub dividend_told : (game paid new : Game) (company : Company) (to : Holder) (amount : ℕ) → (amount == 0) ≡ false → paid ≡ with_event game (event.Dividend company to amount) → new ≡ broken_told paid → new ≡ paid_to company to amount game
+dividend_told game paid new company to amount some is_paid is_new =
+    is_new ∙ ap broken_told is_paid
+    ∙ sym (ap (λ (none : Bool). if none then game else broken_told (with_event game (event.Dividend company to amount))) some)
+
+-- a table keeps its seats
+pub paid_seats : (game : Game) (company : Company) (to : Holder) (amount : ℕ) → (paid_to company to amount game).seats ≡ game.seats
+paid_seats game company to amount =
+    elim (amount == 0) as (λ (none : Bool). (if none then game else broken_told (with_event game (event.Dividend company to amount))).seats ≡ game.seats) [ true ↦ refl | false ↦ refl ]
+
+-- where the dividends of the seats that are left lead after the next, they lead before it
+pub seats_go_on : (company : Company) (revenue : ℕ) (old new : Game) (seat : Seat) (i seats : ℕ) → i < seats → seat ≡ seat_at i → new ≡ paid_for company (holder.Seat seat) (OfSeat seat) revenue old → paid_to_seats company revenue new (map seat_at (range_with_len (i + 1) (seats - (i + 1)))) ≡ paid_to_seats company revenue old (map seat_at (range_with_len i (seats - i)))
+seats_go_on company revenue old new seat i seats below is told =
+    let more : seats - i ≡ suc (seats - (i + 1)) = omega arith in
+    ap (λ (game : Game). paid_to_seats company revenue game (map seat_at (range_with_len (i + 1) (seats - (i + 1)))))
+    (told ∙ ap (λ (one : Seat). paid_for company (holder.Seat one) (OfSeat one) revenue old) is)
+    ∙ sym (ap (λ (k : ℕ). paid_to_seats company revenue old (map seat_at (range_with_len i k))) more)
+
+-- after the last seat the company is paid
+pub all_are_paid : (company : Company) (revenue : ℕ) (old paid new : Game) (i seats : ℕ) → old.seats ≡ seats → seats ≤ i → paid_to_seats company revenue paid (map seat_at (range_with_len i (seats - i))) ≡ paid_to_seats company revenue old (all_seats seats) → new ≡ paid_for company (holder.Company company) BankPool revenue paid → new ≡ all_paid company revenue old
+all_are_paid company revenue old paid new i seats same over leads told =
+    let none : seats - i ≡ 0 = omega arith in
+    told
+    ∙ ap (λ (game : Game). paid_for company (holder.Company company) BankPool revenue game)
+    (sym (ap (λ (k : ℕ). paid_to_seats company revenue paid (map seat_at (range_with_len i k))) none)
+    ∙ leads
+    ∙ sym (ap (λ (k : ℕ). paid_to_seats company revenue old (all_seats k)) same))
+
+-- what lies fits once a company's token has moved right on the chart
+right_fits : (game : Game) (company : Company) → GroundFits game → GroundFits (moved_right game company)
+right_fits game company fits =
+    elim (square_of game.events company) as (λ (found : Option Square). GroundFits (record { seats = game.seats; events = moved_from right_of game.events company found })) [
+      | None ↦ fits
+      | Some square ↦
+          elim (same_square (right_of square) square) as (λ (b : Bool). GroundFits (record { seats = game.seats; events = if b then game.events else game.events ++ event.Moves company (right_of square) ∷ [] })) [
+            | true ↦ fits
+            | false ↦ same_fits game (event.Moves company (right_of square)) refl refl fits
+          ]
+    ]
+
+-- what paying out brings, step by step
+pub paid_out_steps : (game paid new : Game) (company : Company) (revenue : ℕ) → paid ≡ all_paid company revenue game → new.seats ≡ paid.seats → new.events ≡ with_move right_of paid.events company → new ≡ paid_out game company revenue
+paid_out_steps game paid new company revenue is_paid seats events =
+    let made : ℕ → List Event → Game = λ seats events. record { seats = seats; events = events } in
+    ap (λ (n : ℕ). made n new.events) seats
+    ∙ ap (made paid.seats) events
+    ∙ ap (λ (game : Game). moved_right game company) is_paid
+
+-- and a game goes on after it
+pub paid_out_playable : (paid new : Game) (company : Company) → new.seats ≡ paid.seats → new.events ≡ with_move right_of paid.events company → IsPlayable paid → IsPlayable new
+paid_out_playable paid new company seats events playable =
+    let made : ℕ → List Event → Game = λ seats events. record { seats = seats; events = events } in
+    let is : new ≡ moved_right paid company = ap (λ (n : ℕ). made n new.events) seats ∙ ap (made paid.seats) events in
+    record {
+      sound = token_moves right_of paid new company seats events playable.sound;
+      ground = subst GroundFits (sym is) (right_fits paid company playable.ground);
+    }
+
+-- so many tenths of a revenue are a small sum
+few_tenths : (tenths : ℤ) → tenths ≤ℤ pos 10 → so_many tenths ≤ 10
+few_tenths (pos n) few = omega (arith, ints)
+few_tenths (negsuc n) few = omega arith
+
+pub dividend_low : (tenths : ℤ) (revenue : ℕ) → tenths ≤ℤ pos 10 → revenue ≤ 100000 → so_many tenths * (revenue / 10) ≤ 100000
+dividend_low tenths revenue few small =
+    omega (arith, mul-le-mul_right (revenue / 10) (few_tenths tenths few), mul-div-le revenue 10)

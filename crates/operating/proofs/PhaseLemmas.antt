@@ -1,0 +1,107 @@
+-- The game can be played on after what a phase brings: a train rusts or is discarded that is there.
+use Rattle.std.proofs.Common.{◌≡◌, ℕ, ◌+◌, ◌<◌, inl, inr, Bool, true, false, if◌then◌else◌, List, [], ◌∷◌, ◌++◌, Option, Some, None, ℤ, pos, negsuc, ◌≤ℤ◌, ◌-ℤ◌, ◌+ℤ◌, refl, sym, ap, subst, ◌∙◌, arith}
+use Rattle.std.proofs.lemmas.Int.{ints}
+use Rattle.std.specs.Int.Signed.{lt_z}
+use Rattle.std.specs.Option.{option_or}
+use Rattle.history.proofs.EventAtEnd.{trains_at_end}
+use Rattle.history.proofs.TrainActs.{discard_sound, phase_sound, rusting_sound}
+use Rattle.history.specs.Event.{stable_of, train_moved}
+use Rattle.history.specs.LookBack.{Game, with_event}
+use Rattle.history.specs.Trains.{one_if, so_many, train_comes, train_goes, trains_held}
+use Rattle.history.specs.declared.event.Event.{Event}
+use Rattle.history.specs.declared.event.Event.TheVariants as event
+use Rattle.operating.proofs.Fitting.{same_fits}
+use Rattle.operating.specs.Discards.{first_held, has_train, next_discard}
+use Rattle.operating.specs.Ground.{IsPlayable}
+use Rattle.operating.specs.Phases.{with_discarded, with_next_discarded, with_one_rusted}
+use Rattle.tables.specs.Roster.{same_company}
+use Rattle.tables.specs.Train.{kinds, same_kind}
+use Rattle.tables.specs.declared.rolling_stock.Kind.{Kind}
+use Rattle.tables.specs.declared.rolling_stock.Kind.TheVariants.{Two, Three, Four, Five, Six, Diesel}
+use Rattle.tables.specs.declared.roster.Company.{Company}
+use Rattle.tables.specs.declared.roster.Company.TheVariants.{Pennsylvania, NewYorkCentral, CanadianPacific, BaltimoreOhio, ChesapeakeOhio, Erie, NewHaven, BostonMaine}
+
+-- a phase that begins
+pub phase_playable : (game : Game) (kind : Kind) → IsPlayable game → IsPlayable (with_event game (event.Phase kind))
+phase_playable game kind playable =
+    record { sound = phase_sound game kind playable.sound; ground = same_fits game (event.Phase kind) refl refl playable.ground }
+
+-- a train that rusts leaves its place
+leaves : (owner : Option Company) (kind : Kind) → train_goes (stable_of owner) kind (train_moved (event.Rusted owner kind)) ≡ true
+leaves None Two = refl
+leaves None Three = refl
+leaves None Four = refl
+leaves None Five = refl
+leaves None Six = refl
+leaves None Diesel = refl
+leaves (Some company) kind = leaves_company company kind
+
+leaves_company : (company : Company) (kind : Kind) → train_goes (stable_of (Some company)) kind (train_moved (event.Rusted (Some company) kind)) ≡ true
+leaves_company company kind = grind arith
+
+-- and comes to no other that is in play
+comes_nowhere : (owner : Option Company) (kind : Kind) → train_comes (stable_of owner) kind (train_moved (event.Rusted owner kind)) ≡ false
+comes_nowhere None kind = grind arith
+comes_nowhere (Some company) kind = grind arith
+
+-- so there is one less
+one_less : (events : List Event) (owner : Option Company) (kind : Kind) → trains_held (events ++ event.Rusted owner kind ∷ []) owner kind ≡ trains_held events owner kind -ℤ pos 1
+one_less events owner kind =
+    omega (arith, ints, trains_at_end events (event.Rusted owner kind) (stable_of owner) kind, ap one_if (leaves owner kind), ap one_if (comes_nowhere owner kind))
+
+-- fewer than so many
+below_many : (count : ℤ) (i : ℕ) → i < so_many count → pos (i + 1) ≤ℤ count
+below_many (pos n) i below = omega (arith, ints)
+below_many (negsuc n) i below = absurd (omega arith)
+
+-- some have rusted, and the others are left
+pub record HaveRusted (owner : Option Company) (kind : Kind) (rusted : ℕ) (before now : Game) : Type 0 where
+  pub left : pos rusted +ℤ trains_held now.events owner kind ≡ trains_held before.events owner kind
+  pub playable : IsPlayable now
+
+-- none yet
+pub none_rusted : (owner : Option Company) (kind : Kind) (game : Game) → IsPlayable game → HaveRusted owner kind 0 game game
+none_rusted owner kind game playable = record { left = omega (arith, ints); playable = playable }
+
+-- one more
+pub one_rusts : (owner : Option Company) (kind : Kind) (rusted : ℕ) (before now new : Game) → rusted < so_many (trains_held before.events owner kind) → new ≡ with_one_rusted owner kind now → HaveRusted owner kind rusted before now → HaveRusted owner kind (rusted + 1) before new
+one_rusts owner kind rusted before now new below is so_far =
+    subst (HaveRusted owner kind (rusted + 1) before) (sym is)
+    (let some = below_many (trains_held before.events owner kind) rusted below in
+    let left = so_far.left in
+    let here : pos 1 ≤ℤ trains_held now.events owner kind = omega (arith, ints) in
+    record {
+      left = omega (arith, ints, one_less now.events owner kind);
+      playable = record {
+        sound = rusting_sound now owner kind here so_far.playable.sound;
+        ground = same_fits now (event.Rusted owner kind) refl refl so_far.playable.ground;
+      };
+    })
+
+-- the first of which there is a train is one of which there is a train
+first_has : (events : List Event) (company : Company) (some : List Kind) (kind : Kind) → first_held events company some ≡ Some kind → has_train events company kind ≡ true
+first_has events company [] kind first = absurd (cc)
+first_has events company (one ∷ others) kind first =
+    elim (has_train events company one) as (λ (b : Bool). has_train events company one ≡ b → (if b then Some one else first_held events company others) ≡ Some kind → has_train events company kind ≡ true) [
+      | true ↦ λ has is. let same : one ≡ kind = cc in subst (λ (k : Kind). has_train events company k ≡ true) same has
+      | false ↦ λ none is. first_has events company others kind is
+    ]
+    refl first
+
+-- so is the first of either list
+first_of_either : (events : List Event) (company : Company) (some others : List Kind) (kind : Kind) → option_or (first_held events company some) (first_held events company others) ≡ Some kind → has_train events company kind ≡ true
+first_of_either events company some others kind first =
+    elim (first_held events company some) as (λ (found : Option Kind). first_held events company some ≡ found → option_or found (first_held events company others) ≡ Some kind → has_train events company kind ≡ true) [
+      | None ↦ λ none is. first_has events company others kind is
+      | Some one ↦ λ named is. first_has events company some kind (named ∙ is)
+    ]
+    refl first
+
+-- a train that is discarded is the company's
+pub discarded_playable : (game : Game) (company : Company) (kind : Kind) → next_discard game.events company ≡ Some kind → IsPlayable game → IsPlayable (with_event game (event.Discarded company kind))
+discarded_playable game company kind next playable =
+    let has = first_of_either game.events company _ kinds kind next in
+    record {
+      sound = discard_sound game company kind (grind (arith, ints, has)) playable.sound;
+      ground = same_fits game (event.Discarded company kind) refl refl playable.ground;
+    }

@@ -1,0 +1,99 @@
+-- The rules of the purchase of a train say the same after a ruling.
+use Rattle.std.proofs.Common.{◌≡◌, ℕ, ◌+◌, Bool, not, nat_lt, ◌||◌, ◌&&◌, cond, List, [], ◌∷◌, ◌++◌, Option, Some, None, ℤ, pos, ◌-ℤ◌, ◌+ℤ◌, unwrap_or, refl, sym, ap, ◌∙◌, arith}
+use Rattle.std.proofs.lemmas.List.Sums.{sum_by-append}
+use Rattle.std.specs.Int.Signed.{lt_z}
+use Rattle.history.proofs.EventAtEnd.{balance_before, cash_of_before, last_said_before}
+use Rattle.history.specs.Event.{party_of_company, phase_set, stable_of, train_moved}
+use Rattle.history.specs.LookBack.{Game, cash_of, with_event}
+use Rattle.history.specs.Trains.{one_if, phase_of, stable_size, train_comes, train_goes, trains_held, trains_of_kinds, trains_sold}
+use Rattle.history.specs.declared.event.Event.{Event}
+use Rattle.history.specs.declared.event.Event.TheVariants.{Ruled}
+use Rattle.history.specs.declared.event.TrainPlace.TheVariants as train_place
+use Rattle.history.specs.declared.event.TrainSeller.{TrainSeller}
+use Rattle.history.specs.declared.event.TrainSeller.TheVariants as seller
+use Rattle.history.specs.declared.ruling.Ruling.{Ruling}
+use Rattle.history.specs.declared.ruling.TrainRule.{TrainRule}
+use Rattle.history.specs.declared.ruling.TrainRule.TheVariants.{NotOnSale, TrainLimit, CashTooSmall, NoTradeIn}
+use Rattle.operating.specs.Trains.{are_left, first_left, first_left_of, is_full, is_kind, is_left, is_no_trade_in, is_on_sale, is_too_dear, may_be_traded, may_trade, numbered_kinds, price_of_train, sells, sells_diesels, traded_count, train_judgement}
+use Rattle.operating.specs.declared.purchase.Purchase.{Purchase}
+use Rattle.tables.specs.Rules.{Rule, first_broken}
+use Rattle.tables.specs.Train.{kinds, limit_of, same_kind, trains_of as manifest_of}
+use Rattle.tables.specs.declared.rolling_stock.Kind.{Kind}
+use Rattle.tables.specs.declared.rolling_stock.Kind.TheVariants.{Two, Six, Diesel}
+use Rattle.tables.specs.declared.roster.Company.{Company}
+use Rattle.tables.specs.declared.seat.Seat.{Seat}
+
+module _ (events : List Event) (seat : Seat) (number : ℕ) (ruling : Ruling) where
+  -- the list with the ruling
+  abbrev after : List Event
+  after = events ++ Ruled seat number ruling ∷ []
+
+  -- as many trains of a kind are sold
+  same_sold : (kind : Kind) → trains_sold after kind ≡ trains_sold events kind
+  same_sold kind =
+      let goes : Event → ℕ = λ (event : Event). cond (train_goes train_place.Bank kind (train_moved event)) 1 0 in
+      let sum : trains_sold after kind ≡ trains_sold events kind + 0 = sum_by-append goes events (Ruled seat number ruling ∷ []) in
+      omega (arith, sum)
+
+  -- as many lie with a company, or the pool
+  same_held : (owner : Option Company) (kind : Kind) → trains_held after owner kind ≡ trains_held events owner kind
+  same_held owner kind =
+      balance_before 0 (λ event. one_if (train_comes (stable_of owner) kind (train_moved event))) (λ event. one_if (train_goes (stable_of owner) kind (train_moved event))) events (Ruled seat number ruling) refl refl
+
+  -- of all kinds together
+  same_kinds : (owner : Option Company) (some : List Kind) → trains_of_kinds after owner some ≡ trains_of_kinds events owner some
+  same_kinds owner [] = refl
+  same_kinds owner (kind ∷ others) =
+      ap (λ (n : ℤ). n +ℤ trains_of_kinds after owner others) (same_held owner kind)
+      ∙ ap (λ (n : ℤ). trains_held events owner kind +ℤ n) (same_kinds owner others)
+
+  -- the phase is the same
+  phase_stays : phase_of after ≡ phase_of events
+  phase_stays =
+      ap (λ (said : Option Kind). unwrap_or said Two) (last_said_before phase_set after events (Ruled seat number ruling) refl refl)
+
+  -- the same kinds are left
+  same_left : (kind : Kind) → is_left after kind ≡ is_left events kind
+  same_left kind = ap (are_left (manifest_of kind).number) (same_sold kind)
+
+  same_first : (some : List Kind) → first_left_of after some ≡ first_left_of events some
+  same_first [] = refl
+  same_first (kind ∷ others) =
+      ap (λ (b : Bool). cond b (Some kind) (first_left_of after others)) (same_left kind)
+      ∙ ap (λ (found : Option Kind). cond (is_left events kind) (Some kind) found) (same_first others)
+
+  -- the same is on sale
+  same_sale : (from : TrainSeller) (kind : Kind) → is_on_sale after from kind ≡ is_on_sale events from kind
+  same_sale seller.Bank kind =
+      ap (λ (found : Option Kind). is_kind found kind || (same_kind kind Diesel && sells_diesels after)) (same_first numbered_kinds)
+      ∙ ap (λ (sold : ℕ). is_kind (first_left events) kind || (same_kind kind Diesel && nat_lt 0 sold)) (same_sold Six)
+  same_sale seller.BankPool kind = ap (lt_z (pos 0)) (same_held None kind)
+
+  -- the same is full
+  same_full : (company : Company) (trade_in : Option Kind) → is_full after company trade_in ≡ is_full events company trade_in
+  same_full company trade_in =
+      ap (λ (size : ℤ). not (lt_z (size -ℤ pos (traded_count trade_in)) (pos (limit_of (phase_of after))))) (same_kinds (Some company) kinds)
+      ∙ ap (λ (phase : Kind). not (lt_z (stable_size events (Some company) -ℤ pos (traded_count trade_in)) (pos (limit_of phase)))) phase_stays
+
+  -- the same may be traded in
+  same_trade : (company : Company) (kind : Kind) (trade_in : Option Kind) → is_no_trade_in after company kind trade_in ≡ is_no_trade_in events company kind trade_in
+  same_trade company kind None = refl
+  same_trade company kind (Some trade_in) =
+      ap (λ (held : ℤ). not (same_kind kind Diesel && (may_be_traded trade_in && lt_z (pos 0) held))) (same_held (Some company) trade_in)
+
+-- a table of the rules of a purchase
+abbrev table_of : Bool → Bool → Bool → Bool → Option TrainRule
+table_of sale full dear trade =
+    first_broken
+    (record { code = NotOnSale; broken = not sale } ∷ record { code = TrainLimit; broken = full } ∷ record { code = CashTooSmall; broken = dear } ∷ record { code = NoTradeIn; broken = trade } ∷ [])
+
+-- the rules say the same
+pub same_judgement : (game ruled : Game) (seat : Seat) (number : ℕ) (ruling : Ruling) (company : Company) (purchase : Purchase) → ruled ≡ with_event game (Ruled seat number ruling) → train_judgement ruled company purchase ≡ train_judgement game company purchase
+same_judgement game ruled seat number ruling company purchase is =
+    let events = game.events in
+    let after = with_event game (Ruled seat number ruling) in
+    ap (λ (g : Game). train_judgement g company purchase) is
+    ∙ ap (λ (sale : Bool). table_of sale (is_full after.events company purchase.trade_in) (is_too_dear after company purchase) (is_no_trade_in after.events company purchase.kind purchase.trade_in)) (same_sale events seat number ruling purchase.from purchase.kind)
+    ∙ ap (λ (full : Bool). table_of (is_on_sale events purchase.from purchase.kind) full (is_too_dear after company purchase) (is_no_trade_in after.events company purchase.kind purchase.trade_in)) (same_full events seat number ruling company purchase.trade_in)
+    ∙ ap (λ (cash : ℤ). table_of (is_on_sale events purchase.from purchase.kind) (is_full events company purchase.trade_in) (lt_z cash (pos (price_of_train purchase.kind purchase.trade_in))) (is_no_trade_in after.events company purchase.kind purchase.trade_in)) (cash_of_before game.seats events (Ruled seat number ruling) (party_of_company company) refl)
+    ∙ ap (λ (trade : Bool). table_of (is_on_sale events purchase.from purchase.kind) (is_full events company purchase.trade_in) (is_too_dear game company purchase) trade) (same_trade events seat number ruling company purchase.kind purchase.trade_in)

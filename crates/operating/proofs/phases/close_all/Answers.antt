@@ -1,0 +1,11 @@
+use Rattle.operating.proofs.Folding.{fold_goes_on}
+use Rattle.operating.specs.Phases.{with_closed}
+use Rattle.operating.proofs.phases.close_all.Goals as goal
+use Rattle.tables.specs.Roster.{privates}
+
+pub loop-private-preserved : goal.loop-private-preserved
+loop-private-preserved c =
+    record {
+      so_far = fold_goes_on with_closed c.args.history.now c.loop-private.history c.close.new.history privates c.loop-private.private-index _ c.loop-private-test.true c.loop-private.invariant.so_far c.in_ok-close.ensures.after;
+      playable = c.in_ok-close.ensures.playable;
+    }

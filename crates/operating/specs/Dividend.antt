@@ -1,0 +1,113 @@
+-- What becomes of what the trains of a company earned in its turn. Where it pays, the bank pays each seat a tenth
+-- of the revenue for each tenth of the company that the seat holds, seat by seat, and then the company as much for
+-- those of the bank pool; those of the initial offering are paid nothing. Its token on the chart moves right. Where
+-- it withholds, the bank pays the company all of it, and its token moves left. Either needs a turn that is not past
+-- its pay, and to pay, a revenue over 0; the turn is then past it.
+use Rattle.std.specs.Prelude.{◌≡◌, ◌≤◌, ℕ, ◌==◌, ◌*◌, ◌/◌, Bool, ◌||◌, nat_lt, if◌then◌else◌, List, [], ◌∷◌, Option, Some, None, pos, ◌-ℤ◌, ◌≤ℤ◌}
+use Rattle.board.specs.Turn.{place_of_step}
+use Rattle.board.specs.declared.asker.TurnStep.TheVariants as step
+use Rattle.history.specs.LookBack.{Game, cash_of, with_event}
+use Rattle.history.specs.Shares.{shares_of}
+use Rattle.history.specs.Sound.{IsSound}
+use Rattle.history.specs.Tell.{broken_told}
+use Rattle.history.specs.Trains.{so_many}
+use Rattle.history.specs.declared.event.Event.{Event}
+use Rattle.history.specs.declared.event.Event.TheVariants as event
+use Rattle.history.specs.declared.event.Holder.{Holder}
+use Rattle.history.specs.declared.event.Holder.TheVariants as holder
+use Rattle.history.specs.declared.event.Party.TheVariants as party
+use Rattle.history.specs.declared.event.Shareholder.{Shareholder}
+use Rattle.history.specs.declared.event.Shareholder.TheVariants as place
+use Rattle.history.specs.declared.ruling.PayRule.{PayRule}
+use Rattle.history.specs.declared.ruling.PayRule.TheVariants.{NothingToPay}
+use Rattle.history.specs.declared.ruling.Refusal.TheVariants as refusal
+use Rattle.history.specs.declared.ruling.Ruling.TheVariants.{Obeyed, Refused}
+use Rattle.market.specs.Moves.{right_of}
+use Rattle.market.specs.Token.{with_move}
+use Rattle.operating.specs.Act.{withheld}
+use Rattle.operating.specs.InTurn.{InTurn, in_turn, pay_done, told}
+use Rattle.operating.specs.declared.operator.Operator.{Operator}
+use Rattle.operating.specs.declared.progress.Progress.{Progress}
+use Rattle.order_grammar.specs.declared.order.Order.{Order}
+use Rattle.tables.specs.Roster.{companies}
+use Rattle.tables.specs.Rules.{Rule, first_broken}
+use Rattle.tables.specs.Seat.{all_seats}
+use Rattle.tables.specs.declared.roster.Company.{Company}
+use Rattle.tables.specs.declared.seat.Seat.{Seat}
+
+-- what each tenth of a company is paid of a revenue
+abbrev pub per_tenth : ℕ → ℕ
+per_tenth revenue = revenue / 10
+
+-- what the tenths of a company at a place are paid
+abbrev pub dividend_of : List Event → Company → Shareholder → ℕ → ℕ
+dividend_of events company place revenue = so_many (shares_of events company place) * per_tenth revenue
+
+-- after a dividend of the bank to a holder, if it is over 0; perhaps that breaks the bank
+abbrev pub paid_to : Company → Holder → ℕ → Game → Game
+paid_to company holder amount game =
+    if amount == 0 then game else broken_told (with_event game (event.Dividend company holder amount))
+
+-- after the dividend for the tenths at a place goes to a holder
+abbrev pub paid_for : Company → Holder → Shareholder → ℕ → Game → Game
+paid_for company holder place revenue game =
+    paid_to company holder (dividend_of game.events company place revenue) game
+
+-- after some seats are paid, in order
+abbrev pub paid_to_seats : Company → ℕ → Game → List Seat → Game
+paid_to_seats company revenue game [] = game
+paid_to_seats company revenue game (seat ∷ others) =
+    paid_to_seats company revenue (paid_for company (holder.Seat seat) (place.Seat seat) revenue game) others
+
+-- after all are paid
+abbrev pub all_paid : Company → ℕ → Game → Game
+all_paid company revenue game =
+    paid_for company (holder.Company company) place.BankPool revenue
+    (paid_to_seats company revenue game (all_seats game.seats))
+
+-- with the token of a company moved right on the chart
+abbrev pub moved_right : Game → Company → Game
+moved_right game company = record { seats = game.seats; events = with_move right_of game.events company }
+
+-- after the company has paid
+abbrev pub paid_out : Game → Company → ℕ → Game
+paid_out game company revenue = moved_right (all_paid company revenue game) company
+
+-- the turn is past its pay
+abbrev pub is_past_pay : Progress → Bool
+is_past_pay progress = nat_lt (place_of_step step.Pay) (place_of_step progress.pointer)
+
+abbrev rule : PayRule → Bool → Rule PayRule
+rule code broken = record { code = code; broken = broken }
+
+-- the rule that PAY breaks, if it breaks it
+abbrev pub pay_judgement : Progress → Option PayRule
+pay_judgement progress = first_broken (rule NothingToPay (is_past_pay progress || (progress.runs.revenue == 0)) ∷ [])
+
+-- and the rule that WITHHOLD breaks
+abbrev pub withhold_judgement : Progress → Option PayRule
+withhold_judgement progress = first_broken (rule NothingToPay (is_past_pay progress) ∷ [])
+
+-- after the line with this number, where this rule refuses its order, if one does; else the game is as given
+abbrev pub pay_ruled : Operator → InTurn → ℕ → Order → Option PayRule → (Game → Game) → InTurn
+pay_ruled by turn number order (Some rule) after = told by turn number (Refused (refusal.Pay rule) order)
+pay_ruled by turn number order None after =
+    in_turn (after (told by turn number (Obeyed order)).game) (pay_done turn.progress)
+
+-- after an order to pay in the line with this number
+abbrev pub after_pay : Operator → InTurn → ℕ → Order → InTurn
+after_pay by turn number order =
+    pay_ruled by turn number order (pay_judgement turn.progress)
+    (λ game. paid_out game by.company turn.progress.runs.revenue)
+
+-- after an order to withhold
+abbrev pub after_withhold : Operator → InTurn → ℕ → Order → InTurn
+after_withhold by turn number order =
+    pay_ruled by turn number order (withhold_judgement turn.progress)
+    (λ game. withheld game by.company turn.progress.runs.revenue)
+
+-- in a sound list the bank pays at most the revenue
+abbrev pub NoMoreIsPaid : Type 0
+NoMoreIsPaid =
+    (game : Game) (company : Company) (revenue : ℕ) →
+    IsSound game → (cash_of game.seats game.events party.Bank -ℤ pos revenue) ≤ℤ cash_of game.seats (all_paid company revenue game).events party.Bank

@@ -1,0 +1,48 @@
+-- In a company's turn: the game so far, how far the turn has come, and what its trains have done. The steps of the
+-- turn are lay, token, run, pay and trains, and a pointer goes over them.
+use Rattle.std.specs.Prelude.{ℕ, Bool, true, false, nat_lt, List, replicate, pos}
+use Rattle.board.specs.Turn.{place_of_step}
+use Rattle.board.specs.declared.asker.TurnStep.TheVariants as step
+use Rattle.history.specs.LookBack.{Game, with_event}
+use Rattle.history.specs.declared.event.Event.TheVariants as event
+use Rattle.history.specs.declared.ruling.Ruling.{Ruling}
+use Rattle.operating.specs.declared.operator.Operator.{Operator}
+use Rattle.operating.specs.declared.progress.Progress.{Progress}
+use Rattle.operating.specs.declared.runs.Runs.{Runs}
+
+-- no train has run, and no border is used
+abbrev pub no_runs : Runs
+no_runs = record { trains = replicate 6 (pos 0); borders = replicate 279 false; revenue = 0 }
+
+-- how far a turn has come that has just begun
+abbrev pub at_start : Progress
+at_start = record { pointer = step.Lay; lay_used = false; runs = no_runs }
+
+-- once a tile is laid
+abbrev pub lay_done : Progress → Progress
+lay_done progress = record progress { lay_used = true }
+
+-- once a token is placed
+abbrev pub token_done : Progress → Progress
+token_done progress = record progress { pointer = step.Run }
+
+-- once the company has paid or withheld
+abbrev pub pay_done : Progress → Progress
+pay_done progress = record progress { pointer = step.Trains }
+
+-- the turn is not past its pay
+abbrev pub is_unpaid : Progress → Bool
+is_unpaid progress = nat_lt (place_of_step progress.pointer) (place_of_step step.Trains)
+
+-- in a turn: the game so far, and how far the turn has come
+pub record InTurn : Type 0 where
+  pub game : Game
+  pub progress : Progress
+
+-- in a turn with this game, which has come so far
+abbrev pub in_turn : Game → Progress → InTurn
+in_turn game progress = record { game = game; progress = progress }
+
+-- after the ruling of the line with this number
+abbrev pub told : Operator → InTurn → ℕ → Ruling → InTurn
+told by turn number ruling = in_turn (with_event turn.game (event.Ruled by.president number ruling)) turn.progress

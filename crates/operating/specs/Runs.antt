@@ -1,0 +1,134 @@
+-- The runs of a company's turn. A RUN needs the step of runs or one before it, a train of its kind that has not run
+-- in the turn, and a run that breaks no rule of runs, by what lies and by the borders that the runs before it have
+-- used. It then earns what its stops are worth; the train has run, its borders are used, and the turn is past its
+-- token. What all runs earn is the revenue of the turn.
+use Rattle.std.specs.Prelude.{◌≡◌, ℕ, ◌+◌, ◌*◌, ◌≤◌, ◌^◌, Bool, nat_lt, List, [], ◌∷◌, Option, Some, None, option_map, Result, Ok, Err, ℤ, pos, ◌+ℤ◌, ◌≤ℤ◌, slice_index_or, slice_set}
+use Rattle.std.specs.Option.{option_or}
+use lib.Signed.{le_z}
+use Rattle.board.specs.Ground.{position_of}
+use Rattle.board.specs.Turn.{place_of_step}
+use Rattle.board.specs.declared.asker.TurnStep.TheVariants as step
+use Rattle.certificate.specs.Fault.{marked, named_steps, run_fault}
+use Rattle.certificate.specs.Legal.{IsLegalRun, crossed, earned}
+use Rattle.certificate.specs.Law.{unused}
+use Rattle.certificate.specs.declared.run_fault.RunFault.{RunFault}
+use Rattle.certificate.specs.declared.run_fault.RunFault.TheVariants as fault
+use Rattle.history.specs.LookBack.{Game, with_event}
+use Rattle.history.specs.Trains.{trains_held}
+use Rattle.history.specs.declared.event.Event.{Event}
+use Rattle.history.specs.declared.event.Event.TheVariants as event
+use Rattle.history.specs.declared.ruling.Refusal.TheVariants as refusal
+use Rattle.history.specs.declared.ruling.Ruling.TheVariants.{Obeyed, Refused}
+use Rattle.history.specs.declared.ruling.RunRule.{RunRule}
+use Rattle.history.specs.declared.ruling.RunRule.TheVariants as run_rule
+use Rattle.map_tables.specs.declared.place.Place.{Place}
+use Rattle.operating.specs.Ground.{ground_now}
+use Rattle.operating.specs.InTurn.{InTurn, in_turn, told}
+use Rattle.operating.specs.declared.operator.Operator.{Operator}
+use Rattle.operating.specs.declared.progress.Progress.{Progress}
+use Rattle.operating.specs.declared.runs.Ran.{Ran}
+use Rattle.operating.specs.declared.runs.Runs.{Runs}
+use Rattle.order_grammar.specs.declared.order.Order.{Order}
+use Rattle.reach.specs.Position.{Position}
+use Rattle.reach.specs.declared.walk.Step.{Step}
+use Rattle.tables.specs.Rules.{Rule, first_broken}
+use Rattle.tables.specs.Train.{place_of_kind}
+use Rattle.tables.specs.declared.rolling_stock.Kind.{Kind}
+use Rattle.tables.specs.declared.roster.Company.{Company}
+
+-- the position of the map now
+abbrev pub position_now : List Event → Position
+position_now events = position_of (ground_now events)
+
+-- the walk that some places name now
+abbrev pub steps_now : List Event → List Place → List Step
+steps_now events run = named_steps (position_now events) run
+
+-- how many trains of a kind have run in the turn
+abbrev pub has_run : Runs → Kind → ℤ
+has_run runs kind = slice_index_or runs.trains (place_of_kind kind) (pos 0)
+
+-- the turn is past its runs
+abbrev pub is_past_runs : Progress → Bool
+is_past_runs progress = nat_lt (place_of_step step.Run) (place_of_step progress.pointer)
+
+-- each train of the kind that the company has, if any, has run
+abbrev pub have_all_run : Game → Company → Progress → Kind → Bool
+have_all_run game company progress kind = le_z (trains_held game.events (Some company) kind) (has_run progress.runs kind)
+
+abbrev rule : RunRule → Bool → Rule RunRule
+rule code broken = record { code = code; broken = broken }
+
+-- the rules of the turn
+abbrev pub rules_of_turn : Game → Company → Progress → Kind → List (Rule RunRule)
+rules_of_turn game company progress kind =
+    rule run_rule.StepUsed (is_past_runs progress) ∷ rule run_rule.NoTrain (have_all_run game company progress kind) ∷ []
+
+-- the rule that a refused run broke
+abbrev pub rule_of_run : RunFault → RunRule
+rule_of_run fault.NoTrack = run_rule.NoTrack
+rule_of_run fault.WrongNumber = run_rule.WrongNumber
+rule_of_run fault.StopTwice = run_rule.StopTwice
+rule_of_run fault.BorderTwice = run_rule.BorderTwice
+rule_of_run fault.PassesFull = run_rule.PassesFull
+rule_of_run fault.NoToken = run_rule.NoToken
+rule_of_run fault.RedInside = run_rule.RedInside
+
+-- the first rule that a run of a train of a kind breaks: those of the turn stand before those of runs
+abbrev pub run_judgement : InTurn → Company → Kind → List Place → Option RunRule
+run_judgement turn company kind run =
+    option_or (first_broken (rules_of_turn turn.game company turn.progress kind))
+    (option_map rule_of_run (run_fault (position_now turn.game.events) company kind turn.progress.runs.borders run))
+
+-- what a run does: what it earns, and the borders that are used once it is run
+abbrev pub ran_by : InTurn → Kind → List Place → Ran
+ran_by turn kind run = record {
+  kind = kind;
+  earned = earned (position_now turn.game.events) (steps_now turn.game.events run);
+  borders = marked turn.progress.runs.borders (crossed (steps_now turn.game.events run));
+}
+
+-- a run that breaks this rule, if it breaks one, and else does this
+abbrev pub ran_unless : Ran → Option RunRule → Result Ran RunRule
+ran_unless ran None = Ok ran
+ran_unless ran (Some rule) = Err rule
+
+-- what a run of a train of a kind does, or the first rule that it breaks
+abbrev pub judged_run : InTurn → Company → Kind → List Place → Result Ran RunRule
+judged_run turn company kind run = ran_unless (ran_by turn kind run) (run_judgement turn company kind run)
+
+-- once a train has run
+abbrev pub with_ran : Runs → Ran → Runs
+with_ran runs ran = record {
+  trains = slice_set runs.trains (place_of_kind ran.kind) (has_run runs ran.kind +ℤ pos 1);
+  borders = ran.borders;
+  revenue = runs.revenue + ran.earned;
+}
+
+-- how far the turn has come then
+abbrev pub run_done : Progress → Ran → Progress
+run_done progress ran = record progress { pointer = step.Run; runs = with_ran progress.runs ran }
+
+-- a train may still do this: few of its kind have run, and it earns at most 160 dollars for each border that it
+-- uses, so that it earns little
+pub record IsCounted (runs : Runs) (ran : Ran) : Type 0 where
+  pub few : has_run runs ran.kind ≤ℤ pos (2 ^ 100)
+  pub bounded : ran.earned + 160 * unused ran.borders ≤ 160 * unused runs.borders
+  pub small : ran.earned ≤ 44640
+
+-- after the order of the line with this number, by which a train has run or which broke a rule
+abbrev pub run_ruled : Operator → InTurn → ℕ → Order → Result Ran RunRule → InTurn
+run_ruled by turn number order (Err rule) = told by turn number (Refused (refusal.Run rule) order)
+run_ruled by turn number order (Ok ran) =
+    in_turn (with_event (told by turn number (Obeyed order)).game (event.Runs by.company ran.earned)) (run_done turn.progress ran)
+
+-- after an order in the line with this number that a train of a kind runs
+abbrev pub after_run : Operator → InTurn → ℕ → Order → Kind → List Place → InTurn
+after_run by turn number order kind run = run_ruled by turn number order (judged_run turn by.company kind run)
+
+-- a run that is obeyed is legal: it shares no border with the runs before it in the turn
+abbrev pub ObeyedRunsAreLegal : Type 0
+ObeyedRunsAreLegal =
+    (turn : InTurn) (company : Company) (kind : Kind) (run : List Place) (ran : Ran) →
+    judged_run turn company kind run ≡ Ok ran →
+    IsLegalRun (position_now turn.game.events) company kind turn.progress.runs.borders (steps_now turn.game.events run)

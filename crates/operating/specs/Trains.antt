@@ -1,0 +1,117 @@
+-- The purchase of a train. The bank sells the least kind of 2 to 6 of which some are left, and from the first 6
+-- that it has sold also a D, of which there is any number; the bank pool sells what lies in it. A 4, 5 or 6 that
+-- the company has may be traded in for a D of the bank, which is cheaper then.
+use Rattle.std.specs.Prelude.{ℕ, Bool, true, false, not, ◌&&◌, ◌||◌, nat_lt, if◌then◌else◌, List, [], ◌∷◌, Option, Some, None, pos, ◌-ℤ◌}
+use Rattle.std.specs.Int.Signed.{lt_z}
+use Rattle.history.specs.Event.{party_of_company}
+use Rattle.history.specs.LookBack.{Game, cash_of}
+use Rattle.history.specs.Trains.{phase_of, stable_size, trains_held, trains_sold}
+use Rattle.history.specs.declared.event.Event.{Event}
+use Rattle.history.specs.declared.event.TrainSeller.{TrainSeller}
+use Rattle.history.specs.declared.event.TrainSeller.TheVariants as seller
+use Rattle.history.specs.declared.ruling.TrainRule.{TrainRule}
+use Rattle.history.specs.declared.ruling.TrainRule.TheVariants.{NotOnSale, TrainLimit, CashTooSmall, NoTradeIn}
+use Rattle.operating.specs.declared.purchase.Purchase.{Purchase}
+use Rattle.tables.specs.Rules.{Rule, first_broken}
+use Rattle.tables.specs.Train.{limit_of, same_kind, trains_of as manifest_of}
+use Rattle.tables.specs.declared.rolling_stock.Kind.{Kind}
+use Rattle.tables.specs.declared.rolling_stock.Kind.TheVariants.{Two, Three, Four, Five, Six, Diesel}
+use Rattle.tables.specs.declared.roster.Company.{Company}
+
+-- some of so many are left, where so many are sold
+abbrev pub are_left : Option ℕ → ℕ → Bool
+are_left None sold = true
+are_left (Some number) sold = nat_lt sold number
+
+-- the bank has trains of a kind left
+abbrev pub is_left : List Event → Kind → Bool
+is_left events kind = are_left (manifest_of kind).number (trains_sold events kind)
+
+-- the first of these kinds of which the bank has some left
+abbrev pub first_left_of : List Event → List Kind → Option Kind
+first_left_of events [] = None
+first_left_of events (kind ∷ others) = if is_left events kind then Some kind else first_left_of events others
+
+-- the kinds of which the bank sells only the least that is left
+abbrev pub numbered_kinds : List Kind
+numbered_kinds = Two ∷ Three ∷ Four ∷ Five ∷ Six ∷ []
+
+-- the least of them of which some are left
+abbrev pub first_left : List Event → Option Kind
+first_left events = first_left_of events numbered_kinds
+
+-- it is this kind
+abbrev pub is_kind : Option Kind → Kind → Bool
+is_kind None kind = false
+is_kind (Some one) kind = same_kind one kind
+
+-- the bank sells a D: it has sold a 6
+abbrev pub sells_diesels : List Event → Bool
+sells_diesels events = nat_lt 0 (trains_sold events Six)
+
+-- the bank sells trains of a kind
+abbrev pub sells : List Event → Kind → Bool
+sells events kind = is_kind (first_left events) kind || (same_kind kind Diesel && sells_diesels events)
+
+-- such a train is on sale there
+abbrev pub is_on_sale : List Event → TrainSeller → Kind → Bool
+is_on_sale events seller.Bank kind = sells events kind
+is_on_sale events seller.BankPool kind = lt_z (pos 0) (trains_held events None kind)
+
+-- how many are traded in
+abbrev pub traded_count : Option Kind → ℕ
+traded_count None = 0
+traded_count (Some kind) = 1
+
+-- the company would have more trains than the phase allows. One that is to be traded in is not counted, whether
+-- the company has it or not
+abbrev pub is_full : List Event → Company → Option Kind → Bool
+is_full events company trade_in =
+    not (lt_z (stable_size events (Some company) -ℤ pos (traded_count trade_in)) (pos (limit_of (phase_of events))))
+
+-- the price of a train of a kind for a company that trades a train in: a D is cheaper then
+abbrev pub price_for_trade : Kind → ℕ
+price_for_trade Diesel = 800
+price_for_trade other = (manifest_of other).price
+
+-- a train of the kind may be traded in for a D
+abbrev pub may_be_traded : Kind → Bool
+may_be_traded Two = false
+may_be_traded Three = false
+may_be_traded Four = true
+may_be_traded Five = true
+may_be_traded Six = true
+may_be_traded Diesel = false
+
+-- what a train costs
+abbrev pub price_of_train : Kind → Option Kind → ℕ
+price_of_train kind None = (manifest_of kind).price
+price_of_train kind (Some trade_in) = price_for_trade kind
+
+-- it costs more than the company has
+abbrev pub is_too_dear : Game → Company → Purchase → Bool
+is_too_dear game company purchase =
+    lt_z (cash_of game.seats game.events (party_of_company company)) (pos (price_of_train purchase.kind purchase.trade_in))
+
+-- a train that the company has may be traded in for one of this kind
+abbrev pub may_trade : List Event → Company → Kind → Kind → Bool
+may_trade events company kind trade_in =
+    same_kind kind Diesel && (may_be_traded trade_in && lt_z (pos 0) (trains_held events (Some company) trade_in))
+
+-- a train is to be traded in that is not there, or that may not be
+abbrev pub is_no_trade_in : List Event → Company → Kind → Option Kind → Bool
+is_no_trade_in events company kind None = false
+is_no_trade_in events company kind (Some trade_in) = not (may_trade events company kind trade_in)
+
+-- the rules of a purchase by a company
+abbrev pub purchase_rules : Game → Company → Purchase → List (Rule TrainRule)
+purchase_rules game company purchase =
+    record { code = NotOnSale; broken = not (is_on_sale game.events purchase.from purchase.kind) }
+    ∷ record { code = TrainLimit; broken = is_full game.events company purchase.trade_in }
+    ∷ record { code = CashTooSmall; broken = is_too_dear game company purchase }
+    ∷ record { code = NoTradeIn; broken = is_no_trade_in game.events company purchase.kind purchase.trade_in }
+    ∷ []
+
+-- the first rule that a purchase by a company breaks
+abbrev pub train_judgement : Game → Company → Purchase → Option TrainRule
+train_judgement game company purchase = first_broken (purchase_rules game company purchase)

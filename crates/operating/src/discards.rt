@@ -1,0 +1,182 @@
+//! Trains that a company discards: by the lines of its president, or else the least that it has.
+ghost use Rattle.std.specs.Prelude.{◌≡◌, OnOk, IfOk, []};
+ghost use Rattle.operating.specs.Discards.{discard_in as kind_in_order, discard_judgement, discarded_by as discarded_kind, first_held as the_first_held, has_train as company_has, is_no_discard as no_discard, is_president as is_the_president, kinds_then, line_of as kind_of_line, lines_of, next_discard, presides_then, without_first};
+ghost use Rattle.history.specs.Event.{obeyed_of, office_of};
+ghost use Rattle.history.specs.Shares.{president_said};
+
+use history::{Event, History, Past, Ruling, TrainRule};
+use order_grammar::Order;
+use std::alloc::{AllocError, Global};
+use tables::{Company, Kind, Seat};
+
+/// The rule that a line DISCARD of a seat breaks, if it breaks it.
+pub(crate) fn judge_discard(
+    history: &History,
+    seat: Seat,
+    company: Company,
+    kind: Kind,
+) -> Option<TrainRule>
+    ensures { result ≡ discard_judgement history.now.events seat company kind }
+{
+    if is_no_discard(&history.now(), seat, company, kind) {
+        return Some(TrainRule::NoDiscard);
+    }
+    None
+}
+
+/// Whether the seat is not president of the company, or the company has no such train.
+fn is_no_discard(past: &Past, seat: Seat, company: Company, kind: Kind) -> bool
+    ensures { result ≡ no_discard past.now.events.now seat company kind }
+{
+    !is_president(past.president(company), seat) || !has_train(past, company, kind)
+}
+
+/// Whether a seat presides.
+fn is_president(president: Option<Seat>, seat: Seat) -> bool
+    ensures { result ≡ is_the_president president seat }
+{
+    matches!(president, Some(president) if president == seat)
+}
+
+/// Whether a company has a train of a kind.
+fn has_train(past: &Past, company: Company, kind: Kind) -> bool
+    ensures { result ≡ company_has past.now.events.now company kind }
+{
+    past.trains(Some(company), kind) > 0
+}
+
+/// The kind of which a company discards next: by a line of its president, or else the least that it
+/// has. `None` where it has no train.
+pub(crate) fn next_discard(
+    alloc: Global,
+    history: &History,
+    company: Company,
+) -> Result<Option<Kind>, AllocError>
+    ensures { IfOk result (λ kind. kind ≡ next_discard history.now.events company) }
+{
+    let now = history.now();
+    let lines = lines_of(alloc, &now, company, now.president(company))?;
+    match first_held(&now, company, lines.as_slice()) {
+        Some(kind) => Ok(Some(kind)),
+        None => Ok(first_held(&now, company, &Kind::ALL)),
+    }
+}
+
+/// The first of these kinds of which a company has a train.
+fn first_held(past: &Past, company: Company, kinds: &[Kind]) -> Option<Kind>
+    ensures { result ≡ the_first_held past.now.events.now company kinds.now }
+{
+    for kind in kinds {
+        if has_train(past, company, *kind) {
+            return Some(*kind);
+        }
+    }
+    None
+}
+
+/// The kinds of a president's lines for a company that are still to serve in this round, in order.
+fn lines_of(
+    alloc: Global,
+    past: &Past,
+    company: Company,
+    president: Option<Seat>,
+) -> Result<Vec<Kind>, AllocError>
+    ensures { IfOk result (λ lines. lines.items
+        ≡ lines_of past.now.events.now company president) }
+{
+    let mut lines = Vec::new(alloc);
+    let Some(seat) = president else {
+        return Ok(lines);
+    };
+    let mut presides = false;
+    for event in past.events {
+        note(&mut lines, event, seat, company, presides)?;
+        presides = presides_after(presides, event, seat, company);
+    }
+    Ok(lines)
+}
+
+/// Notes what an event does to the lines of a seat for a company that are still to serve, where the
+/// seat presides or not.
+fn note(
+    lines: &mut Vec<Kind>,
+    event: &Event,
+    seat: Seat,
+    company: Company,
+    presides: bool,
+) -> Result<(), AllocError>
+    ensures { OnOk result (lines.new.items ≡ kinds_then seat company
+        (record { presides = presides; kinds = lines.old.items }) event.now) }
+{
+    if event.round().is_some() {
+        lines.clear();
+        return Ok(());
+    }
+    if let Some(kind) = kind_ordered(event, seat, company) {
+        lines.push(kind)?;
+    }
+    match discarded_by(event, company) {
+        Some(kind) if presides => remove_first(lines, kind),
+        _ => {}
+    }
+    Ok(())
+}
+
+/// Whether a seat presides over a company after an event.
+fn presides_after(presides: bool, event: &Event, seat: Seat, company: Company) -> bool
+    ensures { result ≡ presides_then seat presides
+        (president_said company (office_of event.now)) }
+{
+    match event.office() {
+        Some(office) if office.company == company => office.president == seat,
+        _ => presides,
+    }
+}
+
+/// The kind of which a company is to discard by a line of a seat that an event obeys.
+fn kind_ordered(event: &Event, seat: Seat, company: Company) -> Option<Kind>
+    ensures { result ≡ kind_of_line seat company (obeyed_of event.now) }
+{
+    match event {
+        Event::Ruled {
+            seat: by,
+            ruling: Ruling::Obeyed(order),
+            ..
+        } if *by == seat => discard_in(&order.order(), company),
+        _ => None,
+    }
+}
+
+/// The kind of which an order says that a company is to discard.
+fn discard_in(_order: &Order, _company: Company) -> Option<Kind>
+    ensures { result ≡ kind_in_order _company _order.now }
+{
+    None
+}
+
+/// The kind of which a company discards by an event.
+fn discarded_by(event: &Event, company: Company) -> Option<Kind>
+    ensures { result ≡ discarded_kind company event.now }
+{
+    match event {
+        Event::Discarded {
+            company: other,
+            kind,
+        } if *other == company => Some(*kind),
+        _ => None,
+    }
+}
+
+/// Removes the first of a kind, if there is one.
+fn remove_first(lines: &mut Vec<Kind>, kind: Kind)
+    ensures { lines.new.items ≡ without_first kind lines.old.items }
+{
+    let mut place = 0;
+    while place < lines.len() {
+        if lines[place] == kind {
+            lines.remove(place);
+            return;
+        }
+        place += 1;
+    }
+}

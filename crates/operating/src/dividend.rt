@@ -1,0 +1,179 @@
+ghost use Rattle.std.specs.Prelude.{◌≡◌, ◌<◌, ◌≤◌, ◌≤ℤ◌, IfOk, OnOk, pos};
+ghost use Rattle.history.specs.Money.{IsParty};
+ghost use Rattle.history.specs.Shares.{shares_of};
+ghost use Rattle.history.specs.declared.event.Party.TheVariants as party;
+ghost use Rattle.operating.specs.Dividend.{after_pay, after_withhold, all_paid, dividend_of, paid_for, paid_out, paid_to, pay_judgement, withhold_judgement};
+ghost use Rattle.operating.specs.Ground.{IsPlayable};
+ghost use Rattle.operating.specs.InTurn.{in_turn};
+
+use crate::operator::Operator;
+use crate::progress::Progress;
+use crate::ruling::tell_ruling;
+use crate::withholding::withhold;
+use history::{Event, History, Holder, PayRule, Refusal, Ruling, Shareholder, so_many};
+use market::move_token_right;
+use order_grammar::Order;
+use std::alloc::AllocError;
+use tables::{Amount, Company, Seat};
+
+/// How many tenths a company has.
+const TENTHS: Amount = 10;
+
+/// Rules an order to pay in a line with this number, and pays if it is obeyed. Answers how far the
+/// turn has come then.
+pub(crate) fn rule_pay(
+    history: &mut History,
+    by: Operator,
+    line: u32,
+    order: &Order,
+    progress: Progress,
+) -> Result<Progress, AllocError>
+    requires few { history.old.seats ≤ 6 }
+    requires playable { IsPlayable history.old }
+    ensures turn { IfOk result (λ now. in_turn history.new now
+        ≡ after_pay by (in_turn history.old progress) line order.now) }
+    ensures playable { OnOk result (IsPlayable history.new) }
+{
+    let kept = history.keep(order)?;
+    if let Some(rule) = pay_rule(&progress) {
+        let refused = Ruling::Refused(Refusal::Pay(rule), kept);
+        tell_ruling(history, by.president, line, refused)?;
+        return Ok(progress);
+    }
+    tell_ruling(history, by.president, line, Ruling::Obeyed(kept))?;
+    pay_out(history, by.company, progress.runs.revenue)?;
+    Ok(progress.with_pay())
+}
+
+/// Rules an order to withhold in a line with this number, and withholds if it is obeyed. Answers
+/// how far the turn has come then.
+pub(crate) fn rule_withhold(
+    history: &mut History,
+    by: Operator,
+    line: u32,
+    order: &Order,
+    progress: Progress,
+) -> Result<Progress, AllocError>
+    requires playable { IsPlayable history.old }
+    ensures turn { IfOk result (λ now. in_turn history.new now
+        ≡ after_withhold by (in_turn history.old progress) line order.now) }
+    ensures playable { OnOk result (IsPlayable history.new) }
+{
+    let kept = history.keep(order)?;
+    if let Some(rule) = withhold_rule(&progress) {
+        let refused = Ruling::Refused(Refusal::Pay(rule), kept);
+        tell_ruling(history, by.president, line, refused)?;
+        return Ok(progress);
+    }
+    tell_ruling(history, by.president, line, Ruling::Obeyed(kept))?;
+    withhold(history, by.company, progress.runs.revenue)?;
+    Ok(progress.with_pay())
+}
+
+/// The rule that an order to pay breaks, if it breaks it.
+fn pay_rule(progress: &Progress) -> Option<PayRule>
+    ensures { result ≡ pay_judgement progress.now }
+{
+    if progress.is_past_pay() || progress.runs.revenue == 0 {
+        Some(PayRule::NothingToPay)
+    } else {
+        None
+    }
+}
+
+/// The rule that an order to withhold breaks, if it breaks it.
+fn withhold_rule(progress: &Progress) -> Option<PayRule>
+    ensures { result ≡ withhold_judgement progress.now }
+{
+    if progress.is_past_pay() {
+        Some(PayRule::NothingToPay)
+    } else {
+        None
+    }
+}
+
+/// The bank pays a revenue for the tenths of a company, and its token on the chart moves right.
+fn pay_out(history: &mut History, company: Company, revenue: Amount) -> Result<(), AllocError>
+    requires few { history.old.seats ≤ 6 }
+    requires small { revenue ≤ 100000 }
+    requires playable { IsPlayable history.old }
+    ensures after { OnOk result (history.new ≡ paid_out history.old company revenue) }
+    ensures playable { OnOk result (IsPlayable history.new) }
+{
+    pay_all(history, company, revenue)?;
+    move_token_right(history, company)?;
+    Ok(())
+}
+
+/// The bank pays the seats for their tenths of a company, seat by seat, and the company for those
+/// of the bank pool.
+fn pay_all(history: &mut History, company: Company, revenue: Amount) -> Result<(), AllocError>
+    requires few { history.old.seats ≤ 6 }
+    requires small { revenue ≤ 100000 }
+    requires playable { IsPlayable history.old }
+    ensures after { OnOk result (history.new ≡ all_paid company revenue history.old) }
+    ensures playable { OnOk result (IsPlayable history.new) }
+{
+    for seat in 0..history.seats() {
+        let seat = Seat::at(seat);
+        let (holder, place) = (Holder::Seat(seat), Shareholder::Seat(seat));
+        pay_for(history, company, holder, place, revenue)?;
+    }
+    let (holder, place) = (Holder::Company(company), Shareholder::BankPool);
+    pay_for(history, company, holder, place, revenue)
+}
+
+/// The bank pays a holder for the tenths of a company at a place, of which there are at most ten.
+fn pay_for(
+    history: &mut History,
+    company: Company,
+    holder: Holder,
+    place: Shareholder,
+    revenue: Amount,
+) -> Result<(), AllocError>
+    requires party { IsParty history.old.seats (party.Holder holder) }
+    requires most { shares_of history.old.events company place ≤ℤ pos 10 }
+    requires small { revenue ≤ 100000 }
+    requires playable { IsPlayable history.old }
+    ensures after { OnOk result (history.new ≡ paid_for company holder place revenue history.old) }
+    ensures playable { OnOk result (IsPlayable history.new) }
+{
+    let amount = dividend(history, company, place, revenue);
+    pay_to(history, company, holder, amount)
+}
+
+/// What the tenths of a company at a place are paid, of which there are at most ten.
+fn dividend(history: &History, company: Company, place: Shareholder, revenue: Amount) -> Amount
+    requires most { shares_of history.now.events company place ≤ℤ pos 10 }
+    requires small { revenue ≤ 100000 }
+    ensures sum { result ≡ dividend_of history.now.events company place revenue }
+    ensures small { result ≤ 100000 }
+{
+    let tenths = so_many(history.shares(company, place)) as Amount;
+    tenths * (revenue / TENTHS)
+}
+
+/// The bank pays a holder, if there is something to pay; perhaps that breaks it.
+fn pay_to(
+    history: &mut History,
+    company: Company,
+    holder: Holder,
+    amount: Amount,
+) -> Result<(), AllocError>
+    requires party { IsParty history.old.seats (party.Holder holder) }
+    requires small { amount ≤ 1000000 }
+    requires playable { IsPlayable history.old }
+    ensures after { OnOk result (history.new ≡ paid_to company holder amount history.old) }
+    ensures playable { OnOk result (IsPlayable history.new) }
+{
+    if amount == 0 {
+        return Ok(());
+    }
+    history.append(Event::Dividend {
+        company,
+        holder,
+        amount,
+    })?;
+    history.tell_broken()?;
+    Ok(())
+}

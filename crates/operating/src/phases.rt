@@ -1,0 +1,229 @@
+//! What the purchase of a train brings: the phase that it begins, and what follows from that.
+ghost use Rattle.std.specs.Prelude.{◌≡◌, ◌≤ℤ◌, OnOk, None, pos};
+ghost use Rattle.history.specs.LookBack.{with_event};
+ghost use Rattle.history.specs.Trains.{so_many, trains_held};
+ghost use Rattle.operating.specs.Ground.{IsPlayable};
+ghost use Rattle.operating.specs.Phases.{after_train, begins_phase as is_first_of_phase, bought, excess_of, with_all_closed, with_bop_closed, with_closed, with_company_rusted, with_kind_rusted, with_limit_kept, with_limits_kept, with_next_discarded, with_phase, with_privates_closed, with_rusted, with_stable_rusted, with_trade};
+ghost use Rattle.operating.specs.Trains.{train_judgement};
+ghost use Rattle.std.specs.List.{fold};
+ghost use Rattle.tables.specs.Roster.{companies};
+
+use crate::discards::next_discard;
+use crate::purchase::Purchase;
+use history::{Event, History, TrainCount, TrainSeller, so_many};
+use std::alloc::{AllocError, Global};
+use tables::{Company, Kind, Private, limit, rusts};
+
+/// A company buys a train, which nothing keeps it from, and what follows from that comes about.
+pub(crate) fn buy_train(
+    alloc: Global,
+    history: &mut History,
+    company: Company,
+    purchase: Purchase,
+) -> Result<(), AllocError>
+    requires may { train_judgement history.old company purchase ≡ None }
+    requires playable { IsPlayable history.old }
+    ensures after { OnOk result (history.new ≡ after_train history.old company purchase) }
+    ensures playable { OnOk result (IsPlayable history.new) }
+{
+    let begins = begins_phase(history, purchase.from, purchase.kind);
+    take_train(history, company, purchase)?;
+    if begins {
+        begin_phase(alloc, history, purchase.kind)?;
+    }
+    Ok(())
+}
+
+/// Whether a purchase is that of the first train of a later kind from the bank.
+fn begins_phase(history: &History, from: TrainSeller, kind: Kind) -> bool
+    ensures { result ≡ is_first_of_phase history.now.events from kind }
+{
+    match from {
+        TrainSeller::Bank => {
+            history.trains_sold(kind) == 0 && history.phase().place() < kind.place()
+        }
+        TrainSeller::BankPool => false,
+    }
+}
+
+/// A train comes to a company, for its price and the train that is traded in.
+fn take_train(history: &mut History, company: Company, purchase: Purchase) -> Result<(), AllocError>
+    requires may { train_judgement history.old company purchase ≡ None }
+    requires playable { IsPlayable history.old }
+    ensures after { OnOk result (history.new ≡ bought history.old company purchase) }
+    ensures playable { OnOk result (IsPlayable history.new) }
+{
+    trade_in(history, company, purchase.trade_in)?;
+    history.append(Event::Train {
+        company,
+        kind: purchase.kind,
+        from: purchase.from,
+        price: purchase.price(),
+    })?;
+    close_bop(history, company)
+}
+
+/// A company trades a train in, if it is to.
+fn trade_in(history: &mut History, company: Company, kind: Option<Kind>) -> Result<(), AllocError>
+    ensures { OnOk result (history.new ≡ with_trade history.old company kind) }
+{
+    if let Some(kind) = kind {
+        history.append(Event::Traded { company, kind })?;
+    }
+    Ok(())
+}
+
+/// BOP closes where BO has bought a train, if it is open.
+fn close_bop(history: &mut History, buyer: Company) -> Result<(), AllocError>
+    requires { IsPlayable history.old }
+    ensures after { OnOk result (history.new ≡ with_bop_closed history.old buyer) }
+    ensures playable { OnOk result (IsPlayable history.new) }
+{
+    if buyer == Company::BaltimoreOhio {
+        close(history, Private::BaltimoreOhio)?;
+    }
+    Ok(())
+}
+
+/// A private closes, if it is open.
+fn close(history: &mut History, private: Private) -> Result<(), AllocError>
+    requires { IsPlayable history.old }
+    ensures after { OnOk result (history.new ≡ with_closed history.old private) }
+    ensures playable { OnOk result (IsPlayable history.new) }
+{
+    if history.owner(private).is_none() {
+        return Ok(());
+    }
+    history.append(Event::Closed(private))?;
+    Ok(())
+}
+
+/// A phase begins, by the first train of its kind: trains rust, privates close, and companies keep
+/// the limit of trains.
+fn begin_phase(alloc: Global, history: &mut History, phase: Kind) -> Result<(), AllocError>
+    requires { IsPlayable history.old }
+    ensures after { OnOk result (history.new ≡ with_phase history.old phase) }
+    ensures playable { OnOk result (IsPlayable history.new) }
+{
+    history.tell(Event::Phase(phase))?;
+    rust_kinds(history, phase)?;
+    close_privates(history, phase)?;
+    keep_limits(alloc, history)
+}
+
+/// The trains rust that the first train of a kind rusts.
+fn rust_kinds(history: &mut History, new: Kind) -> Result<(), AllocError>
+    requires { IsPlayable history.old }
+    ensures after { OnOk result (history.new ≡ with_rusted new history.old) }
+    ensures playable { OnOk result (IsPlayable history.new) }
+{
+    for kind in Kind::ALL {
+        if rusts(kind) == Some(new) {
+            rust_kind(history, kind)?;
+        }
+    }
+    Ok(())
+}
+
+/// All trains of a kind rust: company by company, then those of the pool.
+fn rust_kind(history: &mut History, kind: Kind) -> Result<(), AllocError>
+    requires { IsPlayable history.old }
+    ensures after { OnOk result (history.new ≡ with_kind_rusted history.old kind) }
+    ensures playable { OnOk result (IsPlayable history.new) }
+{
+    rust_of_companies(history, kind)?;
+    rust_stable(history, None, kind)
+}
+
+/// The trains of a kind rust that the companies have.
+fn rust_of_companies(history: &mut History, kind: Kind) -> Result<(), AllocError>
+    requires { IsPlayable history.old }
+    ensures after { OnOk result (history.new
+        ≡ fold (with_company_rusted kind) history.old companies) }
+    ensures playable { OnOk result (IsPlayable history.new) }
+{
+    for company in Company::ALL {
+        rust_stable(history, Some(company), kind)?;
+    }
+    Ok(())
+}
+
+/// The trains of a kind rust that a company has, or the pool where there is none.
+fn rust_stable(history: &mut History, owner: Option<Company>, kind: Kind) -> Result<(), AllocError>
+    requires { IsPlayable history.old }
+    ensures after { OnOk result (history.new ≡ with_stable_rusted owner kind history.old) }
+    ensures playable { OnOk result (IsPlayable history.new) }
+{
+    for _ in 0..so_many(history.trains(owner, kind)) {
+        history.append(Event::Rusted { owner, kind })?;
+    }
+    Ok(())
+}
+
+/// The privates close, where a phase closes them.
+fn close_privates(history: &mut History, phase: Kind) -> Result<(), AllocError>
+    requires { IsPlayable history.old }
+    ensures after { OnOk result (history.new ≡ with_privates_closed phase history.old) }
+    ensures playable { OnOk result (IsPlayable history.new) }
+{
+    if phase == Kind::Five {
+        close_all(history)?;
+    }
+    Ok(())
+}
+
+/// Each private that is open closes.
+fn close_all(history: &mut History) -> Result<(), AllocError>
+    requires { IsPlayable history.old }
+    ensures after { OnOk result (history.new ≡ with_all_closed history.old) }
+    ensures playable { OnOk result (IsPlayable history.new) }
+{
+    for private in Private::ALL {
+        close(history, private)?;
+    }
+    Ok(())
+}
+
+/// Each company discards the trains that it has over the limit of the phase.
+fn keep_limits(alloc: Global, history: &mut History) -> Result<(), AllocError>
+    requires { IsPlayable history.old }
+    ensures after { OnOk result (history.new ≡ with_limits_kept history.old) }
+    ensures playable { OnOk result (IsPlayable history.new) }
+{
+    for company in Company::ALL {
+        keep_limit(alloc, history, company)?;
+    }
+    Ok(())
+}
+
+/// A company discards the trains that it has over the limit of the phase.
+fn keep_limit(alloc: Global, history: &mut History, company: Company) -> Result<(), AllocError>
+    requires { IsPlayable history.old }
+    ensures after { OnOk result (history.new ≡ with_limit_kept history.old company) }
+    ensures playable { OnOk result (IsPlayable history.new) }
+{
+    for _ in 0..so_many(excess(history, company)) {
+        discard(alloc, history, company)?;
+    }
+    Ok(())
+}
+
+/// How many trains a company has over the limit of the phase; under 0 where it may have more.
+fn excess(history: &History, company: Company) -> TrainCount
+    ensures { excess_of history.now company ≡ so_many result }
+{
+    history.now().stable_size(Some(company)) - limit(history.phase()) as TrainCount
+}
+
+/// A company discards a train, if it has one.
+fn discard(alloc: Global, history: &mut History, company: Company) -> Result<(), AllocError>
+    requires { IsPlayable history.old }
+    ensures after { OnOk result (history.new ≡ with_next_discarded company history.old) }
+    ensures playable { OnOk result (IsPlayable history.new) }
+{
+    let Some(kind) = next_discard(alloc, history, company)? else {
+        return Ok(());
+    };
+    history.append(Event::Discarded { company, kind })?;
+    Ok(())
+}

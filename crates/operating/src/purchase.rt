@@ -1,0 +1,163 @@
+//! The purchase of a train: what is on sale, what it costs, and the rules.
+ghost use Rattle.std.specs.Prelude.{◌≡◌, ◌≤◌, pos};
+ghost use Rattle.operating.specs.Trains.{first_left as the_first_left, is_full as would_be_full, is_left as has_left, is_no_trade_in as no_trade_in, is_on_sale as on_sale, is_too_dear as too_dear, may_be_traded as may_be_given, may_trade as may_be_had_for, price_for_trade as price_with_trade, price_of_train, sells as bank_sells, sells_diesels as bank_sells_diesels, traded_count as count_of_trade, train_judgement};
+
+use history::{History, Party, Past, TrainCount, TrainRule, TrainSeller};
+use tables::{Amount, Company, Kind, Money, limit, train};
+
+/// The purchase of a train that is no other company's.
+#[derive(Clone, Copy, Debug, PartialEq, Eq)]
+pub(crate) struct Purchase {
+    /// Its kind.
+    pub(crate) kind: Kind,
+    /// Where it is bought.
+    pub(crate) from: TrainSeller,
+    /// The kind of a train that is traded in for it, if one is.
+    pub(crate) trade_in: Option<Kind>,
+}
+
+impl Purchase {
+    /// What it costs.
+    pub(crate) fn price(&self) -> Amount
+        ensures price { result ≡ price_of_train self.now.kind self.now.trade_in }
+        ensures small { result ≤ 1100 }
+    {
+        match self.trade_in {
+            None => train(self.kind).price,
+            Some(_) => price_for_trade(self.kind),
+        }
+    }
+}
+
+/// The kinds of which the bank sells only the least that is left.
+const NUMBERED: [Kind; 5] = [Kind::Two, Kind::Three, Kind::Four, Kind::Five, Kind::Six];
+
+/// The first rule that a purchase by a company breaks; `None` if it breaks none.
+pub(crate) fn judge_purchase(
+    history: &History,
+    company: Company,
+    purchase: Purchase,
+) -> Option<TrainRule>
+    ensures { result ≡ train_judgement history.now company purchase }
+{
+    let now = history.now();
+    if !is_on_sale(&now, purchase.from, purchase.kind) {
+        return Some(TrainRule::NotOnSale);
+    }
+    if is_full(&now, company, purchase.trade_in) {
+        return Some(TrainRule::TrainLimit);
+    }
+    if is_too_dear(history, company, purchase) {
+        return Some(TrainRule::CashTooSmall);
+    }
+    if is_no_trade_in(&now, company, purchase.kind, purchase.trade_in) {
+        return Some(TrainRule::NoTradeIn);
+    }
+    None
+}
+
+/// Whether such a train is on sale there.
+fn is_on_sale(past: &Past, from: TrainSeller, kind: Kind) -> bool
+    ensures { result ≡ on_sale past.now.events.now from kind }
+{
+    match from {
+        TrainSeller::Bank => sells(past, kind),
+        TrainSeller::BankPool => past.trains(None, kind) > 0,
+    }
+}
+
+/// Whether the bank sells trains of a kind.
+fn sells(past: &Past, kind: Kind) -> bool
+    ensures { result ≡ bank_sells past.now.events.now kind }
+{
+    first_left(past) == Some(kind) || (kind == Kind::Diesel && sells_diesels(past))
+}
+
+/// Whether the bank sells a D: it has sold a 6.
+fn sells_diesels(past: &Past) -> bool
+    ensures { result ≡ bank_sells_diesels past.now.events.now }
+{
+    past.trains_sold(Kind::Six) > 0
+}
+
+/// The least kind of 2 to 6 of which the bank has some left.
+fn first_left(past: &Past) -> Option<Kind>
+    ensures { result ≡ the_first_left past.now.events.now }
+{
+    for kind in NUMBERED {
+        if is_left(past, kind) {
+            return Some(kind);
+        }
+    }
+    None
+}
+
+/// Whether the bank has trains of a kind left.
+fn is_left(past: &Past, kind: Kind) -> bool
+    ensures { result ≡ has_left past.now.events.now kind }
+{
+    match train(kind).number {
+        None => true,
+        Some(number) => past.trains_sold(kind) < usize::from(number),
+    }
+}
+
+/// Whether a company would have more trains than the phase allows. One that is to be traded in is
+/// not counted, whether the company has it or not.
+fn is_full(past: &Past, company: Company, trade_in: Option<Kind>) -> bool
+    ensures { result ≡ would_be_full past.now.events.now company trade_in }
+{
+    past.stable_size(Some(company)) - traded_count(trade_in) >= limit(past.phase()) as TrainCount
+}
+
+/// What a train of a kind costs a company that trades a train in: a D is cheaper then.
+fn price_for_trade(kind: Kind) -> Amount
+    ensures price { result ≡ price_with_trade kind }
+    ensures small { result ≤ 1100 }
+{
+    match kind {
+        Kind::Diesel => 800,
+        other => train(other).price,
+    }
+}
+
+/// Whether a train of a kind may be traded in for a D.
+fn may_be_traded(kind: Kind) -> bool
+    ensures { result ≡ may_be_given kind }
+{
+    matches!(kind, Kind::Four | Kind::Five | Kind::Six)
+}
+
+/// How many trains are traded in.
+fn traded_count(trade_in: Option<Kind>) -> TrainCount
+    ensures { result ≡ pos (count_of_trade trade_in) }
+{
+    match trade_in {
+        None => 0,
+        Some(_) => 1,
+    }
+}
+
+/// Whether a train costs more than the company has.
+fn is_too_dear(history: &History, company: Company, purchase: Purchase) -> bool
+    ensures { result ≡ too_dear history.now company purchase }
+{
+    history.cash(Party::of_company(company)) < Money::from(purchase.price())
+}
+
+/// Whether a train is to be traded in that is not there, or that may not be.
+fn is_no_trade_in(past: &Past, company: Company, kind: Kind, trade_in: Option<Kind>) -> bool
+    ensures { result ≡ no_trade_in past.now.events.now company kind trade_in }
+{
+    match trade_in {
+        None => false,
+        Some(old) => !may_trade(past, company, kind, old),
+    }
+}
+
+/// Whether a train that the company has may be traded in for one of this kind.
+fn may_trade(past: &Past, company: Company, kind: Kind, trade_in: Kind) -> bool
+    ensures { result ≡ may_be_had_for past.now.events.now company kind trade_in }
+{
+    kind == Kind::Diesel && may_be_traded(trade_in) && past.trains(Some(company), trade_in) > 0
+}

@@ -1,0 +1,129 @@
+ghost use Rattle.std.specs.Prelude.{◌≡◌, ◌≤◌, ◌≤ℤ◌, ◌^◌, IfOk, None, OnOk, pos};
+ghost use Rattle.history.specs.LookBack.{with_event};
+ghost use Rattle.history.specs.declared.event.Event.TheVariants as event;
+ghost use Rattle.operating.specs.Ground.{GroundFits, IsPlayable};
+ghost use Rattle.operating.specs.Runs.{IsCounted, has_run, judged_run, rule_of_run, rules_of_turn, run_ruled};
+ghost use Rattle.operating.specs.InTurn.{in_turn};
+ghost use Rattle.tables.specs.Rules.{first_broken};
+
+use crate::ground::board;
+use crate::operator::Operator;
+use crate::progress::Progress;
+use crate::ruling::tell_ruling;
+use crate::runs::Ran;
+use certificate::{RunFault, check_run, runs_earn_by_borders};
+use history::{Event, History, Refusal, Ruling, RunRule};
+use map_tables::Run;
+use order_grammar::Order;
+use reach::Network;
+use std::alloc::{AllocError, Global};
+use tables::{Amount, Company, Kind};
+
+/// What a run of a company's train does, or the first rule that it breaks. The error is want of
+/// memory.
+pub(crate) fn judge_run(
+    alloc: Global,
+    history: &History,
+    company: Company,
+    kind: Kind,
+    run: &Run,
+    progress: Progress,
+) -> Result<Result<Ran, RunRule>, AllocError>
+    requires { GroundFits history.now }
+    ensures judged { let turn = in_turn history.now progress in
+        IfOk result (λ judged. judged ≡ judged_run turn company kind run.now) }
+    ensures counted { IfOk result (λ judged. IfOk judged (λ ran. IsCounted progress.runs ran)) }
+{
+    if let Some(rule) = rule_of_turn(history, company, kind, &progress) {
+        return Ok(Err(rule));
+    }
+    let board = board(alloc, history)?;
+    board.keeps_laws();
+    runs_earn_by_borders();
+    let mut borders = progress.runs.borders;
+    match check_run(&board, company, kind, run, &mut borders) {
+        Ok(money) => Ok(Ok(Ran {
+            kind,
+            earned: money as Amount,
+            borders,
+        })),
+        Err(fault) => Ok(Err(run_rule(fault))),
+    }
+}
+
+/// The first rule of the turn that a run of a train of a kind breaks.
+fn rule_of_turn(
+    history: &History,
+    company: Company,
+    kind: Kind,
+    progress: &Progress,
+) -> Option<RunRule>
+    ensures rule { result ≡ first_broken (rules_of_turn history.now company progress.now kind) }
+    ensures few { result ≡ None → has_run progress.now.runs kind ≤ℤ pos (2 ^ 100) }
+{
+    if progress.is_past_runs() {
+        Some(RunRule::StepUsed)
+    } else if history.now().trains(Some(company), kind) <= progress.runs.of_kind(kind) {
+        Some(RunRule::NoTrain)
+    } else {
+        None
+    }
+}
+
+/// The rule that a refused run broke.
+fn run_rule(fault: RunFault) -> RunRule
+    ensures { result ≡ rule_of_run fault }
+{
+    match fault {
+        RunFault::NoTrack => RunRule::NoTrack,
+        RunFault::WrongNumber => RunRule::WrongNumber,
+        RunFault::StopTwice => RunRule::StopTwice,
+        RunFault::BorderTwice => RunRule::BorderTwice,
+        RunFault::PassesFull => RunRule::PassesFull,
+        RunFault::NoToken => RunRule::NoToken,
+        RunFault::RedInside => RunRule::RedInside,
+    }
+}
+
+/// Rules the order of a line with this number, by which a train has run or which broke a rule of
+/// runs. Answers how far the turn has come then.
+pub(crate) fn rule_run(
+    history: &mut History,
+    by: Operator,
+    line: u32,
+    order: &Order,
+    judged: Result<Ran, RunRule>,
+    progress: Progress,
+) -> Result<Progress, AllocError>
+    requires playable { IsPlayable history.old }
+    requires counted { IfOk judged (λ ran. IsCounted progress.runs ran) }
+    ensures turn { IfOk result (λ now. in_turn history.new now
+        ≡ run_ruled by (in_turn history.old progress) line order.now judged) }
+    ensures playable { OnOk result (IsPlayable history.new) }
+{
+    let kept = history.keep(order)?;
+    match judged {
+        Ok(ran) => {
+            tell_ruling(history, by.president, line, Ruling::Obeyed(kept))?;
+            tell_runs(history, by.company, ran.earned)?;
+            Ok(progress.with_run(ran))
+        }
+        Err(rule) => {
+            let refusal = Refusal::Run(rule);
+            tell_ruling(history, by.president, line, Ruling::Refused(refusal, kept))?;
+            Ok(progress)
+        }
+    }
+}
+
+/// Tells what a run of a company earned.
+fn tell_runs(history: &mut History, company: Company, revenue: Amount) -> Result<(), AllocError>
+    requires playable { IsPlayable history.old }
+    requires sum { revenue ≤ 1000000 }
+    ensures event { OnOk result (history.new
+        ≡ with_event history.old (event.Runs company revenue)) }
+    ensures playable { OnOk result (IsPlayable history.new) }
+{
+    history.tell(Event::Runs { company, revenue })?;
+    Ok(())
+}

@@ -1,0 +1,66 @@
+ghost use Rattle.std.specs.Prelude.{◌≡◌, ◌+◌, ◌*◌, ◌≤◌};
+ghost use Rattle.certificate.specs.Law.{unused};
+
+use certificate::Used;
+use history::TrainCount;
+use tables::{Amount, Kind};
+
+/// What a train did.
+#[derive(Clone, Copy, Debug)]
+pub(crate) struct Ran {
+    /// Its kind.
+    pub(crate) kind: Kind,
+    /// What it earned, in dollars.
+    pub(crate) earned: Amount,
+    /// The borders that are used once it has run.
+    pub(crate) borders: Used,
+}
+
+/// What the trains of a company have done in its turn.
+#[derive(Clone, Copy, Debug)]
+pub(crate) struct Runs {
+    /// How many of each kind have run, by the place of the kind.
+    trains: [TrainCount; 6],
+    /// The borders that they have crossed.
+    pub(crate) borders: Used,
+    /// What they have earned, in dollars: at most 160 for each border that is used.
+    pub(crate) revenue: Amount,
+    ghost bounded: { revenue + 160 * unused borders ≤ 44640 },
+}
+
+impl Runs {
+    ghost use Rattle.operating.specs.Runs.{IsCounted, has_run, with_ran};
+    ghost use Rattle.operating.specs.InTurn.{no_runs};
+
+    /// No train has run.
+    pub(crate) fn none() -> Runs
+        ensures { result ≡ no_runs }
+    {
+        Runs {
+            trains: [0; 6],
+            borders: Used::new(),
+            revenue: 0,
+        }
+    }
+
+    /// Once a train has run.
+    pub(crate) fn with(self, ran: Ran) -> Runs
+        requires { IsCounted self ran }
+        ensures { result ≡ with_ran self ran }
+    {
+        let mut trains = self.trains;
+        trains[ran.kind.place()] += 1;
+        Runs {
+            trains,
+            borders: ran.borders,
+            revenue: self.revenue + ran.earned,
+        }
+    }
+
+    /// How many trains of a kind have run.
+    pub(crate) fn of_kind(&self, kind: Kind) -> TrainCount
+        ensures { result ≡ has_run self.now kind }
+    {
+        self.trains[kind.place()]
+    }
+}
