@@ -14,6 +14,7 @@ use Rattle.history.specs.declared.event.Event.TheVariants.{Discarded}
 use Rattle.history.specs.declared.ruling.TrainRule.{TrainRule}
 use Rattle.history.specs.declared.ruling.TrainRule.TheVariants.{NoDiscard}
 use Rattle.order_grammar.specs.declared.order.Order.{Order}
+use Rattle.order_grammar.specs.declared.order.Order.TheVariants as order
 use Rattle.tables.specs.Roster.{same_company}
 use Rattle.tables.specs.Rules.{Rule, first_broken}
 use Rattle.tables.specs.Train.{kinds, same_kind}
@@ -45,6 +46,7 @@ discard_judgement events seat company kind = first_broken (discard_rules events 
 
 -- the kind of which an order says that a company is to discard
 abbrev pub discard_in : Company → Order → Option Kind
+discard_in company (order.Discard other kind) = if same_company other company then Some kind else None
 discard_in company other = None
 
 -- a seat's lines for a company that are still to serve, and whether the seat presides

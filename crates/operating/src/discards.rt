@@ -148,10 +148,16 @@ fn kind_ordered(event: &Event, seat: Seat, company: Company) -> Option<Kind>
 }
 
 /// The kind of which an order says that a company is to discard.
-fn discard_in(_order: &Order, _company: Company) -> Option<Kind>
-    ensures { result ≡ kind_in_order _company _order.now }
+fn discard_in(order: &Order, company: Company) -> Option<Kind>
+    ensures { result ≡ kind_in_order company order.now }
 {
-    None
+    match order {
+        Order::Discard {
+            company: other,
+            kind,
+        } if *other == company => Some(*kind),
+        _ => None,
+    }
 }
 
 /// The kind of which a company discards by an event.
