@@ -10,9 +10,7 @@ use Rattle.std.proofs.lemmas.List.{drop_at, length-append, length-map, append-ni
 use Rattle.std.proofs.lemmas.List.Concat.{flat_map-cons}
 use Rattle.std.proofs.lemmas.List.Folds.{list_all-append}
 use Rattle.std.proofs.lemmas.List.Sums.{fold_push}
-use Rattle.std.proofs.lemmas.Bool.{ltb-true}
 use Rattle.map_tables.specs.Hex.{column_of, row_of}
-use Rattle.map_tables.specs.Place.{stop_index_of}
 use Rattle.map_tables.specs.Side.{turns_of}
 use Rattle.map_tables.specs.Text.{stop_text, text_of_hex, text_of_place}
 use Rattle.map_tables.specs.Tile.{number_of_tile}
@@ -43,7 +41,7 @@ use Rattle.order_grammar.specs.Name.{is_name, is_capital, is_digit, is_letter_or
 use Rattle.order_grammar.specs.Order.{made_of, parts_of}
 use Rattle.order_grammar.specs.Print.{spaced, joined, text_of_value, words_of_tail, words_of_parts, spelling_of}
 use Rattle.order_grammar.specs.Row.{has_room, is_short}
-use Rattle.order_grammar.specs.Spells.{IsNumber, IsNumbered, IsOperating, is_small, are_small, is_round_of_line, has_word, have_words, FitsLine, IsOrder}
+use Rattle.order_grammar.specs.Spells.{IsNumber, IsNumbered, is_small, are_small, is_round_of_line, has_word, have_words, FitsLine, IsOrder}
 use Rattle.order_grammar.specs.Words.{before, with_word, words_from, raised, words_of, is_printable, same_word}
 use Rattle.order_grammar.specs.declared.class.Class.{Class}
 use Rattle.order_grammar.specs.declared.form.Repeated.{Repeated}
