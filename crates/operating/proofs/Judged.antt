@@ -31,7 +31,7 @@ obeyed_legal turn company kind run ran is =
     let position = position_now turn.game.events in
     let used = turn.progress.runs.borders in
     let fault = run_fault position company kind used run in
-    let judged : run_judgement turn company kind run ≡ None = none_broken (ran_by turn kind run) ran (run_judgement turn company kind run) is in
+    let judged : run_judgement turn company kind run ≡ None = none_broken (ran_by position kind used run) ran (run_judgement turn company kind run) is in
     let unbroken : fault ≡ None = none_made rule_of_run fault (second_none (first_broken (rules_of_turn turn.game company turn.progress kind)) (option_map rule_of_run fault) judged) in
     let legal : NameLegalRun position company kind used run = (legal_where_unbroken position company kind used run).0 unbroken in
     subst (λ (steps : List Step). IsLegalRun position company kind used steps) (sym (ap steps_of legal.1)) legal.2
