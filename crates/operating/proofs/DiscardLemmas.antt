@@ -1,6 +1,7 @@
 -- Lines of kinds, place by place: which is the first of a kind, and of which a company has a train.
-use Rattle.std.proofs.Common.{◌≡◌, ℕ, ◌+◌, ◌<◌, ◌≤◌, Bool, true, false, if◌then◌else◌, List, [], ◌∷◌, ◌++◌, length, get_or, take, drop, Option, Some, sym, ap, ◌∙◌}
+use Rattle.std.proofs.Common.{◌≡◌, ℕ, ◌+◌, ◌<◌, ◌≤◌, Bool, true, false, if◌then◌else◌, List, [], ◌∷◌, ◌++◌, length, get_or, take, drop, Option, Some, sym, ap, ◌∙◌, add-one}
 use Rattle.std.proofs.lemmas.List.{append-nil, append_assoc, at_drop_all, at_drop_more, take_all, take_more}
+use Rattle.std.specs.List.{remove}
 use Rattle.history.specs.declared.event.Event.{Event}
 use Rattle.operating.specs.Discards.{first_held, has_train, without_first}
 use Rattle.tables.specs.Train.{same_kind}
@@ -16,9 +17,10 @@ from_here kind line lines i same below read is =
     ∙ ap (λ (b : Bool). if b then rest else line ∷ without_first kind rest) is
 
 -- the first of the kind is here
-pub first_goes : (kind line : Kind) (lines : List Kind) (i : ℕ) → i < length lines → line ≡ get_or lines i line → same_kind line kind ≡ true → without_first kind lines ≡ take i lines ++ without_first kind (drop i lines) → take i lines ++ drop (i + 1) lines ≡ without_first kind lines
+pub first_goes : (kind line : Kind) (lines : List Kind) (i : ℕ) → i < length lines → line ≡ get_or lines i line → same_kind line kind ≡ true → without_first kind lines ≡ take i lines ++ without_first kind (drop i lines) → remove lines i ≡ without_first kind lines
 first_goes kind line lines i below read same kept =
-    sym (kept ∙ ap (λ (rest : List Kind). take i lines ++ rest) (from_here kind line lines i true below read same))
+    ap (λ (k : ℕ). take i lines ++ drop k lines) (sym add-one)
+    ∙ sym (kept ∙ ap (λ (rest : List Kind). take i lines ++ rest) (from_here kind line lines i true below read same))
 
 -- it comes later
 pub first_later : (kind line : Kind) (lines : List Kind) (i : ℕ) → i < length lines → line ≡ get_or lines i line → same_kind line kind ≡ false → without_first kind lines ≡ take i lines ++ without_first kind (drop i lines) → without_first kind lines ≡ take (i + 1) lines ++ without_first kind (drop (i + 1) lines)

@@ -1,9 +1,9 @@
-use Rattle.std.proofs.Common.{◌≡◌, ◌++◌, drop, take}
+use Rattle.std.proofs.Common.{◌≡◌, ◌-◌, ◌++◌, drop, length, take}
 use Rattle.operating.specs.Discards.{without_first}
 use Rattle.operating.proofs.discards.remove_first.Given as goal
 
 abbrev pub decreases-loop-place : goal.decreases-loop-place
-decreases-loop-place l = goal.left-loop-place l
+decreases-loop-place l = length l.lines.items - l.place
 
 -- none of those so far is of the kind
 abbrev pub invariant-loop-place : goal.invariant-loop-place
