@@ -252,7 +252,8 @@ pay_comes by old turn number its so_far =
     elim (pay_judgement turn.progress) as (λ (rule : Option PayRule). pay_judgement turn.progress ≡ rule → Comes by.company old (pay_ruled by turn number its rule (λ game. paid_out game by.company turn.progress.runs.revenue))) [
       | None ↦ λ kept.
           let ruled = told by turn number (Obeyed its) in
-          comes_on by.company old ruled (in_turn (paid_out ruled.game by.company turn.progress.runs.revenue) (pay_done turn.progress)) (told_comes by.company old turn by.president number (Obeyed its) so_far) (paid_out_adds ruled.game by.company turn.progress.runs.revenue) (λ past. so_far.earned (some_revenue (is_past_pay turn.progress) (turn.progress.runs.revenue == 0) kept)) refl
+          let come = told_comes by.company old turn by.president number (Obeyed its) so_far in
+          comes_on by.company old ruled (in_turn (paid_out ruled.game by.company turn.progress.runs.revenue) (pay_done turn.progress)) come (paid_out_adds ruled.game by.company turn.progress.runs.revenue) (λ past. come.earned (some_revenue (is_past_pay turn.progress) (turn.progress.runs.revenue == 0) kept)) refl
       | Some rule ↦ λ broken. told_comes by.company old turn by.president number _ so_far
     ]
     refl

@@ -10,6 +10,7 @@ use tables::Company;
 /// A company that has placed no token yet places that of its home, for nothing.
 pub(crate) fn place_home(history: &mut History, company: Company) -> Result<(), AllocError>
     requires { IsPlayable history.old }
+    ensures seats { OnOk result (history.new.seats ≡ history.old.seats) }
     ensures event { OnOk result (history.new ≡ with_home history.old company) }
     ensures playable { OnOk result (IsPlayable history.new) }
 {

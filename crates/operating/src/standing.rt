@@ -1,7 +1,7 @@
 ghost use Rattle.std.specs.Prelude.{◌≡◌, IfOk, OnOk, length};
 ghost use Rattle.history.specs.Sound.{IsSound};
 ghost use Rattle.operating.specs.Standing.{after_standing, after_standing_line, standing_order_ruling, standing_ruling, train_judged as ruling_by};
-ghost use Rattle.order_grammar.specs.declared.order.Order.TheVariants as order;
+ghost use Rattle.order_grammar.specs.declared.order.Order.TheVariants.{Discard};
 ghost use Rattle.sheets.specs.File.{players_of};
 ghost use Rattle.sheets.specs.Part.{line_read};
 ghost use Rattle.sheets.specs.Taken.{after_each};
@@ -79,7 +79,7 @@ fn ruling_of_discard(
     kind: Kind,
 ) -> Result<Ruling, AllocError>
     ensures { IfOk result (λ ruling. ruling
-        ≡ standing_order_ruling history.now.events seat (order.Discard company kind)) }
+        ≡ standing_order_ruling history.now.events seat (Discard company kind)) }
 {
     let broken = judge_discard(history, seat, company, kind);
     let order = history.keep(&Order::Discard { company, kind })?;

@@ -10,7 +10,7 @@ loop-line-preserved c =
     let turn = in_turn c.loop-line.history c.loop-line.progress in
     let by = c.args.by in
     record {
-      seats = line_seats by turn (line_read c.in-Some.field-0).number (line_read c.in-Some.field-0).reading _ c.in_ok-progress.ensures.turn ∙ c.loop-line.invariant.seats;
+      seats = line_seats by turn (line_read c.in-Some.line).number (line_read c.in-Some.line).reading _ c.in_ok-progress.ensures.turn ∙ c.loop-line.invariant.seats;
       turn = λ new rest. c.loop-line.invariant.turn new (subst (λ (lines : List Numbered). LinesLead by turn lines new) (sym (ap (λ (parts : Parts). parts.before) c.in-Some.ensures)) (_, c.in_ok-progress.ensures.turn, rest));
       playable = c.in_ok-progress.ensures.playable;
     }
