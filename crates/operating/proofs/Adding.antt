@@ -241,7 +241,7 @@ paid_out_adds game company revenue =
     (then_nobody nobody game seats all (seats_paid_add company revenue game (all_seats game.seats)) (dividend_adds company (holder.Company company) _ seats)) (moved_right_adds all company)
 
 -- PAY that is obeyed finds a revenue
-some_revenue : (past none : Bool) → first_broken ({Code = PayRule} record { code = NothingToPay; broken = past || none } ∷ []) ≡ None → none ≡ false
+some_revenue : (past none : Bool) → first_broken {Code = PayRule} (record { code = NothingToPay; broken = past || none } ∷ []) ≡ None → none ≡ false
 some_revenue true none kept = cc
 some_revenue false true kept = cc
 some_revenue false false kept = refl

@@ -16,7 +16,7 @@ pub(crate) fn board(alloc: Global, history: &History) -> Result<Board, AllocErro
 {
     let lays = lays(alloc, history)?;
     let tokens = tokens(alloc, history)?;
-    match Board::of(alloc, lays.as_slice(), tokens.as_slice(), history.now().phase()) {
+    match Board::of(alloc, lays.as_slice(), tokens.as_slice(), history.phase()) {
         Ok(board) => Ok(board),
         Err(fault) => Err(want_of_memory(fault)),
     }

@@ -1,16 +1,17 @@
 ghost use Rattle.std.specs.Prelude.{◌≡◌, IfOk, OnOk, length};
 ghost use Rattle.history.specs.Sound.{IsSound};
-ghost use Rattle.operating.specs.Standing.{after_standing, after_standing_line, standing_order_ruling, standing_ruling};
+ghost use Rattle.operating.specs.Standing.{after_standing, after_standing_line, standing_order_ruling, standing_ruling, train_judged as ruling_by};
+ghost use Rattle.order_grammar.specs.declared.order.Order.TheVariants as order;
 ghost use Rattle.sheets.specs.File.{players_of};
 ghost use Rattle.sheets.specs.Part.{line_read};
 ghost use Rattle.sheets.specs.Taken.{after_each};
 
 use crate::discards::judge_discard;
-use history::{Event, History, Refusal, Ruling};
+use history::{Event, History, KeptOrder, Refusal, Ruling, TrainRule};
 use order_grammar::{Fault, Order};
 use sheets::{NumberedLine, PartsLeft, Sheets};
 use std::alloc::AllocError;
-use tables::{Round, Seat};
+use tables::{Company, Kind, Round, Seat};
 
 /// Rules the standing lines of each sheet for an operating round, seat by seat. The list of events
 /// must be sound.
@@ -33,11 +34,7 @@ pub fn rule_standing_lines(
 }
 
 /// Rules the standing lines of a seat's sheet, those before its first head.
-fn rule_standing(
-    history: &mut History,
-    seat: Seat,
-    sheet: &mut PartsLeft,
-) -> Result<(), AllocError>
+fn rule_standing(history: &mut History, seat: Seat, sheet: &mut PartsLeft) -> Result<(), AllocError>
     requires { IsSound history.old }
     ensures seats { OnOk result (history.new.seats ≡ history.old.seats) }
     ensures events { OnOk result (history.new.events
@@ -68,13 +65,33 @@ fn ruling_of_order(history: &History, seat: Seat, order: &Order) -> Result<Rulin
     ensures { IfOk result (λ ruling. ruling
         ≡ standing_order_ruling history.now.events seat order.now) }
 {
-    let Order::Discard { company, kind } = order else {
-        return Ok(Ruling::Faulty(Fault::OutOfPlace));
-    };
-    let broken = judge_discard(history, seat, *company, *kind);
-    let kept = history.keep(order)?;
-    Ok(match broken {
-        Some(rule) => Ruling::Refused(Refusal::Train(rule), kept),
-        None => Ruling::Obeyed(kept),
-    })
+    match order {
+        Order::Discard { company, kind } => ruling_of_discard(history, seat, *company, *kind),
+        _ => Ok(Ruling::Faulty(Fault::OutOfPlace)),
+    }
+}
+
+/// What becomes of a seat's order that a company discards a train of a kind.
+fn ruling_of_discard(
+    history: &History,
+    seat: Seat,
+    company: Company,
+    kind: Kind,
+) -> Result<Ruling, AllocError>
+    ensures { IfOk result (λ ruling. ruling
+        ≡ standing_order_ruling history.now.events seat (order.Discard company kind)) }
+{
+    let broken = judge_discard(history, seat, company, kind);
+    let order = history.keep(&Order::Discard { company, kind })?;
+    Ok(train_judged(order, broken))
+}
+
+/// What becomes of an order that breaks this rule of trains first, or none.
+fn train_judged(order: KeptOrder, broken: Option<TrainRule>) -> Ruling
+    ensures { result ≡ ruling_by order broken }
+{
+    match broken {
+        Some(rule) => Ruling::Refused(Refusal::Train(rule), order),
+        None => Ruling::Obeyed(order),
+    }
 }
