@@ -19,7 +19,7 @@ from_here kind line lines i same below read is =
 -- the first of the kind is here
 pub first_goes : (kind line : Kind) (lines : List Kind) (i : ℕ) → i < length lines → line ≡ get_or lines i line → same_kind line kind ≡ true → without_first kind lines ≡ take i lines ++ without_first kind (drop i lines) → remove lines i ≡ without_first kind lines
 first_goes kind line lines i below read same kept =
-    ap (λ (k : ℕ). take i lines ++ drop k lines) (sym add-one)
+    ap (λ (k : ℕ). take i lines ++ drop k lines) (sym (add-one i))
     ∙ sym (kept ∙ ap (λ (rest : List Kind). take i lines ++ rest) (from_here kind line lines i true below read same))
 
 -- it comes later

@@ -5,7 +5,7 @@ use Rattle.std.proofs.Math.Nat.{mul-div-le, mul-le-mul_right}
 use Rattle.std.proofs.lemmas.Bool.{cases_eq}
 use Rattle.std.proofs.lemmas.Int.{ints}
 use Rattle.std.specs.List.{range_with_len}
-use Rattle.history.proofs.Payments.{dividend_sound}
+use Rattle.history.proofs.TrainActs.{dividend_sound}
 use Rattle.history.specs.LookBack.{Game, with_event}
 use Rattle.history.specs.Money.{IsParty}
 use Rattle.history.specs.Shares.{held_by, shares_of, square_of}

@@ -48,7 +48,7 @@ module _ (company : Company) where
       ]
 
   -- how many tenths some seats hold
-  count : List Event → List Seat → ℕ
+  abbrev count : List Event → List Seat → ℕ
   count events [] = 0
   count events (seat ∷ others) = so_many (shares_of events company (OfSeat seat)) + count events others
 
@@ -60,7 +60,7 @@ module _ (company : Company) where
 
   module _ (revenue : ℕ) where
     -- what some seats are paid
-    sum : List Event → List Seat → ℕ
+    abbrev sum : List Event → List Seat → ℕ
     sum events [] = 0
     sum events (seat ∷ others) = dividend_of events company (OfSeat seat) revenue + sum events others
 

@@ -63,7 +63,7 @@ comes_nowhere None kind = grind arith
 comes_nowhere (Some company) kind = grind arith
 
 -- so there is one less
-one_less : (events : List Event) (owner : Option Company) (kind : Kind) → trains_held (events ++ event.Rusted owner kind ∷ []) owner kind ≡ trains_held events owner kind -ℤ pos 1
+pub one_less : (events : List Event) (owner : Option Company) (kind : Kind) → trains_held (events ++ event.Rusted owner kind ∷ []) owner kind ≡ trains_held events owner kind -ℤ pos 1
 one_less events owner kind =
     omega (arith, ints, trains_at_end events (event.Rusted owner kind) (stable_of owner) kind, ap one_if (leaves owner kind), ap one_if (comes_nowhere owner kind))
 

@@ -1,4 +1,5 @@
--- The rules of the purchase of a train say the same after a ruling.
+-- The rules of the purchase of a train say the same after a ruling, so a line that breaks none leads where its
+-- purchase does.
 use Rattle.std.proofs.Common.{◌≡◌, ℕ, ◌+◌, Bool, not, nat_lt, ◌||◌, ◌&&◌, cond, List, [], ◌∷◌, ◌++◌, Option, Some, None, ℤ, pos, ◌-ℤ◌, ◌+ℤ◌, unwrap_or, refl, sym, ap, ◌∙◌, arith}
 use Rattle.std.proofs.lemmas.List.Sums.{sum_by-append}
 use Rattle.std.specs.Int.Signed.{lt_z}
@@ -12,10 +13,18 @@ use Rattle.history.specs.declared.event.TrainPlace.TheVariants as train_place
 use Rattle.history.specs.declared.event.TrainSeller.{TrainSeller}
 use Rattle.history.specs.declared.event.TrainSeller.TheVariants as seller
 use Rattle.history.specs.declared.ruling.Ruling.{Ruling}
+use Rattle.history.specs.declared.ruling.Ruling.TheVariants.{Obeyed}
 use Rattle.history.specs.declared.ruling.TrainRule.{TrainRule}
 use Rattle.history.specs.declared.ruling.TrainRule.TheVariants.{NotOnSale, TrainLimit, CashTooSmall, NoTradeIn}
 use Rattle.operating.specs.Trains.{are_left, first_left, first_left_of, is_full, is_kind, is_left, is_no_trade_in, is_on_sale, is_too_dear, may_be_traded, may_trade, numbered_kinds, price_of_train, sells, sells_diesels, traded_count, train_judgement}
+use Rattle.operating.specs.InTurn.{InTurn, in_turn, told}
+use Rattle.operating.specs.Phases.{after_train}
+use Rattle.operating.specs.Turn.{after_buying, purchase_of, train_ruled}
+use Rattle.operating.specs.declared.operator.Operator.{Operator}
 use Rattle.operating.specs.declared.purchase.Purchase.{Purchase}
+use Rattle.order_grammar.specs.declared.order.Order.{Order}
+use Rattle.order_grammar.specs.declared.order.Order.TheVariants.{BuyTrain}
+use Rattle.order_grammar.specs.declared.order.TrainSource.{TrainSource}
 use Rattle.tables.specs.Rules.{Rule, first_broken}
 use Rattle.tables.specs.Train.{kinds, limit_of, same_kind, trains_of as manifest_of}
 use Rattle.tables.specs.declared.rolling_stock.Kind.{Kind}
@@ -97,3 +106,13 @@ same_judgement game ruled seat number ruling company purchase is =
     ∙ ap (λ (full : Bool). table_of (is_on_sale events purchase.from purchase.kind) full (is_too_dear after company purchase) (is_no_trade_in after.events company purchase.kind purchase.trade_in)) (same_full events seat number ruling company purchase.trade_in)
     ∙ ap (λ (cash : ℤ). table_of (is_on_sale events purchase.from purchase.kind) (is_full events company purchase.trade_in) (lt_z cash (pos (price_of_train purchase.kind purchase.trade_in))) (is_no_trade_in after.events company purchase.kind purchase.trade_in)) (cash_of_before game.seats events (Ruled seat number ruling) (party_of_company company) refl)
     ∙ ap (λ (trade : Bool). table_of (is_on_sale events purchase.from purchase.kind) (is_full events company purchase.trade_in) (is_too_dear game company purchase) trade) (same_trade events seat number ruling company purchase.kind purchase.trade_in)
+
+-- a TRAIN that breaks no rule leads where its purchase does
+pub bought_steps : (by : Operator) (turn : InTurn) (number : ℕ) (kind : Kind) (from : TrainSource) (purchase : Purchase) (its : Order) (ruled new : Game) → purchase ≡ purchase_of kind from → its ≡ BuyTrain kind from → train_judgement turn.game by.company purchase ≡ None → ruled ≡ with_event turn.game (Ruled by.president number (Obeyed its)) → new ≡ after_train ruled by.company purchase → in_turn new turn.progress ≡ after_buying by turn number kind from
+bought_steps by turn number kind from purchase its ruled new is_purchase is_its none is_ruled is_new =
+    let ordered : Purchase = purchase_of kind from in
+    let allowed : train_judgement turn.game by.company ordered ≡ None = ap (train_judgement turn.game by.company) (sym is_purchase) ∙ none in
+    ap (λ (game : Game). in_turn game turn.progress) (is_new ∙ ap (λ (game : Game). after_train game by.company purchase) is_ruled)
+    ∙ ap (λ (one : Order). in_turn (after_train (told by turn number (Obeyed one)).game by.company purchase) turn.progress) is_its
+    ∙ ap (λ (one : Purchase). train_ruled by turn number (BuyTrain kind from) one None) is_purchase
+    ∙ ap (train_ruled by turn number (BuyTrain kind from) ordered) (sym allowed)
