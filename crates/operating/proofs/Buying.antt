@@ -1,17 +1,16 @@
 -- What the purchase of a train is that breaks no rule: such a train is there, the company can pay it, and it has
 -- what it trades in. So the game can be played on once it is made.
-use Rattle.std.proofs.Common.{◌≡◌, ◌⊎◌, ℕ, ◌<◌, ◌≤◌, inl, inr, Bool, true, false, not, ◌&&◌, ◌||◌, nat_lt, if◌then◌else◌, List, [], ◌∷◌, ◌++◌, Option, Some, None, is_some, ℤ, pos, ◌≤ℤ◌, refl, sym, ap, subst, ◌∙◌, arith}
+use Rattle.std.proofs.Common.{◌≡◌, ◌⊎◌, ℕ, ◌<◌, ◌≤◌, inl, inr, Bool, true, false, not, ◌&&◌, ◌||◌, nat_lt, if◌then◌else◌, List, [], ◌∷◌, ◌++◌, Option, Some, None, ℤ, pos, ◌≤ℤ◌, refl, sym, ap, subst, ◌∙◌, arith}
 use Rattle.std.proofs.lemmas.Bool.Decides.{nat_tests}
 use Rattle.std.proofs.lemmas.Int.{ints}
 use Rattle.std.specs.Int.Signed.{lt_z}
-use Rattle.history.proofs.Choices.{truth}
 use Rattle.history.proofs.EventAtEnd.{cash_of_before, trains_at_end}
 use Rattle.history.proofs.Rolling.{same_kind_is, sold_at_end}
-use Rattle.history.proofs.TrainActs.{closing_sound, phase_sound, trade_sound, train_purchase_sound}
+use Rattle.history.proofs.TrainActs.{closing_sound, trade_sound, train_purchase_sound}
 use Rattle.history.specs.Event.{party_of_company, train_moved}
-use Rattle.history.specs.LookBack.{Game, cash_of, owner_of, with_event}
+use Rattle.history.specs.LookBack.{Game, cash_of, with_event}
 use Rattle.history.specs.Sound.{IsSound}
-use Rattle.history.specs.Trains.{IsThere, one_if, train_comes, train_goes, trains_held, trains_sold}
+use Rattle.history.specs.Trains.{IsThere, one_if, train_goes, trains_held, trains_sold}
 use Rattle.history.specs.declared.event.Event.{Event}
 use Rattle.history.specs.declared.event.Event.TheVariants as event
 use Rattle.history.specs.declared.event.Party.{Party}
@@ -20,8 +19,8 @@ use Rattle.history.specs.declared.event.TrainSeller.{TrainSeller}
 use Rattle.history.specs.declared.event.TrainSeller.TheVariants as seller
 use Rattle.operating.proofs.Fitting.{same_fits}
 use Rattle.operating.specs.Ground.{GroundFits, IsPlayable}
-use Rattle.operating.specs.Phases.{bought, with_bop_closed, with_closed, with_trade}
-use Rattle.operating.specs.Trains.{are_left, first_left_of, is_kind, is_left, is_on_sale, is_no_trade_in, is_too_dear, may_be_traded, may_trade, numbered_kinds, price_of_train, purchase_rules, sells, train_judgement}
+use Rattle.operating.specs.Phases.{with_trade}
+use Rattle.operating.specs.Trains.{are_left, first_left_of, is_kind, is_left, is_on_sale, is_no_trade_in, may_be_traded, may_trade, numbered_kinds, price_of_train, purchase_rules, train_judgement}
 use Rattle.operating.specs.declared.purchase.Purchase.{Purchase}
 use Rattle.tables.proofs.Rules.{none_broken}
 use Rattle.tables.specs.Train.{same_kind, trains_of as manifest_of}

@@ -1,21 +1,19 @@
 -- The trains of a kind that are with the bank, the pool and the companies are as many as there were at first until
 -- they rust, and none after.
-use Rattle.std.proofs.Common.{◌≡◌, ◌≢◌, ◌⊎◌, ℕ, zero, suc, ◌+◌, ◌<◌, ◌≤◌, ◌==◌, inl, inr, Bool, true, false, not, ◌&&◌, ◌||◌, nat_lt, if◌then◌else◌, List, [], ◌∷◌, ◌++◌, Option, Some, None, unwrap_or, ℤ, pos, ◌≤ℤ◌, ◌-ℤ◌, ◌+ℤ◌, refl, sym, ap, subst, ◌∙◌, arith}
-use Rattle.std.proofs.lemmas.Bool.Decides.{nat_tests}
+use Rattle.std.proofs.Common.{◌≡◌, ℕ, ◌+◌, ◌<◌, Bool, true, false, ◌&&◌, List, [], ◌∷◌, ◌++◌, Option, None, unwrap_or, ℤ, pos, ◌-ℤ◌, refl, sym, ap, subst, ◌∙◌, arith}
 use Rattle.std.proofs.lemmas.Int.{ints}
 use Rattle.history.proofs.AllTrains.{trains_stay}
-use Rattle.history.proofs.Choices.{truth}
 use Rattle.history.proofs.EventAtEnd.{last_said_before, trains_at_before, trains_at_end}
-use Rattle.history.proofs.Rolling.{same_kind_is, sold_at_end}
+use Rattle.history.proofs.Rolling.{sold_at_end}
 use Rattle.history.specs.Event.{phase_set, stable_of, train_moved}
 use Rattle.history.specs.LookBack.{Game, with_event}
-use Rattle.history.specs.Trains.{one_if, phase_of, same_train_place, train_comes, train_goes, trains_at, trains_in_play, trains_sold}
+use Rattle.history.specs.Trains.{one_if, phase_of, same_train_place, train_comes, train_goes, trains_at, trains_sold}
 use Rattle.history.specs.declared.event.Event.{Event}
 use Rattle.history.specs.declared.event.Event.TheVariants as event
 use Rattle.history.specs.declared.event.TrainPlace.TheVariants as place
 use Rattle.operating.proofs.TrainSteps.{IsPassedOn, OfClosings, OfDiscards, OfRustings, OfTrades}
-use Rattle.operating.specs.TrainLaws.{AllAreThereAtFirst, OthersKeepAll, TrainsAreAll, has_come, have_rusted, trains_there}
-use Rattle.tables.specs.Train.{place_of_kind, rusting_of, same_kind, trains_of as manifest_of}
+use Rattle.operating.specs.TrainLaws.{AllAreThereAtFirst, OthersKeepAll, has_come, trains_there}
+use Rattle.tables.specs.Train.{place_of_kind, rusting_of, same_kind}
 use Rattle.tables.specs.declared.rolling_stock.Kind.{Kind}
 use Rattle.tables.specs.declared.rolling_stock.Kind.TheVariants.{Two, Three, Four, Five, Six, Diesel}
 

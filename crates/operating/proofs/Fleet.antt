@@ -1,5 +1,5 @@
 -- After the purchase of a train by the rules all trains are there until they rust, and none after.
-use Rattle.std.proofs.Common.{◌≡◌, ◌≢◌, ◌⊎◌, ℕ, zero, suc, ◌+◌, ◌<◌, ◌≤◌, ◌==◌, inl, inr, Bool, true, false, not, ◌&&◌, nat_lt, if◌then◌else◌, List, [], ◌∷◌, ◌++◌, Option, Some, None, is_some, ℤ, pos, ◌≤ℤ◌, ◌-ℤ◌, refl, sym, ap, subst, ◌∙◌, arith}
+use Rattle.std.proofs.Common.{◌≡◌, ◌⊎◌, ℕ, zero, suc, ◌<◌, ◌≤◌, ◌==◌, inl, inr, Bool, true, false, ◌&&◌, nat_lt, if◌then◌else◌, List, Option, Some, None, is_some, pos, refl, sym, ap, subst, ◌∙◌, arith}
 use Rattle.std.proofs.lemmas.Bool.Decides.{nat_tests}
 use Rattle.std.proofs.lemmas.Int.{ints}
 use Rattle.history.proofs.AllTrains.{trains_stay}
@@ -15,13 +15,13 @@ use Rattle.history.specs.declared.event.Event.TheVariants as event
 use Rattle.history.specs.declared.event.TrainPlace.TheVariants as place
 use Rattle.history.specs.declared.event.TrainSeller.{TrainSeller}
 use Rattle.history.specs.declared.event.TrainSeller.TheVariants as seller
-use Rattle.operating.proofs.Buying.{MayBuy, both, may_buy, so, train_sound}
+use Rattle.operating.proofs.Buying.{both, may_buy, so, train_sound}
 use Rattle.operating.proofs.Complete.{Alike, alike_closed, alike_discarded, alike_on, alike_phase, alike_rusted, there_is}
 use Rattle.operating.proofs.Rust.{none_in_play}
 use Rattle.operating.proofs.Sales.{between_sold, earlier_sold, is_bought, one_sold, sold_or_not}
 use Rattle.operating.proofs.TrainSteps.{IsPassedOn, later_begins, of_choice, of_fold, of_kind, of_limits, of_phase, of_privates, phase_bought, phase_then}
-use Rattle.operating.specs.Phases.{after_train, begins_phase, bought, rusts_at, with_closed, with_kind_rusted, with_kind_rusted_at, with_limits_kept, with_phase, with_privates_closed, with_rusted}
-use Rattle.operating.specs.TrainLaws.{PurchasesKeepAll, TrainsAreAll, has_come, have_rusted}
+use Rattle.operating.specs.Phases.{begins_phase, bought, rusts_at, with_closed, with_kind_rusted, with_kind_rusted_at, with_limits_kept, with_phase, with_privates_closed, with_rusted}
+use Rattle.operating.specs.TrainLaws.{PurchasesKeepAll, TrainsAreAll, has_come}
 use Rattle.operating.specs.Trains.{is_on_sale, purchase_rules, train_judgement}
 use Rattle.operating.specs.declared.purchase.Purchase.{Purchase}
 use Rattle.tables.proofs.Rules.{none_broken}
@@ -163,11 +163,6 @@ in_order_then game buyer purchase fair earlier later number there numbered befor
           ]
     ]
 
--- what has rusted at a later phase, or does so then
-come_later : (before after : Kind) (rusting : Option Kind) → place_of_kind before ≤ place_of_kind after → has_come before rusting ≡ true → has_come after rusting ≡ true
-come_later before after None later come = absurd (cc)
-come_later before after (Some kind) later come = grind (arith, nat_tests, come)
-
 -- what has not rusted does not rust now
 not_now : (phase : Kind) (rusting : Option Kind) → has_come phase rusting ≡ false → rusts_at rusting phase ≡ false
 not_now phase None stays = refl
@@ -262,35 +257,35 @@ new_phase game buyer purchase begins fair =
     let bank = from_bank game.events purchase.from kind begins in
     record {
       until = λ one number has stays.
-      let stays_now : has_come kind (rusting_of one) ≡ false = ap (λ (p : Kind). has_come p (rusting_of one)) (sym phase) ∙ stays in
-      let was = fair.all.until one number has (never_come (phase_of game.events) kind (rusting_of one) (omega arith) stays_now) in
-      omega (arith, ints, there_is game.events one number, there_is after.events one number, (is_bought game buyer purchase one).out, (phase_alike there kind one (not_now kind (rusting_of one) stays_now)).out);
+          let stays_now : has_come kind (rusting_of one) ≡ false = ap (λ (p : Kind). has_come p (rusting_of one)) (sym phase) ∙ stays in
+          let was = fair.all.until one number has (never_come (phase_of game.events) kind (rusting_of one) (omega arith) stays_now) in
+          omega (arith, ints, there_is game.events one number, there_is after.events one number, (is_bought game buyer purchase one).out, (phase_alike there kind one (not_now kind (rusting_of one) stays_now)).out);
       after = λ one number has gone.
-      let gone_now : has_come kind (rusting_of one) ≡ true = ap (λ (p : Kind). has_come p (rusting_of one)) (sym phase) ∙ gone in
-      elim (truth (rusts_at (rusting_of one) kind)) [
-        | inl rusts ↦
-            let early = rusts_early kind one rusts in
-            let whole = in_order_then game buyer purchase fair one kind number has early.0 early.1 (omega (arith, (is_bought game buyer purchase kind).sold, one_more game buyer purchase bank)) in
-            omega (arith, ints, there_is after.events one number, phase_gone there kind one rusts sound)
-        | inr stays ↦
-            let before = rusted_before kind (rusting_of one) gone_now stays in
-            let some = between_sold game kind (at_bank game buyer purchase kind fair bank refl) fair.sound fair.all before.0 before.1.1 in
-            let come = fair.all.latest before.0 some in
-            let was = fair.all.after one number has (ap (has_come (phase_of game.events)) before.1.0 ∙ grind (arith, nat_tests, come)) in
-            omega (arith, ints, there_is game.events one number, there_is after.events one number, (is_bought game buyer purchase one).out, (phase_alike there kind one stays).out)
-      ];
+          let gone_now : has_come kind (rusting_of one) ≡ true = ap (λ (p : Kind). has_come p (rusting_of one)) (sym phase) ∙ gone in
+          elim (truth (rusts_at (rusting_of one) kind)) [
+            | inl rusts ↦
+                let early = rusts_early kind one rusts in
+                let whole = in_order_then game buyer purchase fair one kind number has early.0 early.1 (omega (arith, (is_bought game buyer purchase kind).sold, one_more game buyer purchase bank)) in
+                omega (arith, ints, there_is after.events one number, phase_gone there kind one rusts sound)
+            | inr stays ↦
+                let before = rusted_before kind (rusting_of one) gone_now stays in
+                let some = between_sold game kind (at_bank game buyer purchase kind fair bank refl) fair.sound fair.all before.0 before.1.1 in
+                let come = fair.all.latest before.0 some in
+                let was = fair.all.after one number has (ap (has_come (phase_of game.events)) before.1.0 ∙ grind (arith, nat_tests, come)) in
+                omega (arith, ints, there_is game.events one number, there_is after.events one number, (is_bought game buyer purchase one).out, (phase_alike there kind one stays).out)
+          ];
       begun = λ some. subst (λ (p : Kind). 0 < trains_sold after.events p) (sym phase) (omega (arith, phase_sold there kind kind, (is_bought game buyer purchase kind).sold, one_more game buyer purchase bank));
       latest = λ one sold. subst (λ (p : Kind). place_of_kind one ≤ place_of_kind p) (sym phase) (
-      let was = phase_sold there kind one in
-      let now = (is_bought game buyer purchase one).sold in
-      elim (sold_or_not buyer purchase one) [
-        | inl none ↦ let before = fair.all.latest one (omega arith) in omega arith
-        | inr this ↦ omega (arith, ap place_of_kind this.1.0)
-      ]);
+          let was = phase_sold there kind one in
+          let now = (is_bought game buyer purchase one).sold in
+          elim (sold_or_not buyer purchase one) [
+            | inl none ↦ let before = fair.all.latest one (omega arith) in omega arith
+            | inr this ↦ omega (arith, ap place_of_kind this.1.0)
+          ]);
       in_order = λ earlier other number has numbered before sold.
-      let early = phase_sold there kind earlier in
-      let late = phase_sold there kind other in
-      early ∙ in_order_then game buyer purchase fair earlier other number has numbered before (omega arith);
+          let early = phase_sold there kind earlier in
+          let late = phase_sold there kind other in
+          early ∙ in_order_then game buyer purchase fair earlier other number has numbered before (omega arith);
     }
 
 by_phase : (game : Game) (buyer : Company) (purchase : Purchase) (begins : Bool) → begins_phase game.events purchase.from purchase.kind ≡ begins → IsFair game buyer purchase → TrainsAreAll (if begins then with_phase (bought game buyer purchase) purchase.kind else bought game buyer purchase).events

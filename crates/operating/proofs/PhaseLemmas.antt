@@ -1,9 +1,8 @@
 -- The game can be played on after what a phase brings: a train rusts or is discarded that is there.
-use Rattle.std.proofs.Common.{◌≡◌, ℕ, ◌+◌, ◌<◌, ◌≤◌, inl, inr, Bool, true, false, if◌then◌else◌, List, [], ◌∷◌, ◌++◌, Option, Some, None, ℤ, pos, negsuc, ◌≤ℤ◌, ◌-ℤ◌, ◌+ℤ◌, refl, sym, ap, subst, ◌∙◌, arith}
+use Rattle.std.proofs.Common.{◌≡◌, ℕ, ◌+◌, ◌<◌, ◌≤◌, Bool, true, false, if◌then◌else◌, List, [], ◌∷◌, ◌++◌, Option, Some, None, ℤ, pos, negsuc, ◌≤ℤ◌, ◌-ℤ◌, ◌+ℤ◌, refl, sym, ap, subst, ◌∙◌, arith}
 use Rattle.std.proofs.lemmas.Int.{ints}
 use mir.Syntax.{w128}
 use mir.Val.{of_z, to_z}
-use Rattle.std.specs.Int.Signed.{lt_z}
 use Rattle.std.specs.Option.{option_or}
 use Rattle.history.proofs.EventAtEnd.{trains_at_end}
 use Rattle.history.proofs.TrainActs.{discard_sound, phase_sound, rusting_sound}
@@ -15,14 +14,12 @@ use Rattle.history.specs.declared.event.Event.TheVariants as event
 use Rattle.operating.proofs.Fitting.{same_fits}
 use Rattle.operating.specs.Discards.{first_held, has_train, next_discard}
 use Rattle.operating.specs.Ground.{IsPlayable}
-use Rattle.operating.specs.Phases.{after_train, begins_phase, bought, excess_of, with_discarded, with_limits_kept, with_next_discarded, with_one_rusted, with_phase, with_privates_closed, with_rusted}
+use Rattle.operating.specs.Phases.{after_train, begins_phase, bought, excess_of, with_limits_kept, with_one_rusted, with_phase, with_privates_closed, with_rusted}
 use Rattle.operating.specs.declared.purchase.Purchase.{Purchase}
-use Rattle.tables.specs.Roster.{same_company}
-use Rattle.tables.specs.Train.{kinds, limit_of, same_kind}
+use Rattle.tables.specs.Train.{kinds, limit_of}
 use Rattle.tables.specs.declared.rolling_stock.Kind.{Kind}
 use Rattle.tables.specs.declared.rolling_stock.Kind.TheVariants.{Two, Three, Four, Five, Six, Diesel}
 use Rattle.tables.specs.declared.roster.Company.{Company}
-use Rattle.tables.specs.declared.roster.Company.TheVariants.{Pennsylvania, NewYorkCentral, CanadianPacific, BaltimoreOhio, ChesapeakeOhio, Erie, NewHaven, BostonMaine}
 
 -- a phase that begins
 pub phase_playable : (game : Game) (kind : Kind) → IsPlayable game → IsPlayable (with_event game (event.Phase kind))

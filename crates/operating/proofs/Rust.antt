@@ -1,14 +1,13 @@
 -- Once the trains of a kind have rusted none is in play.
-use Rattle.std.proofs.Common.{◌≡◌, ℕ, zero, suc, ◌+◌, inl, inr, Bool, true, false, ◌&&◌, if◌then◌else◌, List, [], ◌∷◌, ◌++◌, Option, Some, None, ℤ, pos, negsuc, ◌≤ℤ◌, ◌-ℤ◌, ◌+ℤ◌, refl, sym, ap, subst, ◌∙◌, arith}
+use Rattle.std.proofs.Common.{◌≡◌, ℕ, zero, suc, inl, inr, Bool, true, false, ◌&&◌, List, [], ◌∷◌, Option, Some, None, ℤ, pos, negsuc, ◌≤ℤ◌, ◌-ℤ◌, refl, sym, ap, subst, ◌∙◌, arith}
 use Rattle.std.proofs.lemmas.Int.{ints}
 use Rattle.std.specs.List.{fold}
 use Rattle.history.proofs.Choices.{truth}
 use Rattle.history.proofs.EventAtEnd.{trains_at_end}
 use Rattle.history.proofs.Rolling.{same_train_place_is}
 use Rattle.history.specs.Event.{stable_of, train_moved}
-use Rattle.history.specs.LookBack.{Game, with_event}
+use Rattle.history.specs.LookBack.{Game}
 use Rattle.history.specs.Trains.{one_if, same_train_place, so_many, train_comes, train_goes, trains_at, trains_held, trains_in_play}
-use Rattle.history.specs.declared.event.Event.{Event}
 use Rattle.history.specs.declared.event.Event.TheVariants as event
 use Rattle.operating.proofs.PhaseLemmas.{one_less}
 use Rattle.operating.specs.Phases.{with_company_rusted, with_kind_rusted, with_one_rusted, with_stable_rusted}

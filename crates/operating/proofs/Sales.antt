@@ -1,15 +1,15 @@
 -- What the purchase of a train changes by itself: the bank has sold one more where it sells it, and nothing leaves
 -- play.
-use Rattle.std.proofs.Common.{◌≡◌, ◌⊎◌, ℕ, ◌+◌, ◌<◌, ◌≤◌, ◌==◌, inl, inr, Bool, true, false, ◌&&◌, nat_lt, if◌then◌else◌, List, [], ◌∷◌, ◌++◌, Option, Some, None, pos, ◌≤ℤ◌, refl, sym, ap, subst, ◌∙◌, arith}
+use Rattle.std.proofs.Common.{◌≡◌, ◌⊎◌, ℕ, ◌+◌, ◌<◌, ◌≤◌, ◌==◌, inl, inr, Bool, true, false, ◌&&◌, nat_lt, if◌then◌else◌, List, Option, Some, None, refl, sym, ap, subst, ◌∙◌, arith}
 use Rattle.std.proofs.lemmas.Bool.Decides.{Decides-eqb, nat_tests}
 use Rattle.std.proofs.lemmas.Int.{ints}
 use Rattle.history.proofs.Choices.{truth}
 use Rattle.history.proofs.EventAtEnd.{trains_at_end}
 use Rattle.history.proofs.Rolling.{same_kind_is, sold_at_end}
-use Rattle.history.specs.Event.{place_of_seller, train_moved}
+use Rattle.history.specs.Event.{place_of_seller}
 use Rattle.history.specs.LookBack.{Game, with_event}
 use Rattle.history.specs.Sound.{IsSound}
-use Rattle.history.specs.Trains.{IsThere, one_if, phase_of, train_goes, trains_at, trains_sold}
+use Rattle.history.specs.Trains.{one_if, train_goes, trains_at, trains_sold}
 use Rattle.history.specs.declared.event.Event.{Event}
 use Rattle.history.specs.declared.event.Event.TheVariants as event
 use Rattle.history.specs.declared.event.TrainMove.{TrainMove}
@@ -21,7 +21,7 @@ use Rattle.operating.proofs.Complete.{Alike, alike_closed, alike_on, alike_trade
 use Rattle.operating.proofs.TrainSteps.{of_bop, of_trade}
 use Rattle.operating.specs.Phases.{bought, with_bop_closed, with_trade}
 use Rattle.operating.specs.TrainLaws.{TrainsAreAll}
-use Rattle.operating.specs.Trains.{are_left, first_left, first_left_of, is_kind, is_left, is_on_sale, numbered_kinds, price_of_train}
+use Rattle.operating.specs.Trains.{are_left, first_left, is_kind, is_left, is_on_sale, price_of_train}
 use Rattle.operating.specs.declared.purchase.Purchase.{Purchase}
 use Rattle.tables.specs.Train.{place_of_kind, same_kind, trains_of as manifest_of}
 use Rattle.tables.specs.declared.rolling_stock.Kind.{Kind}

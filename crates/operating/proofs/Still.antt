@@ -5,7 +5,7 @@ use Rattle.std.proofs.lemmas.List.Sums.{sum_by-append}
 use Rattle.std.specs.Int.Signed.{lt_z}
 use Rattle.history.proofs.EventAtEnd.{balance_before, cash_of_before, last_said_before}
 use Rattle.history.specs.Event.{party_of_company, phase_set, stable_of, train_moved}
-use Rattle.history.specs.LookBack.{Game, cash_of, with_event}
+use Rattle.history.specs.LookBack.{Game, with_event}
 use Rattle.history.specs.Trains.{one_if, phase_of, stable_size, train_comes, train_goes, trains_held, trains_of_kinds, trains_sold}
 use Rattle.history.specs.declared.event.Event.{Event}
 use Rattle.history.specs.declared.event.Event.TheVariants.{Ruled}
@@ -16,7 +16,7 @@ use Rattle.history.specs.declared.ruling.Ruling.{Ruling}
 use Rattle.history.specs.declared.ruling.Ruling.TheVariants.{Obeyed}
 use Rattle.history.specs.declared.ruling.TrainRule.{TrainRule}
 use Rattle.history.specs.declared.ruling.TrainRule.TheVariants.{NotOnSale, TrainLimit, CashTooSmall, NoTradeIn}
-use Rattle.operating.specs.Trains.{are_left, first_left, first_left_of, is_full, is_kind, is_left, is_no_trade_in, is_on_sale, is_too_dear, may_be_traded, may_trade, numbered_kinds, price_of_train, sells, sells_diesels, traded_count, train_judgement}
+use Rattle.operating.specs.Trains.{are_left, first_left, first_left_of, is_full, is_kind, is_left, is_no_trade_in, is_on_sale, is_too_dear, may_be_traded, numbered_kinds, price_of_train, sells_diesels, traded_count, train_judgement}
 use Rattle.operating.specs.InTurn.{InTurn, in_turn, told}
 use Rattle.operating.specs.Phases.{after_train}
 use Rattle.operating.specs.Turn.{after_buying, purchase_of, train_ruled}
@@ -25,7 +25,7 @@ use Rattle.operating.specs.declared.purchase.Purchase.{Purchase}
 use Rattle.order_grammar.specs.declared.order.Order.{Order}
 use Rattle.order_grammar.specs.declared.order.Order.TheVariants.{BuyTrain}
 use Rattle.order_grammar.specs.declared.order.TrainSource.{TrainSource}
-use Rattle.tables.specs.Rules.{Rule, first_broken}
+use Rattle.tables.specs.Rules.{first_broken}
 use Rattle.tables.specs.Train.{kinds, limit_of, same_kind, trains_of as manifest_of}
 use Rattle.tables.specs.declared.rolling_stock.Kind.{Kind}
 use Rattle.tables.specs.declared.rolling_stock.Kind.TheVariants.{Two, Six, Diesel}

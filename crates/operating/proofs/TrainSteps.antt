@@ -1,5 +1,5 @@
 -- What holds of each event that the purchase of a train brings, and of one after the other, holds of all of them.
-use Rattle.std.proofs.Common.{◌≡◌, ℕ, zero, suc, ◌≤◌, ◌<◌, ◌==◌, Bool, true, false, ◌&&◌, nat_lt, if◌then◌else◌, List, [], ◌∷◌, ◌++◌, Option, Some, None, is_some, unwrap_or, refl, sym, ap, subst, ◌∙◌, arith}
+use Rattle.std.proofs.Common.{◌≡◌, ℕ, zero, suc, ◌≤◌, ◌<◌, ◌==◌, Bool, true, false, ◌&&◌, nat_lt, if◌then◌else◌, List, [], ◌∷◌, ◌++◌, Option, Some, None, is_some, unwrap_or, refl, ap, ◌∙◌, arith}
 use Rattle.std.proofs.lemmas.Bool.Decides.{nat_tests}
 use Rattle.std.specs.List.{fold}
 use Rattle.history.proofs.EventAtEnd.{last_said_at_end, last_said_before}
@@ -11,7 +11,7 @@ use Rattle.history.specs.declared.event.Event.TheVariants as event
 use Rattle.history.specs.declared.event.TrainSeller.{TrainSeller}
 use Rattle.history.specs.declared.event.TrainSeller.TheVariants as seller
 use Rattle.operating.specs.Discards.{next_discard}
-use Rattle.operating.specs.Phases.{after_train, begins_phase, bought, excess_of, rusts_at, with_all_closed, with_bop_closed, with_closed, with_company_rusted, with_discarded, with_kind_rusted, with_kind_rusted_at, with_limit_kept, with_limits_kept, with_next_discarded, with_one_rusted, with_phase, with_privates_closed, with_rusted, with_stable_rusted, with_trade}
+use Rattle.operating.specs.Phases.{begins_phase, bought, excess_of, rusts_at, with_all_closed, with_bop_closed, with_closed, with_company_rusted, with_discarded, with_kind_rusted, with_kind_rusted_at, with_limit_kept, with_limits_kept, with_next_discarded, with_one_rusted, with_phase, with_privates_closed, with_rusted, with_stable_rusted, with_trade}
 use Rattle.operating.specs.TrainLaws.{PhasesGoOn}
 use Rattle.operating.specs.Trains.{price_of_train}
 use Rattle.operating.specs.declared.purchase.Purchase.{Purchase}

@@ -1,5 +1,5 @@
 -- The purchase of a train adds events, of which none begins a round, and by which nobody operates.
-use Rattle.std.proofs.Common.{◌≡◌, ℕ, Bool, true, false, if◌then◌else◌, Option, Some, None, is_some, refl}
+use Rattle.std.proofs.Common.{Option, Some, None, is_some, refl}
 use Rattle.std.specs.List.{fold}
 use Rattle.history.specs.LookBack.{Game, owner_of, with_event}
 use Rattle.history.specs.Trains.{so_many, trains_held}

@@ -2,7 +2,7 @@
 -- company and the company has such a train. When a company has too many trains, the obeyed lines of its
 -- president in this round serve first, in order, each once; one is passed over where the company has no such
 -- train, and may serve later in the round. Where no line serves, the company discards of its least kind.
-use Rattle.std.specs.Prelude.{ℕ, ◌==◌, Bool, true, false, not, ◌&&◌, ◌||◌, if◌then◌else◌, List, [], ◌∷◌, ◌++◌, Option, Some, None, is_some, pos}
+use Rattle.std.specs.Prelude.{◌==◌, Bool, false, not, ◌||◌, if◌then◌else◌, List, [], ◌∷◌, ◌++◌, Option, Some, None, is_some, pos}
 use Rattle.std.specs.Int.Signed.{lt_z}
 use Rattle.std.specs.List.{fold}
 use Rattle.std.specs.Option.{option_or}

@@ -1,7 +1,6 @@
 //! What the purchase of a train brings: the phase that it begins, and what follows from that.
-ghost use Rattle.std.specs.Prelude.{◌≡◌, ◌≤ℤ◌, OnOk, None, pos};
-ghost use Rattle.history.specs.LookBack.{with_event};
-ghost use Rattle.history.specs.Trains.{so_many, trains_held};
+ghost use Rattle.std.specs.Prelude.{◌≡◌, OnOk, None};
+ghost use Rattle.history.specs.Trains.{so_many};
 ghost use Rattle.operating.specs.Ground.{IsPlayable};
 ghost use Rattle.operating.specs.Phases.{after_train, begins_phase as is_first_of_phase, bought, excess_of, rusts_at, with_all_closed, with_bop_closed, with_closed, with_company_rusted, with_kind_rusted, with_kind_rusted_at, with_limit_kept, with_limits_kept, with_next_discarded, with_phase, with_privates_closed, with_rusted, with_stable_rusted, with_trade};
 ghost use Rattle.operating.specs.Trains.{train_judgement};

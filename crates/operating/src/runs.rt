@@ -33,11 +33,19 @@ impl Model for Runs {
 
     ghost Value = { Done };
 
-    ghost view = { λ runs. record { trains = runs.trains; borders = runs.borders; revenue = runs.revenue } };
+    ghost view = { λ runs. record {
+      trains = runs.trains;
+      borders = runs.borders;
+      revenue = runs.revenue;
+    } };
 
     ghost invariant = { λ runs. IsBounded runs.trains runs.borders runs.revenue };
 
-    ghost inverse = { λ done. record { trains = done.trains; borders = done.borders; revenue = done.revenue } };
+    ghost inverse = { λ done. record {
+      trains = done.trains;
+      borders = done.borders;
+      revenue = done.revenue;
+    } };
 }
 
 impl Runs {

@@ -11,7 +11,8 @@
 //! event of a line), `answers` (questions about a game) and `games` (what readers say, the chart,
 //! presidents, what counts, what may be bought and sold). Then a module for each further topic:
 //! `lines`, `sheets_of_a_file`, `looking_back`, `payments`, `certificates`, `openings`,
-//! `stock_rounds`, `operating_rounds`, `sequence`, `texts`, `watching`, `running`.
+//! `stock_rounds`, `operating_rounds`, `runs`, `trains`, `sequence`, `texts`, `watching`,
+//! `running`.
 #![tactic(auto)]
 
 #[cfg(test)]
@@ -33,6 +34,8 @@ mod payments;
 #[cfg(test)]
 mod running;
 #[cfg(test)]
+mod runs;
+#[cfg(test)]
 mod sequence;
 #[cfg(test)]
 mod sheets_of_a_file;
@@ -44,5 +47,7 @@ mod support;
 mod texts;
 #[cfg(test)]
 mod told;
+#[cfg(test)]
+mod trains;
 #[cfg(test)]
 mod watching;

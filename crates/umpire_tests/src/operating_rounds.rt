@@ -1,5 +1,5 @@
 use crate::answers::ask;
-use crate::support::{FIRST, collected, plain};
+use crate::support::{FIRST, collected, ends_with};
 use board::nothing_fits;
 use history::History;
 use operating::play_company;
@@ -68,9 +68,7 @@ AWAITING SR2 ANN BOB CYD
 
 #[test]
 fn plays_an_operating_round(rt: HostRuntime) {
-    let run = plain(rt.alloc(), BUILT);
-    assert!(rt; run.result.is_ok());
-    assert!(rt; run.text.as_slice().ends_with(BUILT_REPORT.as_bytes()));
+    ends_with(&rt, rt.alloc(), BUILT, BUILT_REPORT);
 }
 
 /// The game after the turn of a company of which nobody is president.

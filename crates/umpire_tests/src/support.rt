@@ -240,3 +240,13 @@ pub(crate) fn plain(alloc: Global, file: &str) -> Outcome {
         Sink::taking(alloc, 1_000),
     )
 }
+
+/// Plays a file that is not refused, whose report is to end so.
+pub(crate) fn ends_with(rt: &impl Abort, alloc: Global, file: &str, end: &str) {
+    let run = plain(alloc, file);
+    assert_eq!(rt; run.result, Ok(()));
+    assert!(rt;
+        run.text.as_slice().ends_with(end.as_bytes()),
+        "not with {end}"
+    );
+}

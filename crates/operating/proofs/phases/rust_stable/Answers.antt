@@ -1,7 +1,6 @@
-use Rattle.std.proofs.Common.{ℤ, ap, refl, subst, ◌∙◌, ◌<◌}
+use Rattle.std.proofs.Common.{ap, refl, subst, ◌∙◌, ◌<◌}
 use Rattle.std.proofs.lemmas.Int.{to_z-of_z}
 use mir.Syntax.{w128}
-use Rattle.history.specs.LookBack.{Game}
 use Rattle.history.specs.Trains.{so_many}
 use Rattle.operating.proofs.Folding.{iterate_goes_on}
 use Rattle.operating.proofs.PhaseLemmas.{none_rusted, one_rusts}
