@@ -1,9 +1,13 @@
 -- What a text holds where memory is refused while it is printed: what it held, and a front of the rest.
-use Rattle.std.proofs.Common.{◌≡◌, ℕ, ◌+◌, ◌<◌, List, [], ◌∷◌, ◌++◌, length, get_or, take, drop, Result, Ok, Err, OnErr, refl, sym, ap, append_assoc, take-append-drop, ◌∙◌}
+use Rattle.std.proofs.Common.{◌≡◌, ℕ, ◌+◌, ◌<◌, List, [], ◌∷◌, ◌++◌, Option, Some, length, get_or, map, take, drop, Result, Ok, Err, OnErr, refl, sym, ap, append_assoc, take-append-drop, ◌∙◌}
 use Rattle.std.proofs.lemmas.Grind.{flat_map-append}
 use Rattle.std.proofs.lemmas.List.{append-nil, drop_more, take_more}
 use Rattle.std.proofs.lemmas.List.Concat.{flat_map-cons}
-use Rattle.order_grammar.specs.Print.{AddsFront, spaced}
+use Rattle.order_grammar.specs.Keyword.{text_of_keyword}
+use Rattle.order_grammar.specs.Order.{parts_of}
+use Rattle.order_grammar.specs.Print.{AddsFront, spaced, spelling_of, text_of_value, values_text, words_of_parts, words_of_tail, joined}
+use Rattle.order_grammar.specs.declared.order.Order.{Order}
+use Rattle.order_grammar.specs.declared.order.Parts.{Parts}
 
 -- what holds also holds at an error
 pub at_error : {T E P : Type 0} (r : Result T E) → P → OnErr r P
@@ -67,3 +71,15 @@ words_more old before mid new words count word more is so_far space added =
     added ∙ ap (λ (text : List ℕ). text ++ word) (space ∙ two_added old before (spaced (take count words)) (32 ∷ []) so_far)
     ∙ append_assoc old (spaced (take count words) ++ 32 ∷ []) word
     ∙ ap (λ (text : List ℕ). old ++ text) (append_assoc (spaced (take count words)) (32 ∷ []) word ∙ sym next)
+
+-- the keyword and the values of an order, and a front of what is repeated
+pub order_front : (old begun mid new : List ℕ) (order : Order) (parts : Parts) (words : List (List ℕ)) → parts_of order ≡ Some parts → begun ≡ old ++ text_of_keyword parts.keyword → mid ≡ begun ++ values_text parts.values.items → words_of_tail parts.tail ≡ words → AddsFront mid new (spaced words) → AddsFront old new (spelling_of order)
+order_front old begun mid new order parts words made keyword values tail adds =
+    let first = text_of_keyword parts.keyword in
+    let texts = map text_of_value parts.values.items in
+    let whole : spelling_of order ≡ (first ++ spaced texts) ++ spaced words =
+    ap (λ (some : Option Parts). joined (words_of_parts some)) made
+    ∙ ap (λ (all : List (List ℕ)). first ++ spaced (texts ++ all)) tail
+    ∙ ap (λ (text : List ℕ). first ++ text) (flat_map-append (λ (word : List ℕ). 32 ∷ word) texts words)
+    ∙ sym (append_assoc first (spaced texts) (spaced words)) in
+    rw whole (front_of_second old mid new (first ++ spaced texts) (spaced words) (values ∙ two_added old begun first (spaced texts) keyword) adds)

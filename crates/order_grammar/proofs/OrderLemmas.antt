@@ -11,7 +11,7 @@ use Rattle.tables.specs.declared.rolling_stock.Kind.{Kind}
 use Rattle.order_grammar.specs.Form.{forms, is_row_of, is_run_length, has_form, are_names}
 use Rattle.order_grammar.specs.Keyword.{text_of_keyword}
 use Rattle.order_grammar.specs.Order.{lay_of, made_of, parts_of, order_from}
-use Rattle.order_grammar.specs.Spells.{IsWord, IsNumber, IsName, IsRoundOfLine, IsPrivate, IsCompany, IsKind, IsTile, IsHex, IsRotation, IsPlace, AreNames, ArePlaces, Then, End, AreWordsFor}
+use Rattle.order_grammar.specs.Spells.{IsWord, IsNumber, IsName, IsRoundOfLine, IsPrivate, IsCompany, IsKind, IsTile, IsHex, IsRotation, IsPlace, AreNames, Then, End, AreWordsFor}
 use Rattle.order_grammar.specs.declared.keyword.Keyword.{Keyword}
 use Rattle.order_grammar.specs.declared.keyword.Keyword.TheVariants as keyword
 use Rattle.order_grammar.specs.declared.order.Order.{Order}

@@ -10,9 +10,7 @@ use Rattle.std.proofs.lemmas.List.{drop_at, length-append, length-map, append-ni
 use Rattle.std.proofs.lemmas.List.Concat.{flat_map-cons}
 use Rattle.std.proofs.lemmas.List.Folds.{list_all-append}
 use Rattle.std.proofs.lemmas.List.Sums.{fold_push}
-use Rattle.std.proofs.lemmas.Bool.{ltb-true}
 use Rattle.map_tables.specs.Hex.{column_of, row_of}
-use Rattle.map_tables.specs.Place.{stop_index_of}
 use Rattle.map_tables.specs.Side.{turns_of}
 use Rattle.map_tables.specs.Text.{stop_text, text_of_hex, text_of_place}
 use Rattle.map_tables.specs.Tile.{number_of_tile}
@@ -43,7 +41,7 @@ use Rattle.order_grammar.specs.Name.{is_name, is_capital, is_digit, is_letter_or
 use Rattle.order_grammar.specs.Order.{made_of, parts_of}
 use Rattle.order_grammar.specs.Print.{spaced, joined, text_of_value, words_of_tail, words_of_parts, spelling_of}
 use Rattle.order_grammar.specs.Row.{has_room, is_short}
-use Rattle.order_grammar.specs.Spells.{IsNumber, IsNumbered, IsOperating, is_small, are_small, is_round_of_line, has_word, have_words, FitsLine, IsOrder}
+use Rattle.order_grammar.specs.Spells.{IsNumber, IsNumbered, is_small, are_small, is_round_of_line, has_word, have_words, FitsLine, IsOrder}
 use Rattle.order_grammar.specs.Words.{before, with_word, words_from, raised, words_of, is_printable, same_word}
 use Rattle.order_grammar.specs.declared.class.Class.{Class}
 use Rattle.order_grammar.specs.declared.form.Repeated.{Repeated}
@@ -486,9 +484,9 @@ parts_read order (Some parts) is has fits =
     let values = parts.values.items in
     let h = and_parts (has_form parts) (list_all has_word values) has in
     let row = among_any (is_row_of parts.keyword values parts.tail) forms h.0 in
-    let fits = and_parts (same_word (text_of_keyword row.0.keyword) (text_of_keyword parts.keyword)) (are_of_classes row.0.classes row.0.repeated values parts.tail) row.2 in
+    let of_row = and_parts (same_word (text_of_keyword row.0.keyword) (text_of_keyword parts.keyword)) (are_of_classes row.0.classes row.0.repeated values parts.tail) row.2 in
     let short = and_parts (nat_le (length row.0.classes) 5) (has_room row.0.repeated) (all_among is_short forms row.0 forms_short row.1) in
-    let counted = values_short row.0.classes row.0.repeated values parts.tail short.1 fits.1 in
+    let counted = values_short row.0.classes row.0.repeated values parts.tail short.1 of_row.1 in
     let spelt = values_spelt values parts.tail h.1 counted.1.plain in
     let words = words_of_parts (Some parts) in
     let plain : ArePlain words = (plain_word (text_of_keyword parts.keyword) (keyword_plain parts.keyword), spelt.plain) in

@@ -1,5 +1,5 @@
 -- A word is read as a value of a class exactly where it is a text of that value.
-use Rattle.std.proofs.Common.{◌≡◌, ℕ, ◌+◌, ◌-◌, ◌≤◌, ◌<◌, ◌==◌, ◌&&◌, true, false, nat_le, inl, inr, List, [], ◌∷◌, ◌++◌, Option, Some, None, length, codes, decimal, get_or, take, drop, append_assoc, refl, sym, ap, ◌∙◌, arith}
+use Rattle.std.proofs.Common.{◌≡◌, ℕ, ◌+◌, ◌-◌, ◌≤◌, ◌==◌, ◌&&◌, true, false, nat_le, inl, inr, List, [], ◌∷◌, ◌++◌, Option, Some, None, length, codes, decimal, get_or, take, drop, append_assoc, refl, sym, ap, ◌∙◌, arith}
 use Rattle.std.proofs.lemmas.Bool.{cases_Bool, eqb-true, eqb-false, ne_eqb, le-leb, leb-true, and_parts, false≢true}
 use Rattle.std.proofs.lemmas.Fmt.{decimal_digit}
 use Rattle.std.proofs.lemmas.Option.{same_Some}
@@ -22,7 +22,6 @@ use Rattle.tables.specs.declared.round.Round.TheVariants.{Opening, Stock, Operat
 use Rattle.order_grammar.specs.Class.{are_digits, value_of_digits, digits_reading, round_of_series, round_number_reading, number_in_set, operating_reading, round_reading, class_reading, code_reading, named_reading, private_reading, company_reading, kind_reading, is_of_class}
 use Rattle.order_grammar.specs.Keyword.{text_of_keyword}
 use Rattle.tables.specs.Round.{number_most, operating_most}
-use Rattle.tables.specs.declared.round.Round.{Round}
 use Rattle.order_grammar.specs.Name.{is_name}
 use Rattle.order_grammar.specs.Spells.{IsNumber, IsNumbered, IsOperating, IsRoundOfLine, is_small}
 use Rattle.order_grammar.specs.Words.{same_word}

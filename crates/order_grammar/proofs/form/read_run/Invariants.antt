@@ -1,4 +1,3 @@
-use Rattle.std.proofs.Common.{◌≡◌}
 use Rattle.order_grammar.specs.Words.{texts_of}
 use Rattle.order_grammar.proofs.RunLemmas.{ArePlacesSoFar}
 use Rattle.order_grammar.proofs.form.read_run.Given as goal

@@ -1,4 +1,4 @@
-use Rattle.std.proofs.Common.{◌∙◌, [], map, sym, ap, arith}
+use Rattle.std.proofs.Common.{◌∙◌, [], get_or, map, refl, sym, arith}
 use Rattle.std.proofs.lemmas.List.{length-map, get_or-map}
 use Rattle.map_tables.specs.Text.{text_of_place}
 use Rattle.order_grammar.proofs.FrontLemmas.{at_error, none_added, words_front, words_and_front, words_more}
@@ -11,16 +11,15 @@ returns-in_err-push-clause-err c =
 pub returns-in_err-print_place-clause-err : goal.returns-in_err-print_place-clause-err
 returns-in_err-print_place-clause-err c =
     let places = c.args.places.now in
+    let words = map text_of_place places in
     let i = c.loop-place.place-index in
-    let place = c.place-item.result in
     at_error c.from_residual-in_err-print_place.result
-    (words_and_front _ c.loop-place.text.items c.push.new.self.items _ (map text_of_place places) i (text_of_place place) (omega (arith, length-map places text_of_place, c.loop-place-test.true)) (ap text_of_place c.place-item.is ∙ sym (get_or-map text_of_place places i place [] c.loop-place-test.true)) c.loop-place.invariant c.in_ok-push.ensures.items
+    (words_and_front _ c.loop-place.text.items c.push.new.self.items _ words i (get_or words i []) (omega (arith, length-map places text_of_place, c.loop-place-test.true)) refl c.loop-place.invariant c.in_ok-push.ensures.items
     (none_added _ _ _ c.in_err-print_place.ensures.err))
 
 pub loop-place-preserved : goal.loop-place-preserved
 loop-place-preserved c =
     let places = c.args.places.now in
     let i = c.loop-place.place-index in
-    let place = c.place-item.result in
-    words_more _ c.loop-place.text.items c.push.new.self.items _ (map text_of_place places) i (text_of_place place) (omega (arith, length-map places text_of_place, c.loop-place-test.true)) (ap text_of_place c.place-item.is ∙ sym (get_or-map text_of_place places i place [] c.loop-place-test.true)) c.loop-place.invariant c.in_ok-push.ensures.items
+    words_more _ c.loop-place.text.items c.push.new.self.items _ (map text_of_place places) i (text_of_place (get_or places i _)) (omega (arith, length-map places text_of_place, c.loop-place-test.true)) (sym (get_or-map text_of_place places i _ [] c.loop-place-test.true)) c.loop-place.invariant c.in_ok-push.ensures.items
     c.in_ok-print_place.ensures.ok
