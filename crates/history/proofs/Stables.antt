@@ -2,9 +2,11 @@
 use Rattle.std.proofs.Common.{◌≡◌, ℕ, ◌+◌, Bool, true, false, ◌&&◌, if◌then◌else◌, List, [], ◌∷◌, Option, Some, None, ℤ, pos, ◌-ℤ◌, ◌+ℤ◌, refl, arith}
 use Rattle.std.proofs.lemmas.Int.{ints}
 use Rattle.std.proofs.lemmas.List.Sums.{sum_by-cons}
+use mir.Syntax.{w128}
+use mir.Val.{to_z, of_z}
 use Rattle.history.proofs.AllTrains.{trains_in_front}
 use Rattle.history.specs.Event.{stable_of, train_moved}
-use Rattle.history.specs.LookBack.{balance}
+use Rattle.history.specs.LookBack.{IsModerate, balance}
 use Rattle.history.specs.Trains.{any_comes, any_goes, one_if, stable_size, train_comes, train_goes}
 use Rattle.history.specs.declared.event.Event.{Event}
 use Rattle.history.specs.declared.event.TrainMove.{TrainMove}
@@ -57,7 +59,8 @@ size_in_front event events owner =
       trains_in_front event events (stable_of owner) Six,
       trains_in_front event events (stable_of owner) Diesel,
       come_once owner (train_moved event),
-      go_once owner (train_moved event))
+      go_once owner (train_moved event),
+    )
 
 -- how many came less how many went, with an event in front
 balance_in_front : (event : Event) (events : List Event) (owner : Option Company) → balance 0 (λ e. one_if (any_comes owner (train_moved e))) (λ e. one_if (any_goes owner (train_moved e))) (event ∷ events) ≡ (balance 0 (λ e. one_if (any_comes owner (train_moved e))) (λ e. one_if (any_goes owner (train_moved e))) events +ℤ pos (one_if (any_comes owner (train_moved event)))) -ℤ pos (one_if (any_goes owner (train_moved event)))
@@ -69,3 +72,7 @@ pub size_is : (events : List Event) (owner : Option Company) → balance 0 (λ e
 size_is [] owner = refl
 size_is (event ∷ events) owner =
     omega (arith, ints, balance_in_front event events owner, size_in_front event events owner, size_is events owner)
+
+-- a moderate number is kept whole
+pub moderate_fits : (sum : ℤ) → IsModerate sum → to_z w128 (of_z w128 sum) ≡ sum
+moderate_fits sum moderate = omega (arith, ints, moderate.not_under, moderate.not_over)

@@ -32,7 +32,6 @@ impl Past<'_> {
     }
 
     /// How many trains a company has, or the bank pool where there is none.
-    #[tactic(auto, using(crate::proofs::Stables::size_is))]
     pub fn stable_size(&self, owner: Option<Company>) -> TrainCount
         ensures sum { result ≡ stable_size self.now.events.now owner }
         ensures within { IsModerate result }
