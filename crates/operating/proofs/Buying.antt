@@ -1,12 +1,12 @@
 -- What the purchase of a train is that breaks no rule: such a train is there, the company can pay it, and it has
 -- what it trades in. So the game can be played on once it is made.
-use Rattle.std.proofs.Common.{◌≡◌, ◌⊎◌, ℕ, ◌<◌, ◌≤◌, inl, inr, Bool, true, false, not, ◌&&◌, ◌||◌, nat_lt, if◌then◌else◌, List, [], ◌∷◌, ◌++◌, Option, Some, None, is_some, pos, ◌≤ℤ◌, refl, sym, ap, subst, ◌∙◌, arith}
+use Rattle.std.proofs.Common.{◌≡◌, ◌⊎◌, ℕ, ◌<◌, ◌≤◌, inl, inr, Bool, true, false, not, ◌&&◌, ◌||◌, nat_lt, if◌then◌else◌, List, [], ◌∷◌, ◌++◌, Option, Some, None, is_some, ℤ, pos, ◌≤ℤ◌, refl, sym, ap, subst, ◌∙◌, arith}
 use Rattle.std.proofs.lemmas.Bool.Decides.{nat_tests}
 use Rattle.std.proofs.lemmas.Int.{ints}
 use Rattle.std.specs.Int.Signed.{lt_z}
 use Rattle.history.proofs.Choices.{truth}
 use Rattle.history.proofs.EventAtEnd.{cash_of_before, trains_at_end}
-use Rattle.history.proofs.Rolling.{never_of_bank, same_kind_is, sold_at_end}
+use Rattle.history.proofs.Rolling.{same_kind_is, sold_at_end}
 use Rattle.history.proofs.TrainActs.{closing_sound, phase_sound, trade_sound, train_purchase_sound}
 use Rattle.history.specs.Event.{party_of_company, train_moved}
 use Rattle.history.specs.LookBack.{Game, cash_of, owner_of, with_event}
@@ -21,7 +21,7 @@ use Rattle.history.specs.declared.event.TrainSeller.TheVariants as seller
 use Rattle.operating.proofs.Fitting.{same_fits}
 use Rattle.operating.specs.Ground.{GroundFits, IsPlayable}
 use Rattle.operating.specs.Phases.{bought, with_bop_closed, with_closed, with_trade}
-use Rattle.operating.specs.Trains.{are_left, first_left_of, is_kind, is_left, is_on_sale, is_no_trade_in, is_too_dear, may_trade, numbered_kinds, price_of_train, purchase_rules, sells, train_judgement}
+use Rattle.operating.specs.Trains.{are_left, first_left_of, is_kind, is_left, is_on_sale, is_no_trade_in, is_too_dear, may_be_traded, may_trade, numbered_kinds, price_of_train, purchase_rules, sells, train_judgement}
 use Rattle.operating.specs.declared.purchase.Purchase.{Purchase}
 use Rattle.tables.proofs.Rules.{none_broken}
 use Rattle.tables.specs.Train.{same_kind, trains_of as manifest_of}
@@ -70,8 +70,8 @@ no_number kind n same is =
 
 -- what is on sale is there
 on_sale_there : (events : List Event) (from : TrainSeller) (kind : Kind) → is_on_sale events from kind ≡ true → IsThere events from kind
-on_sale_there events seller.Bank kind sells n number =
-    elim (either (is_kind (first_left_of events numbered_kinds) kind) (same_kind kind Diesel && nat_lt 0 (trains_sold events Six)) sells) [
+on_sale_there events seller.Bank kind on = λ n number.
+    elim (either (is_kind (first_left_of events numbered_kinds) kind) (same_kind kind Diesel && nat_lt 0 (trains_sold events Six)) on) [
       | inl first ↦ fewer_sold (manifest_of kind).number (trains_sold events kind) n (first_is_left events numbered_kinds kind first) number
       | inr diesel ↦ absurd (no_number kind n (both (same_kind kind Diesel) (nat_lt 0 (trains_sold events Six)) diesel).0 number)
     ]
@@ -82,9 +82,14 @@ traded_is_held : (events : List Event) (company : Company) (kind : Kind) (trade_
 traded_is_held events company kind None old kept is = absurd (cc)
 traded_is_held events company kind (Some one) old kept is =
     let same : one ≡ old = cc in
-    let may = both _ _ (so (may_trade events company kind one) kept) in
-    let has = (both _ _ may.1).1 in
+    let held : Bool = lt_z (pos 0) (trains_held events (Some company) one) in
+    let may = both (same_kind kind Diesel) (may_be_traded one && held) (so (may_trade events company kind one) kept) in
+    let has = (both (may_be_traded one) held may.1).1 in
     subst (λ (k : Kind). pos 1 ≤ℤ trains_held events (Some company) k) same (grind (arith, ints, has))
+
+-- what is not less is as much
+not_less : (a b : ℤ) → lt_z a b ≡ false → b ≤ℤ a
+not_less a b is = grind (arith, ints)
 
 -- a purchase that breaks no rule
 pub record MayBuy (game : Game) (company : Company) (purchase : Purchase) : Type 0 where
@@ -98,7 +103,7 @@ may_buy game company purchase none =
     let cheap = kept.1.1.0 in
     record {
       there = on_sale_there game.events purchase.from purchase.kind (so (is_on_sale game.events purchase.from purchase.kind) kept.0);
-      pays = grind (arith, ints, cheap);
+      pays = not_less (cash_of game.seats game.events (party_of_company company)) (pos (price_of_train purchase.kind purchase.trade_in)) cheap;
       trades = λ old is. traded_is_held game.events company purchase.kind purchase.trade_in old kept.1.1.1.0 is;
     }
 
@@ -116,11 +121,15 @@ traded_fits game company (Some kind) fits = same_fits game (event.Traded company
 pool_keeps : (company : Company) (old kind : Kind) → train_goes place.BankPool kind (train_moved (event.Traded company old)) ≡ false
 pool_keeps company old kind = grind arith
 
+-- and the bank sells none
+bank_keeps : (company : Company) (old kind : Kind) → train_goes place.Bank kind (train_moved (event.Traded company old)) ≡ false
+bank_keeps company old kind = grind arith
+
 -- and the one that is to be bought is still there
 there_after_trade : (events : List Event) (company : Company) (old : Kind) (from : TrainSeller) (kind : Kind) → IsThere events from kind → IsThere (events ++ event.Traded company old ∷ []) from kind
-there_after_trade events company old seller.Bank kind there n number =
+there_after_trade events company old seller.Bank kind there = λ n number.
     let fewer = there n number in
-    omega (arith, sold_at_end events (event.Traded company old) kind, ap one_if (never_of_bank (Some company) kind old place.BankPool))
+    omega (arith, sold_at_end events (event.Traded company old) kind, ap one_if (bank_keeps company old kind))
 there_after_trade events company old seller.BankPool kind there =
     omega (arith, ints, trains_at_end events (event.Traded company old) place.BankPool kind, ap one_if (pool_keeps company old kind))
 

@@ -45,7 +45,7 @@ alike_by kind game event sells comes goes =
     }
 
 -- what is no place is none whatever the kind
-never : (same : Bool) → (same && false) ≡ false
+pub never : (same : Bool) → (same && false) ≡ false
 never true = refl
 never false = refl
 
@@ -68,6 +68,15 @@ pub alike_rusted : (kind other : Kind) → same_kind other kind ≡ false → Of
 alike_rusted kind other apart game owner =
     alike_by kind game (event.Rusted owner other) (ap (λ (b : Bool). b && same_train_place (stable_of owner) place.Bank) apart) (ap (λ (b : Bool). b && true) apart) (ap (λ (b : Bool). b && same_train_place (stable_of owner) place.OutOfPlay) apart)
 
+-- no kind has rusted in the phase of the 2
+none_gone : (kind : Kind) → has_come Two (rusting_of kind) ≡ true → ⊥
+none_gone Two gone = absurd (cc)
+none_gone Three gone = absurd (cc)
+none_gone Four gone = absurd (cc)
+none_gone Five gone = absurd (cc)
+none_gone Six gone = absurd (cc)
+none_gone Diesel gone = absurd (cc)
+
 -- at first all are there
 pub all_at_first : AllAreThereAtFirst
 all_at_first =
@@ -88,15 +97,6 @@ phase_kept events event none =
 sold_same : (events : List Event) (event : Event) (kind : Kind) → train_moved event ≡ None → trains_sold (events ++ event ∷ []) kind ≡ trains_sold events kind
 sold_same events event kind none =
     omega (arith, sold_at_end events event kind, ap (λ move. one_if (train_goes place.Bank kind move)) none)
-
--- no kind has rusted in the phase of the 2
-none_gone : (kind : Kind) → has_come Two (rusting_of kind) ≡ true → ⊥
-none_gone Two gone = absurd (cc)
-none_gone Three gone = absurd (cc)
-none_gone Four gone = absurd (cc)
-none_gone Five gone = absurd (cc)
-none_gone Six gone = absurd (cc)
-none_gone Diesel gone = absurd (cc)
 
 -- an event by which no train moves and no phase begins
 pub others_keep_all : OthersKeepAll

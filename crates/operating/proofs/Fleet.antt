@@ -4,9 +4,9 @@ use Rattle.std.proofs.lemmas.Bool.Decides.{nat_tests}
 use Rattle.std.proofs.lemmas.Int.{ints}
 use Rattle.history.proofs.AllTrains.{trains_stay}
 use Rattle.history.proofs.Choices.{truth}
-use Rattle.history.proofs.Rolling.{never_of_bank, same_kind_is, sold_at_end}
+use Rattle.history.proofs.Rolling.{same_kind_is, sold_at_end}
 use Rattle.history.proofs.TrainActs.{closing_sound, phase_sound}
-use Rattle.history.specs.Event.{place_of_seller}
+use Rattle.history.specs.Event.{place_of_seller, train_moved}
 use Rattle.history.specs.LookBack.{Game, owner_of, with_event}
 use Rattle.history.specs.Sound.{IsSound}
 use Rattle.history.specs.Trains.{IsThere, one_if, phase_of, train_goes, trains_at, trains_in_play, trains_sold}
@@ -33,11 +33,6 @@ use Rattle.tables.specs.declared.roster.Company.{Company}
 use Rattle.tables.specs.declared.roster.Company.TheVariants as company
 use Rattle.tables.specs.declared.roster.Private.TheVariants as private
 
--- of trains of a kind that do not rust at this one none leaves play
-rust_alike : (new kind : Kind) → rusts_at (rusting_of kind) new ≡ false → (game : Game) → Alike kind game (with_rusted new game)
-rust_alike new kind stays game =
-    of_fold (Alike kind) (with_kind_rusted_at new) (alike_on kind) (λ now other. one_alike new kind other stays now) game kinds
-
 one_alike : (new kind other : Kind) → rusts_at (rusting_of kind) new ≡ false → (game : Game) → Alike kind game (with_kind_rusted_at new game other)
 one_alike new kind other stays game =
     elim (truth (same_kind other kind)) [
@@ -46,6 +41,11 @@ one_alike new kind other stays game =
           subst (λ (b : Bool). Alike kind game (if b then with_kind_rusted game other else game)) (sym none) ((alike_on kind).same game)
       | inr apart ↦ of_choice (Alike kind) (rusts_at (rusting_of other) new) game (with_kind_rusted game other) game (of_kind (Alike kind) (alike_on kind) other (alike_rusted kind other apart) game) ((alike_on kind).same game)
     ]
+
+-- of trains of a kind that do not rust at this one none leaves play
+rust_alike : (new kind : Kind) → rusts_at (rusting_of kind) new ≡ false → (game : Game) → Alike kind game (with_rusted new game)
+rust_alike new kind stays game =
+    of_fold (Alike kind) (with_kind_rusted_at new) (alike_on kind) (λ now other. one_alike new kind other stays now) game kinds
 
 -- so of those that follow a purchase
 phase_alike : (game : Game) (phase kind : Kind) → rusts_at (rusting_of kind) phase ≡ false → Alike kind game (with_phase game phase)
@@ -77,9 +77,14 @@ SameSold kind a b = trains_sold b.events kind ≡ trains_sold a.events kind
 sold_on : (kind : Kind) → IsPassedOn (SameSold kind)
 sold_on kind = record { same = λ game. refl; both = λ a b c one two. two ∙ one }
 
+-- a train that rusts is none that the bank sells
+no_sale : (owner : Option Company) (kind other : Kind) → train_goes place.Bank kind (train_moved (event.Rusted owner other)) ≡ false
+no_sale None kind other = grind arith
+no_sale (Some company) kind other = grind arith
+
 sold_rusted : (kind other : Kind) (game : Game) (owner : Option Company) → SameSold kind game (with_event game (event.Rusted owner other))
 sold_rusted kind other game owner =
-    omega (arith, sold_at_end game.events (event.Rusted owner other) kind, ap one_if (never_of_bank owner kind other place.OutOfPlay))
+    omega (arith, sold_at_end game.events (event.Rusted owner other) kind, ap one_if (no_sale owner kind other))
 
 phase_sold : (game : Game) (phase kind : Kind) → SameSold kind game (with_phase game phase)
 phase_sold game phase kind =
@@ -96,19 +101,20 @@ phase_gone game phase kind rusts sound =
     let rest : Alike kind rusted (with_limits_kept closed) = on.both rusted closed (with_limits_kept closed) (of_privates (Alike kind) on (alike_closed kind) phase rusted) (of_limits (Alike kind) on (alike_discarded kind) closed) in
     omega (arith, ints, rest.out, rest.sold, phase_sold game phase kind, rusts_now begun phase kind rusts (phase_sound game phase sound), trains_stay rusted.events kind)
 
--- a purchase keeps a list sound
-bought_sound : (game : Game) (buyer : Company) (purchase : Purchase) → train_judgement game buyer purchase ≡ None → IsSound game → IsSound (bought game buyer purchase)
-bought_sound game buyer purchase none sound =
-    let came = train_sound game buyer purchase none sound in
-    closes_bop (same_company buyer company.BaltimoreOhio) _ came
+-- a private that closes keeps a list sound
+closes : (is_open : Bool) (game : Game) → IsSound game → IsSound (if is_open then with_event game (event.Closed private.BaltimoreOhio) else game)
+closes true game sound = closing_sound game private.BaltimoreOhio sound
+closes false game sound = sound
 
 closes_bop : (is : Bool) (game : Game) → IsSound game → IsSound (if is then with_closed game private.BaltimoreOhio else game)
 closes_bop true game sound = closes (is_some (owner_of game.events private.BaltimoreOhio)) game sound
 closes_bop false game sound = sound
 
-closes : (open : Bool) (game : Game) → IsSound game → IsSound (if open then with_event game (event.Closed private.BaltimoreOhio) else game)
-closes true game sound = closing_sound game private.BaltimoreOhio sound
-closes false game sound = sound
+-- a purchase keeps a list sound
+bought_sound : (game : Game) (buyer : Company) (purchase : Purchase) → train_judgement game buyer purchase ≡ None → IsSound game → IsSound (bought game buyer purchase)
+bought_sound game buyer purchase none sound =
+    let came = train_sound game buyer purchase none sound in
+    closes_bop (same_company buyer company.BaltimoreOhio) _ came
 
 -- what is known of a purchase by the rules, in a sound list where all trains are there
 record IsFair (game : Game) (buyer : Company) (purchase : Purchase) : Type 0 where
@@ -125,16 +131,16 @@ at_bank : (game : Game) (buyer : Company) (purchase : Purchase) (kind : Kind) �
 at_bank game buyer purchase kind fair bank is =
     ap (λ (k : Kind). is_on_sale game.events seller.Bank k) (sym is) ∙ ap (λ (from : TrainSeller). is_on_sale game.events from purchase.kind) (sym bank) ∙ on_sale game buyer purchase fair
 
+left_by : (events : List Event) (from : TrainSeller) (of kind : Kind) (number : ℕ) → from ≡ seller.Bank → of ≡ kind → IsThere events from of → (manifest_of kind).number ≡ Some number → trains_sold events kind < number
+left_by events seller.Bank of kind number bank is has there =
+    subst (λ (k : Kind). trains_sold events k < number) is (has number (ap (λ (k : Kind). (manifest_of k).number) is ∙ there))
+left_by events seller.BankPool of kind number bank is has there = absurd (cc)
+
 -- a kind of which one is sold had one left
 had_left : (game : Game) (buyer : Company) (purchase : Purchase) (kind : Kind) (number : ℕ) → IsFair game buyer purchase → purchase.from ≡ seller.Bank → purchase.kind ≡ kind → (manifest_of kind).number ≡ Some number → trains_sold game.events kind < number
 had_left game buyer purchase kind number fair bank is there =
     let may = may_buy game buyer purchase fair.none in
     left_by game.events purchase.from purchase.kind kind number bank is may.there there
-
-left_by : (events : List Event) (from : TrainSeller) (of kind : Kind) (number : ℕ) → from ≡ seller.Bank → of ≡ kind → IsThere events from of → (manifest_of kind).number ≡ Some number → trains_sold events kind < number
-left_by events seller.Bank of kind number bank is has there =
-    subst (λ (k : Kind). trains_sold events k < number) is (has number (ap (λ (k : Kind). (manifest_of k).number) is ∙ there))
-left_by events seller.BankPool of kind number bank is has there = absurd (cc)
 
 -- the kinds are sold in their order after a purchase
 in_order_then : (game : Game) (buyer : Company) (purchase : Purchase) → IsFair game buyer purchase → (earlier later : Kind) (number : ℕ) → (manifest_of earlier).number ≡ Some number → place_of_kind earlier < 4 → place_of_kind earlier < place_of_kind later → 0 < trains_sold (bought game buyer purchase).events later → trains_sold (bought game buyer purchase).events earlier ≡ number
@@ -176,6 +182,15 @@ rusted_before : (phase : Kind) (rusting : Option Kind) → has_come phase rustin
 rusted_before phase None come not_now = absurd (cc)
 rusted_before phase (Some kind) come not_now = (kind, (refl, grind (arith, nat_tests, come, not_now)))
 
+-- none or some
+zero_or_more : (n : ℕ) → (n ≡ 0) ⊎ (0 < n)
+zero_or_more zero = inl refl
+zero_or_more (suc n) = inr (omega arith)
+
+-- the first of a kind that begins no phase is of none that is later
+not_later : (sold phase kind : ℕ) → sold ≡ 0 → (sold == 0 && nat_lt phase kind) ≡ false → kind ≤ phase
+not_later sold phase kind none begins = grind (arith, nat_tests, none, begins)
+
 -- a kind that is sold after a purchase by which no phase begins
 latest_then : (game : Game) (buyer : Company) (purchase : Purchase) → begins_phase game.events purchase.from purchase.kind ≡ false → IsFair game buyer purchase → (kind : Kind) → 0 < trains_sold (bought game buyer purchase).events kind → place_of_kind kind ≤ place_of_kind (phase_of game.events)
 latest_then game buyer purchase begins fair kind sold =
@@ -185,19 +200,10 @@ latest_then game buyer purchase begins fair kind sold =
       | inr one ↦
           let begins_none : (trains_sold game.events kind == 0 && nat_lt (place_of_kind (phase_of game.events)) (place_of_kind kind)) ≡ false = ap (λ (k : Kind). begins_phase game.events seller.Bank k) (sym one.1.0) ∙ ap (λ (from : TrainSeller). begins_phase game.events from purchase.kind) (sym one.0) ∙ begins in
           elim (zero_or_more (trains_sold game.events kind)) [
-            | inl zero ↦ not_later (trains_sold game.events kind) (place_of_kind (phase_of game.events)) (place_of_kind kind) zero begins_none
+            | inl nothing ↦ not_later (trains_sold game.events kind) (place_of_kind (phase_of game.events)) (place_of_kind kind) nothing begins_none
             | inr some ↦ fair.all.latest kind some
           ]
     ]
-
--- none or some
-zero_or_more : (n : ℕ) → (n ≡ 0) ⊎ (0 < n)
-zero_or_more zero = inl refl
-zero_or_more (suc n) = inr (omega arith)
-
--- the first of a kind that begins no phase is of none that is later
-not_later : (sold phase kind : ℕ) → sold ≡ 0 → (sold == 0 && nat_lt phase kind) ≡ false → kind ≤ phase
-not_later sold phase kind none begins = grind (arith, nat_tests, none, begins)
 
 -- where no phase begins
 no_phase : (game : Game) (buyer : Company) (purchase : Purchase) → begins_phase game.events purchase.from purchase.kind ≡ false → IsFair game buyer purchase → TrainsAreAll (bought game buyer purchase).events
@@ -222,10 +228,6 @@ from_bank : (events : List Event) (from : TrainSeller) (kind : Kind) → begins_
 from_bank events seller.Bank kind begins = refl
 from_bank events seller.BankPool kind begins = absurd (cc)
 
--- the bank sells one
-one_more : (game : Game) (buyer : Company) (purchase : Purchase) → purchase.from ≡ seller.Bank → one_sold buyer purchase purchase.kind ≡ 1
-one_more game buyer purchase bank = one_by (purchase.from) purchase.kind buyer bank
-
 one_by : (from : TrainSeller) (kind : Kind) (buyer : Company) → from ≡ seller.Bank → one_if (train_goes place.Bank kind (Some (record { kind = kind; from = place_of_seller from; to = place.Company buyer }))) ≡ 1
 one_by seller.Bank Two buyer bank = refl
 one_by seller.Bank Three buyer bank = refl
@@ -234,6 +236,10 @@ one_by seller.Bank Five buyer bank = refl
 one_by seller.Bank Six buyer bank = refl
 one_by seller.Bank Diesel buyer bank = refl
 one_by seller.BankPool kind buyer bank = absurd (cc)
+
+-- the bank sells one
+one_more : (game : Game) (buyer : Company) (purchase : Purchase) → purchase.from ≡ seller.Bank → one_sold buyer purchase purchase.kind ≡ 1
+one_more game buyer purchase bank = one_by (purchase.from) purchase.kind buyer bank
 
 -- a kind that rusts is early, and earlier than the one that rusts it
 rusts_early : (phase kind : Kind) → rusts_at (rusting_of kind) phase ≡ true → (place_of_kind kind < 4) × (place_of_kind kind < place_of_kind phase)
@@ -281,17 +287,17 @@ new_phase game buyer purchase begins fair =
         | inl none ↦ let before = fair.all.latest one (omega arith) in omega arith
         | inr this ↦ omega (arith, ap place_of_kind this.1.0)
       ]);
-      in_order = λ earlier then number has numbered before sold.
+      in_order = λ earlier other number has numbered before sold.
       let early = phase_sold there kind earlier in
-      let late = phase_sold there kind then in
-      early ∙ in_order_then game buyer purchase fair earlier then number has numbered before (omega arith);
+      let late = phase_sold there kind other in
+      early ∙ in_order_then game buyer purchase fair earlier other number has numbered before (omega arith);
     }
+
+by_phase : (game : Game) (buyer : Company) (purchase : Purchase) (begins : Bool) → begins_phase game.events purchase.from purchase.kind ≡ begins → IsFair game buyer purchase → TrainsAreAll (if begins then with_phase (bought game buyer purchase) purchase.kind else bought game buyer purchase).events
+by_phase game buyer purchase true begins fair = new_phase game buyer purchase begins fair
+by_phase game buyer purchase false begins fair = no_phase game buyer purchase begins fair
 
 -- after each purchase by the rules
 pub purchases_keep_all : PurchasesKeepAll
 purchases_keep_all game buyer purchase none sound all =
     by_phase game buyer purchase (begins_phase game.events purchase.from purchase.kind) refl (record { none = none; sound = sound; all = all })
-
-by_phase : (game : Game) (buyer : Company) (purchase : Purchase) (begins : Bool) → begins_phase game.events purchase.from purchase.kind ≡ begins → IsFair game buyer purchase → TrainsAreAll (if begins then with_phase (bought game buyer purchase) purchase.kind else bought game buyer purchase).events
-by_phase game buyer purchase true begins fair = new_phase game buyer purchase begins fair
-by_phase game buyer purchase false begins fair = no_phase game buyer purchase begins fair

@@ -1,15 +1,26 @@
--- What a run is that is obeyed: it breaks no rule of runs, so that it is legal.
-use Rattle.std.proofs.Common.{◌≡◌, List, Option, Some, None, option_map, Result, Ok, Err, refl, sym, subst, ap}
+-- What a run is that is obeyed: it breaks no rule of runs, so that it is legal, and a train may do it.
+use Rattle.std.proofs.Common.{◌≡◌, ℕ, ◌+◌, ◌*◌, ◌≤◌, ◌^◌, Bool, List, length, Option, Some, None, option_map, Result, Ok, Err, ℤ, pos, ◌≤ℤ◌, refl, sym, subst, ap, ◌∙◌, arith}
+use Rattle.std.proofs.lemmas.Int.{ints}
+use Rattle.std.specs.Int.RustNames.{unsigned_abs}
 use Rattle.std.specs.Option.{option_or}
+use mir.Syntax.{w128}
+use mir.Val.{of_z, to_z}
+use Rattle.certificate.proofs.Kept.{length_marked}
 use Rattle.certificate.proofs.Lawful.{legal_where_unbroken}
-use Rattle.certificate.specs.Fault.{run_fault, steps_of}
-use Rattle.certificate.specs.Law.{NameLegalRun}
-use Rattle.certificate.specs.Legal.{IsLegalRun}
+use Rattle.certificate.specs.Fault.{marked, named_steps, run_fault, steps_of}
+use Rattle.certificate.specs.Law.{NameLegalRun, RunsEarnByBorders, unused}
+use Rattle.certificate.specs.Legal.{IsLegalRun, crossed, earned}
 use Rattle.history.specs.declared.ruling.RunRule.{RunRule}
-use Rattle.operating.specs.Runs.{ObeyedRunsAreLegal, position_now, ran_by, ran_unless, rule_of_run, rules_of_turn, run_judgement}
+use Rattle.map_tables.specs.declared.place.Place.{Place}
+use Rattle.operating.specs.Done.{Done, IsBounded}
+use Rattle.operating.specs.Runs.{IsCounted, ObeyedRunsAreLegal, has_run, position_now, ran_by, ran_unless, rule_of_run, rules_of_turn, run_judgement}
 use Rattle.operating.specs.declared.runs.Ran.{Ran}
+use Rattle.reach.specs.Lawful.{IsLawful}
+use Rattle.reach.specs.Position.{Position}
 use Rattle.reach.specs.declared.walk.Step.{Step}
 use Rattle.tables.specs.Rules.{first_broken}
+use Rattle.tables.specs.declared.rolling_stock.Kind.{Kind}
+use Rattle.tables.specs.declared.roster.Company.{Company}
 
 -- a run that is done breaks no rule
 none_broken : (ran done : Ran) (found : Option RunRule) → ran_unless ran found ≡ Ok done → found ≡ None
@@ -31,7 +42,34 @@ obeyed_legal turn company kind run ran is =
     let position = position_now turn.game.events in
     let used = turn.progress.runs.borders in
     let fault = run_fault position company kind used run in
-    let judged : run_judgement turn company kind run ≡ None = none_broken (ran_by turn kind run) ran (run_judgement turn company kind run) is in
+    let judged : run_judgement turn company kind run ≡ None = none_broken (ran_by position kind used run) ran (run_judgement turn company kind run) is in
     let unbroken : fault ≡ None = none_made rule_of_run fault (second_none (first_broken (rules_of_turn turn.game company turn.progress kind)) (option_map rule_of_run fault) judged) in
     let legal : NameLegalRun position company kind used run = (legal_where_unbroken position company kind used run).0 unbroken in
     subst (λ (steps : List Step). IsLegalRun position company kind used steps) (sym (ap steps_of legal.1)) legal.2
+
+-- a sum that a run earns is kept whole
+sum_kept : (money : ℤ) (sum : ℕ) → money ≡ pos sum → sum ≤ 44640 → unsigned_abs (to_z w128 (of_z w128 money)) ≡ sum
+sum_kept money sum is small =
+    let kept : to_z w128 (of_z w128 money) ≡ pos sum = omega (arith, ints, is, small) in
+    ap unsigned_abs kept
+
+-- a run that breaks no rule of runs may be done
+pub run_counted : (position : Position) (company : Company) (kind : Kind) (done seen : Done) (run : List Place) (borders : List Bool) (money : ℤ) → done ≡ seen → IsBounded done.trains done.borders done.revenue → IsLawful position → RunsEarnByBorders → run_fault position company kind done.borders run ≡ None → money ≡ pos (earned position (named_steps position run)) → borders ≡ marked done.borders (crossed (named_steps position run)) → has_run seen kind ≤ℤ pos (2 ^ 100) → IsCounted seen (record { kind = kind; earned = unsigned_abs (to_z w128 (of_z w128 money)); borders = borders })
+run_counted position company kind done seen run borders money view within lawful law unbroken earns crosses few =
+    let sum : ℕ = earned position (named_steps position run) in
+    let after : List Bool = marked done.borders (crossed (named_steps position run)) in
+    let bounded : sum + 160 * unused after ≤ 160 * unused done.borders = law position company kind done.borders run within.marks lawful unbroken in
+    let small : sum ≤ 44640 = omega (arith, bounded, within.bounded) in
+    let made : ℕ → List Bool → Ran = λ sum marks. record { kind = kind; earned = sum; borders = marks } in
+    let is : made sum after ≡ made (unsigned_abs (to_z w128 (of_z w128 money))) borders =
+    ap (λ (n : ℕ). made n after) (sym (sum_kept money sum earns small))
+    ∙ ap (made (unsigned_abs (to_z w128 (of_z w128 money)))) (sym crosses)
+    in
+    subst (IsCounted seen) is
+    (subst (λ (d : Done). IsCounted d (made sum after)) view
+    (record {
+      few = subst (λ (d : Done). has_run d kind ≤ℤ pos (2 ^ 100)) (sym view) few;
+      marks = length_marked done.borders (crossed (named_steps position run));
+      bounded = bounded;
+      small = small;
+    }))

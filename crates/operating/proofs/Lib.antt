@@ -16,6 +16,7 @@ pub mod PaidOut
 pub mod Judged
 pub mod Folding
 pub mod PhaseLemmas
+pub mod DiscardLemmas
 pub mod Buying
 pub mod TrainSteps
 pub mod Rust

@@ -1,21 +1,24 @@
 -- The game can be played on after what a phase brings: a train rusts or is discarded that is there.
-use Rattle.std.proofs.Common.{◌≡◌, ℕ, ◌+◌, ◌<◌, inl, inr, Bool, true, false, if◌then◌else◌, List, [], ◌∷◌, ◌++◌, Option, Some, None, ℤ, pos, negsuc, ◌≤ℤ◌, ◌-ℤ◌, ◌+ℤ◌, refl, sym, ap, subst, ◌∙◌, arith}
+use Rattle.std.proofs.Common.{◌≡◌, ℕ, ◌+◌, ◌<◌, ◌≤◌, inl, inr, Bool, true, false, if◌then◌else◌, List, [], ◌∷◌, ◌++◌, Option, Some, None, ℤ, pos, negsuc, ◌≤ℤ◌, ◌-ℤ◌, ◌+ℤ◌, refl, sym, ap, subst, ◌∙◌, arith}
 use Rattle.std.proofs.lemmas.Int.{ints}
+use mir.Syntax.{w128}
+use mir.Val.{of_z, to_z}
 use Rattle.std.specs.Int.Signed.{lt_z}
 use Rattle.std.specs.Option.{option_or}
 use Rattle.history.proofs.EventAtEnd.{trains_at_end}
 use Rattle.history.proofs.TrainActs.{discard_sound, phase_sound, rusting_sound}
 use Rattle.history.specs.Event.{stable_of, train_moved}
-use Rattle.history.specs.LookBack.{Game, with_event}
-use Rattle.history.specs.Trains.{one_if, so_many, train_comes, train_goes, trains_held}
+use Rattle.history.specs.LookBack.{Game, IsModerate, with_event}
+use Rattle.history.specs.Trains.{one_if, phase_of, so_many, stable_size, train_comes, train_goes, trains_held}
 use Rattle.history.specs.declared.event.Event.{Event}
 use Rattle.history.specs.declared.event.Event.TheVariants as event
 use Rattle.operating.proofs.Fitting.{same_fits}
 use Rattle.operating.specs.Discards.{first_held, has_train, next_discard}
 use Rattle.operating.specs.Ground.{IsPlayable}
-use Rattle.operating.specs.Phases.{with_discarded, with_next_discarded, with_one_rusted}
+use Rattle.operating.specs.Phases.{after_train, begins_phase, bought, excess_of, with_discarded, with_limits_kept, with_next_discarded, with_one_rusted, with_phase, with_privates_closed, with_rusted}
+use Rattle.operating.specs.declared.purchase.Purchase.{Purchase}
 use Rattle.tables.specs.Roster.{same_company}
-use Rattle.tables.specs.Train.{kinds, same_kind}
+use Rattle.tables.specs.Train.{kinds, limit_of, same_kind}
 use Rattle.tables.specs.declared.rolling_stock.Kind.{Kind}
 use Rattle.tables.specs.declared.rolling_stock.Kind.TheVariants.{Two, Three, Four, Five, Six, Diesel}
 use Rattle.tables.specs.declared.roster.Company.{Company}
@@ -26,7 +29,25 @@ pub phase_playable : (game : Game) (kind : Kind) → IsPlayable game → IsPlaya
 phase_playable game kind playable =
     record { sound = phase_sound game kind playable.sound; ground = same_fits game (event.Phase kind) refl refl playable.ground }
 
+-- what a phase brings, step by step
+pub phase_begins : (game told rusted closed new : Game) (phase : Kind) → told ≡ with_event game (event.Phase phase) → rusted ≡ with_rusted phase told → closed ≡ with_privates_closed phase rusted → new ≡ with_limits_kept closed → new ≡ with_phase game phase
+phase_begins game told rusted closed new phase is_told is_rusted is_closed is_new =
+    is_new
+    ∙ ap with_limits_kept
+    (is_closed ∙ ap (with_privates_closed phase) (is_rusted ∙ ap (with_rusted phase) is_told))
+
+-- a train that is the first of a phase
+pub train_begins : (game has new : Game) (company : Company) (purchase : Purchase) → begins_phase game.events purchase.from purchase.kind ≡ true → has ≡ bought game company purchase → new ≡ with_phase has purchase.kind → new ≡ after_train game company purchase
+train_begins game has new company purchase begins is_bought is_new =
+    let after : Game = bought game company purchase in
+    is_new
+    ∙ ap (λ (now : Game). with_phase now purchase.kind) is_bought
+    ∙ sym (ap (λ (b : Bool). if b then with_phase after purchase.kind else after) begins)
+
 -- a train that rusts leaves its place
+leaves_company : (company : Company) (kind : Kind) → train_goes (stable_of (Some company)) kind (train_moved (event.Rusted (Some company) kind)) ≡ true
+leaves_company company kind = grind arith
+
 leaves : (owner : Option Company) (kind : Kind) → train_goes (stable_of owner) kind (train_moved (event.Rusted owner kind)) ≡ true
 leaves None Two = refl
 leaves None Three = refl
@@ -35,9 +56,6 @@ leaves None Five = refl
 leaves None Six = refl
 leaves None Diesel = refl
 leaves (Some company) kind = leaves_company company kind
-
-leaves_company : (company : Company) (kind : Kind) → train_goes (stable_of (Some company)) kind (train_moved (event.Rusted (Some company) kind)) ≡ true
-leaves_company company kind = grind arith
 
 -- and comes to no other that is in play
 comes_nowhere : (owner : Option Company) (kind : Kind) → train_comes (stable_of owner) kind (train_moved (event.Rusted owner kind)) ≡ false
@@ -48,6 +66,27 @@ comes_nowhere (Some company) kind = grind arith
 one_less : (events : List Event) (owner : Option Company) (kind : Kind) → trains_held (events ++ event.Rusted owner kind ∷ []) owner kind ≡ trains_held events owner kind -ℤ pos 1
 one_less events owner kind =
     omega (arith, ints, trains_at_end events (event.Rusted owner kind) (stable_of owner) kind, ap one_if (leaves owner kind), ap one_if (comes_nowhere owner kind))
+
+-- no limit is over 4
+limit_small : (phase : Kind) → limit_of phase ≤ 4
+limit_small Two = omega arith
+limit_small Three = omega arith
+limit_small Four = omega arith
+limit_small Five = omega arith
+limit_small Six = omega arith
+limit_small Diesel = omega arith
+
+-- what is over a limit fits in the bits that it is counted in
+over_kept : (size : ℤ) (limit : ℕ) → IsModerate size → limit ≤ 4 → to_z w128 (of_z w128 (to_z w128 (of_z w128 size) -ℤ to_z w128 limit)) ≡ size -ℤ pos limit
+over_kept size limit within small = omega (arith, ints)
+
+-- the trains over the limit of the phase, counted so
+pub excess_is : (game : Game) (company : Company) (size : ℤ) (phase : Kind) (limit : ℕ) → size ≡ stable_size game.events (Some company) → IsModerate size → phase ≡ phase_of game.events → limit ≡ limit_of phase → excess_of game company ≡ so_many (to_z w128 (of_z w128 (to_z w128 (of_z w128 size) -ℤ to_z w128 limit)))
+excess_is game company size phase limit is_size within is_phase is_limit =
+    sym (ap so_many
+    (over_kept size limit within (subst (λ n. n ≤ 4) (sym is_limit) (limit_small phase))
+    ∙ ap (λ (n : ℕ). size -ℤ pos n) (is_limit ∙ ap limit_of is_phase)
+    ∙ ap (λ (count : ℤ). count -ℤ pos (limit_of (phase_of game.events))) is_size))
 
 -- fewer than so many
 below_many : (count : ℤ) (i : ℕ) → i < so_many count → pos (i + 1) ≤ℤ count

@@ -59,10 +59,7 @@ is_bought game buyer purchase kind =
       out = omega (arith, ints, close.out, trains_at_end traded.events train place.OutOfPlay kind, ap one_if (never (same_kind purchase.kind kind)), ap one_if (from_play purchase.from kind purchase.kind buyer), trade.out);
     }
 
--- the kind that the bank sells by a purchase, if it sells one
-pub sold_or_not : (buyer : Company) (purchase : Purchase) (kind : Kind) → (one_sold buyer purchase kind ≡ 0) ⊎ ((purchase.from ≡ seller.Bank) × ((purchase.kind ≡ kind) × (one_sold buyer purchase kind ≡ 1)))
-sold_or_not buyer purchase kind = by_seller purchase.from purchase.kind kind buyer
-
+-- the kind that the bank sells, by where it is bought
 by_seller : (from : TrainSeller) (of kind : Kind) (buyer : Company) → (one_if (train_goes place.Bank kind (Some (record { kind = of; from = place_of_seller from; to = place.Company buyer }))) ≡ 0) ⊎ ((from ≡ seller.Bank) × ((of ≡ kind) × (one_if (train_goes place.Bank kind (Some (record { kind = of; from = place_of_seller from; to = place.Company buyer }))) ≡ 1)))
 by_seller seller.Bank of kind buyer =
     elim (truth (same_kind of kind)) [
@@ -70,6 +67,10 @@ by_seller seller.Bank of kind buyer =
       | inr apart ↦ inl (ap (λ (b : Bool). one_if (b && true)) apart)
     ]
 by_seller seller.BankPool of kind buyer = inl (ap one_if (never (same_kind of kind)))
+
+-- the kind that the bank sells by a purchase, if it sells one
+pub sold_or_not : (buyer : Company) (purchase : Purchase) (kind : Kind) → (one_sold buyer purchase kind ≡ 0) ⊎ ((purchase.from ≡ seller.Bank) × ((purchase.kind ≡ kind) × (one_sold buyer purchase kind ≡ 1)))
+sold_or_not buyer purchase kind = by_seller purchase.from purchase.kind kind buyer
 
 -- the first of five that is left, by which are
 abbrev first_of : Bool → Bool → Bool → Bool → Bool → Option Kind
@@ -145,19 +146,6 @@ earlier_sold game kind earlier number sells sound all there numbered before =
           all.in_order earlier Six number there numbered (omega arith) (grind (arith, nat_tests, six))
     ]
 
--- the bank has sold a 6 where it sells a D, and a train of each kind in between
-pub between_sold : (game : Game) (kind : Kind) → is_on_sale game.events seller.Bank kind ≡ true → IsSound game → TrainsAreAll game.events → (earlier : Kind) → place_of_kind earlier < place_of_kind kind → 0 < trains_sold game.events earlier
-between_sold game kind sells sound all Two before = omega (arith, earlier_sold game kind Two 6 sells sound all refl (omega arith) before)
-between_sold game kind sells sound all Three before = omega (arith, earlier_sold game kind Three 5 sells sound all refl (omega arith) before)
-between_sold game kind sells sound all Four before = omega (arith, earlier_sold game kind Four 4 sells sound all refl (omega arith) before)
-between_sold game kind sells sound all Five before = omega (arith, earlier_sold game kind Five 3 sells sound all refl (omega arith) before)
-between_sold game kind sells sound all Six before =
-    elim (either (is_kind (first_left game.events) kind) (same_kind kind Diesel && nat_lt 0 (trains_sold game.events Six)) sells) [
-      | inl first ↦ absurd (six_is_last (is_left game.events Two) (is_left game.events Three) (is_left game.events Four) (is_left game.events Five) (is_left game.events Six) kind first before)
-      | inr diesel ↦ let six = (both (same_kind kind Diesel) (nat_lt 0 (trains_sold game.events Six)) diesel).1 in grind (arith, nat_tests, six)
-    ]
-between_sold game kind sells sound all Diesel before = absurd (no_later kind before)
-
 -- no kind is later than the 6 among those of which the first is sold
 six_is_last : (two three four five six : Bool) (kind : Kind) → is_kind (first_of two three four five six) kind ≡ true → 4 < place_of_kind kind → ⊥
 six_is_last true three four five six kind first later = let at = same_place 0 (place_of_kind kind) first in omega arith
@@ -175,3 +163,16 @@ no_later Four later = omega arith
 no_later Five later = omega arith
 no_later Six later = omega arith
 no_later Diesel later = omega arith
+
+-- the bank has sold a 6 where it sells a D, and a train of each kind in between
+pub between_sold : (game : Game) (kind : Kind) → is_on_sale game.events seller.Bank kind ≡ true → IsSound game → TrainsAreAll game.events → (earlier : Kind) → place_of_kind earlier < place_of_kind kind → 0 < trains_sold game.events earlier
+between_sold game kind sells sound all Two before = omega (arith, earlier_sold game kind Two 6 sells sound all refl (omega arith) before)
+between_sold game kind sells sound all Three before = omega (arith, earlier_sold game kind Three 5 sells sound all refl (omega arith) before)
+between_sold game kind sells sound all Four before = omega (arith, earlier_sold game kind Four 4 sells sound all refl (omega arith) before)
+between_sold game kind sells sound all Five before = omega (arith, earlier_sold game kind Five 3 sells sound all refl (omega arith) before)
+between_sold game kind sells sound all Six before =
+    elim (either (is_kind (first_left game.events) kind) (same_kind kind Diesel && nat_lt 0 (trains_sold game.events Six)) sells) [
+      | inl first ↦ absurd (six_is_last (is_left game.events Two) (is_left game.events Three) (is_left game.events Four) (is_left game.events Five) (is_left game.events Six) kind first before)
+      | inr diesel ↦ let six = (both (same_kind kind Diesel) (nat_lt 0 (trains_sold game.events Six)) diesel).1 in grind (arith, nat_tests, six)
+    ]
+between_sold game kind sells sound all Diesel before = absurd (no_later kind before)

@@ -94,7 +94,7 @@ of_discarded R on discards game company (Some kind) = discards game company kind
 -- of all that are
 pub of_limits : (R : Game → Game → Type 0) → IsPassedOn R → OfDiscards R → (game : Game) → R game (with_limits_kept game)
 of_limits R on discards game =
-    of_fold R with_limit_kept on (λ now company. of_iterate R (with_next_discarded company) on (λ then. of_discarded R on discards then company (next_discard then.events company)) (excess_of now company) now) game companies
+    of_fold R with_limit_kept on (λ now company. of_iterate R (with_next_discarded company) on (λ before. of_discarded R on discards before company (next_discard before.events company)) (excess_of now company) now) game companies
 
 -- of all that follows once a phase has begun
 pub of_phase : (R : Game → Game → Type 0) → IsPassedOn R → OfClosings R → ((kind : Kind) → OfRustings R kind) → OfDiscards R → (game : Game) (phase : Kind) → R (with_event game (event.Phase phase)) (with_phase game phase)

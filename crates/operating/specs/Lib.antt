@@ -1,6 +1,7 @@
 pub mod Ground
 pub mod Judgement
 pub mod Act
+pub mod Done
 pub mod InTurn
 pub mod Runs
 pub mod Dividend

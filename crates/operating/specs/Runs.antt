@@ -2,7 +2,7 @@
 -- in the turn, and a run that breaks no rule of runs, by what lies and by the borders that the runs before it have
 -- used. It then earns what its stops are worth; the train has run, its borders are used, and the turn is past its
 -- token. What all runs earn is the revenue of the turn.
-use Rattle.std.specs.Prelude.{◌≡◌, ℕ, ◌+◌, ◌*◌, ◌≤◌, ◌^◌, Bool, nat_lt, List, [], ◌∷◌, Option, Some, None, option_map, Result, Ok, Err, ℤ, pos, ◌+ℤ◌, ◌≤ℤ◌, slice_index_or, slice_set}
+use Rattle.std.specs.Prelude.{◌≡◌, ℕ, ◌+◌, ◌*◌, ◌≤◌, ◌^◌, Bool, nat_lt, List, [], ◌∷◌, length, Option, Some, None, option_map, Result, Ok, Err, ℤ, pos, ◌+ℤ◌, ◌≤ℤ◌, slice_index_or, slice_set}
 use Rattle.std.specs.Option.{option_or}
 use lib.Signed.{le_z}
 use Rattle.board.specs.Ground.{position_of}
@@ -74,18 +74,13 @@ rule_of_run fault.PassesFull = run_rule.PassesFull
 rule_of_run fault.NoToken = run_rule.NoToken
 rule_of_run fault.RedInside = run_rule.RedInside
 
--- the first rule that a run of a train of a kind breaks: those of the turn stand before those of runs
-abbrev pub run_judgement : InTurn → Company → Kind → List Place → Option RunRule
-run_judgement turn company kind run =
-    option_or (first_broken (rules_of_turn turn.game company turn.progress kind))
-    (option_map rule_of_run (run_fault (position_now turn.game.events) company kind turn.progress.runs.borders run))
-
--- what a run does: what it earns, and the borders that are used once it is run
-abbrev pub ran_by : InTurn → Kind → List Place → Ran
-ran_by turn kind run = record {
+-- what a run over a position does, where these borders are used: what it earns, and the borders that are used
+-- once it is run
+abbrev pub ran_by : Position → Kind → List Bool → List Place → Ran
+ran_by position kind used run = record {
   kind = kind;
-  earned = earned (position_now turn.game.events) (steps_now turn.game.events run);
-  borders = marked turn.progress.runs.borders (crossed (steps_now turn.game.events run));
+  earned = earned position (named_steps position run);
+  borders = marked used (crossed (named_steps position run));
 }
 
 -- a run that breaks this rule, if it breaks one, and else does this
@@ -93,9 +88,25 @@ abbrev pub ran_unless : Ran → Option RunRule → Result Ran RunRule
 ran_unless ran None = Ok ran
 ran_unless ran (Some rule) = Err rule
 
+-- the first rule of runs that a run breaks
+abbrev pub broken_by : Position → Company → Kind → List Bool → List Place → Option RunRule
+broken_by position company kind used run = option_map rule_of_run (run_fault position company kind used run)
+
+-- what a run does, or the first rule of runs that it breaks
+abbrev pub ran_unless_fault : Position → Company → Kind → List Bool → List Place → Result Ran RunRule
+ran_unless_fault position company kind used run =
+    ran_unless (ran_by position kind used run) (broken_by position company kind used run)
+
+-- the first rule that a run of a train of a kind breaks: those of the turn stand before those of runs
+abbrev pub run_judgement : InTurn → Company → Kind → List Place → Option RunRule
+run_judgement turn company kind run =
+    option_or (first_broken (rules_of_turn turn.game company turn.progress kind))
+    (broken_by (position_now turn.game.events) company kind turn.progress.runs.borders run)
+
 -- what a run of a train of a kind does, or the first rule that it breaks
 abbrev pub judged_run : InTurn → Company → Kind → List Place → Result Ran RunRule
-judged_run turn company kind run = ran_unless (ran_by turn kind run) (run_judgement turn company kind run)
+judged_run turn company kind run =
+    ran_unless (ran_by (position_now turn.game.events) kind turn.progress.runs.borders run) (run_judgement turn company kind run)
 
 -- once a train has run
 abbrev pub with_ran : Runs → Ran → Runs
@@ -109,10 +120,11 @@ with_ran runs ran = record {
 abbrev pub run_done : Progress → Ran → Progress
 run_done progress ran = record progress { pointer = step.Run; runs = with_ran progress.runs ran }
 
--- a train may still do this: few of its kind have run, and it earns at most 160 dollars for each border that it
--- uses, so that it earns little
+-- a train may still do this: few of its kind have run, it marks no more than the borders, and it earns at most 160
+-- dollars for each one that it uses, so that it earns little
 pub record IsCounted (runs : Runs) (ran : Ran) : Type 0 where
   pub few : has_run runs ran.kind ≤ℤ pos (2 ^ 100)
+  pub marks : length ran.borders ≡ length runs.borders
   pub bounded : ran.earned + 160 * unused ran.borders ≤ 160 * unused runs.borders
   pub small : ran.earned ≤ 44640
 

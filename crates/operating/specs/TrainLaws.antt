@@ -1,6 +1,6 @@
 -- Laws of trains. Phases never go back. The trains of a kind that are with the bank, in its pool and with the
 -- companies are as many as there were at first until they rust, and none after.
-use Rattle.std.specs.Prelude.{◌≡◌, ℕ, ◌<◌, ◌≤◌, Bool, true, false, not, nat_lt, List, Option, Some, None, ℤ, pos, ◌+ℤ◌, ◌-ℤ◌}
+use Rattle.std.specs.Prelude.{◌≡◌, ℕ, ◌<◌, ◌≤◌, Bool, true, false, not, nat_lt, List, [], ◌∷◌, ◌++◌, Option, Some, None, ℤ, pos, ◌+ℤ◌, ◌-ℤ◌}
 use Rattle.history.specs.Event.{phase_set, train_moved}
 use Rattle.history.specs.LookBack.{Game}
 use Rattle.history.specs.Sound.{IsSound}

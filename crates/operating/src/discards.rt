@@ -3,6 +3,7 @@ ghost use Rattle.std.specs.Prelude.{◌≡◌, OnOk, IfOk, []};
 ghost use Rattle.operating.specs.Discards.{discard_in as kind_in_order, discard_judgement, discarded_by as discarded_kind, first_held as the_first_held, has_train as company_has, is_no_discard as no_discard, is_president as is_the_president, kinds_then, line_of as kind_of_line, lines_of, next_discard, presides_then, without_first};
 ghost use Rattle.history.specs.Event.{obeyed_of, office_of};
 ghost use Rattle.history.specs.Shares.{president_said};
+ghost use Rattle.tables.specs.Train.{same_kind};
 
 use history::{Event, History, Past, Ruling, TrainRule};
 use order_grammar::Order;
@@ -179,10 +180,17 @@ fn remove_first(lines: &mut Vec<Kind>, kind: Kind)
 {
     let mut place = 0;
     while place < lines.len() {
-        if lines[place] == kind {
+        if is_kind(lines[place], kind) {
             lines.remove(place);
             return;
         }
         place += 1;
     }
+}
+
+/// Whether two kinds are the same.
+fn is_kind(one: Kind, kind: Kind) -> bool
+    ensures { result ≡ same_kind one kind }
+{
+    one == kind
 }

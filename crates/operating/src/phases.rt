@@ -3,10 +3,11 @@ ghost use Rattle.std.specs.Prelude.{◌≡◌, ◌≤ℤ◌, OnOk, None, pos};
 ghost use Rattle.history.specs.LookBack.{with_event};
 ghost use Rattle.history.specs.Trains.{so_many, trains_held};
 ghost use Rattle.operating.specs.Ground.{IsPlayable};
-ghost use Rattle.operating.specs.Phases.{after_train, begins_phase as is_first_of_phase, bought, excess_of, with_all_closed, with_bop_closed, with_closed, with_company_rusted, with_kind_rusted, with_limit_kept, with_limits_kept, with_next_discarded, with_phase, with_privates_closed, with_rusted, with_stable_rusted, with_trade};
+ghost use Rattle.operating.specs.Phases.{after_train, begins_phase as is_first_of_phase, bought, excess_of, rusts_at, with_all_closed, with_bop_closed, with_closed, with_company_rusted, with_kind_rusted, with_kind_rusted_at, with_limit_kept, with_limits_kept, with_next_discarded, with_phase, with_privates_closed, with_rusted, with_stable_rusted, with_trade};
 ghost use Rattle.operating.specs.Trains.{train_judgement};
 ghost use Rattle.std.specs.List.{fold};
 ghost use Rattle.tables.specs.Roster.{companies};
+ghost use Rattle.tables.specs.Train.{rusting_of};
 
 use crate::discards::next_discard;
 use crate::purchase::Purchase;
@@ -108,7 +109,8 @@ fn begin_phase(alloc: Global, history: &mut History, phase: Kind) -> Result<(), 
     history.tell(Event::Phase(phase))?;
     rust_kinds(history, phase)?;
     close_privates(history, phase)?;
-    keep_limits(alloc, history)
+    keep_limits(alloc, history)?;
+    Ok(())
 }
 
 /// The trains rust that the first train of a kind rusts.
@@ -118,11 +120,28 @@ fn rust_kinds(history: &mut History, new: Kind) -> Result<(), AllocError>
     ensures playable { OnOk result (IsPlayable history.new) }
 {
     for kind in Kind::ALL {
-        if rusts(kind) == Some(new) {
-            rust_kind(history, kind)?;
-        }
+        rust_kind_at(history, kind, new)?;
     }
     Ok(())
+}
+
+/// All trains of a kind rust, if the first train of the new kind rusts them.
+fn rust_kind_at(history: &mut History, kind: Kind, new: Kind) -> Result<(), AllocError>
+    requires { IsPlayable history.old }
+    ensures after { OnOk result (history.new ≡ with_kind_rusted_at new history.old kind) }
+    ensures playable { OnOk result (IsPlayable history.new) }
+{
+    if is_rusted_by(kind, new) {
+        rust_kind(history, kind)?;
+    }
+    Ok(())
+}
+
+/// Whether the trains of a kind rust at the first train of the new kind.
+fn is_rusted_by(kind: Kind, new: Kind) -> bool
+    ensures { result ≡ rusts_at (rusting_of kind) new }
+{
+    matches!(rusts(kind), Some(rusting) if rusting == new)
 }
 
 /// All trains of a kind rust: company by company, then those of the pool.

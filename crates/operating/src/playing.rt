@@ -17,9 +17,8 @@ use tables::{Company, Round, Seat};
 
 /// Plays the turn of a company in an operating round, with the sheets for it. The list of events
 /// must be sound, its seats those of the sheets' players, and what lies on the map by it must fit
-/// there. It is meant for a company that has
-/// floated and has not operated in this round. An `Err` comes from want of memory alone, and the
-/// game is dropped.
+/// there. It is meant for a company that has floated and has not operated in this round. An `Err`
+/// comes from want of memory alone, and the game is dropped.
 pub fn play_company(
     alloc: Global,
     mut history: History,

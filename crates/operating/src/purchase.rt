@@ -1,6 +1,6 @@
 //! The purchase of a train: what is on sale, what it costs, and the rules.
 ghost use Rattle.std.specs.Prelude.{◌≡◌, ◌≤◌, pos};
-ghost use Rattle.operating.specs.Trains.{first_left as the_first_left, is_full as would_be_full, is_left as has_left, is_no_trade_in as no_trade_in, is_on_sale as on_sale, is_too_dear as too_dear, may_be_traded as may_be_given, may_trade as may_be_had_for, price_for_trade as price_with_trade, price_of_train, sells as bank_sells, sells_diesels as bank_sells_diesels, traded_count as count_of_trade, train_judgement};
+ghost use Rattle.operating.specs.Trains.{first_left as the_first_left, first_left_of, is_full as would_be_full, is_left as has_left, is_no_trade_in as no_trade_in, is_on_sale as on_sale, is_too_dear as too_dear, may_be_traded as may_be_given, may_trade as may_be_had_for, price_for_trade as price_with_trade, price_of_train, sells as bank_sells, sells_diesels as bank_sells_diesels, traded_count as count_of_trade, train_judgement};
 
 use history::{History, Party, Past, TrainCount, TrainRule, TrainSeller};
 use tables::{Amount, Company, Kind, Money, limit, train};
@@ -40,17 +40,24 @@ pub(crate) fn judge_purchase(
 ) -> Option<TrainRule>
     ensures { result ≡ train_judgement history.now company purchase }
 {
-    let now = history.now();
-    if !is_on_sale(&now, purchase.from, purchase.kind) {
+    broken_by(&history.now(), company, purchase)
+}
+
+/// The first rule that a purchase breaks.
+fn broken_by(past: &Past, company: Company, purchase: Purchase) -> Option<TrainRule>
+    ensures { result ≡ train_judgement
+        (record { seats = past.now.seats; events = past.now.events.now }) company purchase }
+{
+    if !is_on_sale(past, purchase.from, purchase.kind) {
         return Some(TrainRule::NotOnSale);
     }
-    if is_full(&now, company, purchase.trade_in) {
+    if is_full(past, company, purchase.trade_in) {
         return Some(TrainRule::TrainLimit);
     }
-    if is_too_dear(history, company, purchase) {
+    if is_too_dear(past, company, purchase) {
         return Some(TrainRule::CashTooSmall);
     }
-    if is_no_trade_in(&now, company, purchase.kind, purchase.trade_in) {
+    if is_no_trade_in(past, company, purchase.kind, purchase.trade_in) {
         return Some(TrainRule::NoTradeIn);
     }
     None
@@ -84,9 +91,16 @@ fn sells_diesels(past: &Past) -> bool
 fn first_left(past: &Past) -> Option<Kind>
     ensures { result ≡ the_first_left past.now.events.now }
 {
-    for kind in NUMBERED {
-        if is_left(past, kind) {
-            return Some(kind);
+    first_of(past, &NUMBERED)
+}
+
+/// The first of these kinds of which the bank has some left.
+fn first_of(past: &Past, kinds: &[Kind]) -> Option<Kind>
+    ensures { result ≡ first_left_of past.now.events.now kinds.now }
+{
+    for kind in kinds {
+        if is_left(past, *kind) {
+            return Some(*kind);
         }
     }
     None
@@ -139,10 +153,11 @@ fn traded_count(trade_in: Option<Kind>) -> TrainCount
 }
 
 /// Whether a train costs more than the company has.
-fn is_too_dear(history: &History, company: Company, purchase: Purchase) -> bool
-    ensures { result ≡ too_dear history.now company purchase }
+fn is_too_dear(past: &Past, company: Company, purchase: Purchase) -> bool
+    ensures { result ≡ too_dear
+        (record { seats = past.now.seats; events = past.now.events.now }) company purchase }
 {
-    history.cash(Party::of_company(company)) < Money::from(purchase.price())
+    past.cash(Party::of_company(company)) < Money::from(purchase.price())
 }
 
 /// Whether a train is to be traded in that is not there, or that may not be.

@@ -1,8 +1,9 @@
 ghost use Rattle.std.specs.Prelude.{◌≡◌, ◌≤◌, ◌≤ℤ◌, ◌^◌, IfOk, None, OnOk, pos};
+ghost use Rattle.board.specs.Ground.{position_of};
 ghost use Rattle.history.specs.LookBack.{with_event};
 ghost use Rattle.history.specs.declared.event.Event.TheVariants as event;
 ghost use Rattle.operating.specs.Ground.{GroundFits, IsPlayable};
-ghost use Rattle.operating.specs.Runs.{IsCounted, has_run, judged_run, rule_of_run, rules_of_turn, run_ruled};
+ghost use Rattle.operating.specs.Runs.{IsCounted, has_run, judged_run, ran_unless_fault, rule_of_run, rules_of_turn, run_ruled};
 ghost use Rattle.operating.specs.InTurn.{in_turn};
 ghost use Rattle.tables.specs.Rules.{first_broken};
 
@@ -10,7 +11,8 @@ use crate::ground::board;
 use crate::operator::Operator;
 use crate::progress::Progress;
 use crate::ruling::tell_ruling;
-use crate::runs::Ran;
+use crate::runs::{Ran, Runs};
+use board::Board;
 use certificate::{RunFault, check_run, runs_earn_by_borders};
 use history::{Event, History, Refusal, Ruling, RunRule};
 use map_tables::Run;
@@ -38,16 +40,33 @@ pub(crate) fn judge_run(
         return Ok(Err(rule));
     }
     let board = board(alloc, history)?;
+    Ok(run_on(&board, company, kind, run, &progress.runs))
+}
+
+/// What a run does by what lies, or the first rule of runs that it breaks. Few trains of its kind
+/// have run before.
+fn run_on(
+    board: &Board,
+    company: Company,
+    kind: Kind,
+    run: &Run,
+    runs: &Runs,
+) -> Result<Ran, RunRule>
+    requires few { has_run runs.now kind ≤ℤ pos (2 ^ 100) }
+    ensures ran { result
+        ≡ ran_unless_fault (position_of board.now) company kind runs.now.borders run.now }
+    ensures counted { IfOk result (λ ran. IsCounted runs.now ran) }
+{
     board.keeps_laws();
     runs_earn_by_borders();
-    let mut borders = progress.runs.borders;
-    match check_run(&board, company, kind, run, &mut borders) {
-        Ok(money) => Ok(Ok(Ran {
+    let mut borders = runs.borders;
+    match check_run(board, company, kind, run, &mut borders) {
+        Ok(money) => Ok(Ran {
             kind,
             earned: money as Amount,
             borders,
-        })),
-        Err(fault) => Ok(Err(run_rule(fault))),
+        }),
+        Err(fault) => Err(run_rule(fault)),
     }
 }
 

@@ -1,8 +1,8 @@
-ghost use Rattle.std.specs.Prelude.{◌≡◌, ◌+◌, ◌*◌, ◌≤◌};
-ghost use Rattle.certificate.specs.Law.{unused};
+ghost use Rattle.std.specs.Prelude.{◌≡◌};
 
 use certificate::Used;
 use history::TrainCount;
+use std::marker::Model;
 use tables::{Amount, Kind};
 
 /// What a train did.
@@ -25,7 +25,19 @@ pub(crate) struct Runs {
     pub(crate) borders: Used,
     /// What they have earned, in dollars: at most 160 for each border that is used.
     pub(crate) revenue: Amount,
-    ghost bounded: { revenue + 160 * unused borders ≤ 44640 },
+}
+
+/// To a contract it is the record of its fields.
+impl Model for Runs {
+    ghost use Rattle.operating.specs.Done.{Done, IsBounded};
+
+    ghost Value = { Done };
+
+    ghost view = { λ runs. record { trains = runs.trains; borders = runs.borders; revenue = runs.revenue } };
+
+    ghost invariant = { λ runs. IsBounded runs.trains runs.borders runs.revenue };
+
+    ghost inverse = { λ done. record { trains = done.trains; borders = done.borders; revenue = done.revenue } };
 }
 
 impl Runs {

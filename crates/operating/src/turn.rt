@@ -1,6 +1,7 @@
 ghost use Rattle.std.specs.Prelude.{◌≡◌, ◌≤◌, IfOk, OnOk};
 ghost use Rattle.operating.specs.Ground.{IsPlayable};
 ghost use Rattle.operating.specs.InTurn.{at_start, in_turn};
+ghost use Rattle.operating.specs.Runs.{after_run};
 ghost use Rattle.operating.specs.Turn.{LineLeads, LinesLead, OrderLeads};
 ghost use Rattle.sheets.specs.Part.{line_read};
 
@@ -14,9 +15,11 @@ use crate::token::rule_token;
 use crate::train::rule_train;
 use crate::withholding::settle;
 use history::{History, Ruling};
+use map_tables::Run;
 use order_grammar::{Fault, Order};
 use sheets::{NumberedLine, PartsLeft};
 use std::alloc::{AllocError, Global};
+use tables::Kind;
 
 /// Rules the lines of a company's block. Answers how far its turn has come then.
 pub(crate) fn rule_lines(
@@ -82,8 +85,7 @@ fn rule_order(
         Order::Lay(lay) => rule_lay(alloc, history, by, line, *lay, progress),
         Order::Token(place) => rule_token(alloc, history, by, line, *place, progress),
         Order::Run { kind, run } => {
-            let judged = judge_run(alloc, history, by.company, *kind, run, progress)?;
-            rule_run(history, by, line, order, judged, progress)
+            rule_run_order(alloc, history, by, line, order, *kind, run, &progress)
         }
         Order::Pay => rule_pay(history, by, line, order, progress),
         Order::Withhold => rule_withhold(history, by, line, order, progress),
@@ -97,4 +99,25 @@ fn rule_order(
             Ok(progress)
         }
     }
+}
+
+/// Rules an order of a line with this number that a train of a kind runs, and lets it run if it is
+/// obeyed. Answers how far the turn has come then.
+fn rule_run_order(
+    alloc: Global,
+    history: &mut History,
+    by: Operator,
+    line: u32,
+    order: &Order,
+    kind: Kind,
+    run: &Run,
+    progress: &Progress,
+) -> Result<Progress, AllocError>
+    requires { IsPlayable history.old }
+    ensures turn { IfOk result (λ now. in_turn history.new now
+        ≡ after_run by (in_turn history.old progress.now) line order.now kind run.now) }
+    ensures playable { OnOk result (IsPlayable history.new) }
+{
+    let judged = judge_run(alloc, history, by.company, kind, run, *progress)?;
+    rule_run(history, by, line, order, judged, *progress)
 }

@@ -1,8 +1,13 @@
-use Rattle.std.proofs.Common.{◌≡◌, ◌++◌, drop, take}
+use Rattle.std.proofs.Common.{◌≡◌, ◌-◌, ◌++◌, drop, length, take}
 use Rattle.operating.specs.Discards.{without_first}
 use Rattle.operating.proofs.discards.remove_first.Given as goal
 
+abbrev pub decreases-loop-place : goal.decreases-loop-place
+decreases-loop-place l = length l.lines.items - l.place
+
 -- none of those so far is of the kind
 abbrev pub invariant-loop-place : goal.invariant-loop-place
-invariant-loop-place l =
-    without_first l.kind l.fn.lines.items ≡ take l.place l.fn.lines.items ++ without_first l.kind (drop l.place l.fn.lines.items)
+invariant-loop-place l = record {
+  same : l.lines.items ≡ l.fn.lines.items;
+  kept : without_first l.kind l.lines.items ≡ take l.place l.lines.items ++ without_first l.kind (drop l.place l.lines.items);
+}

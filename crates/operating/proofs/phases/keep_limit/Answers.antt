@@ -1,10 +1,10 @@
-use Rattle.std.proofs.Common.{ap, ◌∙◌}
+use Rattle.operating.proofs.Folding.{iterate_goes_on}
 use Rattle.operating.specs.Phases.{with_next_discarded}
 use Rattle.operating.proofs.phases.keep_limit.Goals as goal
 
 pub loop-preserved : goal.loop-preserved
 loop-preserved c =
     record {
-      so_far = c.in_ok-discard.ensures.after ∙ ap (with_next_discarded c.args.company) c.loop.invariant.so_far;
+      so_far = iterate_goes_on (with_next_discarded c.args.company) c.args.history.now c.loop.history c.discard.new.history c.loop.counter c.loop.invariant.so_far c.in_ok-discard.ensures.after;
       playable = c.in_ok-discard.ensures.playable;
     }
