@@ -1,20 +1,25 @@
--- What events that stand aside leave as it was: the rounds that were begun, the map, and who has operated.
+-- What events that stand aside leave as it was: the rounds that were begun, the map, the phase, and who has
+-- operated.
 use Rattle.std.proofs.Common.{◌≡◌, Bool, true, false, ◌&&◌, if◌then◌else◌, List, [], ◌∷◌, ◌++◌, Option, Some, None, is_none, is_some, refl, sym, ap, ◌∙◌}
+use Rattle.std.specs.Prelude.{unwrap_or}
 use Rattle.std.proofs.lemmas.Bool.{and_parts}
 use Rattle.std.proofs.lemmas.List.{append-nil}
 use Rattle.std.proofs.lemmas.List.Elements.{filter_map-append}
 use Rattle.std.specs.List.{filter_map, list_all}
 use Rattle.std.specs.Option.{option_flatten, option_map, option_or}
 use Rattle.history.proofs.EventAtEnd.{last_said_at_end}
-use Rattle.history.specs.Event.{operated_by, round_of, tile_laid, token_placed}
+use Rattle.history.specs.Event.{operated_by, phase_set, round_of, tile_laid, token_placed}
 use Rattle.history.specs.LookBack.{in_round, last_said}
 use Rattle.history.specs.Operating.{has_operated, lays_of, tokens_of, turn_said}
+use Rattle.history.specs.Trains.{phase_of}
 use Rattle.history.specs.declared.event.Event.{Event}
 use Rattle.history.specs.declared.event.Event.TheVariants as event
 use Rattle.map_tables.specs.declared.lay.Lay.{Lay}
 use Rattle.map_tables.specs.declared.place.Place.{Place}
 use Rattle.rounds.proofs.Growing.{Grows, is_aside}
 use Rattle.rounds.specs.Begun.{rounds_begun, with_round}
+use Rattle.tables.specs.declared.rolling_stock.Kind.{Kind}
+use Rattle.tables.specs.declared.rolling_stock.Kind.TheVariants.{Two}
 use Rattle.tables.specs.declared.roster.Company.{Company}
 use Rattle.tables.specs.declared.round.Round.{Round}
 
@@ -29,18 +34,21 @@ record SaysNothing (event : Event) : Type 0 where
   tile : tile_laid event ≡ None
   token : token_placed event ≡ None
   turn : operated_by event ≡ None
+  phase : phase_set event ≡ None
 
 -- an event that stands aside says nothing of these
 says_nothing : (event : Event) → is_aside event ≡ true → SaysNothing event
 says_nothing event aside =
-    let first = and_parts (is_none (round_of event)) (is_none (tile_laid event) && (is_none (token_placed event) && is_none (operated_by event))) aside in
-    let second = and_parts (is_none (tile_laid event)) (is_none (token_placed event) && is_none (operated_by event)) first.1 in
-    let third = and_parts (is_none (token_placed event)) (is_none (operated_by event)) second.1 in
+    let first = and_parts (is_none (round_of event)) (is_none (tile_laid event) && (is_none (token_placed event) && (is_none (operated_by event) && is_none (phase_set event)))) aside in
+    let second = and_parts (is_none (tile_laid event)) (is_none (token_placed event) && (is_none (operated_by event) && is_none (phase_set event))) first.1 in
+    let third = and_parts (is_none (token_placed event)) (is_none (operated_by event) && is_none (phase_set event)) second.1 in
+    let fourth = and_parts (is_none (operated_by event)) (is_none (phase_set event)) third.1 in
     record {
       round = nothing (round_of event) first.0;
       tile = nothing (tile_laid event) second.0;
       token = nothing (token_placed event) third.0;
-      turn = nothing (operated_by event) third.1;
+      turn = nothing (operated_by event) fourth.0;
+      phase = nothing (phase_set event) fourth.1;
     }
 
 -- events that stand aside begin no round
@@ -97,6 +105,24 @@ said_before : {A : Type 0} (says : Event → Option A) (events more : List Event
 said_before says [] more none = none
 said_before {A} says (event ∷ events) more none =
     ap (λ (later : Option A). option_or later (says event)) (said_before says events more none)
+
+-- events that stand aside begin no phase
+no_phase : (more : List Event) → list_all is_aside more ≡ true → last_said phase_set more ≡ None
+no_phase [] aside = refl
+no_phase (event ∷ more) aside =
+    let parts = and_parts (is_aside event) (list_all is_aside more) aside in
+    ap (λ (later : Option Kind). option_or later (phase_set event)) (no_phase more parts.1) ∙ (says_nothing event parts.0).phase
+
+-- so the phase is the one that it was
+pub same_phase : (old new : List Event) → Grows old new → phase_of new ≡ phase_of old
+same_phase old new grows =
+    ap phase_of grows.longer
+    ∙ ap (λ (said : Option Kind). unwrap_or said Two) (said_before phase_set old grows.more (no_phase grows.more grows.aside))
+
+-- and so it is where a round begins
+pub phase_as_begun : (events : List Event) (round : Round) → phase_of (events ++ event.Round round ∷ []) ≡ phase_of events
+phase_as_begun events round =
+    ap (λ (said : Option Kind). unwrap_or said Two) (said_before phase_set events (event.Round round ∷ []) refl)
 
 -- what is said of a company's turn within a round
 abbrev in_turns : Company → Event → Option (Option Company)

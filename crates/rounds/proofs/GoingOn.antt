@@ -1,6 +1,6 @@
 -- A list of events goes on within a round: no event that is new begins a round.
-use Rattle.std.proofs.Common.{◌≡◌, List, [], ◌∷◌, ◌++◌, Bool, true, false, ◌||◌, Option, Some, None, is_some, refl, sym, ap, ◌∙◌}
-use Rattle.std.proofs.lemmas.List.{append_assoc, append-nil}
+use Rattle.std.proofs.Common.{◌≡◌, List, [], ◌∷◌, ◌++◌, Bool, true, false, ◌||◌, Option, Some, None, is_some, refl, ap, ◌∙◌}
+use Rattle.std.proofs.lemmas.List.{append_assoc}
 use Rattle.std.specs.List.{list_any}
 use Rattle.history.specs.Event.{round_of}
 use Rattle.history.specs.declared.event.Event.{Event}
@@ -26,10 +26,6 @@ pub begun_in_both : (front back : List Event) → rounds_begun (front ++ back) �
 begun_in_both [] back = refl
 begun_in_both (event ∷ front) back =
     ap (with_round (round_of event)) (begun_in_both front back) ∙ round_in_front (round_of event) (rounds_begun front) (rounds_begun back)
-
--- a list that stays as it is
-pub rests : (events : List Event) → GoesOn events events
-rests events = record { more = []; longer = sym (append-nil events); quiet = refl }
 
 -- it goes on further
 pub goes_further : (a b c : List Event) → GoesOn a b → GoesOn b c → GoesOn a c

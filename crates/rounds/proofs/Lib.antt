@@ -19,3 +19,4 @@ mod CompanyTurns
 mod WholeOperatingRound
 mod InSet
 mod InOrder
+mod Sets

@@ -8,8 +8,9 @@ use Rattle.history.specs.Shares.{president_of}
 use Rattle.history.specs.Tell.{revenues_told, with_left}
 use Rattle.history.specs.declared.event.Event.{Event}
 use Rattle.history.specs.declared.event.Event.TheVariants as event
+use Rattle.operating.specs.InTurn.{InTurn}
 use Rattle.operating.specs.Standing as rules
-use Rattle.operating.specs.Turn.{BlockLeads, InTurn, IsCompanyTurn, LinesLead, begun}
+use Rattle.operating.specs.Turn.{BlockLeads, IsCompanyTurn, LinesLead, begun}
 use Rattle.privates.specs.Opening.{IsOpeningRound, groups_for, in_play, opened}
 use Rattle.privates.specs.Standing as opening
 use Rattle.privates.specs.Turn.{opening_turns}

@@ -6,3 +6,4 @@ pub mod Example
 pub mod Causality
 pub mod Arrival
 pub mod Begun
+pub mod Sets

@@ -8,6 +8,7 @@ ghost use Rattle.rounds.specs.Example.{first_end, first_file, second_end, second
 ghost use Rattle.rounds.specs.OperatingRound.{CompaniesOperateOnce, EndsSoon, OneOperatingRound};
 ghost use Rattle.rounds.specs.Play.{OneGame, Plays, SomeGame};
 ghost use Rattle.rounds.specs.Sequence.{BankAloneEndsIt, SequenceGoesForward};
+ghost use Rattle.rounds.specs.Sets.{SetsKeepTheirNumber};
 ghost use Rattle.sheets.specs.File.{content_of};
 ghost use Rattle.sheets.specs.declared.fault.FileFault.TheVariants.{Header};
 ghost use Rattle.tables.specs.declared.round.Round.{Round};
@@ -79,6 +80,12 @@ pub fn rounds_follow_in_order()
     sheets_are_numbered();
     three_to_six_play()
 }
+
+/// A set has as many operating rounds as the phase lets it have in which it began, whatever phases
+/// begin within it.
+pub fn sets_keep_their_number()
+    ensures { SetsKeepTheirNumber }
+{}
 
 /// While the bank is not broken, some round follows each round.
 pub fn bank_alone_ends_it()

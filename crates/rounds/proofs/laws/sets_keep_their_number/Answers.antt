@@ -1,0 +1,5 @@
+use Rattle.rounds.proofs.Sets.{keep_their_number}
+use Rattle.rounds.proofs.laws.sets_keep_their_number.Goals as goal
+
+pub returns : goal.returns
+returns c = keep_their_number
