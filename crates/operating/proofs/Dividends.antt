@@ -10,7 +10,7 @@ use Rattle.history.specs.LookBack.{Game, with_event}
 use Rattle.history.specs.Money.{IsParty}
 use Rattle.history.specs.Shares.{held_by, shares_of, square_of}
 use Rattle.history.specs.Sound.{IsSound, TenthsAreHeld}
-use Rattle.history.specs.Tell.{breaks, broken_told}
+use Rattle.history.specs.Tell.{broken_told}
 use Rattle.history.specs.Trains.{so_many}
 use Rattle.history.specs.declared.event.Event.{Event}
 use Rattle.history.specs.declared.event.Event.TheVariants as event
