@@ -1,6 +1,6 @@
 -- What a company's turn adds to the list: no event that begins a round, and one by which the company operates
 -- once the turn is past its pay.
-use Rattle.std.proofs.Common.{◌≡◌, ℕ, Bool, true, false, nat_lt, not, ◌==◌, ◌||◌, ◌&&◌, if◌then◌else◌, List, [], ◌∷◌, ◌++◌, Option, Some, None, Result, Ok, Err, ℤ, is_some, refl, sym, ap, subst, ◌∙◌}
+use Rattle.std.proofs.Common.{◌≡◌, ℕ, Bool, true, false, nat_lt, ◌==◌, ◌||◌, ◌&&◌, if◌then◌else◌, List, [], ◌∷◌, ◌++◌, Option, Some, None, Result, Ok, Err, ℤ, is_some, refl, sym, ap, subst, ◌∙◌}
 use Rattle.board.specs.Turn.{place_of_step}
 use Rattle.board.specs.TokenRules.{IsTokenAnswer, is_token_used, slot_rules}
 use Rattle.board.specs.declared.asker.Asker.{Asker}

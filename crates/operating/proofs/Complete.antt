@@ -1,6 +1,6 @@
 -- The trains of a kind that are with the bank, the pool and the companies are as many as there were at first until
 -- they rust, and none after.
-use Rattle.std.proofs.Common.{◌≡◌, ℕ, ◌+◌, ◌<◌, Bool, true, false, ◌&&◌, List, [], ◌∷◌, ◌++◌, Option, None, unwrap_or, ℤ, pos, ◌-ℤ◌, refl, sym, ap, subst, ◌∙◌, arith}
+use Rattle.std.proofs.Common.{◌≡◌, ℕ, ◌<◌, Bool, true, false, ◌&&◌, List, [], ◌∷◌, ◌++◌, Option, None, unwrap_or, pos, ◌-ℤ◌, refl, sym, ap, subst, ◌∙◌, arith}
 use Rattle.std.proofs.lemmas.Int.{ints}
 use Rattle.history.proofs.AllTrains.{trains_stay}
 use Rattle.history.proofs.EventAtEnd.{last_said_before, trains_at_before, trains_at_end}

@@ -1,7 +1,6 @@
 -- What a company pays out: a game goes on after each dividend, no place has more than ten tenths, and what is paid to
 -- all is paid step by step.
-use Rattle.std.proofs.Common.{◌≡◌, ℕ, zero, suc, ◌+◌, ◌*◌, ◌-◌, ◌/◌, ◌<◌, ◌≤◌, ◌==◌, inl, inr, Bool, true, false, if◌then◌else◌, List, [], ◌∷◌, ◌++◌, map, Option, Some, None, ℤ, pos, negsuc, ◌≤ℤ◌, refl, sym, subst, ap, ◌∙◌, arith}
-use Rattle.std.proofs.Math.Nat.{mul-div-le, mul-le-mul_right}
+use Rattle.std.proofs.Common.{◌≡◌, ℕ, zero, suc, ◌+◌, ◌-◌, ◌<◌, ◌≤◌, ◌==◌, inl, inr, Bool, true, false, if◌then◌else◌, List, [], ◌∷◌, ◌++◌, map, Option, Some, None, pos, ◌≤ℤ◌, refl, sym, subst, ap, ◌∙◌, arith}
 use Rattle.std.proofs.lemmas.Bool.{cases_eq}
 use Rattle.std.proofs.lemmas.Int.{ints}
 use Rattle.std.specs.List.{range_with_len}
@@ -10,8 +9,7 @@ use Rattle.history.specs.LookBack.{Game, with_event}
 use Rattle.history.specs.Money.{IsParty}
 use Rattle.history.specs.Shares.{held_by, shares_of, square_of}
 use Rattle.history.specs.Sound.{IsSound, TenthsAreHeld}
-use Rattle.history.specs.Tell.{breaks, broken_told}
-use Rattle.history.specs.Trains.{so_many}
+use Rattle.history.specs.Tell.{broken_told}
 use Rattle.history.specs.declared.event.Event.{Event}
 use Rattle.history.specs.declared.event.Event.TheVariants as event
 use Rattle.history.specs.declared.event.Holder.{Holder}
@@ -73,12 +71,6 @@ dividend_playable game paid new company to amount of_game is_paid is_new playabl
       ground = same_fits game (event.Dividend company to amount) refl refl playable.ground;
     }))
 
--- a dividend that is something is told
-pub dividend_told : (game paid new : Game) (company : Company) (to : Holder) (amount : ℕ) → (amount == 0) ≡ false → paid ≡ with_event game (event.Dividend company to amount) → new ≡ broken_told paid → new ≡ paid_to company to amount game
-dividend_told game paid new company to amount some is_paid is_new =
-    is_new ∙ ap broken_told is_paid
-    ∙ sym (ap (λ (none : Bool). if none then game else broken_told (with_event game (event.Dividend company to amount))) some)
-
 -- a table keeps its seats
 pub paid_seats : (game : Game) (company : Company) (to : Holder) (amount : ℕ) → (paid_to company to amount game).seats ≡ game.seats
 paid_seats game company to amount =
@@ -131,12 +123,3 @@ paid_out_playable paid new company seats events playable =
       sound = token_moves right_of paid new company seats events playable.sound;
       ground = subst GroundFits (sym is) (right_fits paid company playable.ground);
     }
-
--- so many tenths of a revenue are a small sum
-few_tenths : (tenths : ℤ) → tenths ≤ℤ pos 10 → so_many tenths ≤ 10
-few_tenths (pos n) few = omega (arith, ints)
-few_tenths (negsuc n) few = omega arith
-
-pub dividend_low : (tenths : ℤ) (revenue : ℕ) → tenths ≤ℤ pos 10 → revenue ≤ 100000 → so_many tenths * (revenue / 10) ≤ 100000
-dividend_low tenths revenue few small =
-    omega (arith, mul-le-mul_right (revenue / 10) (few_tenths tenths few), mul-div-le revenue 10)

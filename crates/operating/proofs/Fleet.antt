@@ -15,7 +15,7 @@ use Rattle.history.specs.declared.event.Event.TheVariants as event
 use Rattle.history.specs.declared.event.TrainPlace.TheVariants as place
 use Rattle.history.specs.declared.event.TrainSeller.{TrainSeller}
 use Rattle.history.specs.declared.event.TrainSeller.TheVariants as seller
-use Rattle.operating.proofs.Buying.{both, may_buy, so, train_sound}
+use Rattle.operating.proofs.Buying.{may_buy, so, train_sound}
 use Rattle.operating.proofs.Complete.{Alike, alike_closed, alike_discarded, alike_on, alike_phase, alike_rusted, there_is}
 use Rattle.operating.proofs.Rust.{none_in_play}
 use Rattle.operating.proofs.Sales.{between_sold, earlier_sold, is_bought, one_sold, sold_or_not}

@@ -5,7 +5,7 @@ use mir.Syntax.{w128}
 use mir.Val.{of_z, to_z}
 use Rattle.std.specs.Option.{option_or}
 use Rattle.history.proofs.EventAtEnd.{trains_at_end}
-use Rattle.history.proofs.TrainActs.{discard_sound, phase_sound, rusting_sound}
+use Rattle.history.proofs.TrainActs.{discard_sound, rusting_sound}
 use Rattle.history.specs.Event.{stable_of, train_moved}
 use Rattle.history.specs.LookBack.{Game, IsModerate, with_event}
 use Rattle.history.specs.Trains.{one_if, phase_of, so_many, stable_size, train_comes, train_goes, trains_held}
@@ -20,11 +20,6 @@ use Rattle.tables.specs.Train.{kinds, limit_of}
 use Rattle.tables.specs.declared.rolling_stock.Kind.{Kind}
 use Rattle.tables.specs.declared.rolling_stock.Kind.TheVariants.{Two, Three, Four, Five, Six, Diesel}
 use Rattle.tables.specs.declared.roster.Company.{Company}
-
--- a phase that begins
-pub phase_playable : (game : Game) (kind : Kind) → IsPlayable game → IsPlayable (with_event game (event.Phase kind))
-phase_playable game kind playable =
-    record { sound = phase_sound game kind playable.sound; ground = same_fits game (event.Phase kind) refl refl playable.ground }
 
 -- what a phase brings, step by step
 pub phase_begins : (game told rusted closed new : Game) (phase : Kind) → told ≡ with_event game (event.Phase phase) → rusted ≡ with_rusted phase told → closed ≡ with_privates_closed phase rusted → new ≡ with_limits_kept closed → new ≡ with_phase game phase

@@ -14,7 +14,7 @@ use Rattle.map_tables.specs.declared.place.Place.{Place}
 use Rattle.operating.proofs.Adding.{paid_out_adds, withheld_adds}
 use Rattle.operating.proofs.TrainsAdd.{train_adds}
 use Rattle.operating.specs.Act.{withheld}
-use Rattle.operating.specs.Dividend.{after_pay, after_withhold, paid_out, pay_judgement, pay_ruled, withhold_judgement}
+use Rattle.operating.specs.Dividend.{paid_out, pay_judgement, pay_ruled, withhold_judgement}
 use Rattle.operating.specs.InTurn.{InTurn, in_turn, is_unpaid, pay_done, told}
 use Rattle.operating.specs.Judgement.{rule_of_lay, rule_of_token}
 use Rattle.operating.specs.Runs.{judged_run, run_ruled}

@@ -3,7 +3,7 @@
 -- those of the bank pool; those of the initial offering are paid nothing. Its token on the chart moves right. Where
 -- it withholds, the bank pays the company all of it, and its token moves left. Either needs a turn that is not past
 -- its pay, and to pay, a revenue over 0; the turn is then past it.
-use Rattle.std.specs.Prelude.{◌≡◌, ◌≤◌, ℕ, ◌==◌, ◌*◌, ◌/◌, Bool, ◌||◌, nat_lt, if◌then◌else◌, List, [], ◌∷◌, Option, Some, None, pos, ◌-ℤ◌, ◌≤ℤ◌}
+use Rattle.std.specs.Prelude.{ℕ, ◌==◌, ◌*◌, ◌/◌, Bool, ◌||◌, nat_lt, if◌then◌else◌, List, [], ◌∷◌, Option, Some, None, pos, ◌-ℤ◌, ◌≤ℤ◌}
 use Rattle.board.specs.Turn.{place_of_step}
 use Rattle.board.specs.declared.asker.TurnStep.TheVariants as step
 use Rattle.history.specs.LookBack.{Game, cash_of, with_event}
@@ -29,7 +29,6 @@ use Rattle.operating.specs.InTurn.{InTurn, in_turn, pay_done, told}
 use Rattle.operating.specs.declared.operator.Operator.{Operator}
 use Rattle.operating.specs.declared.progress.Progress.{Progress}
 use Rattle.order_grammar.specs.declared.order.Order.{Order}
-use Rattle.tables.specs.Roster.{companies}
 use Rattle.tables.specs.Rules.{Rule, first_broken}
 use Rattle.tables.specs.Seat.{all_seats}
 use Rattle.tables.specs.declared.roster.Company.{Company}

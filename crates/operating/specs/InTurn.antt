@@ -1,6 +1,6 @@
 -- In a company's turn: the game so far, how far the turn has come, and what its trains have done. The steps of the
 -- turn are lay, token, run, pay and trains, and a pointer goes over them.
-use Rattle.std.specs.Prelude.{ℕ, Bool, true, false, nat_lt, List, replicate, pos}
+use Rattle.std.specs.Prelude.{ℕ, Bool, true, false, nat_lt, replicate, pos}
 use Rattle.board.specs.Turn.{place_of_step}
 use Rattle.board.specs.declared.asker.TurnStep.TheVariants as step
 use Rattle.history.specs.LookBack.{Game, with_event}
