@@ -132,7 +132,7 @@ there_after_trade events company old seller.Bank kind there = λ n number.
 there_after_trade events company old seller.BankPool kind there =
     omega (arith, ints, trains_at_end events (event.Traded company old) place.BankPool kind, ap one_if (pool_keeps company old kind))
 
-there_traded : (game : Game) (company : Company) (trade_in : Option Kind) (from : TrainSeller) (kind : Kind) → IsThere game.events from kind → IsThere (with_trade game company trade_in).events from kind
+pub there_traded : (game : Game) (company : Company) (trade_in : Option Kind) (from : TrainSeller) (kind : Kind) → IsThere game.events from kind → IsThere (with_trade game company trade_in).events from kind
 there_traded game company None from kind there = there
 there_traded game company (Some old) from kind there = there_after_trade game.events company old from kind there
 
