@@ -142,7 +142,7 @@ cash_traded game company None party = refl
 cash_traded game company (Some old) party = cash_of_before game.seats game.events (event.Traded company old) party refl
 
 -- so the list is sound once the train has come to the company
-pub train_sound : (game : Game) (company : Company) (purchase : Purchase) → train_judgement game company purchase ≡ None → IsSound game → IsSound (with_event (with_trade game company purchase.trade_in) (event.Train company purchase.kind purchase.from (price_of_train purchase.kind purchase.trade_in)))
+train_sound : (game : Game) (company : Company) (purchase : Purchase) → train_judgement game company purchase ≡ None → IsSound game → IsSound (with_event (with_trade game company purchase.trade_in) (event.Train company purchase.kind purchase.from (price_of_train purchase.kind purchase.trade_in)))
 train_sound game company purchase none sound =
     let may = may_buy game company purchase none in
     let traded = with_trade game company purchase.trade_in in
