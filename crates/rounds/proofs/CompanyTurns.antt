@@ -6,13 +6,13 @@ use Rattle.history.proofs.Choices.{same_company_is}
 use Rattle.history.specs.LookBack.{Game}
 use Rattle.history.specs.Operating.{has_operated}
 use Rattle.history.specs.declared.event.Event.{Event}
-use Rattle.market.specs.OperatingOrder.{IsOperatingOrder, operating_order_of, operates, times}
+use Rattle.market.specs.OperatingOrder.{IsOperatingOrder, operating_order_of, times}
 use Rattle.operating.specs.Laws.{CompanyOperates, CompanyTurnEnds, OneCompanyTurn}
 use Rattle.operating.specs.Turn.{IsCompanyTurn}
 use Rattle.rounds.proofs.Aside.{no_one_yet}
 use Rattle.rounds.proofs.Idle.{all_have_operated, fewer_idle, idle_few, idle_of, next_is_idle}
 use Rattle.rounds.proofs.OperatingGrows.{opened_grows}
-use Rattle.rounds.specs.OperatingRound.{CompaniesOperateOnce, EndsSoon, IsOperatingRound, OneOperatingRound, TakeTurns, TakesTurn, TurnsLead, finished, next_company, opened}
+use Rattle.rounds.specs.OperatingRound.{CompaniesOperateOnce, EndsSoon, OneOperatingRound, TakeTurns, TakesTurn, TurnsLead, finished, next_company, opened}
 use Rattle.tables.specs.Roster.{same_company}
 use Rattle.tables.specs.declared.roster.Company.{Company}
 use Rattle.tables.specs.declared.round.Round.{Round}

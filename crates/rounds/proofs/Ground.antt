@@ -1,5 +1,5 @@
 -- What a round that lays nothing, places nothing and begins no phase leaves on the map: what fitted fits.
-use Rattle.std.proofs.Common.{◌≡◌, ℕ, List, [], ◌∷◌, ◌++◌, Result, Ok, Err, sym, subst, ap, ◌∙◌}
+use Rattle.std.proofs.Common.{◌≡◌, ℕ, List, [], ◌∷◌, ◌++◌, Result, Ok, Err, sym, subst, ◌∙◌}
 use Rattle.std.specs.Prelude.{IfOk}
 use Rattle.history.specs.LookBack.{Game}
 use Rattle.history.specs.Operating.{lays_of, tokens_of}

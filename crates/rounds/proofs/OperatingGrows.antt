@@ -1,6 +1,6 @@
 -- Within an operating round the list of events goes on, and no event begins another round. Before its first
 -- company, and after its last, the new events stand aside.
-use Rattle.std.proofs.Common.{◌≡◌, ℕ, ◌-◌, ◌==◌, true, List, [], ◌∷◌, ◌++◌, refl, sym, ap, subst}
+use Rattle.std.proofs.Common.{◌≡◌, ℕ, ◌==◌, true, List, [], ◌∷◌, ◌++◌, refl, sym, ap, subst}
 use Rattle.std.specs.List.{list_all, range_with_len}
 use Rattle.history.specs.LookBack.{Game}
 use Rattle.history.specs.declared.event.Event.{Event}

@@ -1,4 +1,4 @@
-use Rattle.std.proofs.Common.{◌≡◌, length, ap}
+use Rattle.std.proofs.Common.{length, ap}
 use Rattle.history.specs.LookBack.{Game}
 use Rattle.rounds.proofs.Ground.{finished_fits, opened_fits}
 use Rattle.rounds.proofs.WholeOperatingRound.{round_opened, whole_round}
