@@ -1,10 +1,10 @@
 -- A train goes from one place to another, so that those that the bank has sold are in play or have left it.
-use Rattle.std.proofs.Common.{◌≡◌, ◌⊎◌, ℕ, ◌+◌, ◌≤◌, inl, inr, Bool, true, false, ◌&&◌, if◌then◌else◌, List, [], ◌∷◌, ◌++◌, map, count_by, Option, Some, None, ℤ, pos, ◌≤ℤ◌, ◌-ℤ◌, ◌+ℤ◌, refl, sym, subst, ap, ◌∙◌, arith}
+use Rattle.std.proofs.Common.{◌≡◌, ℕ, ◌+◌, inl, inr, Bool, true, false, ◌&&◌, List, [], ◌∷◌, Option, Some, None, pos, ◌-ℤ◌, ◌+ℤ◌, refl, ap, arith}
 use Rattle.std.proofs.lemmas.Int.{ints}
 use Rattle.std.proofs.lemmas.List.Sums.{sum_by-cons}
 use Rattle.history.proofs.Choices.{truth}
-use Rattle.history.specs.Event.{place_of_seller, stable_of, train_moved}
-use Rattle.history.specs.Trains.{AllTrainsStay, one_if, same_train_place, stables, train_comes, train_goes, trains_at, trains_in_play, trains_sold, trains_together}
+use Rattle.history.specs.Event.{train_moved}
+use Rattle.history.specs.Trains.{AllTrainsStay, one_if, same_train_place, stables, train_comes, train_goes, trains_at, trains_sold, trains_together}
 use Rattle.history.specs.declared.event.Event.{Event}
 use Rattle.history.specs.declared.event.Event.TheVariants as event
 use Rattle.history.specs.declared.event.TrainMove.{TrainMove}

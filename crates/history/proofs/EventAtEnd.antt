@@ -1,6 +1,6 @@
 -- What a list of events says once one more event stands at its end: what that event says, and what
 -- the list said before.
-use Rattle.std.proofs.Common.{◌≡◌, ℕ, List, [], ◌∷◌, ◌++◌, Option, Some, None, Bool, if◌then◌else◌, pos, ◌-ℤ◌, ◌+ℤ◌, unwrap_or, is_some, is_none, ◌&&◌, sum_by, refl, ap, ◌∙◌, sym, arith}
+use Rattle.std.proofs.Common.{◌≡◌, ℕ, List, [], ◌∷◌, ◌++◌, Option, Some, None, Bool, pos, ◌-ℤ◌, ◌+ℤ◌, unwrap_or, is_some, is_none, ◌&&◌, sum_by, refl, ap, ◌∙◌, sym, arith}
 use Rattle.std.proofs.lemmas.Int.{ints}
 use Rattle.std.proofs.lemmas.List.Sums.{sum_by_push}
 use Rattle.std.specs.Option.{option_or, option_flatten}

@@ -1,6 +1,6 @@
 -- An event that moves money within the table and says nothing else keeps a list sound, where no seat pays and each
 -- company has what it pays.
-use Rattle.std.proofs.Common.{◌≡◌, ℕ, inl, inr, if◌then◌else◌, List, [], ◌∷◌, ◌++◌, None, pos, ◌≤ℤ◌, refl, subst, arith}
+use Rattle.std.proofs.Common.{◌≡◌, ℕ, inl, inr, if◌then◌else◌, [], ◌∷◌, ◌++◌, None, pos, ◌≤ℤ◌, refl, subst, arith}
 use Rattle.std.proofs.lemmas.Int.{ints}
 use Rattle.history.proofs.Choices.{same_company_is, truth}
 use Rattle.history.proofs.EventAtEnd.{bids_of_before, cash_of_at_end}

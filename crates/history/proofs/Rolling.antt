@@ -1,13 +1,13 @@
 -- An event that moves no train leaves all trains where they lie. One that moves a train that is there leaves
 -- nobody with fewer than none, and the bank has sold no more than there are.
-use Rattle.std.proofs.Common.{◌≡◌, ◌⊎◌, ℕ, ◌+◌, ◌≤◌, ◌<◌, inl, inr, Bool, true, false, ◌&&◌, ◌==◌, if◌then◌else◌, List, [], ◌∷◌, ◌++◌, Option, Some, None, ℤ, pos, ◌≤ℤ◌, ◌-ℤ◌, ◌+ℤ◌, refl, sym, subst, ap, ◌∙◌, arith}
+use Rattle.std.proofs.Common.{◌≡◌, ℕ, ◌+◌, ◌<◌, inl, inr, Bool, true, false, ◌&&◌, ◌==◌, if◌then◌else◌, List, [], ◌∷◌, ◌++◌, Option, Some, None, ℤ, pos, ◌≤ℤ◌, refl, sym, subst, ap, ◌∙◌, arith}
 use Rattle.std.proofs.lemmas.Bool.Decides.{Decides-eqb}
 use Rattle.std.proofs.lemmas.Int.{ints}
 use Rattle.std.proofs.lemmas.List.Sums.{sum_by_push}
 use Rattle.history.proofs.Choices.{same_company_is, truth}
 use Rattle.history.proofs.EventAtEnd.{trains_at_before, trains_at_end}
 use Rattle.history.specs.Event.{stable_of, train_moved}
-use Rattle.history.specs.Trains.{IsThere, TrainsAreHeld, one_if, same_train_place, train_comes, train_goes, trains_at, trains_held, trains_sold}
+use Rattle.history.specs.Trains.{TrainsAreHeld, one_if, same_train_place, train_goes, trains_at, trains_held, trains_sold}
 use Rattle.history.specs.declared.event.Event.{Event}
 use Rattle.history.specs.declared.event.TrainMove.{TrainMove}
 use Rattle.history.specs.declared.event.TrainPlace.{TrainPlace}

@@ -1,20 +1,17 @@
 -- Readings of words as texts of a class.
-use Rattle.std.proofs.Common.{◌≡◌, ℕ, ◌+◌, ◌-◌, ◌<◌, ◌≤◌, ◌==◌, min, true, false, List, [], ◌∷◌, Option, Some, None, length, get_or, take, drop, refl, sym, ap, ◌∙◌, inl, inr, arith}
-use Rattle.std.specs.List.{drop-map, take-map}
+use Rattle.std.proofs.Common.{◌≡◌, ℕ, ◌+◌, ◌-◌, ◌<◌, ◌≤◌, ◌==◌, min, true, false, List, [], ◌∷◌, Some, None, length, get_or, drop, refl, ap, ◌∙◌, inl, inr, arith}
 use Rattle.std.specs.List.{list_all}
 use Rattle.std.proofs.lemmas.Bool.{cases_Bool, le-leb, lt-leb, and_parts}
 use Rattle.std.proofs.lemmas.Bool.Decides.{nat_tests}
-use Rattle.std.proofs.lemmas.List.{drop_more, length-map}
+use Rattle.std.proofs.lemmas.List.{drop_more}
 use Rattle.std.specs.Char.{to_ascii_uppercase}
-use Rattle.order_grammar.specs.Class.{are_digits, value_of_digits, capped_value, digits_reading, round_of_series, round_number_reading, number_in_set, operating_reading, code_reading}
+use Rattle.order_grammar.specs.Class.{are_digits, value_of_digits, capped_value, digits_reading, round_of_series, round_number_reading, code_reading}
 use Rattle.order_grammar.specs.Name.{is_digit}
 use Rattle.order_grammar.specs.Words.{raised, same_word}
 use Rattle.order_grammar.specs.declared.class.Reading.TheVariants.{Value, TooLarge, Wrong}
 use Rattle.order_grammar.specs.declared.order.Value as values
 use Rattle.order_grammar.specs.declared.order.Value.TheVariants.{Round as round_value}
-use Rattle.order_grammar.specs.declared.class.Reading.{Reading}
 use Rattle.order_grammar.specs.declared.class.Series.{Series}
-use Rattle.order_grammar.specs.declared.class.Series.TheVariants.{Operating}
 use Rattle.order_grammar.proofs.NameLemmas.{is_digit-raised}
 
 -- a digit raised
@@ -84,24 +81,6 @@ round_number-digits series [] some other = absurd (omega arith)
 round_number-digits series (digit ∷ digits) some other =
     let test : (to_ascii_uppercase digit == 48) ≡ false = no_zero digit other in
     rw test (digits_reading-raised (λ number. round_value (round_of_series series number)) (digit ∷ digits))
-
--- what raised words are that have a number in a set, or none, behind the number of the set
-abbrev pub by_numbers : List ℕ → Option ℕ → Reading
-by_numbers set (Some number) = round_number_reading (Operating number) set
-by_numbers set None = Wrong
-
-operating-parted : (word : List ℕ) (found : Option ℕ) → number_in_set (drop (length word - 2) word) ≡ found → operating_reading word ≡ by_numbers (take (length word - 2) word) found
-operating-parted word (Some number) is = rw (is, operating_reading) refl
-operating-parted word None is = rw (is, operating_reading) refl
-
-pub operating-raised : (word set behind : List ℕ) (found : Option ℕ) → set ≡ take (length word - 2) word → behind ≡ drop (length word - 2) word → found ≡ number_in_set (raised behind) → by_numbers (raised set) found ≡ operating_reading (raised word)
-operating-raised word set behind found front back is =
-    let size : length (raised word) ≡ length word = length-map word to_ascii_uppercase in
-    let later : drop (length (raised word) - 2) (raised word) ≡ raised behind =
-    ap (λ (n : ℕ). drop (n - 2) (raised word)) size ∙ drop-map to_ascii_uppercase (length word - 2) word ∙ ap raised (sym back) in
-    let sooner : take (length (raised word) - 2) (raised word) ≡ raised set =
-    ap (λ (n : ℕ). take (n - 2) (raised word)) size ∙ take-map to_ascii_uppercase (length word - 2) word ∙ ap raised (sym front) in
-    ap (λ (text : List ℕ). by_numbers text found) (sym sooner) ∙ sym (operating-parted (raised word) found (ap number_in_set later ∙ sym is))
 
 -- one that is not the first
 pub code_reading-next : {X : Type 0} (code : X → List ℕ) (stands_for : X → values.Value) (all : List X) (i : ℕ) (d : X) (word : List ℕ) → i < length all → same_word word (code (get_or all i d)) ≡ false → code_reading code stands_for (drop i all) word ≡ code_reading code stands_for (drop (i + 1) all) word
