@@ -13,4 +13,6 @@ order_in (kept.Par company price) = order.Par company price
 order_in (kept.BuyShare company from) = order.BuyShare company from
 order_in (kept.Sell company tenths) = order.Sell company tenths
 order_in kept.ExchangeMohawk = order.ExchangeMohawk
+order_in (kept.Lay lay) = order.Lay lay
+order_in (kept.Token place) = order.Token place
 order_in (kept.Boxed order) = order.value

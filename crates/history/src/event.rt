@@ -1,6 +1,7 @@
 ghost use Rattle.std.specs.Prelude.{◌≡◌};
 ghost use Rattle.history.specs.Event.{bidding_of, floated_by, office_of, operated_by, ownership_of, par_set, party_at, party_of_company, payment_of, phase_set, place_of_seller, place_of_source, round_of, ruled_by, square_set, stable_of, sum_of, sv_price_set, tile_laid, token_placed, train_moved, transfer_of};
 ghost use Rattle.history.specs.LookBack.{actor_of};
+ghost use Rattle.history.specs.declared.event.Party.TheVariants.{Bank};
 ghost use Rattle.tables.specs.Seat.{seat_at};
 
 use crate::ruling::Ruling;
@@ -221,6 +222,30 @@ pub struct Payment {
     pub amount: Amount,
 }
 
+impl Payment {
+    /// What a party pays the bank.
+    fn to_bank(from: Party, amount: Amount) -> Payment
+        ensures { result ≡ record { from = from; to = Bank; amount = amount } }
+    {
+        Payment {
+            from,
+            to: Party::Bank,
+            amount,
+        }
+    }
+
+    /// What the bank pays a party.
+    fn of_bank(to: Party, amount: Amount) -> Payment
+        ensures { result ≡ record { from = Bank; to = to; amount = amount } }
+    {
+        Payment {
+            from: Party::Bank,
+            to,
+            amount,
+        }
+    }
+}
+
 /// What an event says of a private.
 #[derive(Clone, Copy, Debug, PartialEq, Eq)]
 pub struct Ownership {
@@ -374,49 +399,27 @@ impl Event {
         ensures { result ≡ payment_of self.now }
     {
         match self {
-            Event::Sold { seat, price, .. } => Some(Payment {
-                from: Party::of_seat(*seat),
-                to: Party::Bank,
-                amount: *price,
-            }),
-            Event::Revenue {
-                owner: holder,
-                amount,
-                ..
+            Event::Sold { seat, price, .. } | Event::Bought { seat, price, .. } => {
+                Some(Payment::to_bank(Party::of_seat(*seat), *price))
             }
-            | Event::Dividend { holder, amount, .. } => Some(Payment {
-                from: Party::Bank,
-                to: Party::Holder(*holder),
-                amount: *amount,
-            }),
-            Event::Bought { seat, price, .. } => Some(Payment {
-                from: Party::of_seat(*seat),
-                to: Party::Bank,
-                amount: *price,
-            }),
-            Event::Sells { seat, price, .. } => Some(Payment {
-                from: Party::Bank,
-                to: Party::of_seat(*seat),
-                amount: *price,
-            }),
+            Event::Laid { company, cost, .. } | Event::Token { company, cost, .. } => {
+                Some(Payment::to_bank(Party::of_company(*company), *cost))
+            }
+            Event::Train { company, price, .. } => {
+                Some(Payment::to_bank(Party::of_company(*company), *price))
+            }
+            Event::Revenue { owner, amount, .. } => {
+                Some(Payment::of_bank(Party::Holder(*owner), *amount))
+            }
+            Event::Dividend { holder, amount, .. } => {
+                Some(Payment::of_bank(Party::Holder(*holder), *amount))
+            }
+            Event::Sells { seat, price, .. } => {
+                Some(Payment::of_bank(Party::of_seat(*seat), *price))
+            }
             Event::Floats { company, amount } | Event::Withheld { company, amount } => {
-                Some(Payment {
-                    from: Party::Bank,
-                    to: Party::of_company(*company),
-                    amount: *amount,
-                })
+                Some(Payment::of_bank(Party::of_company(*company), *amount))
             }
-            Event::Laid { company, cost, .. }
-            | Event::Token { company, cost, .. }
-            | Event::Train {
-                company,
-                price: cost,
-                ..
-            } => Some(Payment {
-                from: Party::of_company(*company),
-                to: Party::Bank,
-                amount: *cost,
-            }),
             _ => None,
         }
     }

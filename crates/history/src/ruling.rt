@@ -3,6 +3,7 @@ ghost use Rattle.history.specs.Orders.{limit_in, par_of_baltimore_in};
 ghost use Rattle.order_grammar.specs.declared.order.Order.TheVariants as order;
 ghost use Rattle.history.specs.Event.{code_of_lay_rule, code_of_opening_rule, code_of_pay_rule, code_of_refusal, code_of_run_rule, code_of_stock_rule, code_of_token_rule, code_of_train_rule, is_act};
 
+use map_tables::{Lay, Place};
 use order_grammar::{Fault, Order, ShareSource};
 use std::alloc::{AllocError, Global};
 use std::marker::Model;
@@ -327,6 +328,8 @@ enum Kept {
     BuyShare { company: Company, from: ShareSource },
     Sell { company: Company, tenths: Amount },
     ExchangeMohawk,
+    Lay(Lay),
+    Token(Place),
     Boxed(Box<Order>),
 }
 
@@ -342,7 +345,7 @@ impl Model for KeptOrder {
 
 impl KeptOrder {
     /// Keeps a copy of an order. An `Err` comes only where a box gets no memory; the forms of an
-    /// opening and of a stock round need none.
+    /// opening and of a stock round, lays and tokens need none.
     pub fn keep(alloc: Global, order: &Order) -> Result<KeptOrder, AllocError>
         ensures { IfOk result (λ kept. kept ≡ order.now) }
     {
@@ -369,6 +372,8 @@ impl KeptOrder {
                 tenths: *tenths,
             },
             Order::ExchangeMohawk => Kept::ExchangeMohawk,
+            Order::Lay(lay) => Kept::Lay(*lay),
+            Order::Token(place) => Kept::Token(*place),
             other => Kept::Boxed(Box::new(alloc, other.duplicate())?),
         };
         Ok(KeptOrder { kept })
@@ -401,6 +406,8 @@ impl KeptOrder {
                 tenths: *tenths,
             },
             Kept::ExchangeMohawk => Order::ExchangeMohawk,
+            Kept::Lay(lay) => Order::Lay(*lay),
+            Kept::Token(place) => Order::Token(*place),
             Kept::Boxed(order) => order.duplicate(),
         }
     }
@@ -414,6 +421,7 @@ impl KeptOrder {
             Kept::BuyPrivate(_) | Kept::Bid { .. } | Kept::Sell { .. } => true,
             Kept::Limit { .. } | Kept::Par { .. } => false,
             Kept::BuyShare { .. } | Kept::ExchangeMohawk => false,
+            Kept::Lay(_) | Kept::Token(_) => false,
             Kept::Boxed(order) => {
                 matches!(
                     **order,

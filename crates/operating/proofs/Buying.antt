@@ -132,7 +132,7 @@ there_after_trade events company old seller.Bank kind there = λ n number.
 there_after_trade events company old seller.BankPool kind there =
     omega (arith, ints, trains_at_end events (event.Traded company old) place.BankPool kind, ap one_if (pool_keeps company old kind))
 
-there_traded : (game : Game) (company : Company) (trade_in : Option Kind) (from : TrainSeller) (kind : Kind) → IsThere game.events from kind → IsThere (with_trade game company trade_in).events from kind
+pub there_traded : (game : Game) (company : Company) (trade_in : Option Kind) (from : TrainSeller) (kind : Kind) → IsThere game.events from kind → IsThere (with_trade game company trade_in).events from kind
 there_traded game company None from kind there = there
 there_traded game company (Some old) from kind there = there_after_trade game.events company old from kind there
 
@@ -142,7 +142,7 @@ cash_traded game company None party = refl
 cash_traded game company (Some old) party = cash_of_before game.seats game.events (event.Traded company old) party refl
 
 -- so the list is sound once the train has come to the company
-pub train_sound : (game : Game) (company : Company) (purchase : Purchase) → train_judgement game company purchase ≡ None → IsSound game → IsSound (with_event (with_trade game company purchase.trade_in) (event.Train company purchase.kind purchase.from (price_of_train purchase.kind purchase.trade_in)))
+train_sound : (game : Game) (company : Company) (purchase : Purchase) → train_judgement game company purchase ≡ None → IsSound game → IsSound (with_event (with_trade game company purchase.trade_in) (event.Train company purchase.kind purchase.from (price_of_train purchase.kind purchase.trade_in)))
 train_sound game company purchase none sound =
     let may = may_buy game company purchase none in
     let traded = with_trade game company purchase.trade_in in

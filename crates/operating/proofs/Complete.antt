@@ -4,7 +4,7 @@ use Rattle.std.proofs.Common.{◌≡◌, ℕ, ◌<◌, Bool, true, false, ◌&&�
 use Rattle.std.proofs.lemmas.Int.{ints}
 use Rattle.history.proofs.AllTrains.{trains_stay}
 use Rattle.history.proofs.EventAtEnd.{last_said_before, trains_at_before, trains_at_end}
-use Rattle.history.proofs.Rolling.{sold_at_end}
+use Rattle.history.proofs.Rolling.{no_trains, sold_at_end, trains_kept}
 use Rattle.history.specs.Event.{phase_set, stable_of, train_moved}
 use Rattle.history.specs.LookBack.{Game, with_event}
 use Rattle.history.specs.Trains.{one_if, phase_of, same_train_place, train_comes, train_goes, trains_at, trains_sold}
@@ -12,7 +12,7 @@ use Rattle.history.specs.declared.event.Event.{Event}
 use Rattle.history.specs.declared.event.Event.TheVariants as event
 use Rattle.history.specs.declared.event.TrainPlace.TheVariants as place
 use Rattle.operating.proofs.TrainSteps.{IsPassedOn, OfClosings, OfDiscards, OfRustings, OfTrades}
-use Rattle.operating.specs.TrainLaws.{AllAreThereAtFirst, OthersKeepAll, has_come, trains_there}
+use Rattle.operating.specs.TrainLaws.{OthersKeepAll, OthersKeepStanding, TrainsAreAll, TrainsStandAtFirst, has_come, trains_there}
 use Rattle.tables.specs.Train.{place_of_kind, rusting_of, same_kind}
 use Rattle.tables.specs.declared.rolling_stock.Kind.{Kind}
 use Rattle.tables.specs.declared.rolling_stock.Kind.TheVariants.{Two, Three, Four, Five, Six, Diesel}
@@ -76,7 +76,7 @@ none_gone Six gone = absurd (cc)
 none_gone Diesel gone = absurd (cc)
 
 -- at first all are there
-pub all_at_first : AllAreThereAtFirst
+all_at_first : TrainsAreAll []
 all_at_first =
     record {
       until = λ kind number there stays. omega (arith, ints, there_is [] kind number);
@@ -86,8 +86,11 @@ all_at_first =
       in_order = λ earlier later number there numbered before sold. absurd (omega arith);
     }
 
+pub stand_at_first : TrainsStandAtFirst
+stand_at_first = record { held = no_trains; all = all_at_first }
+
 -- an event that begins no phase
-phase_kept : (events : List Event) (event : Event) → phase_set event ≡ None → phase_of (events ++ event ∷ []) ≡ phase_of events
+pub phase_kept : (events : List Event) (event : Event) → phase_set event ≡ None → phase_of (events ++ event ∷ []) ≡ phase_of events
 phase_kept events event none =
     ap (λ (said : Option Kind). unwrap_or said Two) (last_said_before phase_set (events ++ event ∷ []) events event refl none)
 
@@ -106,4 +109,12 @@ others_keep_all events event none no_phase all =
       begun = λ later. subst (λ p. 0 < trains_sold (events ++ event ∷ []) p) (sym phase) (let was = all.begun (subst (λ p. 0 < place_of_kind p) phase later) in omega (arith, sold_same events event (phase_of events) none));
       latest = λ kind sold. let was = all.latest kind (subst (λ n. 0 < n) (sold_same events event kind none) sold) in omega (arith, ap place_of_kind phase);
       in_order = λ earlier later number there numbered before sold. sold_same events event earlier none ∙ all.in_order earlier later number there numbered before (subst (λ n. 0 < n) (sold_same events event later none) sold);
+    }
+
+-- and nobody has fewer than none then
+pub others_keep_standing : OthersKeepStanding
+others_keep_standing events event none no_phase stand =
+    record {
+      held = trains_kept events event none stand.held;
+      all = others_keep_all events event none no_phase stand.all;
     }

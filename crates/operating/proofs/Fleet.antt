@@ -1,37 +1,33 @@
 -- After the purchase of a train by the rules all trains are there until they rust, and none after.
-use Rattle.std.proofs.Common.{◌≡◌, ◌⊎◌, ℕ, zero, suc, ◌<◌, ◌≤◌, ◌==◌, inl, inr, Bool, true, false, ◌&&◌, nat_lt, if◌then◌else◌, List, Option, Some, None, is_some, pos, refl, sym, ap, subst, ◌∙◌, arith}
+use Rattle.std.proofs.Common.{◌≡◌, ◌⊎◌, ℕ, zero, suc, ◌<◌, ◌≤◌, ◌==◌, inl, inr, Bool, true, false, ◌&&◌, nat_lt, if◌then◌else◌, List, Option, Some, None, pos, refl, sym, ap, subst, ◌∙◌, arith}
 use Rattle.std.proofs.lemmas.Bool.Decides.{nat_tests}
 use Rattle.std.proofs.lemmas.Int.{ints}
 use Rattle.history.proofs.AllTrains.{trains_stay}
 use Rattle.history.proofs.Choices.{truth}
-use Rattle.history.proofs.Rolling.{same_kind_is, sold_at_end}
-use Rattle.history.proofs.TrainActs.{closing_sound, phase_sound}
+use Rattle.history.proofs.Rolling.{same_kind_is, sold_at_end, trains_kept}
 use Rattle.history.specs.Event.{place_of_seller, train_moved}
-use Rattle.history.specs.LookBack.{Game, owner_of, with_event}
-use Rattle.history.specs.Sound.{IsSound}
-use Rattle.history.specs.Trains.{IsThere, one_if, phase_of, train_goes, trains_at, trains_in_play, trains_sold}
+use Rattle.history.specs.LookBack.{Game, with_event}
+use Rattle.history.specs.Trains.{IsThere, TrainsAreHeld, one_if, phase_of, train_goes, trains_at, trains_in_play, trains_sold}
 use Rattle.history.specs.declared.event.Event.{Event}
 use Rattle.history.specs.declared.event.Event.TheVariants as event
 use Rattle.history.specs.declared.event.TrainPlace.TheVariants as place
 use Rattle.history.specs.declared.event.TrainSeller.{TrainSeller}
 use Rattle.history.specs.declared.event.TrainSeller.TheVariants as seller
-use Rattle.operating.proofs.Buying.{may_buy, so, train_sound}
+use Rattle.operating.proofs.Buying.{may_buy, so}
 use Rattle.operating.proofs.Complete.{Alike, alike_closed, alike_discarded, alike_on, alike_phase, alike_rusted, there_is}
+use Rattle.operating.proofs.Held.{bought_held, purchase_held}
 use Rattle.operating.proofs.Rust.{none_in_play}
 use Rattle.operating.proofs.Sales.{between_sold, earlier_sold, is_bought, one_sold, sold_or_not}
-use Rattle.operating.proofs.TrainSteps.{IsPassedOn, later_begins, of_choice, of_fold, of_kind, of_limits, of_phase, of_privates, phase_bought, phase_then}
-use Rattle.operating.specs.Phases.{begins_phase, bought, rusts_at, with_closed, with_kind_rusted, with_kind_rusted_at, with_limits_kept, with_phase, with_privates_closed, with_rusted}
+use Rattle.operating.proofs.TrainSteps.{IsPassedOn, later_begins, of_choice, of_fold, of_kind, of_limits, of_next, of_phase, of_privates, of_stable, phase_bought, phase_then}
+use Rattle.operating.specs.Phases.{begins_phase, bought, rusts_at, with_kind_rusted, with_kind_rusted_at, with_limits_kept, with_phase, with_privates_closed, with_rusted}
 use Rattle.operating.specs.TrainLaws.{PurchasesKeepAll, TrainsAreAll, has_come}
 use Rattle.operating.specs.Trains.{is_on_sale, purchase_rules, train_judgement}
 use Rattle.operating.specs.declared.purchase.Purchase.{Purchase}
 use Rattle.tables.proofs.Rules.{none_broken}
-use Rattle.tables.specs.Roster.{same_company}
 use Rattle.tables.specs.Train.{kinds, place_of_kind, rusting_of, same_kind, trains_of as manifest_of}
 use Rattle.tables.specs.declared.rolling_stock.Kind.{Kind}
 use Rattle.tables.specs.declared.rolling_stock.Kind.TheVariants.{Two, Three, Four, Five, Six, Diesel}
 use Rattle.tables.specs.declared.roster.Company.{Company}
-use Rattle.tables.specs.declared.roster.Company.TheVariants as company
-use Rattle.tables.specs.declared.roster.Private.TheVariants as private
 
 one_alike : (new kind other : Kind) → rusts_at (rusting_of kind) new ≡ false → (game : Game) → Alike kind game (with_kind_rusted_at new game other)
 one_alike new kind other stays game =
@@ -39,7 +35,7 @@ one_alike new kind other stays game =
       | inl same ↦
           let none : rusts_at (rusting_of other) new ≡ false = ap (λ (k : Kind). rusts_at (rusting_of k) new) (same_kind_is other kind same) ∙ stays in
           subst (λ (b : Bool). Alike kind game (if b then with_kind_rusted game other else game)) (sym none) ((alike_on kind).same game)
-      | inr apart ↦ of_choice (Alike kind) (rusts_at (rusting_of other) new) game (with_kind_rusted game other) game (of_kind (Alike kind) (alike_on kind) other (alike_rusted kind other apart) game) ((alike_on kind).same game)
+      | inr apart ↦ of_choice (Alike kind) (rusts_at (rusting_of other) new) game (with_kind_rusted game other) game (of_kind (Alike kind) (alike_on kind) other (of_stable (Alike kind) (alike_on kind) other (alike_rusted kind other apart)) game) ((alike_on kind).same game)
     ]
 
 -- of trains of a kind that do not rust at this one none leaves play
@@ -56,19 +52,19 @@ phase_alike game phase kind stays =
     let closed = with_privates_closed phase rusted in
     on.both game begun (with_phase game phase) (alike_phase kind game phase)
     (on.both begun rusted (with_limits_kept closed) (rust_alike phase kind stays begun)
-    (on.both rusted closed (with_limits_kept closed) (of_privates (Alike kind) on (alike_closed kind) phase rusted) (of_limits (Alike kind) on (alike_discarded kind) closed)))
+    (on.both rusted closed (with_limits_kept closed) (of_privates (Alike kind) on (alike_closed kind) phase rusted) (of_limits (Alike kind) on (of_next (Alike kind) on (alike_discarded kind)) closed)))
 
 -- of trains that rust at a phase none is in play then
-rusts_now : (game : Game) (phase kind : Kind) → rusts_at (rusting_of kind) phase ≡ true → IsSound game → trains_in_play (with_rusted phase game).events kind ≡ pos 0
-rusts_now game phase Two rusts sound =
-    subst (λ (p : Kind). trains_in_play (with_rusted p game).events Two ≡ pos 0) (same_kind_is Four phase rusts) (none_in_play Two game (λ owner. sound.trains.held owner Two))
-rusts_now game phase Three rusts sound =
-    subst (λ (p : Kind). trains_in_play (with_rusted p game).events Three ≡ pos 0) (same_kind_is Six phase rusts) (none_in_play Three game (λ owner. sound.trains.held owner Three))
-rusts_now game phase Four rusts sound =
-    subst (λ (p : Kind). trains_in_play (with_rusted p game).events Four ≡ pos 0) (same_kind_is Diesel phase rusts) (none_in_play Four game (λ owner. sound.trains.held owner Four))
-rusts_now game phase Five rusts sound = absurd (cc)
-rusts_now game phase Six rusts sound = absurd (cc)
-rusts_now game phase Diesel rusts sound = absurd (cc)
+rusts_now : (game : Game) (phase kind : Kind) → rusts_at (rusting_of kind) phase ≡ true → TrainsAreHeld game.events → trains_in_play (with_rusted phase game).events kind ≡ pos 0
+rusts_now game phase Two rusts held =
+    subst (λ (p : Kind). trains_in_play (with_rusted p game).events Two ≡ pos 0) (same_kind_is Four phase rusts) (none_in_play Two game (λ owner. held.held owner Two))
+rusts_now game phase Three rusts held =
+    subst (λ (p : Kind). trains_in_play (with_rusted p game).events Three ≡ pos 0) (same_kind_is Six phase rusts) (none_in_play Three game (λ owner. held.held owner Three))
+rusts_now game phase Four rusts held =
+    subst (λ (p : Kind). trains_in_play (with_rusted p game).events Four ≡ pos 0) (same_kind_is Diesel phase rusts) (none_in_play Four game (λ owner. held.held owner Four))
+rusts_now game phase Five rusts held = absurd (cc)
+rusts_now game phase Six rusts held = absurd (cc)
+rusts_now game phase Diesel rusts held = absurd (cc)
 
 -- as many are sold after a phase has begun
 abbrev SameSold : Kind → Game → Game → Type 0
@@ -89,37 +85,22 @@ sold_rusted kind other game owner =
 phase_sold : (game : Game) (phase kind : Kind) → SameSold kind game (with_phase game phase)
 phase_sold game phase kind =
     (sold_on kind).both game (with_event game (event.Phase phase)) (with_phase game phase) (alike_phase kind game phase).sold
-    (of_phase (SameSold kind) (sold_on kind) (λ now private. (alike_closed kind now private).sold) (λ other now owner. sold_rusted kind other now owner) (λ now company old. (alike_discarded kind now company old).sold) game phase)
+    (of_phase (SameSold kind) (sold_on kind) (λ now private. (alike_closed kind now private).sold) (λ other. of_stable (SameSold kind) (sold_on kind) other (λ now owner. sold_rusted kind other now owner)) (of_next (SameSold kind) (sold_on kind) (λ now company old. (alike_discarded kind now company old).sold)) game phase)
 
 -- those of a kind that rusts at the phase have all left play then
-phase_gone : (game : Game) (phase kind : Kind) → rusts_at (rusting_of kind) phase ≡ true → IsSound game → trains_at (with_phase game phase).events place.OutOfPlay kind ≡ pos (trains_sold game.events kind)
-phase_gone game phase kind rusts sound =
+phase_gone : (game : Game) (phase kind : Kind) → rusts_at (rusting_of kind) phase ≡ true → TrainsAreHeld game.events → trains_at (with_phase game phase).events place.OutOfPlay kind ≡ pos (trains_sold game.events kind)
+phase_gone game phase kind rusts held =
     let on = alike_on kind in
     let begun = with_event game (event.Phase phase) in
     let rusted = with_rusted phase begun in
     let closed = with_privates_closed phase rusted in
-    let rest : Alike kind rusted (with_limits_kept closed) = on.both rusted closed (with_limits_kept closed) (of_privates (Alike kind) on (alike_closed kind) phase rusted) (of_limits (Alike kind) on (alike_discarded kind) closed) in
-    omega (arith, ints, rest.out, rest.sold, phase_sold game phase kind, rusts_now begun phase kind rusts (phase_sound game phase sound), trains_stay rusted.events kind)
+    let rest : Alike kind rusted (with_limits_kept closed) = on.both rusted closed (with_limits_kept closed) (of_privates (Alike kind) on (alike_closed kind) phase rusted) (of_limits (Alike kind) on (of_next (Alike kind) on (alike_discarded kind)) closed) in
+    omega (arith, ints, rest.out, rest.sold, phase_sold game phase kind, rusts_now begun phase kind rusts (trains_kept game.events (event.Phase phase) refl held), trains_stay rusted.events kind)
 
--- a private that closes keeps a list sound
-closes : (is_open : Bool) (game : Game) → IsSound game → IsSound (if is_open then with_event game (event.Closed private.BaltimoreOhio) else game)
-closes true game sound = closing_sound game private.BaltimoreOhio sound
-closes false game sound = sound
-
-closes_bop : (is : Bool) (game : Game) → IsSound game → IsSound (if is then with_closed game private.BaltimoreOhio else game)
-closes_bop true game sound = closes (is_some (owner_of game.events private.BaltimoreOhio)) game sound
-closes_bop false game sound = sound
-
--- a purchase keeps a list sound
-bought_sound : (game : Game) (buyer : Company) (purchase : Purchase) → train_judgement game buyer purchase ≡ None → IsSound game → IsSound (bought game buyer purchase)
-bought_sound game buyer purchase none sound =
-    let came = train_sound game buyer purchase none sound in
-    closes_bop (same_company buyer company.BaltimoreOhio) _ came
-
--- what is known of a purchase by the rules, in a sound list where all trains are there
+-- what is known of a purchase by the rules where all trains stand
 record IsFair (game : Game) (buyer : Company) (purchase : Purchase) : Type 0 where
   none : train_judgement game buyer purchase ≡ None
-  sound : IsSound game
+  held : TrainsAreHeld game.events
   all : TrainsAreAll game.events
 
 -- it is on sale
@@ -156,7 +137,7 @@ in_order_then game buyer purchase fair earlier later number there numbered befor
             | inr now ↦ absurd (let fewer = had_left game buyer purchase earlier number fair now.0 now.1.0 there in omega arith)
           ]
       | inr now ↦
-          let whole = earlier_sold game later earlier number (at_bank game buyer purchase later fair now.0 now.1.0) fair.sound fair.all there numbered before in
+          let whole = earlier_sold game later earlier number (at_bank game buyer purchase later fair now.0 now.1.0) fair.held fair.all there numbered before in
           elim (sold_or_not buyer purchase earlier) [
             | inl no_earlier ↦ omega arith
             | inr also ↦ absurd (let same : earlier ≡ later = sym also.1.0 ∙ now.1.0 in let place = ap place_of_kind same in omega arith)
@@ -253,7 +234,7 @@ new_phase game buyer purchase begins fair =
     let after = with_phase there kind in
     let phase : phase_of after.events ≡ kind = phase_then there kind in
     let later = later_begins game.events purchase.from kind begins in
-    let sound = bought_sound game buyer purchase fair.none fair.sound in
+    let held = bought_held game buyer purchase fair.none fair.held in
     let bank = from_bank game.events purchase.from kind begins in
     record {
       until = λ one number has stays.
@@ -266,10 +247,10 @@ new_phase game buyer purchase begins fair =
             | inl rusts ↦
                 let early = rusts_early kind one rusts in
                 let whole = in_order_then game buyer purchase fair one kind number has early.0 early.1 (omega (arith, (is_bought game buyer purchase kind).sold, one_more game buyer purchase bank)) in
-                omega (arith, ints, there_is after.events one number, phase_gone there kind one rusts sound)
+                omega (arith, ints, there_is after.events one number, phase_gone there kind one rusts held)
             | inr stays ↦
                 let before = rusted_before kind (rusting_of one) gone_now stays in
-                let some = between_sold game kind (at_bank game buyer purchase kind fair bank refl) fair.sound fair.all before.0 before.1.1 in
+                let some = between_sold game kind (at_bank game buyer purchase kind fair bank refl) fair.held fair.all before.0 before.1.1 in
                 let come = fair.all.latest before.0 some in
                 let was = fair.all.after one number has (ap (has_come (phase_of game.events)) before.1.0 ∙ grind (arith, nat_tests, come)) in
                 omega (arith, ints, there_is game.events one number, there_is after.events one number, (is_bought game buyer purchase one).out, (phase_alike there kind one stays).out)
@@ -294,5 +275,8 @@ by_phase game buyer purchase false begins fair = no_phase game buyer purchase be
 
 -- after each purchase by the rules
 pub purchases_keep_all : PurchasesKeepAll
-purchases_keep_all game buyer purchase none sound all =
-    by_phase game buyer purchase (begins_phase game.events purchase.from purchase.kind) refl (record { none = none; sound = sound; all = all })
+purchases_keep_all game buyer purchase none stand =
+    record {
+      held = purchase_held game buyer purchase none stand.held;
+      all = by_phase game buyer purchase (begins_phase game.events purchase.from purchase.kind) refl (record { none = none; held = stand.held; all = stand.all });
+    }

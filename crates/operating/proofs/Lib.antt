@@ -22,5 +22,8 @@ pub mod TrainSteps
 pub mod Rust
 pub mod Complete
 pub mod Sales
+pub mod Held
 pub mod Fleet
 pub mod Still
+pub mod TurnSteps
+pub mod TurnTrains

@@ -81,7 +81,7 @@ excess_is game company size phase limit is_size within is_phase is_limit =
     ∙ ap (λ (count : ℤ). count -ℤ pos (limit_of (phase_of game.events))) is_size))
 
 -- fewer than so many
-below_many : (count : ℤ) (i : ℕ) → i < so_many count → pos (i + 1) ≤ℤ count
+pub below_many : (count : ℤ) (i : ℕ) → i < so_many count → pos (i + 1) ≤ℤ count
 below_many (pos n) i below = omega (arith, ints)
 below_many (negsuc n) i below = absurd (omega arith)
 
@@ -120,7 +120,7 @@ first_has events company (one ∷ others) kind first =
     refl first
 
 -- so is the first of either list
-first_of_either : (events : List Event) (company : Company) (some others : List Kind) (kind : Kind) → option_or (first_held events company some) (first_held events company others) ≡ Some kind → has_train events company kind ≡ true
+pub first_of_either : (events : List Event) (company : Company) (some others : List Kind) (kind : Kind) → option_or (first_held events company some) (first_held events company others) ≡ Some kind → has_train events company kind ≡ true
 first_of_either events company some others kind first =
     elim (first_held events company some) as (λ (found : Option Kind). first_held events company some ≡ found → option_or found (first_held events company others) ≡ Some kind → has_train events company kind ≡ true) [
       | None ↦ λ none is. first_has events company others kind is

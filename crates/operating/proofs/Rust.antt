@@ -42,7 +42,7 @@ others_keep kind owner other (suc n) game apart =
     other_keeps kind owner other (iterate (with_one_rusted owner kind) n game) apart ∙ others_keep kind owner other n game apart
 
 -- so many of a stable rust
-so_many_less : (kind : Kind) (owner : Option Company) (n : ℕ) (game : Game) → has kind owner (iterate (with_one_rusted owner kind) n game) ≡ has kind owner game -ℤ pos n
+pub so_many_less : (kind : Kind) (owner : Option Company) (n : ℕ) (game : Game) → has kind owner (iterate (with_one_rusted owner kind) n game) ≡ has kind owner game -ℤ pos n
 so_many_less kind owner zero game = omega (arith, ints)
 so_many_less kind owner (suc n) game =
     omega (arith, ints, one_less (iterate (with_one_rusted owner kind) n game).events owner kind, so_many_less kind owner n game)

@@ -8,8 +8,7 @@ use Rattle.history.proofs.EventAtEnd.{trains_at_end}
 use Rattle.history.proofs.Rolling.{same_kind_is, sold_at_end}
 use Rattle.history.specs.Event.{place_of_seller}
 use Rattle.history.specs.LookBack.{Game, with_event}
-use Rattle.history.specs.Sound.{IsSound}
-use Rattle.history.specs.Trains.{one_if, train_goes, trains_at, trains_sold}
+use Rattle.history.specs.Trains.{TrainsAreHeld, one_if, train_goes, trains_at, trains_sold}
 use Rattle.history.specs.declared.event.Event.{Event}
 use Rattle.history.specs.declared.event.Event.TheVariants as event
 use Rattle.history.specs.declared.event.TrainMove.{TrainMove}
@@ -132,13 +131,13 @@ left_is events Six numbered = refl
 left_is events Diesel numbered = absurd (omega arith)
 
 -- all trains of an earlier kind but the 6 are sold where the bank sells one
-pub earlier_sold : (game : Game) (kind earlier : Kind) (number : ℕ) → is_on_sale game.events seller.Bank kind ≡ true → IsSound game → TrainsAreAll game.events → (manifest_of earlier).number ≡ Some number → place_of_kind earlier < 4 → place_of_kind earlier < place_of_kind kind → trains_sold game.events earlier ≡ number
-earlier_sold game kind earlier number sells sound all there numbered before =
+pub earlier_sold : (game : Game) (kind earlier : Kind) (number : ℕ) → is_on_sale game.events seller.Bank kind ≡ true → TrainsAreHeld game.events → TrainsAreAll game.events → (manifest_of earlier).number ≡ Some number → place_of_kind earlier < 4 → place_of_kind earlier < place_of_kind kind → trains_sold game.events earlier ≡ number
+earlier_sold game kind earlier number sells held all there numbered before =
     let events = game.events in
     elim (either (is_kind (first_left events) kind) (same_kind kind Diesel && nat_lt 0 (trains_sold events Six)) sells) [
       | inl first ↦
           let none = gone (is_left events Two) (is_left events Three) (is_left events Four) (is_left events Five) (is_left events Six) earlier kind first before in
-          let few = sound.trains.sold earlier number there in
+          let few = held.sold earlier number there in
           let many = all_sold (manifest_of earlier).number (trains_sold events earlier) number (sym (left_is events earlier (omega arith)) ∙ none) there in
           omega arith
       | inr diesel ↦
@@ -165,14 +164,14 @@ no_later Six later = omega arith
 no_later Diesel later = omega arith
 
 -- the bank has sold a 6 where it sells a D, and a train of each kind in between
-pub between_sold : (game : Game) (kind : Kind) → is_on_sale game.events seller.Bank kind ≡ true → IsSound game → TrainsAreAll game.events → (earlier : Kind) → place_of_kind earlier < place_of_kind kind → 0 < trains_sold game.events earlier
-between_sold game kind sells sound all Two before = omega (arith, earlier_sold game kind Two 6 sells sound all refl (omega arith) before)
-between_sold game kind sells sound all Three before = omega (arith, earlier_sold game kind Three 5 sells sound all refl (omega arith) before)
-between_sold game kind sells sound all Four before = omega (arith, earlier_sold game kind Four 4 sells sound all refl (omega arith) before)
-between_sold game kind sells sound all Five before = omega (arith, earlier_sold game kind Five 3 sells sound all refl (omega arith) before)
-between_sold game kind sells sound all Six before =
+pub between_sold : (game : Game) (kind : Kind) → is_on_sale game.events seller.Bank kind ≡ true → TrainsAreHeld game.events → TrainsAreAll game.events → (earlier : Kind) → place_of_kind earlier < place_of_kind kind → 0 < trains_sold game.events earlier
+between_sold game kind sells held all Two before = omega (arith, earlier_sold game kind Two 6 sells held all refl (omega arith) before)
+between_sold game kind sells held all Three before = omega (arith, earlier_sold game kind Three 5 sells held all refl (omega arith) before)
+between_sold game kind sells held all Four before = omega (arith, earlier_sold game kind Four 4 sells held all refl (omega arith) before)
+between_sold game kind sells held all Five before = omega (arith, earlier_sold game kind Five 3 sells held all refl (omega arith) before)
+between_sold game kind sells held all Six before =
     elim (either (is_kind (first_left game.events) kind) (same_kind kind Diesel && nat_lt 0 (trains_sold game.events Six)) sells) [
       | inl first ↦ absurd (six_is_last (is_left game.events Two) (is_left game.events Three) (is_left game.events Four) (is_left game.events Five) (is_left game.events Six) kind first before)
       | inr diesel ↦ let six = (both (same_kind kind Diesel) (nat_lt 0 (trains_sold game.events Six)) diesel).1 in grind (arith, nat_tests, six)
     ]
-between_sold game kind sells sound all Diesel before = absurd (no_later kind before)
+between_sold game kind sells held all Diesel before = absurd (no_later kind before)

@@ -43,6 +43,13 @@ OfRustings R kind = (game : Game) (owner : Option Company) → R game (with_even
 abbrev pub OfDiscards : (Game → Game → Type 0) → Type 0
 OfDiscards R = (game : Game) (company : Company) (kind : Kind) → R game (with_event game (event.Discarded company kind))
 
+-- of all trains of a kind in a stable that rust, and of the train that a company discards next
+abbrev pub OfStables : (Game → Game → Type 0) → Kind → Type 0
+OfStables R kind = (owner : Option Company) (game : Game) → R game (with_stable_rusted owner kind game)
+
+abbrev pub OfNextDiscards : (Game → Game → Type 0) → Type 0
+OfNextDiscards R = (company : Company) (game : Game) → R game (with_next_discarded company game)
+
 -- of steps for each of a list
 pub of_fold : {X : Type 0} (R : Game → Game → Type 0) (step : Game → X → Game) → IsPassedOn R → ((game : Game) (x : X) → R game (step game x)) → (game : Game) (xs : List X) → R game (fold step game xs)
 of_fold R step on each game [] = on.same game
@@ -71,18 +78,18 @@ of_privates R on closes phase game =
     of_choice R (same_kind phase Five) game (with_all_closed game) game (of_fold R with_closed on (of_closed R on closes) game privates) (on.same game)
 
 -- of the trains of a stable that rust
-pub of_stable : (R : Game → Game → Type 0) → IsPassedOn R → (kind : Kind) → OfRustings R kind → (owner : Option Company) (game : Game) → R game (with_stable_rusted owner kind game)
+pub of_stable : (R : Game → Game → Type 0) → IsPassedOn R → (kind : Kind) → OfRustings R kind → OfStables R kind
 of_stable R on kind rusts owner game =
     of_iterate R (with_one_rusted owner kind) on (λ now. rusts now owner) (so_many (trains_held game.events owner kind)) game
 
 -- of those of a kind
-pub of_kind : (R : Game → Game → Type 0) → IsPassedOn R → (kind : Kind) → OfRustings R kind → (game : Game) → R game (with_kind_rusted game kind)
+pub of_kind : (R : Game → Game → Type 0) → IsPassedOn R → (kind : Kind) → OfStables R kind → (game : Game) → R game (with_kind_rusted game kind)
 of_kind R on kind rusts game =
     let there = fold (with_company_rusted kind) game companies in
-    on.both game there (with_stable_rusted None kind there) (of_fold R (with_company_rusted kind) on (λ now company. of_stable R on kind rusts (Some company) now) game companies) (of_stable R on kind rusts None there)
+    on.both game there (with_stable_rusted None kind there) (of_fold R (with_company_rusted kind) on (λ now company. rusts (Some company) now) game companies) (rusts None there)
 
 -- of all that rust
-of_rusted : (R : Game → Game → Type 0) → IsPassedOn R → ((kind : Kind) → OfRustings R kind) → (new : Kind) (game : Game) → R game (with_rusted new game)
+of_rusted : (R : Game → Game → Type 0) → IsPassedOn R → ((kind : Kind) → OfStables R kind) → (new : Kind) (game : Game) → R game (with_rusted new game)
 of_rusted R on rusts new game =
     of_fold R (with_kind_rusted_at new) on (λ now kind. of_choice R (rusts_at (rusting_of kind) new) now (with_kind_rusted now kind) now (of_kind R on kind (rusts kind) now) (on.same now)) game kinds
 
@@ -91,13 +98,17 @@ of_discarded : (R : Game → Game → Type 0) → IsPassedOn R → OfDiscards R 
 of_discarded R on discards game company None = on.same game
 of_discarded R on discards game company (Some kind) = discards game company kind
 
+pub of_next : (R : Game → Game → Type 0) → IsPassedOn R → OfDiscards R → OfNextDiscards R
+of_next R on discards company game =
+    of_discarded R on discards game company (next_discard game.events company)
+
 -- of all that are
-pub of_limits : (R : Game → Game → Type 0) → IsPassedOn R → OfDiscards R → (game : Game) → R game (with_limits_kept game)
+pub of_limits : (R : Game → Game → Type 0) → IsPassedOn R → OfNextDiscards R → (game : Game) → R game (with_limits_kept game)
 of_limits R on discards game =
-    of_fold R with_limit_kept on (λ now company. of_iterate R (with_next_discarded company) on (λ before. of_discarded R on discards before company (next_discard before.events company)) (excess_of now company) now) game companies
+    of_fold R with_limit_kept on (λ now company. of_iterate R (with_next_discarded company) on (discards company) (excess_of now company) now) game companies
 
 -- of all that follows once a phase has begun
-pub of_phase : (R : Game → Game → Type 0) → IsPassedOn R → OfClosings R → ((kind : Kind) → OfRustings R kind) → OfDiscards R → (game : Game) (phase : Kind) → R (with_event game (event.Phase phase)) (with_phase game phase)
+pub of_phase : (R : Game → Game → Type 0) → IsPassedOn R → OfClosings R → ((kind : Kind) → OfStables R kind) → OfNextDiscards R → (game : Game) (phase : Kind) → R (with_event game (event.Phase phase)) (with_phase game phase)
 of_phase R on closes rusts discards game phase =
     let begun = with_event game (event.Phase phase) in
     let rusted = with_rusted phase begun in
@@ -145,7 +156,7 @@ phase_begun game kind =
 -- and it is the phase after all that follows
 pub phase_then : (game : Game) (phase : Kind) → phase_of (with_phase game phase).events ≡ phase
 phase_then game phase =
-    of_phase SamePhase same_phase_on (λ now private. phase_before now (event.Closed private) refl) (λ kind now owner. phase_before now (event.Rusted owner kind) refl) (λ now company kind. phase_before now (event.Discarded company kind) refl) game phase
+    of_phase SamePhase same_phase_on (λ now private. phase_before now (event.Closed private) refl) (λ kind. of_stable SamePhase same_phase_on kind (λ now owner. phase_before now (event.Rusted owner kind) refl)) (of_next SamePhase same_phase_on (λ now company kind. phase_before now (event.Discarded company kind) refl)) game phase
     ∙ phase_begun game phase
 
 -- both of two tests

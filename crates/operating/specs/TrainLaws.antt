@@ -3,21 +3,28 @@
 use Rattle.std.specs.Prelude.{◌≡◌, ℕ, ◌<◌, ◌≤◌, Bool, true, false, not, nat_lt, List, [], ◌∷◌, ◌++◌, Option, Some, None, ℤ, pos, ◌+ℤ◌, ◌-ℤ◌}
 use Rattle.history.specs.Event.{phase_set, train_moved}
 use Rattle.history.specs.LookBack.{Game}
-use Rattle.history.specs.Sound.{IsSound}
-use Rattle.history.specs.Trains.{phase_of, trains_in_play, trains_sold}
+use Rattle.history.specs.Trains.{TrainsAreHeld, phase_of, trains_in_play, trains_sold}
 use Rattle.history.specs.declared.event.Event.{Event}
 use Rattle.operating.specs.Phases.{after_train}
 use Rattle.operating.specs.Trains.{train_judgement}
+use Rattle.operating.specs.Turn.{IsCompanyTurn}
 use Rattle.operating.specs.declared.purchase.Purchase.{Purchase}
 use Rattle.tables.specs.Train.{place_of_kind, rusting_of, trains_of as manifest_of}
 use Rattle.tables.specs.declared.rolling_stock.Kind.{Kind}
 use Rattle.tables.specs.declared.roster.Company.{Company}
+use Rattle.tables.specs.declared.round.Round.{Round}
 
 -- after the purchase of a train the phase is the same or a later one
 abbrev pub PhasesGoOn : Type 0
 PhasesGoOn =
     (game : Game) (buyer : Company) (purchase : Purchase) →
     place_of_kind (phase_of game.events) ≤ place_of_kind (phase_of (after_train game buyer purchase).events)
+
+-- so it is after a company's turn
+abbrev pub PhasesGoOnInTurns : Type 0
+PhasesGoOnInTurns =
+    (file : List ℕ) (round : Round) (company : Company) (old new : Game) →
+    IsCompanyTurn file round company old new → place_of_kind (phase_of old.events) ≤ place_of_kind (phase_of new.events)
 
 -- the first train of this kind has come by a phase, if it is that of a kind
 abbrev pub has_come : Kind → Option Kind → Bool
@@ -42,17 +49,33 @@ pub record TrainsAreAll (events : List Event) : Type 0 where
   pub latest : (kind : Kind) → 0 < trains_sold events kind → place_of_kind kind ≤ place_of_kind (phase_of events)
   pub in_order : (earlier later : Kind) (number : ℕ) → (manifest_of earlier).number ≡ Some number → place_of_kind earlier < 4 → place_of_kind earlier < place_of_kind later → 0 < trains_sold events later → trains_sold events earlier ≡ number
 
--- so it is at first
-abbrev pub AllAreThereAtFirst : Type 0
-AllAreThereAtFirst = TrainsAreAll []
+-- they are as many, and nobody has fewer than none
+pub record TrainsStand (events : List Event) : Type 0 where
+  pub held : TrainsAreHeld events
+  pub all : TrainsAreAll events
 
--- and after each event by which no train moves and no phase begins
+-- so it is at first
+abbrev pub TrainsStandAtFirst : Type 0
+TrainsStandAtFirst = TrainsStand []
+
+-- after each event by which no train moves and no phase begins they are still as many
 abbrev pub OthersKeepAll : Type 0
 OthersKeepAll =
     (events : List Event) (event : Event) → train_moved event ≡ None → phase_set event ≡ None → TrainsAreAll events → TrainsAreAll (events ++ event ∷ [])
 
--- and after the purchase of a train by the rules
+-- and nobody has fewer than none
+abbrev pub OthersKeepStanding : Type 0
+OthersKeepStanding =
+    (events : List Event) (event : Event) → train_moved event ≡ None → phase_set event ≡ None → TrainsStand events → TrainsStand (events ++ event ∷ [])
+
+-- so it is after the purchase of a train by the rules
 abbrev pub PurchasesKeepAll : Type 0
 PurchasesKeepAll =
     (game : Game) (buyer : Company) (purchase : Purchase) →
-    train_judgement game buyer purchase ≡ None → IsSound game → TrainsAreAll game.events → TrainsAreAll (after_train game buyer purchase).events
+    train_judgement game buyer purchase ≡ None → TrainsStand game.events → TrainsStand (after_train game buyer purchase).events
+
+-- and after a company's turn
+abbrev pub TurnsKeepAll : Type 0
+TurnsKeepAll =
+    (file : List ℕ) (round : Round) (company : Company) (old new : Game) →
+    IsCompanyTurn file round company old new → TrainsStand old.events → TrainsStand new.events

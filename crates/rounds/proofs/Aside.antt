@@ -8,7 +8,7 @@ use Rattle.std.proofs.lemmas.List.Elements.{filter_map-append}
 use Rattle.std.specs.List.{list_all}
 use Rattle.std.specs.Option.{option_flatten, option_map, option_or}
 use Rattle.history.proofs.EventAtEnd.{last_said_at_end}
-use Rattle.history.specs.Event.{operated_by, phase_set, round_of, tile_laid, token_placed}
+use Rattle.history.specs.Event.{operated_by, phase_set, round_of, tile_laid, token_placed, train_moved}
 use Rattle.history.specs.LookBack.{in_round, last_said}
 use Rattle.history.specs.Operating.{has_operated, lays_of, tokens_of, turn_said}
 use Rattle.history.specs.Trains.{phase_of}
@@ -29,26 +29,33 @@ nothing None none = refl
 nothing (Some x) none = cc
 
 -- what an event that stands aside says
-record SaysNothing (event : Event) : Type 0 where
-  round : round_of event ≡ None
-  tile : tile_laid event ≡ None
-  token : token_placed event ≡ None
-  turn : operated_by event ≡ None
-  phase : phase_set event ≡ None
+pub record SaysNothing (event : Event) : Type 0 where
+  pub round : round_of event ≡ None
+  pub tile : tile_laid event ≡ None
+  pub token : token_placed event ≡ None
+  pub turn : operated_by event ≡ None
+  pub phase : phase_set event ≡ None
+  pub train : train_moved event ≡ None
 
 -- an event that stands aside says nothing of these
-says_nothing : (event : Event) → is_aside event ≡ true → SaysNothing event
+pub says_nothing : (event : Event) → is_aside event ≡ true → SaysNothing event
 says_nothing event aside =
-    let first = and_parts (is_none (round_of event)) (is_none (tile_laid event) && (is_none (token_placed event) && (is_none (operated_by event) && is_none (phase_set event)))) aside in
-    let second = and_parts (is_none (tile_laid event)) (is_none (token_placed event) && (is_none (operated_by event) && is_none (phase_set event))) first.1 in
-    let third = and_parts (is_none (token_placed event)) (is_none (operated_by event) && is_none (phase_set event)) second.1 in
-    let fourth = and_parts (is_none (operated_by event)) (is_none (phase_set event)) third.1 in
+    let no_train = is_none (train_moved event) in
+    let no_phase = is_none (phase_set event) && no_train in
+    let no_turn = is_none (operated_by event) && no_phase in
+    let no_token = is_none (token_placed event) && no_turn in
+    let first = and_parts (is_none (round_of event)) (is_none (tile_laid event) && no_token) aside in
+    let second = and_parts (is_none (tile_laid event)) no_token first.1 in
+    let third = and_parts (is_none (token_placed event)) no_turn second.1 in
+    let fourth = and_parts (is_none (operated_by event)) no_phase third.1 in
+    let fifth = and_parts (is_none (phase_set event)) no_train fourth.1 in
     record {
       round = nothing (round_of event) first.0;
       tile = nothing (tile_laid event) second.0;
       token = nothing (token_placed event) third.0;
       turn = nothing (operated_by event) fourth.0;
-      phase = nothing (phase_set event) fourth.1;
+      phase = nothing (phase_set event) fifth.0;
+      train = nothing (train_moved event) fifth.1;
     }
 
 -- events that stand aside begin no round

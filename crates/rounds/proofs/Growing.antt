@@ -1,10 +1,11 @@
 -- A list of events grows, and its new events stand aside: they begin no round and no phase, lay no tile, place no
--- token and are no company's turn. So the list says of the map, and of who has operated, what it said before.
+-- token, move no train and are no company's turn. So the list says of the map, of trains, and of who has operated,
+-- what it said before.
 use Rattle.std.proofs.Common.{◌≡◌, ℕ, zero, suc, Bool, true, false, ◌&&◌, if◌then◌else◌, List, [], ◌∷◌, ◌++◌, Option, Some, None, is_none, refl, sym, ap, ◌∙◌}
 use Rattle.std.proofs.lemmas.List.{append_assoc, append-nil}
 use Rattle.std.proofs.lemmas.List.Folds.{list_all-append}
 use Rattle.std.specs.List.{list_all}
-use Rattle.history.specs.Event.{operated_by, phase_set, round_of, tile_laid, token_placed}
+use Rattle.history.specs.Event.{operated_by, phase_set, round_of, tile_laid, token_placed, train_moved}
 use Rattle.history.specs.LookBack.{owner_of}
 use Rattle.history.specs.Tell.{after_revenues, breaks, paid_to_owner, with_broken}
 use Rattle.history.specs.declared.event.Event.{Event}
@@ -22,7 +23,8 @@ use Rattle.tables.specs.declared.seat.Seat.{Seat}
 abbrev pub is_aside : Event → Bool
 is_aside event =
     is_none (round_of event)
-    && (is_none (tile_laid event) && (is_none (token_placed event) && (is_none (operated_by event) && is_none (phase_set event))))
+    && (is_none (tile_laid event)
+    && (is_none (token_placed event) && (is_none (operated_by event) && (is_none (phase_set event) && is_none (train_moved event)))))
 
 -- the list grows, and what is new stands aside
 pub record Grows (old new : List Event) : Type 0 where

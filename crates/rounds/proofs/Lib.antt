@@ -20,3 +20,4 @@ mod WholeOperatingRound
 mod InSet
 mod InOrder
 mod Sets
+mod Trains

@@ -7,3 +7,4 @@ pub mod Causality
 pub mod Arrival
 pub mod Begun
 pub mod Sets
+pub mod Trains

@@ -9,12 +9,16 @@ ghost use Rattle.rounds.specs.OperatingRound.{CompaniesOperateOnce, EndsSoon, On
 ghost use Rattle.rounds.specs.Play.{OneGame, Plays, SomeGame};
 ghost use Rattle.rounds.specs.Sequence.{BankAloneEndsIt, SequenceGoesForward};
 ghost use Rattle.rounds.specs.Sets.{SetsKeepTheirNumber};
+ghost use Rattle.rounds.specs.Trains.{PhasesGoOnInRounds, TrainsStandInEachGame};
 ghost use Rattle.sheets.specs.File.{content_of};
 ghost use Rattle.sheets.specs.declared.fault.FileFault.TheVariants.{Header};
 ghost use Rattle.tables.specs.declared.round.Round.{Round};
 
 use market::floated_companies_in_order;
-use operating::{company_operates, company_turn_ends, one_company_turn, turn_only_adds};
+use operating::{
+    all_trains_are_there, company_operates, company_turn_ends, one_company_turn, phases_go_on,
+    turn_only_adds,
+};
 use privates::{one_opening_round, opening_round_ends};
 use sheets::{arrival_changes_nothing, sheets_are_numbered, three_to_six_play};
 use stock_round::{one_stock_round, stock_round_ends};
@@ -86,6 +90,22 @@ pub fn rounds_follow_in_order()
 pub fn sets_keep_their_number()
     ensures { SetsKeepTheirNumber }
 {}
+
+/// Whenever a round ends, the trains of a kind that are with the bank, in its pool and with the
+/// companies are as many as there were at first until they rust, and none after; and nobody has
+/// fewer than none.
+pub fn all_trains_are_there_in_each_game()
+    ensures { TrainsStandInEachGame }
+{
+    all_trains_are_there()
+}
+
+/// No round leads back to an earlier phase.
+pub fn phases_go_on_in_rounds()
+    ensures { PhasesGoOnInRounds }
+{
+    phases_go_on()
+}
 
 /// While the bank is not broken, some round follows each round.
 pub fn bank_alone_ends_it()
