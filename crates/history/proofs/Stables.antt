@@ -1,12 +1,10 @@
 -- How many trains a company has: all that came to it, less all that went.
-use Rattle.std.proofs.Common.{◌≡◌, ℕ, ◌+◌, Bool, ◌&&◌, List, [], ◌∷◌, Option, Some, None, ℤ, pos, ◌-ℤ◌, ◌+ℤ◌, refl, arith}
+use Rattle.std.proofs.Common.{◌≡◌, ℕ, ◌+◌, Bool, ◌&&◌, List, [], ◌∷◌, Option, Some, None, pos, ◌-ℤ◌, ◌+ℤ◌, refl, arith}
 use Rattle.std.proofs.lemmas.Int.{ints}
 use Rattle.std.proofs.lemmas.List.Sums.{sum_by-cons}
-use mir.Syntax.{w128}
-use mir.Val.{to_z, of_z}
 use Rattle.history.proofs.AllTrains.{trains_in_front}
 use Rattle.history.specs.Event.{stable_of, train_moved}
-use Rattle.history.specs.LookBack.{IsModerate, balance}
+use Rattle.history.specs.LookBack.{balance}
 use Rattle.history.specs.Trains.{any_comes, any_goes, one_if, stable_size, train_comes, train_goes}
 use Rattle.history.specs.declared.event.Event.{Event}
 use Rattle.history.specs.declared.event.TrainMove.{TrainMove}
@@ -72,7 +70,3 @@ pub size_is : (events : List Event) (owner : Option Company) → balance 0 (λ e
 size_is [] owner = refl
 size_is (event ∷ events) owner =
     omega (arith, ints, balance_in_front event events owner, size_in_front event events owner, size_is events owner)
-
--- a moderate number is kept whole
-pub moderate_fits : (sum : ℤ) → IsModerate sum → to_z w128 (of_z w128 sum) ≡ sum
-moderate_fits sum moderate = omega (arith, ints, moderate.not_under, moderate.not_over)

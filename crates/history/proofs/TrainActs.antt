@@ -42,17 +42,17 @@ pub dividend_sound : DividendKeepsSound
 dividend_sound game company paid amount party sound =
     payment_sound game (Dividend company paid amount) (record { no_owner = refl; no_bid = refl; no_transfer = refl; no_par = refl; no_square = refl; no_office = refl; no_float = refl; no_price = refl }) (λ seat. refl) (λ other. sound.companies other) (tt, party) (trains_kept game.events (Dividend company paid amount) refl sound.trains) sound
 
--- a train that is there and is bought
-bought_held : (events : List Event) (company : Company) (kind : Kind) (from : TrainSeller) (price : ℕ) → IsThere events from kind → TrainsAreHeld events → TrainsAreHeld (events ++ Train company kind from price ∷ [])
-bought_held events company kind seller.Bank price there held =
+-- after a train that is there has come to the company that buys it
+pub came_held : (events : List Event) (company : Company) (kind : Kind) (from : TrainSeller) (price : ℕ) → IsThere events from kind → TrainsAreHeld events → TrainsAreHeld (events ++ Train company kind from price ∷ [])
+came_held events company kind seller.Bank price there held =
     trains_after_sale events (Train company kind seller.Bank price) kind (place.Company company) refl there held
-bought_held events company kind seller.BankPool price there held =
+came_held events company kind seller.BankPool price there held =
     trains_after_move events (Train company kind seller.BankPool price) None kind (place.Company company) refl there held
 
 -- the purchase of a train
 pub train_purchase_sound : TrainPurchaseKeepsSound
 train_purchase_sound game company kind from price there enough sound =
-    payment_sound game (Train company kind from price) (record { no_owner = refl; no_bid = refl; no_transfer = refl; no_par = refl; no_square = refl; no_office = refl; no_float = refl; no_price = refl }) (λ seat. refl) (λ other. can_pay game company other price enough sound.companies) (tt, tt) (bought_held game.events company kind from price there sound.trains) sound
+    payment_sound game (Train company kind from price) (record { no_owner = refl; no_bid = refl; no_transfer = refl; no_par = refl; no_square = refl; no_office = refl; no_float = refl; no_price = refl }) (λ seat. refl) (λ other. can_pay game company other price enough sound.companies) (tt, tt) (came_held game.events company kind from price there sound.trains) sound
 
 -- a train that is traded in
 pub trade_sound : TradeKeepsSound

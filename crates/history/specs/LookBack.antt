@@ -1,7 +1,7 @@
 -- What a list of events, oldest first, says when it is looked back over. There are two ways: what the
 -- last event about a thing says, and a start with all that came in less all that went out. Where it says so
 -- is a place in the list.
-use Rattle.std.specs.Prelude.{ℕ, ◌+◌, ◌==◌, Bool, true, false, if◌then◌else◌, List, [], ◌∷◌, ◌++◌, Option, Some, None, sum_by, pos, neg_ℤ, ◌-ℤ◌, ◌≤ℤ◌, ℤ, ◌^◌, is_none, is_some, ◌&&◌, unwrap_or, slice_index_or}
+use Rattle.std.specs.Prelude.{ℕ, ◌<◌, ◌+◌, ◌==◌, Bool, true, false, if◌then◌else◌, List, [], ◌∷◌, ◌++◌, Option, Some, None, sum_by, pos, neg_ℤ, ◌-ℤ◌, ◌≤ℤ◌, ℤ, ◌^◌, is_none, length, is_some, ◌&&◌, unwrap_or, slice_index_or}
 use Rattle.std.specs.List.{list_any}
 use Rattle.std.specs.Option.{option_or, option_flatten, option_map}
 use Rattle.history.specs.Event.{Obeyance, obeyed_of, is_act, ownership_of, payment_of, round_of as round_begun, sv_price_set, tells_broken}
@@ -57,6 +57,10 @@ balance start brings takes events = pos (start + sum_by brings events) -ℤ pos 
 pub record IsModerate (sum : ℤ) : Type 0 where
   pub not_under : neg_ℤ (pos (2 ^ 100)) ≤ℤ sum
   pub not_over : sum ≤ℤ pos (2 ^ 100)
+
+-- the events are few enough to be counted in a memory
+abbrev pub FitsMemory : List Event → Type 0
+FitsMemory events = length events < 2 ^ 63
 
 -- two holders are the same
 abbrev pub same_holder : Holder → Holder → Bool

@@ -49,11 +49,15 @@ any_goes owner (Some move) = same_train_place move.from (stable_of owner)
 abbrev pub one_if : Bool → ℕ
 one_if test = if test then 1 else 0
 
+-- how many events bring a train, less how many take one
+abbrev pub count_of : (Event → Bool) → (Event → Bool) → List Event → ℤ
+count_of comes goes events = balance 0 (λ event. one_if (comes event)) (λ event. one_if (goes event)) events
+
 -- the trains of a kind at a place: what came there less what went. The bank's own are fewer than none by those
 -- that it has sold
 abbrev pub trains_at : List Event → TrainPlace → Kind → ℤ
 trains_at events place kind =
-    balance 0 (λ event. one_if (train_comes place kind (train_moved event))) (λ event. one_if (train_goes place kind (train_moved event))) events
+    count_of (λ event. train_comes place kind (train_moved event)) (λ event. train_goes place kind (train_moved event)) events
 
 -- the trains of a kind that a company has, or the bank pool where there is none
 abbrev pub trains_held : List Event → Option Company → Kind → ℤ

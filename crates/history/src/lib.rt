@@ -4,21 +4,22 @@
 //! aspects: the payment that it makes, the tenths that it moves, what it says of a private's owner
 //! and of the bids on it, the par value, square and president of a company that it sets, .. There
 //! are a few ways of looking back, each generic over the aspect: an account, such as a party's
-//! cash, is its start with all that came in less all that went out; the tiles and the tokens on the
-//! map are all that was said of them, in order; nearly anything else is what the last event that
+//! cash, is its start with all that came in less all that went out, and so is a count of trains; the
+//! tiles and the tokens on the map are all that was said of them, in order; nearly anything else is what the last event that
 //! speaks of it says. A list is sound where no such fact is against the rules, as
 //! `specs/Sound.antt` has it; most events leave most facts alone, and the laws say which event
 //! keeps a list sound.
 //!
-//! Reading order: `event` (events and their aspects), `ruling` (what became of a line), `aspect`
-//! (the ways of looking back), `topics` (what is looked for), `look_back`, `owners`, `bids`,
-//! `shares`, `operating` and `trains` (the readers of `Past`), `list` (`History`), `tell` (events
-//! that follow from the list alone), `laws`.
+//! Reading order: `event` (events and their aspects), `ruling` and `kept_run` (what became of a
+//! line), `aspect` (the ways of looking back), `topics` (what is looked for), `look_back`,
+//! `owners`, `bids`, `shares`, `operating` and `trains` (the readers of `Past`), `list`
+//! (`History`), `tell` (events that follow from the list alone), `laws`.
 #![tactic(auto)]
 
 mod aspect;
 mod bids;
 mod event;
+mod kept_run;
 mod laws;
 mod list;
 mod look_back;
@@ -30,6 +31,7 @@ mod tell;
 mod topics;
 mod trains;
 
+pub use aspect::TrainCount;
 pub use event::{
     Bid, Bidding, Event, Holder, Office, Ownership, ParValue, Party, Payment, Placement, SUM_MOST,
     Shareholder, TrainMove, TrainPlace, TrainSeller, Transfer,
@@ -51,4 +53,4 @@ pub use ruling::{
     TrainRule,
 };
 pub use shares::Tenths;
-pub use trains::{TrainCount, so_many};
+pub use trains::so_many;

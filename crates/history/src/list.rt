@@ -1,18 +1,18 @@
 ghost use Rattle.std.specs.Prelude.{◌≡◌, ◌↔◌, ◌≤◌, IfOk, IsTrue, OnOk, OnErr, option_map, pos, slice_get, []};
 ghost use Rattle.history.specs.Bids.{bid_of, free_cash_of};
 ghost use Rattle.history.specs.Event.{sum_of};
-ghost use Rattle.history.specs.LookBack.{IsModerate, broken_in, cash_of, cheapest_in, cheapest_of, is_sold, is_sold_in, owner_in, owner_of, priority_of, round_of, sv_price_of, with_event};
+ghost use Rattle.history.specs.LookBack.{FitsMemory, IsModerate, broken_in, cash_of, cheapest_in, cheapest_of, is_sold, is_sold_in, owner_in, owner_of, priority_of, round_of, sv_price_of, with_event};
 ghost use Rattle.history.specs.Operating.{has_operated, lays_of, rulings_in_round, tokens_of, tokens_placed};
 ghost use Rattle.history.specs.Shares.{arrival_of, has_sold_in_round, is_floated, is_started, par_of, president_of, shares_of, square_of};
 ghost use Rattle.history.specs.Sound.{IsSound};
 ghost use Rattle.history.specs.Trains.{phase_of, trains_held, trains_sold};
 
+use crate::aspect::TrainCount;
 use crate::event::{Event, Holder, Party, SUM_MOST, Shareholder};
 use crate::look_back::Past;
 use crate::owners::Owners;
 use crate::ruling::KeptOrder;
 use crate::shares::Tenths;
-use crate::trains::TrainCount;
 use map_tables::{Lay, Place};
 use order_grammar::Order;
 use std::alloc::{AllocError, Global};
@@ -69,7 +69,8 @@ impl History {
 
     /// The events, oldest first.
     pub fn events(&self) -> &[Event]
-        ensures { result.now ≡ self.now.events }
+        ensures events { result.now ≡ self.now.events }
+        ensures short { FitsMemory result.now }
     {
         self.events.as_slice()
     }

@@ -1,5 +1,5 @@
 ghost use Rattle.std.specs.Prelude.{◌≡◌, length};
-ghost use Rattle.history.specs.LookBack.{IsModerate, broken_in, cash_of, cheapest_in, cheapest_of, is_sold, is_sold_in, owner_in, owner_of, priority_of, round_of, start_of, sv_price_of};
+ghost use Rattle.history.specs.LookBack.{FitsMemory, IsModerate, broken_in, cash_of, cheapest_in, cheapest_of, is_sold, is_sold_in, owner_in, owner_of, priority_of, round_of, start_of, sv_price_of};
 
 use crate::aspect::{balance, last_said};
 use crate::event::{Event, Holder, Party};
@@ -14,6 +14,7 @@ pub struct Past<'a> {
     pub seats: usize,
     /// What had happened, oldest first.
     pub events: &'a [Event],
+    ghost short: { FitsMemory events.now },
 }
 
 impl Past<'_> {

@@ -3,11 +3,12 @@ ghost use Rattle.history.specs.Orders.{limit_in, par_of_baltimore_in};
 ghost use Rattle.order_grammar.specs.declared.order.Order.TheVariants as order;
 ghost use Rattle.history.specs.Event.{code_of_lay_rule, code_of_opening_rule, code_of_pay_rule, code_of_refusal, code_of_run_rule, code_of_stock_rule, code_of_token_rule, code_of_train_rule, is_act};
 
+use crate::kept_run::KeptRun;
 use map_tables::{Lay, Place};
-use order_grammar::{Fault, Order, ShareSource};
+use order_grammar::{Fault, Order, ShareSource, TrainSource};
 use std::alloc::{AllocError, Global};
 use std::marker::Model;
-use tables::{Amount, Company, Private, par_square};
+use tables::{Amount, Company, Kind, Private, par_square};
 
 /// Which rule of play an order breaks first, by the family of the rule.
 #[derive(Clone, Copy, Debug, PartialEq, Eq)]
@@ -318,7 +319,7 @@ pub struct KeptOrder {
     kept: Kept,
 }
 
-/// The forms that are ruled most often in a few bytes, and any other order behind a box.
+/// The forms that are ruled in a few bytes, and any other order behind a box.
 #[derive(Debug, Drop)]
 enum Kept {
     BuyPrivate(Private),
@@ -330,6 +331,11 @@ enum Kept {
     ExchangeMohawk,
     Lay(Lay),
     Token(Place),
+    Run { kind: Kind, run: Box<KeptRun> },
+    Pay,
+    Withhold,
+    BuyTrain { kind: Kind, from: TrainSource },
+    Discard { company: Company, kind: Kind },
     Boxed(Box<Order>),
 }
 
@@ -344,37 +350,30 @@ impl Model for KeptOrder {
 }
 
 impl KeptOrder {
-    /// Keeps a copy of an order. An `Err` comes only where a box gets no memory; the forms of an
-    /// opening and of a stock round, lays and tokens need none.
+    /// Keeps a copy of an order. An `Err` comes only where a box gets no memory; of the orders that
+    /// are ruled, only a run needs one.
     pub fn keep(alloc: Global, order: &Order) -> Result<KeptOrder, AllocError>
         ensures { IfOk result (λ kept. kept ≡ order.now) }
     {
-        let kept = match order {
-            Order::BuyPrivate(private) => Kept::BuyPrivate(*private),
-            Order::Bid { private, amount } => Kept::Bid {
-                private: *private,
-                amount: *amount,
-            },
-            Order::Limit { private, amount } => Kept::Limit {
-                private: *private,
-                amount: *amount,
-            },
-            Order::Par { company, price } => Kept::Par {
-                company: *company,
-                price: *price,
-            },
-            Order::BuyShare { company, from } => Kept::BuyShare {
-                company: *company,
-                from: *from,
-            },
-            Order::Sell { company, tenths } => Kept::Sell {
-                company: *company,
-                tenths: *tenths,
-            },
+        let kept = match *order {
+            Order::BuyPrivate(private) => Kept::BuyPrivate(private),
+            Order::Bid { private, amount } => Kept::Bid { private, amount },
+            Order::Limit { private, amount } => Kept::Limit { private, amount },
+            Order::Par { company, price } => Kept::Par { company, price },
+            Order::BuyShare { company, from } => Kept::BuyShare { company, from },
+            Order::Sell { company, tenths } => Kept::Sell { company, tenths },
             Order::ExchangeMohawk => Kept::ExchangeMohawk,
-            Order::Lay(lay) => Kept::Lay(*lay),
-            Order::Token(place) => Kept::Token(*place),
-            other => Kept::Boxed(Box::new(alloc, other.duplicate())?),
+            Order::Lay(lay) => Kept::Lay(lay),
+            Order::Token(place) => Kept::Token(place),
+            Order::Run { kind, ref run } => {
+                let run = Box::new(alloc, KeptRun::keep(alloc, run)?)?;
+                Kept::Run { kind, run }
+            }
+            Order::Pay => Kept::Pay,
+            Order::Withhold => Kept::Withhold,
+            Order::BuyTrain { kind, from } => Kept::BuyTrain { kind, from },
+            Order::Discard { company, kind } => Kept::Discard { company, kind },
+            ref other => Kept::Boxed(Box::new(alloc, other.duplicate())?),
         };
         Ok(KeptOrder { kept })
     }
@@ -383,32 +382,25 @@ impl KeptOrder {
     pub fn order(&self) -> Order
         ensures { result ≡ self.now }
     {
-        match &self.kept {
-            Kept::BuyPrivate(private) => Order::BuyPrivate(*private),
-            Kept::Bid { private, amount } => Order::Bid {
-                private: *private,
-                amount: *amount,
-            },
-            Kept::Limit { private, amount } => Order::Limit {
-                private: *private,
-                amount: *amount,
-            },
-            Kept::Par { company, price } => Order::Par {
-                company: *company,
-                price: *price,
-            },
-            Kept::BuyShare { company, from } => Order::BuyShare {
-                company: *company,
-                from: *from,
-            },
-            Kept::Sell { company, tenths } => Order::Sell {
-                company: *company,
-                tenths: *tenths,
-            },
+        match self.kept {
+            Kept::BuyPrivate(private) => Order::BuyPrivate(private),
+            Kept::Bid { private, amount } => Order::Bid { private, amount },
+            Kept::Limit { private, amount } => Order::Limit { private, amount },
+            Kept::Par { company, price } => Order::Par { company, price },
+            Kept::BuyShare { company, from } => Order::BuyShare { company, from },
+            Kept::Sell { company, tenths } => Order::Sell { company, tenths },
             Kept::ExchangeMohawk => Order::ExchangeMohawk,
-            Kept::Lay(lay) => Order::Lay(*lay),
-            Kept::Token(place) => Order::Token(*place),
-            Kept::Boxed(order) => order.duplicate(),
+            Kept::Lay(lay) => Order::Lay(lay),
+            Kept::Token(place) => Order::Token(place),
+            Kept::Run { kind, ref run } => Order::Run {
+                kind,
+                run: run.run(),
+            },
+            Kept::Pay => Order::Pay,
+            Kept::Withhold => Order::Withhold,
+            Kept::BuyTrain { kind, from } => Order::BuyTrain { kind, from },
+            Kept::Discard { company, kind } => Order::Discard { company, kind },
+            Kept::Boxed(ref order) => order.duplicate(),
         }
     }
 
@@ -419,15 +411,13 @@ impl KeptOrder {
     {
         match &self.kept {
             Kept::BuyPrivate(_) | Kept::Bid { .. } | Kept::Sell { .. } => true,
-            Kept::Limit { .. } | Kept::Par { .. } => false,
-            Kept::BuyShare { .. } | Kept::ExchangeMohawk => false,
-            Kept::Lay(_) | Kept::Token(_) => false,
             Kept::Boxed(order) => {
                 matches!(
                     **order,
                     Order::BuyPrivate(_) | Order::Bid { .. } | Order::Sell { .. }
                 )
             }
+            _ => false,
         }
     }
 

@@ -5,9 +5,9 @@ ghost use Rattle.history.specs.LookBack.{actor_of, owner_said, paid_by, paid_to}
 ghost use Rattle.history.specs.Operating.{turn_said};
 ghost use Rattle.history.specs.Orders.{limit_in, par_of_baltimore_in, said_by};
 ghost use Rattle.history.specs.Shares.{brought_to, float_said, par_said, president_said, sale_said, square_said, taken_from};
-ghost use Rattle.history.specs.Trains.{any_comes, any_goes, one_if, train_comes, train_goes};
+ghost use Rattle.history.specs.Trains.{any_comes, any_goes, train_comes, train_goes};
 
-use crate::aspect::{Account, Topic};
+use crate::aspect::{Account, Stable, Topic};
 use crate::event::{Bidding, Event, Holder, Party, Shareholder, TrainPlace};
 use crate::ruling::Ruling;
 use map_tables::{Lay, Place};
@@ -323,22 +323,22 @@ impl Topic for RoundPlayed {
 #[derive(Clone, Copy)]
 pub(crate) struct TrainsAt(pub TrainPlace, pub Kind);
 
-impl Account for TrainsAt {
-    ghost brings = { λ a event. one_if (train_comes a.0 a.1 (train_moved event)) };
+impl Stable for TrainsAt {
+    ghost comes = { λ a event. train_comes a.0 a.1 (train_moved event) };
 
-    ghost takes = { λ a event. one_if (train_goes a.0 a.1 (train_moved event)) };
+    ghost goes = { λ a event. train_goes a.0 a.1 (train_moved event) };
 
-    fn brings(&self, event: &Event) -> Amount {
+    fn comes(&self, event: &Event) -> bool {
         match event.train() {
-            Some(train) if train.kind == self.1 && train.to == self.0 => 1,
-            _ => 0,
+            Some(train) => train.kind == self.1 && train.to == self.0,
+            None => false,
         }
     }
 
-    fn takes(&self, event: &Event) -> Amount {
+    fn goes(&self, event: &Event) -> bool {
         match event.train() {
-            Some(train) if train.kind == self.1 && train.from == self.0 => 1,
-            _ => 0,
+            Some(train) => train.kind == self.1 && train.from == self.0,
+            None => false,
         }
     }
 }
@@ -347,22 +347,22 @@ impl Account for TrainsAt {
 #[derive(Clone, Copy)]
 pub(crate) struct AllTrainsAt(pub Option<Company>);
 
-impl Account for AllTrainsAt {
-    ghost brings = { λ a event. one_if (any_comes a.0 (train_moved event)) };
+impl Stable for AllTrainsAt {
+    ghost comes = { λ a event. any_comes a.0 (train_moved event) };
 
-    ghost takes = { λ a event. one_if (any_goes a.0 (train_moved event)) };
+    ghost goes = { λ a event. any_goes a.0 (train_moved event) };
 
-    fn brings(&self, event: &Event) -> Amount {
+    fn comes(&self, event: &Event) -> bool {
         match event.train() {
-            Some(train) if train.to == TrainPlace::of_owner(self.0) => 1,
-            _ => 0,
+            Some(train) => train.to == TrainPlace::of_owner(self.0),
+            None => false,
         }
     }
 
-    fn takes(&self, event: &Event) -> Amount {
+    fn goes(&self, event: &Event) -> bool {
         match event.train() {
-            Some(train) if train.from == TrainPlace::of_owner(self.0) => 1,
-            _ => 0,
+            Some(train) => train.from == TrainPlace::of_owner(self.0),
+            None => false,
         }
     }
 }

@@ -5,14 +5,11 @@ ghost use Rattle.history.specs.Trains.{phase_of, so_many, stable_size, train_goe
 ghost use Rattle.history.specs.Event.{train_moved};
 ghost use Rattle.history.specs.declared.event.TrainPlace.TheVariants.{Bank};
 
-use crate::aspect::{balance, last_said};
+use crate::aspect::{TrainCount, count, last_said};
 use crate::event::{Event, TrainPlace};
 use crate::look_back::Past;
 use crate::topics::{AllTrainsAt, PhaseBegun, TrainsAt};
-use tables::{Company, Kind};
-
-/// A number of trains: what came in less what went out, at least 0 in a sound game.
-pub type TrainCount = i128;
+use tables::{Company, Kind, Money};
 
 impl Past<'_> {
     /// The trains of a kind that a company has, or the bank pool where there is none.
@@ -28,7 +25,7 @@ impl Past<'_> {
         ensures sum { result ≡ trains_at self.now.events.now place kind }
         ensures within { IsModerate result }
     {
-        balance(&TrainsAt(place, kind), 0, self.events)
+        count(&TrainsAt(place, kind), self.events)
     }
 
     /// How many trains a company has, or the bank pool where there is none.
@@ -36,7 +33,7 @@ impl Past<'_> {
         ensures sum { result ≡ stable_size self.now.events.now owner }
         ensures within { IsModerate result }
     {
-        balance(&AllTrainsAt(owner), 0, self.events)
+        count(&AllTrainsAt(owner), self.events)
     }
 
     /// How many trains of a kind the bank has sold.
@@ -68,7 +65,7 @@ fn is_sale(event: &Event, kind: Kind) -> bool
 }
 
 /// As many as a count says, and none where it is under 0.
-pub fn so_many(count: TrainCount) -> u128
+pub fn so_many(count: Money) -> u128
     ensures { result ≡ so_many count }
 {
     if count > 0 { count as u128 } else { 0 }

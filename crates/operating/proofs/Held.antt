@@ -1,15 +1,13 @@
 -- After the purchase of a train by the rules nobody has fewer than no trains of a kind, and the bank has sold no more
 -- of them than there are.
-use Rattle.std.proofs.Common.{◌≡◌, ℕ, zero, suc, ◌≤◌, List, [], ◌∷◌, ◌++◌, Option, Some, None, pos, ◌≤ℤ◌, refl, arith}
+use Rattle.std.proofs.Common.{◌≡◌, ℕ, zero, suc, ◌≤◌, Option, Some, None, pos, ◌≤ℤ◌, refl, arith}
 use Rattle.std.proofs.lemmas.Int.{ints}
-use Rattle.history.proofs.Rolling.{trains_after_move, trains_after_sale, trains_kept}
+use Rattle.history.proofs.Rolling.{trains_after_move, trains_kept}
+use Rattle.history.proofs.TrainActs.{came_held}
 use Rattle.history.specs.LookBack.{Game, with_event}
-use Rattle.history.specs.Trains.{IsThere, TrainsAreHeld, so_many, trains_held}
-use Rattle.history.specs.declared.event.Event.{Event}
+use Rattle.history.specs.Trains.{TrainsAreHeld, so_many, trains_held}
 use Rattle.history.specs.declared.event.Event.TheVariants as event
 use Rattle.history.specs.declared.event.TrainPlace.TheVariants as place
-use Rattle.history.specs.declared.event.TrainSeller.{TrainSeller}
-use Rattle.history.specs.declared.event.TrainSeller.TheVariants as seller
 use Rattle.operating.proofs.Buying.{may_buy, there_traded}
 use Rattle.operating.proofs.PhaseLemmas.{below_many, first_of_either}
 use Rattle.operating.proofs.Rust.{so_many_less}
@@ -68,13 +66,6 @@ traded_held : (game : Game) (company : Company) (trade_in : Option Kind) → ((o
 traded_held game company None has held = held
 traded_held game company (Some kind) has held =
     trains_after_move game.events (event.Traded company kind) (Some company) kind place.BankPool refl (has kind refl) held
-
--- after a train that is there has come to the company
-came_held : (events : List Event) (company : Company) (kind : Kind) (from : TrainSeller) (price : ℕ) → IsThere events from kind → TrainsAreHeld events → TrainsAreHeld (events ++ event.Train company kind from price ∷ [])
-came_held events company kind seller.Bank price there held =
-    trains_after_sale events (event.Train company kind seller.Bank price) kind (place.Company company) refl there held
-came_held events company kind seller.BankPool price there held =
-    trains_after_move events (event.Train company kind seller.BankPool price) None kind (place.Company company) refl there held
 
 -- after the company has bought
 pub bought_held : (game : Game) (buyer : Company) (purchase : Purchase) → train_judgement game buyer purchase ≡ None → StillHeld game (bought game buyer purchase)

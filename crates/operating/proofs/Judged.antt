@@ -1,5 +1,5 @@
 -- What a run is that is obeyed: it breaks no rule of runs, so that it is legal, and a train may do it.
-use Rattle.std.proofs.Common.{◌≡◌, ℕ, ◌+◌, ◌*◌, ◌≤◌, ◌^◌, Bool, List, Option, Some, None, option_map, Ok, ℤ, pos, ◌≤ℤ◌, refl, sym, subst, ap, ◌∙◌, arith}
+use Rattle.std.proofs.Common.{◌≡◌, ℕ, ◌+◌, ◌*◌, ◌≤◌, Bool, List, Option, Some, None, option_map, Ok, ℤ, pos, ◌≤ℤ◌, refl, sym, subst, ap, ◌∙◌, arith}
 use Rattle.std.proofs.lemmas.Int.{ints}
 use Rattle.std.specs.Int.RustNames.{unsigned_abs}
 use Rattle.std.specs.Option.{option_or}
@@ -13,7 +13,7 @@ use Rattle.certificate.specs.Legal.{IsLegalRun, crossed, earned}
 use Rattle.history.specs.declared.ruling.RunRule.{RunRule}
 use Rattle.map_tables.specs.declared.place.Place.{Place}
 use Rattle.operating.specs.Done.{Done, IsBounded}
-use Rattle.operating.specs.Runs.{IsCounted, ObeyedRunsAreLegal, has_run, position_now, ran_by, ran_unless, rule_of_run, rules_of_turn, run_judgement}
+use Rattle.operating.specs.Runs.{IsCounted, ObeyedRunsAreLegal, has_run, position_now, ran_by, ran_unless, rule_of_run, rules_of_turn, run_judgement, runs_most}
 use Rattle.operating.specs.declared.runs.Ran.{Ran}
 use Rattle.reach.specs.Lawful.{IsLawful}
 use Rattle.reach.specs.Position.{Position}
@@ -54,7 +54,7 @@ sum_kept money sum is small =
     ap unsigned_abs kept
 
 -- a run that breaks no rule of runs may be done
-pub run_counted : (position : Position) (company : Company) (kind : Kind) (done seen : Done) (run : List Place) (borders : List Bool) (money : ℤ) → done ≡ seen → IsBounded done.trains done.borders done.revenue → IsLawful position → RunsEarnByBorders → run_fault position company kind done.borders run ≡ None → money ≡ pos (earned position (named_steps position run)) → borders ≡ marked done.borders (crossed (named_steps position run)) → has_run seen kind ≤ℤ pos (2 ^ 100) → IsCounted seen (record { kind = kind; earned = unsigned_abs (to_z w128 (of_z w128 money)); borders = borders })
+pub run_counted : (position : Position) (company : Company) (kind : Kind) (done seen : Done) (run : List Place) (borders : List Bool) (money : ℤ) → done ≡ seen → IsBounded done.trains done.borders done.revenue → IsLawful position → RunsEarnByBorders → run_fault position company kind done.borders run ≡ None → money ≡ pos (earned position (named_steps position run)) → borders ≡ marked done.borders (crossed (named_steps position run)) → has_run seen kind ≤ℤ runs_most → IsCounted seen (record { kind = kind; earned = unsigned_abs (to_z w128 (of_z w128 money)); borders = borders })
 run_counted position company kind done seen run borders money view within lawful law unbroken earns crosses few =
     let sum : ℕ = earned position (named_steps position run) in
     let after : List Bool = marked done.borders (crossed (named_steps position run)) in
@@ -68,7 +68,7 @@ run_counted position company kind done seen run borders money view within lawful
     subst (IsCounted seen) is
     (subst (λ (d : Done). IsCounted d (made sum after)) view
     (record {
-      few = subst (λ (d : Done). has_run d kind ≤ℤ pos (2 ^ 100)) (sym view) few;
+      few = subst (λ (d : Done). has_run d kind ≤ℤ runs_most) (sym view) few;
       marks = length_marked done.borders (crossed (named_steps position run));
       bounded = bounded;
       small = small;

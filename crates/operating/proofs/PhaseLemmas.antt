@@ -1,8 +1,9 @@
 -- The game can be played on after what a phase brings: a train rusts or is discarded that is there.
-use Rattle.std.proofs.Common.{◌≡◌, ℕ, ◌+◌, ◌<◌, ◌≤◌, Bool, true, false, if◌then◌else◌, List, [], ◌∷◌, ◌++◌, Option, Some, None, ℤ, pos, negsuc, ◌≤ℤ◌, ◌-ℤ◌, ◌+ℤ◌, refl, sym, ap, subst, ◌∙◌, arith}
-use Rattle.std.proofs.lemmas.Int.{ints}
-use mir.Syntax.{w128}
+use Rattle.std.proofs.Common.{SFits, ◌≡◌, ℕ, not, ◌+◌, ◌<◌, ◌≤◌, Bool, true, false, if◌then◌else◌, List, [], ◌∷◌, ◌++◌, Option, Some, None, ℤ, pos, negsuc, ◌≤ℤ◌, ◌-ℤ◌, ◌+ℤ◌, refl, sym, ap, subst, ◌∙◌, arith, rules}
+use Rattle.std.proofs.lemmas.Int.{ints, to_z-of_z}
+use mir.Syntax.{w64, w128}
 use mir.Val.{of_z, to_z}
+use Rattle.std.specs.Int.Signed.{le_z, lt_z}
 use Rattle.std.specs.Option.{option_or}
 use Rattle.history.proofs.EventAtEnd.{trains_at_end}
 use Rattle.history.proofs.TrainActs.{discard_sound, rusting_sound}
@@ -15,6 +16,7 @@ use Rattle.operating.proofs.Fitting.{same_fits}
 use Rattle.operating.specs.Discards.{first_held, has_train, next_discard}
 use Rattle.operating.specs.Ground.{IsPlayable}
 use Rattle.operating.specs.Phases.{after_train, begins_phase, bought, excess_of, with_limits_kept, with_one_rusted, with_phase, with_privates_closed, with_rusted}
+use Rattle.operating.specs.Trains.{traded_count}
 use Rattle.operating.specs.declared.purchase.Purchase.{Purchase}
 use Rattle.tables.specs.Train.{kinds, limit_of}
 use Rattle.tables.specs.declared.rolling_stock.Kind.{Kind}
@@ -71,6 +73,28 @@ limit_small Diesel = omega arith
 -- what is over a limit fits in the bits that it is counted in
 over_kept : (size : ℤ) (limit : ℕ) → IsModerate size → limit ≤ 4 → to_z w128 (of_z w128 (to_z w128 (of_z w128 size) -ℤ to_z w128 limit)) ≡ size -ℤ pos limit
 over_kept size limit within small = omega (arith, ints)
+
+-- at least so many are not fewer
+at_least : (a b : ℤ) → le_z a b ≡ not (lt_z b a)
+at_least a b = search rules
+
+-- at most one train is traded in
+trade_small : (trade_in : Option Kind) → traded_count trade_in ≤ 1
+trade_small None = omega arith
+trade_small (Some kind) = omega arith
+
+-- so many trains less those that are traded in are at the limit, counted so
+pub at_limit : (sum size : ℤ) (trade_in : Option Kind) (phase : Kind) (traded : ℤ) (limit : ℕ) → sum ≡ size → IsModerate size → traded ≡ pos (traded_count trade_in) → limit ≡ limit_of phase → le_z (to_z w128 limit) (to_z w128 (of_z w128 (to_z w128 (of_z w128 sum) -ℤ to_z w128 (of_z w128 traded)))) ≡ not (lt_z (size -ℤ pos (traded_count trade_in)) (pos (limit_of phase)))
+at_limit sum size trade_in phase traded limit same within is_traded is_limit =
+    let few = trade_small trade_in in
+    let small = limit_small phase in
+    let left : to_z w128 (of_z w128 (to_z w128 (of_z w128 sum) -ℤ to_z w128 (of_z w128 traded))) ≡ size -ℤ pos (traded_count trade_in) = omega (arith, ints) in
+    let right : to_z w128 limit ≡ pos (limit_of phase) = omega (arith, ints) in
+    rw (left, right) (at_least (pos (limit_of phase)) (size -ℤ pos (traded_count trade_in)))
+
+-- a count of trains is the same in the bits of a sum of money
+pub counted_whole : (count sum : ℤ) → SFits w64 count → SFits w128 sum → sum ≡ to_z w64 (of_z w64 count) → to_z w128 (of_z w128 sum) ≡ count
+counted_whole count sum few fits is = to_z-of_z w128 sum fits ∙ (is ∙ to_z-of_z w64 count few)
 
 -- the trains over the limit of the phase, counted so
 pub excess_is : (game : Game) (company : Company) (size : ℤ) (phase : Kind) (limit : ℕ) → size ≡ stable_size game.events (Some company) → IsModerate size → phase ≡ phase_of game.events → limit ≡ limit_of phase → excess_of game company ≡ so_many (to_z w128 (of_z w128 (to_z w128 (of_z w128 size) -ℤ to_z w128 limit)))

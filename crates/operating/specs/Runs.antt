@@ -2,7 +2,7 @@
 -- in the turn, and a run that breaks no rule of runs, by what lies and by the borders that the runs before it have
 -- used. It then earns what its stops are worth; the train has run, its borders are used, and the turn is past its
 -- token. What all runs earn is the revenue of the turn.
-use Rattle.std.specs.Prelude.{◌≡◌, ℕ, ◌+◌, ◌*◌, ◌≤◌, ◌^◌, Bool, nat_lt, List, [], ◌∷◌, length, Option, Some, None, option_map, Result, Ok, Err, ℤ, pos, ◌+ℤ◌, ◌≤ℤ◌, slice_index_or, slice_set}
+use Rattle.std.specs.Prelude.{◌≡◌, ℕ, ◌+◌, ◌-◌, ◌*◌, ◌≤◌, ◌^◌, Bool, nat_lt, List, [], ◌∷◌, length, Option, Some, None, option_map, Result, Ok, Err, ℤ, pos, ◌+ℤ◌, ◌≤ℤ◌, slice_index_or, slice_set}
 use Rattle.std.specs.Option.{option_or}
 use lib.Signed.{le_z}
 use Rattle.board.specs.Ground.{position_of}
@@ -120,10 +120,14 @@ with_ran runs ran = record {
 abbrev pub run_done : Progress → Ran → Progress
 run_done progress ran = record progress { pointer = step.Run; runs = with_ran progress.runs ran }
 
+-- as many trains of a kind as may have run where one more is still to be counted
+abbrev pub runs_most : ℤ
+runs_most = pos (2 ^ 63 - 2)
+
 -- a train may still do this: few of its kind have run, it marks no more than the borders, and it earns at most 160
 -- dollars for each one that it uses, so that it earns little
 pub record IsCounted (runs : Runs) (ran : Ran) : Type 0 where
-  pub few : has_run runs ran.kind ≤ℤ pos (2 ^ 100)
+  pub few : has_run runs ran.kind ≤ℤ runs_most
   pub marks : length ran.borders ≡ length runs.borders
   pub bounded : ran.earned + 160 * unused ran.borders ≤ 160 * unused runs.borders
   pub small : ran.earned ≤ 44640

@@ -10,9 +10,9 @@ ghost use Rattle.tables.specs.Train.{rusting_of};
 
 use crate::discards::next_discard;
 use crate::purchase::Purchase;
-use history::{Event, History, TrainCount, TrainSeller, so_many};
+use history::{Event, History, TrainSeller, so_many};
 use std::alloc::{AllocError, Global};
-use tables::{Company, Kind, Private, limit, rusts};
+use tables::{Company, Kind, Money, Private, limit, rusts};
 
 /// A company buys a train, which nothing keeps it from, and what follows from that comes about.
 pub(crate) fn buy_train(
@@ -172,7 +172,7 @@ fn rust_stable(history: &mut History, owner: Option<Company>, kind: Kind) -> Res
     ensures after { OnOk result (history.new ≡ with_stable_rusted owner kind history.old) }
     ensures playable { OnOk result (IsPlayable history.new) }
 {
-    for _ in 0..so_many(history.trains(owner, kind)) {
+    for _ in 0..so_many(Money::from(history.trains(owner, kind))) {
         history.append(Event::Rusted { owner, kind })?;
     }
     Ok(())
@@ -227,10 +227,10 @@ fn keep_limit(alloc: Global, history: &mut History, company: Company) -> Result<
 }
 
 /// How many trains a company has over the limit of the phase; under 0 where it may have more.
-fn excess(history: &History, company: Company) -> TrainCount
+fn excess(history: &History, company: Company) -> Money
     ensures { excess_of history.now company ≡ so_many result }
 {
-    history.now().stable_size(Some(company)) - limit(history.phase()) as TrainCount
+    Money::from(history.now().stable_size(Some(company))) - limit(history.phase()) as Money
 }
 
 /// A company discards a train, if it has one.

@@ -2,7 +2,7 @@
 ghost use Rattle.std.specs.Prelude.{◌≡◌, ◌≤◌, pos};
 ghost use Rattle.operating.specs.Trains.{first_left as the_first_left, first_left_of, is_full as would_be_full, is_left as has_left, is_no_trade_in as no_trade_in, is_on_sale as on_sale, is_too_dear as too_dear, may_be_traded as may_be_given, may_trade as may_be_had_for, price_for_trade as price_with_trade, price_of_train, sells as bank_sells, sells_diesels as bank_sells_diesels, traded_count as count_of_trade, train_judgement};
 
-use history::{History, Party, Past, TrainCount, TrainRule, TrainSeller};
+use history::{History, Party, Past, TrainRule, TrainSeller};
 use tables::{Amount, Company, Kind, Money, limit, train};
 
 /// The purchase of a train that is no other company's.
@@ -121,7 +121,8 @@ fn is_left(past: &Past, kind: Kind) -> bool
 fn is_full(past: &Past, company: Company, trade_in: Option<Kind>) -> bool
     ensures { result ≡ would_be_full past.now.events.now company trade_in }
 {
-    past.stable_size(Some(company)) - traded_count(trade_in) >= limit(past.phase()) as TrainCount
+    let kept = Money::from(past.stable_size(Some(company))) - traded_count(trade_in);
+    kept >= limit(past.phase()) as Money
 }
 
 /// What a train of a kind costs a company that trades a train in: a D is cheaper then.
@@ -143,7 +144,7 @@ fn may_be_traded(kind: Kind) -> bool
 }
 
 /// How many trains are traded in.
-fn traded_count(trade_in: Option<Kind>) -> TrainCount
+fn traded_count(trade_in: Option<Kind>) -> Money
     ensures { result ≡ pos (count_of_trade trade_in) }
 {
     match trade_in {

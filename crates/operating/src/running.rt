@@ -1,9 +1,9 @@
-ghost use Rattle.std.specs.Prelude.{◌≡◌, ◌≤◌, ◌≤ℤ◌, ◌^◌, IfOk, None, OnOk, pos};
+ghost use Rattle.std.specs.Prelude.{◌≡◌, ◌≤◌, ◌≤ℤ◌, IfOk, None, OnOk, pos};
 ghost use Rattle.board.specs.Ground.{position_of};
 ghost use Rattle.history.specs.LookBack.{with_event};
 ghost use Rattle.history.specs.declared.event.Event.TheVariants as event;
 ghost use Rattle.operating.specs.Ground.{GroundFits, IsPlayable};
-ghost use Rattle.operating.specs.Runs.{IsCounted, has_run, judged_run, ran_unless_fault, rule_of_run, rules_of_turn, run_ruled};
+ghost use Rattle.operating.specs.Runs.{IsCounted, has_run, judged_run, ran_unless_fault, rule_of_run, rules_of_turn, run_ruled, runs_most};
 ghost use Rattle.operating.specs.InTurn.{in_turn};
 ghost use Rattle.tables.specs.Rules.{first_broken};
 
@@ -52,7 +52,7 @@ fn run_on(
     run: &Run,
     runs: &Runs,
 ) -> Result<Ran, RunRule>
-    requires few { has_run runs.now kind ≤ℤ pos (2 ^ 100) }
+    requires few { has_run runs.now kind ≤ℤ runs_most }
     ensures ran { result
         ≡ ran_unless_fault (position_of board.now) company kind runs.now.borders run.now }
     ensures counted { IfOk result (λ ran. IsCounted runs.now ran) }
@@ -78,7 +78,7 @@ fn rule_of_turn(
     progress: &Progress,
 ) -> Option<RunRule>
     ensures rule { result ≡ first_broken (rules_of_turn history.now company progress.now kind) }
-    ensures few { result ≡ None → has_run progress.now.runs kind ≤ℤ pos (2 ^ 100) }
+    ensures few { result ≡ None → has_run progress.now.runs kind ≤ℤ runs_most }
 {
     if progress.is_past_runs() {
         Some(RunRule::StepUsed)

@@ -14,7 +14,7 @@ use history::{Holder, Owners, Party, Past, Shareholder, Tenths, so_many};
 use order_grammar::NAME_MOST;
 use sheets::Sheets;
 use std::alloc::AllocError;
-use tables::{Company, Kind, Private, Seat, Square, price};
+use tables::{Company, Kind, Money, Private, Seat, Square, price};
 
 /// The width of the column of names.
 const NAME_WIDTH: usize = NAME_MOST;
@@ -310,7 +310,7 @@ fn push_trains_of_kind(
     push_kind(
         out,
         kind,
-        so_many(standing.past.trains(Some(company), kind)),
+        so_many(Money::from(standing.past.trains(Some(company), kind))),
     )
 }
 
