@@ -4,11 +4,11 @@
 //! aspects: the payment that it makes, the tenths that it moves, what it says of a private's owner
 //! and of the bids on it, the par value, square and president of a company that it sets, .. There
 //! are a few ways of looking back, each generic over the aspect: an account, such as a party's
-//! cash, is its start with all that came in less all that went out, and so is a count of trains; the
-//! tiles and the tokens on the map are all that was said of them, in order; nearly anything else is what the last event that
-//! speaks of it says. A list is sound where no such fact is against the rules, as
-//! `specs/Sound.antt` has it; most events leave most facts alone, and the laws say which event
-//! keeps a list sound.
+//! cash, is its start with all that came in less all that went out, and so is a count of trains;
+//! the tiles and the tokens on the map are all that was said of them, in order; nearly anything
+//! else is what the last event that speaks of it says. A list is sound where no such fact is
+//! against the rules, as `specs/Sound.antt` has it; most events leave most facts alone, and the
+//! laws say which event keeps a list sound.
 //!
 //! Reading order: `event` (events and their aspects), `ruling` and `kept_run` (what became of a
 //! line), `aspect` (the ways of looking back), `topics` (what is looked for), `look_back`,
