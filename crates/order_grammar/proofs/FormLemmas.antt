@@ -5,12 +5,13 @@ use Rattle.std.proofs.lemmas.Bool.{le-ltb, lt-ltb}
 use Rattle.std.proofs.lemmas.List.Recursion.{and_at}
 use Rattle.std.proofs.lemmas.List.{append-nil, at_drop_all, drop_more, length-map, get_or-map}
 use Rattle.order_grammar.specs.Form.{Row, forms, tail_reading, values_reading, row_reading, rows_reading, words_reading, nearness, nearer}
+use Rattle.order_grammar.specs.Keyword.{text_of_keyword}
 use Rattle.order_grammar.specs.Row.{row_of, is_short}
 use Rattle.order_grammar.specs.Token.{GivesFirst}
-use Rattle.order_grammar.specs.Words.{Placed, raised, texts_of}
+use Rattle.order_grammar.specs.Words.{Placed, raised, same_word, texts_of}
 use Rattle.order_grammar.specs.declared.class.Class.{Class}
 use Rattle.order_grammar.specs.declared.fault.Fault.{Fault}
-use Rattle.order_grammar.specs.declared.fault.Fault.TheVariants.{WrongWords, NumberTooLarge}
+use Rattle.order_grammar.specs.declared.fault.Fault.TheVariants.{UnknownWord, WrongWords, NumberTooLarge}
 use Rattle.order_grammar.specs.declared.form.Form.{Form}
 use Rattle.order_grammar.specs.declared.form.Repeated.{Repeated}
 use Rattle.order_grammar.specs.declared.order.Order.{Order}
@@ -50,6 +51,16 @@ found_stays first rest order (row ∷ rows) =
 pub nearer-found : (fault : Fault) (order : Order) → nearer (Err fault) (Ok order) ≡ Ok order
 nearer-found fault order =
     let test : ltb (nearness (Err fault)) 3 ≡ true = lt-ltb _ 3 (omega (arith, fault_nearness-le fault)) in
+    rw test refl
+
+-- by a row with another first word the words are of no form
+pub unknown-row : (row : Row) (first : List ℕ) (rest : List (List ℕ)) → same_word first (text_of_keyword row.keyword) ≡ false → ◌≡◌ {A = Result Order Fault} (Err UnknownWord) (row_reading row first rest)
+unknown-row row first rest different = rw different refl
+
+-- and that is no nearer
+pub nearer-unknown : (fault : Fault) → nearer (Err fault) (Err UnknownWord) ≡ Err fault
+nearer-unknown fault =
+    let test : ltb (nearness (Err fault)) 0 ≡ false = le-ltb _ _ (omega arith) in
     rw test refl
 
 -- one more row, and what the words are by it

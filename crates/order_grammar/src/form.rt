@@ -190,6 +190,10 @@ fn nearest_reading(forms: &[Form], first: &[u8], rest: &Words) -> Result<Order, 
 {
     let mut nearest = Fault::UnknownWord;
     for form in forms {
+        // (a reading has room for all places of a run: none is made by a form of another word)
+        if !is_word(first, form.keyword.text()) {
+            continue;
+        }
         match form.read(first, rest) {
             Ok(order) => return Ok(order),
             Err(fault) => nearest = nearer(nearest, fault),
