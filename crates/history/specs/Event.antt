@@ -243,6 +243,11 @@ is_act (order.Bid private amount) = true
 is_act (order.Sell company tenths) = true
 is_act other = false
 
+-- a ruling obeys such an order
+abbrev pub acts : Ruling → Bool
+acts (Obeyed order) = is_act order
+acts other = false
+
 -- an event says nothing of what parties have and own, or of SV's price
 pub record IsQuiet (event : Event) : Type 0 where
   pub payment : payment_of event ≡ None

@@ -1,4 +1,6 @@
 -- What a game is, by its events: each event, what a list of them says, and when that is sound.
+pub mod KeptPlace
+pub mod KeptRun
 pub mod Kept
 pub mod Event
 pub mod LookBack

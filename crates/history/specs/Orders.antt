@@ -7,6 +7,8 @@ use Rattle.history.specs.Event.{Obeyance, obeyed_of}
 use Rattle.history.specs.LookBack.{in_round, last_said, now_said}
 use Rattle.history.specs.Shares.{is_par_value}
 use Rattle.history.specs.declared.event.Event.{Event}
+use Rattle.history.specs.declared.ruling.Ruling.{Ruling}
+use Rattle.history.specs.declared.ruling.Ruling.TheVariants.{Obeyed}
 use Rattle.tables.specs.Roster.{same_company, same_private}
 use Rattle.tables.specs.declared.roster.Company.TheVariants.{BaltimoreOhio}
 use Rattle.tables.specs.declared.roster.Private.{Private}
@@ -22,6 +24,16 @@ abbrev pub par_of_baltimore_in : Order → Option ℕ
 par_of_baltimore_in (order.Par company price) =
     if same_company company BaltimoreOhio && is_par_value price then Some price else None
 par_of_baltimore_in other = None
+
+-- the same, of the order that a ruling obeys
+abbrev pub limit_obeyed : Private → Ruling → Option ℕ
+limit_obeyed private (Obeyed order) = limit_in private order
+limit_obeyed private other = None
+
+-- the same, of the order that a ruling obeys
+abbrev pub par_of_baltimore_obeyed : Ruling → Option ℕ
+par_of_baltimore_obeyed (Obeyed order) = par_of_baltimore_in order
+par_of_baltimore_obeyed other = None
 
 -- what an obeyed order says, if it is of this seat
 abbrev pub said_by : {A : Type 0} → Seat → (Order → Option A) → Option Obeyance → Option A

@@ -4,7 +4,7 @@ ghost use Rattle.history.specs.LookBack.{actor_of};
 ghost use Rattle.history.specs.declared.event.Party.TheVariants.{Bank};
 ghost use Rattle.tables.specs.Seat.{seat_at};
 
-use crate::ruling::Ruling;
+use crate::kept::KeptRuling;
 use map_tables::{Lay, Place};
 use order_grammar::ShareSource;
 use tables::{Amount, Company, Kind, Private, Round, Seat, Square, par_square};
@@ -55,7 +55,7 @@ pub enum Event {
     Ruled {
         seat: Seat,
         line: u32,
-        ruling: Ruling,
+        ruling: KeptRuling,
     },
     /// A seat's turn ends without a purchase.
     Passes(Seat),
@@ -200,7 +200,7 @@ pub enum Event {
 }
 
 // An event is small, since a game keeps each one that ever happened.
-const _: () = prove!(size_of::<Event>() <= 48);
+const _: () = prove!(size_of::<Event>() <= 24);
 
 /// Where a company buys a train that is no other company's.
 #[derive(Clone, Copy, Debug, PartialEq, Eq)]
@@ -697,11 +697,7 @@ impl Event {
     {
         match self {
             Event::Bought { seat, .. } => Some(*seat),
-            Event::Ruled {
-                seat,
-                ruling: Ruling::Obeyed(order),
-                ..
-            } if order.is_act() => Some(*seat),
+            Event::Ruled { seat, ruling, .. } if ruling.is_act() => Some(*seat),
             _ => None,
         }
     }

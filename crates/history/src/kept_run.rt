@@ -1,18 +1,72 @@
-//! A run as a ruling keeps it: in as many bytes as its places need.
-ghost use Rattle.std.specs.Prelude.{◌≡◌, IfOk};
+//! A run as a ruling keeps it, in two bytes a place: one of few places by itself, any other in a
+//! block of exactly its size.
+ghost use Rattle.std.specs.Prelude.{◌≡◌, ◌≤◌, IfOk, IfSome, length};
+ghost use Rattle.history.specs.KeptRun.{places_in};
 
+use crate::kept_place::KeptPlace;
 use arrayvec::ArrayVec;
-use map_tables::{Place, Run};
+use map_tables::Run;
 use std::alloc::{AllocError, Global};
 use std::marker::Model;
 
-/// The places of a run, in order, in a block of their exact number.
-#[derive(Debug, Drop)]
-pub(crate) struct KeptRun {
-    places: Vec<Place>,
+/// A run of two to five places.
+#[derive(Clone, Copy, Debug)]
+pub(crate) enum ShortRun {
+    Two([KeptPlace; 2]),
+    Three([KeptPlace; 3]),
+    Four([KeptPlace; 4]),
+    Five([KeptPlace; 5]),
 }
 
-impl Model for KeptRun {
+impl ShortRun {
+    /// Keeps a copy of a run; `None` where it has more than five places.
+    pub(crate) fn keep(run: &Run) -> Option<ShortRun>
+        ensures { IfSome result (λ short. places_in short ≡ run.now) }
+    {
+        match *run.as_slice() {
+            [a, b] => Some(ShortRun::Two([KeptPlace::of(a), KeptPlace::of(b)])),
+            [a, b, c] => Some(ShortRun::Three([
+                KeptPlace::of(a),
+                KeptPlace::of(b),
+                KeptPlace::of(c),
+            ])),
+            [a, b, c, d] => Some(ShortRun::Four([
+                KeptPlace::of(a),
+                KeptPlace::of(b),
+                KeptPlace::of(c),
+                KeptPlace::of(d),
+            ])),
+            [a, b, c, d, e] => Some(ShortRun::Five([
+                KeptPlace::of(a),
+                KeptPlace::of(b),
+                KeptPlace::of(c),
+                KeptPlace::of(d),
+                KeptPlace::of(e),
+            ])),
+            _ => None,
+        }
+    }
+
+    /// The run that is kept.
+    pub(crate) fn run(&self) -> Run
+        ensures { result ≡ places_in self.now }
+    {
+        match self {
+            ShortRun::Two(places) => run_of(places),
+            ShortRun::Three(places) => run_of(places),
+            ShortRun::Four(places) => run_of(places),
+            ShortRun::Five(places) => run_of(places),
+        }
+    }
+}
+
+/// The places of a run, in order, in a block of exactly their number.
+#[derive(Debug, Drop)]
+pub(crate) struct LongRun {
+    places: Vec<KeptPlace>,
+}
+
+impl Model for LongRun {
     ghost use Rattle.std.specs.Prelude.{◌≤◌, List, length};
     ghost use Rattle.map_tables.specs.declared.place.Place.{Place};
 
@@ -23,25 +77,36 @@ impl Model for KeptRun {
     ghost invariant = { λ kept. (2 ≤ length kept.places.items) × (length kept.places.items ≤ 280) };
 }
 
-impl KeptRun {
+impl LongRun {
     /// Keeps a copy of a run. An `Err` comes only where its places get no memory.
-    pub(crate) fn keep(alloc: Global, run: &Run) -> Result<KeptRun, AllocError>
+    pub(crate) fn keep(alloc: Global, run: &Run) -> Result<LongRun, AllocError>
         ensures { IfOk result (λ kept. kept ≡ run.now) }
     {
         let mut places = Vec::new(alloc);
         places.reserve_exact(run.as_slice().len())?;
-        places.extend_from_slice(run.as_slice())?;
-        Ok(KeptRun { places })
+        for place in run.as_slice() {
+            places.push(KeptPlace::of(*place))?;
+        }
+        Ok(LongRun { places })
     }
 
     /// The run that is kept.
     pub(crate) fn run(&self) -> Run
         ensures { result ≡ self.now }
     {
-        let mut places = ArrayVec::new();
-        places
-            .try_extend_from_slice(self.places.as_slice())
-            .unwrap();
-        Run::from_places(places).unwrap()
+        run_of(self.places.as_slice())
     }
+}
+
+/// The run of these places.
+fn run_of(kept: &[KeptPlace]) -> Run
+    requires least { 2 ≤ length kept.now }
+    requires most { length kept.now ≤ 280 }
+    ensures { result ≡ kept.now }
+{
+    let mut places = ArrayVec::new();
+    for place in kept {
+        places.push(place.place());
+    }
+    Run::from_places(places).unwrap()
 }

@@ -19,6 +19,8 @@
 mod aspect;
 mod bids;
 mod event;
+mod kept;
+mod kept_place;
 mod kept_run;
 mod laws;
 mod list;
@@ -36,6 +38,7 @@ pub use event::{
     Bid, Bidding, Event, Holder, Office, Ownership, ParValue, Party, Payment, Placement, SUM_MOST,
     Shareholder, TrainMove, TrainPlace, TrainSeller, Transfer,
 };
+pub use kept::{KeptOrder, KeptRuling};
 pub use laws::{
     all_money_stays, all_trains_stay, arrivals_differ, bid_keeps_sound, block_keeps_sound,
     cash_moves, dividend_keeps_sound, exchange_keeps_sound, first_is_cheapest, float_keeps_sound,
@@ -49,8 +52,7 @@ pub use list::History;
 pub use look_back::Past;
 pub use owners::Owners;
 pub use ruling::{
-    KeptOrder, LayRule, OpeningRule, PayRule, Refusal, Ruling, RunRule, StockRule, TokenRule,
-    TrainRule,
+    LayRule, OpeningRule, PayRule, Refusal, Ruling, RunRule, StockRule, TokenRule, TrainRule,
 };
 pub use shares::Tenths;
 pub use trains::so_many;

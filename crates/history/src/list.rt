@@ -9,9 +9,9 @@ ghost use Rattle.history.specs.Trains.{phase_of, trains_held, trains_sold};
 
 use crate::aspect::TrainCount;
 use crate::event::{Event, Holder, Party, SUM_MOST, Shareholder};
+use crate::kept::KeptOrder;
 use crate::look_back::Past;
 use crate::owners::Owners;
-use crate::ruling::KeptOrder;
 use crate::shares::Tenths;
 use map_tables::{Lay, Place};
 use order_grammar::Order;

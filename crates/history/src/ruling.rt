@@ -1,14 +1,7 @@
-ghost use Rattle.std.specs.Prelude.{◌≡◌, IfOk};
-ghost use Rattle.history.specs.Orders.{limit_in, par_of_baltimore_in};
-ghost use Rattle.order_grammar.specs.declared.order.Order.TheVariants as order;
-ghost use Rattle.history.specs.Event.{code_of_lay_rule, code_of_opening_rule, code_of_pay_rule, code_of_refusal, code_of_run_rule, code_of_stock_rule, code_of_token_rule, code_of_train_rule, is_act};
+ghost use Rattle.std.specs.Prelude.{◌≡◌};
+ghost use Rattle.history.specs.Event.{code_of_lay_rule, code_of_opening_rule, code_of_pay_rule, code_of_refusal, code_of_run_rule, code_of_stock_rule, code_of_token_rule, code_of_train_rule};
 
-use crate::kept_run::KeptRun;
-use map_tables::{Lay, Place};
-use order_grammar::{Fault, Order, ShareSource, TrainSource};
-use std::alloc::{AllocError, Global};
-use std::marker::Model;
-use tables::{Amount, Company, Kind, Private, par_square};
+use order_grammar::{Fault, Order};
 
 /// Which rule of play an order breaks first, by the family of the rule.
 #[derive(Clone, Copy, Debug, PartialEq, Eq)]
@@ -313,167 +306,13 @@ impl TrainRule {
     }
 }
 
-/// An order as a ruling keeps it, in few bytes; contracts see the order.
-#[derive(Debug, Drop)]
-pub struct KeptOrder {
-    kept: Kept,
-}
-
-/// The forms that are ruled in a few bytes, and any other order behind a box.
-#[derive(Debug, Drop)]
-enum Kept {
-    BuyPrivate(Private),
-    Bid { private: Private, amount: Amount },
-    Limit { private: Private, amount: Amount },
-    Par { company: Company, price: Amount },
-    BuyShare { company: Company, from: ShareSource },
-    Sell { company: Company, tenths: Amount },
-    ExchangeMohawk,
-    Lay(Lay),
-    Token(Place),
-    Run { kind: Kind, run: Box<KeptRun> },
-    Pay,
-    Withhold,
-    BuyTrain { kind: Kind, from: TrainSource },
-    Discard { company: Company, kind: Kind },
-    Boxed(Box<Order>),
-}
-
-impl Model for KeptOrder {
-    ghost use Rattle.order_grammar.specs.declared.order.Order.{Order};
-
-    ghost Value = { Order };
-
-    ghost use Rattle.history.specs.Kept.{order_in};
-
-    ghost view = { λ a. order_in a.kept };
-}
-
-impl KeptOrder {
-    /// Keeps a copy of an order. An `Err` comes only where a box gets no memory; of the orders that
-    /// are ruled, only a run needs one.
-    pub fn keep(alloc: Global, order: &Order) -> Result<KeptOrder, AllocError>
-        ensures { IfOk result (λ kept. kept ≡ order.now) }
-    {
-        let kept = match *order {
-            Order::BuyPrivate(private) => Kept::BuyPrivate(private),
-            Order::Bid { private, amount } => Kept::Bid { private, amount },
-            Order::Limit { private, amount } => Kept::Limit { private, amount },
-            Order::Par { company, price } => Kept::Par { company, price },
-            Order::BuyShare { company, from } => Kept::BuyShare { company, from },
-            Order::Sell { company, tenths } => Kept::Sell { company, tenths },
-            Order::ExchangeMohawk => Kept::ExchangeMohawk,
-            Order::Lay(lay) => Kept::Lay(lay),
-            Order::Token(place) => Kept::Token(place),
-            Order::Run { kind, ref run } => {
-                let run = Box::new(alloc, KeptRun::keep(alloc, run)?)?;
-                Kept::Run { kind, run }
-            }
-            Order::Pay => Kept::Pay,
-            Order::Withhold => Kept::Withhold,
-            Order::BuyTrain { kind, from } => Kept::BuyTrain { kind, from },
-            Order::Discard { company, kind } => Kept::Discard { company, kind },
-            ref other => Kept::Boxed(Box::new(alloc, other.duplicate())?),
-        };
-        Ok(KeptOrder { kept })
-    }
-
-    /// The order that is kept.
-    pub fn order(&self) -> Order
-        ensures { result ≡ self.now }
-    {
-        match self.kept {
-            Kept::BuyPrivate(private) => Order::BuyPrivate(private),
-            Kept::Bid { private, amount } => Order::Bid { private, amount },
-            Kept::Limit { private, amount } => Order::Limit { private, amount },
-            Kept::Par { company, price } => Order::Par { company, price },
-            Kept::BuyShare { company, from } => Order::BuyShare { company, from },
-            Kept::Sell { company, tenths } => Order::Sell { company, tenths },
-            Kept::ExchangeMohawk => Order::ExchangeMohawk,
-            Kept::Lay(lay) => Order::Lay(lay),
-            Kept::Token(place) => Order::Token(place),
-            Kept::Run { kind, ref run } => Order::Run {
-                kind,
-                run: run.run(),
-            },
-            Kept::Pay => Order::Pay,
-            Kept::Withhold => Order::Withhold,
-            Kept::BuyTrain { kind, from } => Order::BuyTrain { kind, from },
-            Kept::Discard { company, kind } => Order::Discard { company, kind },
-            Kept::Boxed(ref order) => order.duplicate(),
-        }
-    }
-
-    /// Whether it is by itself an act of a turn: the purchase of a private, a bid on one, or a sale
-    /// of tenths. The purchase of tenths shows by its event.
-    pub fn is_act(&self) -> bool
-        ensures { result ≡ is_act self.now }
-    {
-        match &self.kept {
-            Kept::BuyPrivate(_) | Kept::Bid { .. } | Kept::Sell { .. } => true,
-            Kept::Boxed(order) => {
-                matches!(
-                    **order,
-                    Order::BuyPrivate(_) | Order::Bid { .. } | Order::Sell { .. }
-                )
-            }
-            _ => false,
-        }
-    }
-
-    /// How far it says to go in an auction of a private, if it does.
-    pub(crate) fn limit_on(&self, private: Private) -> Option<Amount>
-        ensures { result ≡ limit_in private self.now }
-    {
-        match &self.kept {
-            Kept::Limit {
-                private: other,
-                amount,
-            } if *other == private => Some(*amount),
-            Kept::Boxed(order) => match &**order {
-                Order::Limit {
-                    private: other,
-                    amount,
-                } if *other == private => Some(*amount),
-                _ => None,
-            },
-            _ => None,
-        }
-    }
-
-    /// The par value that it says BO is to have, if it does.
-    pub(crate) fn par_of_baltimore(&self) -> Option<Amount>
-        ensures { result ≡ par_of_baltimore_in self.now }
-    {
-        match &self.kept {
-            Kept::Par { company, price } => par_of_baltimore(*company, *price),
-            Kept::Boxed(order) => match &**order {
-                Order::Par { company, price } => par_of_baltimore(*company, *price),
-                _ => None,
-            },
-            _ => None,
-        }
-    }
-}
-
-/// The par value that BO is to have where a company is to have this one.
-fn par_of_baltimore(company: Company, price: Amount) -> Option<Amount>
-    ensures { result ≡ par_of_baltimore_in (order.Par company price) }
-{
-    if company == Company::BaltimoreOhio && par_square(price).is_some() {
-        Some(price)
-    } else {
-        None
-    }
-}
-
 /// What became of a line that was taken up.
 #[derive(Debug, Drop)]
 pub enum Ruling {
     /// The order was carried out.
-    Obeyed(KeptOrder),
+    Obeyed(Order),
     /// The order breaks a rule of play; this is the first.
-    Refused(Refusal, KeptOrder),
+    Refused(Refusal, Order),
     /// The line has a fault by itself or has no place where it stands.
     Faulty(Fault),
 }

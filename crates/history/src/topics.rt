@@ -9,7 +9,6 @@ ghost use Rattle.history.specs.Trains.{any_comes, any_goes, train_comes, train_g
 
 use crate::aspect::{Account, Stable, Topic};
 use crate::event::{Bidding, Event, Holder, Party, Shareholder, TrainPlace};
-use crate::ruling::Ruling;
 use map_tables::{Lay, Place};
 use tables::{Amount, Company, Kind, Private, Round, Seat, Square};
 
@@ -113,11 +112,7 @@ impl Topic for LimitOn {
 
     fn word(&self, event: &Event) -> Option<Amount> {
         match event {
-            Event::Ruled {
-                seat,
-                ruling: Ruling::Obeyed(order),
-                ..
-            } if *seat == self.1 => order.limit_on(self.0),
+            Event::Ruled { seat, ruling, .. } if *seat == self.1 => ruling.limit_on(self.0),
             _ => None,
         }
     }
@@ -134,11 +129,7 @@ impl Topic for ParOrdered {
 
     fn word(&self, event: &Event) -> Option<Amount> {
         match event {
-            Event::Ruled {
-                seat,
-                ruling: Ruling::Obeyed(order),
-                ..
-            } if *seat == self.0 => order.par_of_baltimore(),
+            Event::Ruled { seat, ruling, .. } if *seat == self.0 => ruling.par_of_baltimore(),
             _ => None,
         }
     }

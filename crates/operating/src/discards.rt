@@ -140,10 +140,11 @@ fn kind_ordered(event: &Event, seat: Seat, company: Company) -> Option<Kind>
 {
     match event {
         Event::Ruled {
-            seat: by,
-            ruling: Ruling::Obeyed(order),
-            ..
-        } if *by == seat => discard_in(&order.order(), company),
+            seat: by, ruling, ..
+        } if *by == seat => match ruling.ruling() {
+            Ruling::Obeyed(order) => discard_in(&order, company),
+            _ => None,
+        },
         _ => None,
     }
 }

@@ -10,7 +10,7 @@ use crate::operator::Operator;
 use crate::progress::Progress;
 use crate::ruling::tell_ruling;
 use crate::withholding::withhold;
-use history::{Event, History, Holder, PayRule, Refusal, Ruling, Shareholder, so_many};
+use history::{Event, History, Holder, KeptRuling, PayRule, Refusal, Shareholder, so_many};
 use market::move_token_right;
 use order_grammar::Order;
 use std::alloc::AllocError;
@@ -36,11 +36,11 @@ pub(crate) fn rule_pay(
 {
     let kept = history.keep(order)?;
     if let Some(rule) = pay_rule(&progress) {
-        let refused = Ruling::Refused(Refusal::Pay(rule), kept);
+        let refused = KeptRuling::refused(Refusal::Pay(rule), kept);
         tell_ruling(history, by.president, line, refused)?;
         return Ok(progress);
     }
-    tell_ruling(history, by.president, line, Ruling::Obeyed(kept))?;
+    tell_ruling(history, by.president, line, KeptRuling::obeyed(kept))?;
     pay_out(history, by.company, progress.runs.revenue)?;
     Ok(progress.with_pay())
 }
@@ -61,11 +61,11 @@ pub(crate) fn rule_withhold(
 {
     let kept = history.keep(order)?;
     if let Some(rule) = withhold_rule(&progress) {
-        let refused = Ruling::Refused(Refusal::Pay(rule), kept);
+        let refused = KeptRuling::refused(Refusal::Pay(rule), kept);
         tell_ruling(history, by.president, line, refused)?;
         return Ok(progress);
     }
-    tell_ruling(history, by.president, line, Ruling::Obeyed(kept))?;
+    tell_ruling(history, by.president, line, KeptRuling::obeyed(kept))?;
     withhold(history, by.company, progress.runs.revenue)?;
     Ok(progress.with_pay())
 }

@@ -11,7 +11,7 @@ use crate::operator::Operator;
 use crate::progress::Progress;
 use crate::ruling::tell_ruling;
 use board::LayFault;
-use history::{Event, History, LayRule, Refusal, Ruling};
+use history::{Event, History, KeptRuling, LayRule, Refusal};
 use map_tables::Lay;
 use order_grammar::Order;
 use std::alloc::{AllocError, Global};
@@ -35,7 +35,7 @@ pub(crate) fn rule_lay(
     let order = history.keep(&Order::Lay(lay))?;
     match board.try_lay(&asker(history, by.company, progress), lay) {
         Ok(cost) => {
-            tell_ruling(history, by.president, line, Ruling::Obeyed(order))?;
+            tell_ruling(history, by.president, line, KeptRuling::obeyed(order))?;
             let company = by.company;
             let cost = amount_of(cost);
             history.append(Event::Laid { company, lay, cost })?;
@@ -43,7 +43,7 @@ pub(crate) fn rule_lay(
         }
         Err(fault) => {
             let refusal = Refusal::Lay(lay_rule(fault)?);
-            tell_ruling(history, by.president, line, Ruling::Refused(refusal, order))?;
+            tell_ruling(history, by.president, line, KeptRuling::refused(refusal, order))?;
             Ok(progress)
         }
     }

@@ -4,7 +4,7 @@ ghost use Rattle.history.specs.LookBack.{with_event};
 ghost use Rattle.history.specs.declared.event.Event.TheVariants as event;
 ghost use Rattle.operating.specs.Ground.{IsPlayable};
 
-use history::{Event, History, Ruling};
+use history::{Event, History, KeptRuling};
 use std::alloc::AllocError;
 use tables::Seat;
 
@@ -13,7 +13,7 @@ pub(crate) fn tell_ruling(
     history: &mut History,
     seat: Seat,
     line: u32,
-    ruling: Ruling,
+    ruling: KeptRuling,
 ) -> Result<(), AllocError>
     requires { IsPlayable history.old }
     ensures event { OnOk result (history.new

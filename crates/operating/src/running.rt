@@ -14,7 +14,7 @@ use crate::ruling::tell_ruling;
 use crate::runs::{Ran, Runs};
 use board::Board;
 use certificate::{RunFault, check_run, runs_earn_by_borders};
-use history::{Event, History, Refusal, Ruling, RunRule};
+use history::{Event, History, KeptRuling, Refusal, RunRule};
 use map_tables::Run;
 use order_grammar::Order;
 use reach::Network;
@@ -123,13 +123,13 @@ pub(crate) fn rule_run(
     let kept = history.keep(order)?;
     match judged {
         Ok(ran) => {
-            tell_ruling(history, by.president, line, Ruling::Obeyed(kept))?;
+            tell_ruling(history, by.president, line, KeptRuling::obeyed(kept))?;
             tell_runs(history, by.company, ran.earned)?;
             Ok(progress.with_run(ran))
         }
         Err(rule) => {
             let refusal = Refusal::Run(rule);
-            tell_ruling(history, by.president, line, Ruling::Refused(refusal, kept))?;
+            tell_ruling(history, by.president, line, KeptRuling::refused(refusal, kept))?;
             Ok(progress)
         }
     }

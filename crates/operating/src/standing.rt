@@ -7,7 +7,7 @@ ghost use Rattle.sheets.specs.Part.{line_read};
 ghost use Rattle.sheets.specs.Taken.{after_each};
 
 use crate::discards::judge_discard;
-use history::{Event, History, KeptOrder, Refusal, Ruling, TrainRule};
+use history::{Event, History, KeptOrder, KeptRuling, Refusal, TrainRule};
 use order_grammar::{Fault, Order};
 use sheets::{NumberedLine, PartsLeft, Sheets};
 use std::alloc::AllocError;
@@ -50,24 +50,24 @@ fn rule_standing(history: &mut History, seat: Seat, sheet: &mut PartsLeft) -> Re
 }
 
 /// What becomes of a standing line of a seat.
-fn ruling_of(history: &History, seat: Seat, line: &NumberedLine) -> Result<Ruling, AllocError>
+fn ruling_of(history: &History, seat: Seat, line: &NumberedLine) -> Result<KeptRuling, AllocError>
     ensures { IfOk result (λ ruling. ruling
         ≡ standing_ruling history.now.events seat (line_read line.now).reading) }
 {
     match line.order() {
         Ok(order) => ruling_of_order(history, seat, order),
-        Err(fault) => Ok(Ruling::Faulty(fault)),
+        Err(fault) => Ok(KeptRuling::faulty(fault)),
     }
 }
 
 /// What becomes of a standing order of a seat: no order has a place but DISCARD.
-fn ruling_of_order(history: &History, seat: Seat, order: &Order) -> Result<Ruling, AllocError>
+fn ruling_of_order(history: &History, seat: Seat, order: &Order) -> Result<KeptRuling, AllocError>
     ensures { IfOk result (λ ruling. ruling
         ≡ standing_order_ruling history.now.events seat order.now) }
 {
     match order {
         Order::Discard { company, kind } => ruling_of_discard(history, seat, *company, *kind),
-        _ => Ok(Ruling::Faulty(Fault::OutOfPlace)),
+        _ => Ok(KeptRuling::faulty(Fault::OutOfPlace)),
     }
 }
 
@@ -77,7 +77,7 @@ fn ruling_of_discard(
     seat: Seat,
     company: Company,
     kind: Kind,
-) -> Result<Ruling, AllocError>
+) -> Result<KeptRuling, AllocError>
     ensures { IfOk result (λ ruling. ruling
         ≡ standing_order_ruling history.now.events seat (Discard company kind)) }
 {
@@ -87,11 +87,11 @@ fn ruling_of_discard(
 }
 
 /// What becomes of an order that breaks this rule of trains first, or none.
-fn train_judged(order: KeptOrder, broken: Option<TrainRule>) -> Ruling
+fn train_judged(order: KeptOrder, broken: Option<TrainRule>) -> KeptRuling
     ensures { result ≡ ruling_by order broken }
 {
     match broken {
-        Some(rule) => Ruling::Refused(Refusal::Train(rule), order),
-        None => Ruling::Obeyed(order),
+        Some(rule) => KeptRuling::refused(Refusal::Train(rule), order),
+        None => KeptRuling::obeyed(order),
     }
 }

@@ -11,7 +11,7 @@ use crate::operator::Operator;
 use crate::progress::Progress;
 use crate::ruling::tell_ruling;
 use board::TokenFault;
-use history::{Event, History, Refusal, Ruling, TokenRule};
+use history::{Event, History, KeptRuling, Refusal, TokenRule};
 use map_tables::Place;
 use order_grammar::Order;
 use std::alloc::{AllocError, Global};
@@ -35,7 +35,7 @@ pub(crate) fn rule_token(
     let order = history.keep(&Order::Token(place))?;
     match board.try_token(&asker(history, by.company, progress), place) {
         Ok(cost) => {
-            tell_ruling(history, by.president, line, Ruling::Obeyed(order))?;
+            tell_ruling(history, by.president, line, KeptRuling::obeyed(order))?;
             let company = by.company;
             let cost = amount_of(cost);
             history.append(Event::Token {
@@ -47,7 +47,7 @@ pub(crate) fn rule_token(
         }
         Err(fault) => {
             let refusal = Refusal::Token(token_rule(fault)?);
-            tell_ruling(history, by.president, line, Ruling::Refused(refusal, order))?;
+            tell_ruling(history, by.president, line, KeptRuling::refused(refusal, order))?;
             Ok(progress)
         }
     }

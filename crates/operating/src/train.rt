@@ -8,7 +8,7 @@ use crate::phases::buy_train;
 use crate::progress::Progress;
 use crate::purchase::{Purchase, judge_purchase};
 use crate::ruling::tell_ruling;
-use history::{History, Refusal, Ruling, TrainSeller};
+use history::{History, KeptRuling, Refusal, TrainSeller};
 use order_grammar::{Order, TrainSource};
 use std::alloc::{AllocError, Global};
 use tables::Kind;
@@ -33,11 +33,11 @@ pub(crate) fn rule_train(
     let broken = judge_purchase(history, by.company, purchase);
     let kept = history.keep(&Order::BuyTrain { kind, from })?;
     if let Some(rule) = broken {
-        let refused = Ruling::Refused(Refusal::Train(rule), kept);
+        let refused = KeptRuling::refused(Refusal::Train(rule), kept);
         tell_ruling(history, by.president, line, refused)?;
         return Ok(progress);
     }
-    tell_ruling(history, by.president, line, Ruling::Obeyed(kept))?;
+    tell_ruling(history, by.president, line, KeptRuling::obeyed(kept))?;
     buy_train(alloc, history, by.company, purchase)?;
     Ok(progress)
 }

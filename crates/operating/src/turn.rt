@@ -14,7 +14,7 @@ use crate::running::{judge_run, rule_run};
 use crate::token::rule_token;
 use crate::train::rule_train;
 use crate::withholding::settle;
-use history::{History, Ruling};
+use history::{History, KeptRuling};
 use map_tables::Run;
 use order_grammar::{Fault, Order};
 use sheets::{NumberedLine, PartsLeft};
@@ -59,7 +59,7 @@ fn rule_line(
     match line.order() {
         Ok(order) => rule_order(alloc, history, by, line.number, order, progress),
         Err(fault) => {
-            tell_ruling(history, by.president, line.number, Ruling::Faulty(fault))?;
+            tell_ruling(history, by.president, line.number, KeptRuling::faulty(fault))?;
             Ok(progress)
         }
     }
@@ -95,7 +95,7 @@ fn rule_order(
         }
         _ => {
             let fault = Fault::OutOfPlace;
-            tell_ruling(history, by.president, line, Ruling::Faulty(fault))?;
+            tell_ruling(history, by.president, line, KeptRuling::faulty(fault))?;
             Ok(progress)
         }
     }

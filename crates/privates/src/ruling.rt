@@ -6,7 +6,7 @@ ghost use Rattle.privates.specs.Small.{IsSmallOrder, IsSmallRuling};
 ghost use Rattle.privates.specs.Judgement.{judged};
 ghost use Rattle.privates.specs.Underway.{IsUnderway};
 
-use history::{Event, History, OpeningRule, Refusal, Ruling};
+use history::{Event, History, KeptRuling, OpeningRule, Refusal};
 use order_grammar::Order;
 use sheets::NumberedLine;
 use std::alloc::AllocError;
@@ -17,15 +17,15 @@ pub(crate) fn ruling_of(
     history: &History,
     order: &Order,
     broken: Option<OpeningRule>,
-) -> Result<Ruling, AllocError>
+) -> Result<KeptRuling, AllocError>
     requires { IsSmallOrder order.now }
     ensures ruling { IfOk result (λ ruling. ruling ≡ judged order.now broken) }
     ensures small { IfOk result IsSmallRuling }
 {
     let kept = history.keep(order)?;
     Ok(match broken {
-        Some(rule) => Ruling::Refused(Refusal::Opening(rule), kept),
-        None => Ruling::Obeyed(kept),
+        Some(rule) => KeptRuling::refused(Refusal::Opening(rule), kept),
+        None => KeptRuling::obeyed(kept),
     })
 }
 
@@ -34,7 +34,7 @@ pub(crate) fn tell_ruling(
     history: &mut History,
     seat: Seat,
     line: &NumberedLine,
-    ruling: Ruling,
+    ruling: KeptRuling,
 ) -> Result<(), AllocError>
     requires small { IsSmallRuling ruling }
     requires underway { IsUnderway history.old }

@@ -6,7 +6,7 @@ ghost use Rattle.sheets.specs.Part.{line_read};
 ghost use Rattle.sheets.specs.Place.{placed};
 
 use crate::ruling::{ruling_of, tell_ruling};
-use history::{History, OpeningRule, Ruling};
+use history::{History, KeptRuling, OpeningRule};
 use order_grammar::{Fault, Order};
 use sheets::{NumberedLine, PartsLeft};
 use std::alloc::AllocError;
@@ -34,7 +34,7 @@ pub(crate) fn rule_standing(
 }
 
 /// What becomes of a standing line.
-fn standing_ruling(history: &History, line: &NumberedLine) -> Result<Ruling, AllocError>
+fn standing_ruling(history: &History, line: &NumberedLine) -> Result<KeptRuling, AllocError>
     requires { IsSmallReading (line_read line.now).reading }
     ensures ruling { IfOk result (λ ruling. ruling
         ≡ ruling_standing history.now.events (line_read line.now).reading) }
@@ -42,7 +42,7 @@ fn standing_ruling(history: &History, line: &NumberedLine) -> Result<Ruling, All
 {
     match standing_order(line) {
         Ok(order) => ruling_of(history, order, judge_standing(history, order)),
-        Err(fault) => Ok(Ruling::Faulty(fault)),
+        Err(fault) => Ok(KeptRuling::faulty(fault)),
     }
 }
 

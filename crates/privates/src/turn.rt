@@ -14,7 +14,7 @@ ghost use Rattle.tables.specs.Turns.{next_group};
 use crate::judgement::{judge, price_of};
 use crate::ruling::{ruling_of, tell_ruling};
 use crate::sale::{sell, settle_all};
-use history::{Event, History, Ruling};
+use history::{Event, History, KeptRuling};
 use order_grammar::{Fault, Order};
 use sheets::{NumberedLine, PartsLeft, is_of_file};
 use std::alloc::AllocError;
@@ -72,7 +72,7 @@ fn rule_line(
     match placed_order(line) {
         Ok(order) => rule_order(history, seat, line, order, turn_used),
         Err(fault) => {
-            tell_ruling(history, seat, line, Ruling::Faulty(fault))?;
+            tell_ruling(history, seat, line, KeptRuling::faulty(fault))?;
             Ok(false)
         }
     }

@@ -3,9 +3,9 @@ ghost use Rattle.report.specs.Column.{Adds};
 ghost use Rattle.report.specs.Line.{IsOfCompany, IsOfPrivate, IsOfTenths, IsOfTrains, IsOfTurn, event_line, exchange_line, field_text, lay_line, line_of_company, line_of_fields, line_of_seat, line_of_word, name_of, private_line, ruled_line, text_of_seller, text_of_square, text_of_stable};
 
 use Field::{At, Holds, In, Name, Number, OfRound, On, Source, Spelt, Tenths, Tile, Turned, Word};
-use history::{Event, Holder, KeptOrder, Ruling, TrainSeller};
+use history::{Event, Holder, KeptRuling, Ruling, TrainSeller};
 use map_tables::{Hex, Lay, Place, Rotation, TileNo};
-use order_grammar::{ShareSource, print_number, print_order, print_round};
+use order_grammar::{Order, ShareSource, print_number, print_order, print_round};
 use sheets::Sheets;
 use std::alloc::AllocError;
 use tables::{Amount, Company, Private, Round, Seat, Square, price};
@@ -38,7 +38,7 @@ pub(crate) enum Field<'a> {
     /// A round.
     OfRound(Round),
     /// The spelling of an order.
-    Spelt(&'a KeptOrder),
+    Spelt(&'a Order),
 }
 
 /// The letters of the rows of the stock market.
@@ -386,7 +386,7 @@ fn push_field(out: &mut Vec<u8>, sheets: &Sheets, field: &Field) -> Result<(), A
         Turned(rotation) => print_number(out, rotation.turns()),
         At(place) => out.extend_from_slice(place.text().as_slice()),
         OfRound(round) => print_round(out, round),
-        Spelt(order) => print_order(out, &order.order()),
+        Spelt(order) => print_order(out, order),
     }
 }
 
@@ -407,11 +407,11 @@ fn push_ruled(
     sheets: &Sheets,
     seat: Seat,
     line: u32,
-    ruling: &Ruling,
+    ruling: &KeptRuling,
 ) -> Result<(), AllocError>
     ensures { OnOk result (Adds out.old out.new (ruled_line sheets.now seat line ruling.now)) }
 {
-    match ruling {
+    match &ruling.ruling() {
         Ruling::Obeyed(order) => tell_of(
             out,
             sheets,

@@ -5,7 +5,7 @@ ghost use Rattle.history.specs.Sound.{IsSound};
 ghost use Rattle.history.specs.declared.event.Event.TheVariants as event;
 ghost use Rattle.stock_round.specs.Judgement.{judged};
 
-use history::{Event, History, Refusal, Ruling, StockRule};
+use history::{Event, History, KeptRuling, Refusal, StockRule};
 use order_grammar::Order;
 use sheets::NumberedLine;
 use std::alloc::AllocError;
@@ -16,13 +16,13 @@ pub(crate) fn ruling_of(
     history: &History,
     order: &Order,
     broken: Option<StockRule>,
-) -> Result<Ruling, AllocError>
+) -> Result<KeptRuling, AllocError>
     ensures { IfOk result (λ ruling. ruling ≡ judged order.now broken) }
 {
     let kept = history.keep(order)?;
     Ok(match broken {
-        Some(rule) => Ruling::Refused(Refusal::Stock(rule), kept),
-        None => Ruling::Obeyed(kept),
+        Some(rule) => KeptRuling::refused(Refusal::Stock(rule), kept),
+        None => KeptRuling::obeyed(kept),
     })
 }
 
@@ -31,7 +31,7 @@ pub(crate) fn tell_ruling(
     history: &mut History,
     seat: Seat,
     line: &NumberedLine,
-    ruling: Ruling,
+    ruling: KeptRuling,
 ) -> Result<(), AllocError>
     requires { IsSound history.old }
     ensures event { OnOk result (history.new

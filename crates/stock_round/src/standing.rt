@@ -3,7 +3,7 @@ ghost use Rattle.history.specs.Sound.{IsSound};
 ghost use Rattle.stock_round.specs.StockRound.{after_standing_lines};
 
 use crate::ruling::tell_ruling;
-use history::{History, Ruling};
+use history::{History, KeptRuling};
 use sheets::{PartsLeft, fault_out_of_place};
 use std::alloc::AllocError;
 use tables::Seat;
@@ -24,7 +24,7 @@ pub(crate) fn rule_standing(
 {
     while let Some(line) = sheet.take_line() {
         let fault = fault_out_of_place(&line);
-        tell_ruling(history, seat, &line, Ruling::Faulty(fault))?;
+        tell_ruling(history, seat, &line, KeptRuling::faulty(fault))?;
     }
     Ok(())
 }

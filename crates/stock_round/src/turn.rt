@@ -10,7 +10,7 @@ use crate::act::act;
 use crate::deals::Deals;
 use crate::judgement::judge;
 use crate::ruling::{ruling_of, tell_ruling};
-use history::{History, Ruling};
+use history::{History, KeptRuling};
 use order_grammar::{Fault, Order};
 use sheets::{NumberedLine, PartsLeft, is_of_file};
 use std::alloc::AllocError;
@@ -86,7 +86,7 @@ fn rule_line(
     match placed_order(line) {
         Ok(order) => rule_order(history, seat, line, order, deals),
         Err(fault) => {
-            tell_ruling(history, seat, line, Ruling::Faulty(fault))?;
+            tell_ruling(history, seat, line, KeptRuling::faulty(fault))?;
             Ok(deals)
         }
     }

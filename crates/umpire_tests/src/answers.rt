@@ -97,10 +97,10 @@ fn round_name(alloc: Global, round: Round) -> Result<String, AllocError> {
 /// Whether an event refuses a line by the rule of a code.
 fn is_refused(event: &Event, code: &str) -> bool {
     match event {
-        Event::Ruled {
-            ruling: Ruling::Refused(refusal, _),
-            ..
-        } => refusal.code() == code,
+        Event::Ruled { ruling, .. } => match ruling.ruling() {
+            Ruling::Refused(refusal, _) => refusal.code() == code,
+            _ => false,
+        },
         _ => false,
     }
 }

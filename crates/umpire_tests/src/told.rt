@@ -1,7 +1,7 @@
 //! Games told in text: events in the words of a report, a line each, and questions with answers.
 
 use crate::support::add;
-use history::{Event, History, Holder, Ruling};
+use history::{Event, History, Holder, KeptRuling};
 use order_grammar::{ShareSource, read_line};
 use std::alloc::{AllocError, Global};
 use std::process::Abort;
@@ -157,7 +157,7 @@ fn ruled(history: &History, line: &str) -> Result<Option<Event>, AllocError> {
         (Some(seat), Ok(read)) => Ok(Some(Event::Ruled {
             seat,
             line: 1,
-            ruling: Ruling::Obeyed(history.keep(&read.order)?),
+            ruling: KeptRuling::obeyed(history.keep(&read.order)?),
         })),
         _ => Ok(None),
     }
