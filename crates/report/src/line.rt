@@ -1,9 +1,10 @@
 ghost use Rattle.std.specs.Prelude.{◌≡◌, OnOk};
+ghost use Rattle.history.specs.declared.ruling.Ruling.TheVariants.{Obeyed, Refused};
 ghost use Rattle.report.specs.Column.{Adds};
 ghost use Rattle.report.specs.Line.{IsOfCompany, IsOfPrivate, IsOfTenths, IsOfTrains, IsOfTurn, event_line, exchange_line, field_text, lay_line, line_of_company, line_of_fields, line_of_seat, line_of_word, name_of, private_line, ruled_line, text_of_seller, text_of_square, text_of_stable};
 
 use Field::{At, Holds, In, Name, Number, OfRound, On, Source, Spelt, Tenths, Tile, Turned, Word};
-use history::{Event, Holder, KeptRuling, Ruling, TrainSeller};
+use history::{Event, Holder, KeptRuling, Refusal, Ruling, TrainSeller};
 use map_tables::{Hex, Lay, Place, Rotation, TileNo};
 use order_grammar::{Order, ShareSource, print_number, print_order, print_round};
 use sheets::Sheets;
@@ -411,24 +412,9 @@ fn push_ruled(
 ) -> Result<(), AllocError>
     ensures { OnOk result (Adds out.old out.new (ruled_line sheets.now seat line ruling.now)) }
 {
-    match &ruling.ruling() {
-        Ruling::Obeyed(order) => tell_of(
-            out,
-            sheets,
-            seat,
-            &[Number(line), Word("OBEYED"), Spelt(order)],
-        ),
-        Ruling::Refused(refusal, order) => tell_of(
-            out,
-            sheets,
-            seat,
-            &[
-                Number(line),
-                Word("REFUSED"),
-                Word(refusal.code()),
-                Spelt(order),
-            ],
-        ),
+    match ruling.ruling() {
+        Ruling::Obeyed(order) => push_obeyed(out, sheets, seat, line, &order),
+        Ruling::Refused(refusal, order) => push_refused(out, sheets, seat, line, refusal, &order),
         Ruling::Faulty(fault) => tell_of(
             out,
             sheets,
@@ -436,6 +422,50 @@ fn push_ruled(
             &[Number(line), Word("REFUSED"), Word(fault.code())],
         ),
     }
+}
+
+/// Adds that an order of a seat was carried out.
+fn push_obeyed(
+    out: &mut Vec<u8>,
+    sheets: &Sheets,
+    seat: Seat,
+    line: u32,
+    order: &Order,
+) -> Result<(), AllocError>
+    ensures { OnOk result (Adds out.old out.new
+        (ruled_line sheets.now seat line (Obeyed order.now))) }
+{
+    tell_of(
+        out,
+        sheets,
+        seat,
+        &[Number(line), Word("OBEYED"), Spelt(order)],
+    )
+}
+
+/// Adds that an order of a seat breaks a rule of play.
+fn push_refused(
+    out: &mut Vec<u8>,
+    sheets: &Sheets,
+    seat: Seat,
+    line: u32,
+    refusal: Refusal,
+    order: &Order,
+) -> Result<(), AllocError>
+    ensures { OnOk result (Adds out.old out.new
+        (ruled_line sheets.now seat line (Refused refusal order.now))) }
+{
+    tell_of(
+        out,
+        sheets,
+        seat,
+        &[
+            Number(line),
+            Word("REFUSED"),
+            Word(refusal.code()),
+            Spelt(order),
+        ],
+    )
 }
 
 /// Adds the name of a seat's player.
