@@ -10,10 +10,10 @@
 //! against the rules, as `specs/Sound.antt` has it; most events leave most facts alone, and the
 //! laws say which event keeps a list sound.
 //!
-//! Reading order: `event` (events and their aspects), `ruling` and `kept_run` (what became of a
-//! line), `aspect` (the ways of looking back), `topics` (what is looked for), `look_back`,
-//! `owners`, `bids`, `shares`, `operating` and `trains` (the readers of `Past`), `list`
-//! (`History`), `tell` (events that follow from the list alone), `laws`.
+//! Reading order: `event` (events and their aspects), `ruling` (what became of a line), `kept_place`,
+//! `kept_run` and `kept` (how an event keeps that), `aspect` (the ways of looking back), `topics`
+//! (what is looked for), `look_back`, `owners`, `bids`, `shares`, `operating` and `trains` (the
+//! readers of `Past`), `list` (`History`), `tell` (events that follow from the list alone), `laws`.
 #![tactic(auto)]
 
 mod aspect;

@@ -1,3 +1,4 @@
+pub mod Told
 pub mod Fitting
 pub mod Allowed
 pub mod Once

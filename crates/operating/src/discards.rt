@@ -140,7 +140,9 @@ fn kind_ordered(event: &Event, seat: Seat, company: Company) -> Option<Kind>
 {
     match event {
         Event::Ruled {
-            seat: by, ruling, ..
+            seat: by,
+            ruling,
+            ..
         } if *by == seat => match ruling.ruling() {
             Ruling::Obeyed(order) => discard_in(&order, company),
             _ => None,

@@ -43,7 +43,12 @@ pub(crate) fn rule_lay(
         }
         Err(fault) => {
             let refusal = Refusal::Lay(lay_rule(fault)?);
-            tell_ruling(history, by.president, line, KeptRuling::refused(refusal, order))?;
+            tell_ruling(
+                history,
+                by.president,
+                line,
+                KeptRuling::refused(refusal, order),
+            )?;
             Ok(progress)
         }
     }

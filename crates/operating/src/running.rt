@@ -129,7 +129,12 @@ pub(crate) fn rule_run(
         }
         Err(rule) => {
             let refusal = Refusal::Run(rule);
-            tell_ruling(history, by.president, line, KeptRuling::refused(refusal, kept))?;
+            tell_ruling(
+                history,
+                by.president,
+                line,
+                KeptRuling::refused(refusal, kept),
+            )?;
             Ok(progress)
         }
     }

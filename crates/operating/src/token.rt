@@ -47,7 +47,12 @@ pub(crate) fn rule_token(
         }
         Err(fault) => {
             let refusal = Refusal::Token(token_rule(fault)?);
-            tell_ruling(history, by.president, line, KeptRuling::refused(refusal, order))?;
+            tell_ruling(
+                history,
+                by.president,
+                line,
+                KeptRuling::refused(refusal, order),
+            )?;
             Ok(progress)
         }
     }

@@ -59,7 +59,12 @@ fn rule_line(
     match line.order() {
         Ok(order) => rule_order(alloc, history, by, line.number, order, progress),
         Err(fault) => {
-            tell_ruling(history, by.president, line.number, KeptRuling::faulty(fault))?;
+            tell_ruling(
+                history,
+                by.president,
+                line.number,
+                KeptRuling::faulty(fault),
+            )?;
             Ok(progress)
         }
     }

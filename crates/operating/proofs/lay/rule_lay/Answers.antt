@@ -2,6 +2,7 @@ use Rattle.std.proofs.Common.{Ok, Err, ap, refl, ◌∙◌}
 use Rattle.std.specs.Int.RustNames.{unsigned_abs}
 use Rattle.operating.proofs.Allowed.{amount_small, cost_kept, lay_allowed}
 use Rattle.operating.proofs.Answered.{lay_breaks, lay_by, lay_costs, lay_refused_steps, laid_playable, laid_steps}
+use Rattle.operating.proofs.Told.{told_as}
 use Rattle.operating.specs.Ground.{ground_now}
 use Rattle.operating.specs.Judgement.{asker_of}
 use Rattle.operating.specs.InTurn.{in_turn}
@@ -32,7 +33,7 @@ returns-in-Ok-clause-turn c =
     record {
       answer = Ok cost;
       answered = answered;
-      after = laid_steps c.args.by (in_turn game c.args.progress) c.args.line c.args.lay cost c.tell_ruling.new.history c.append.new.self _ c.amount_of-cost.result c.with_lay.result c.in_ok-tell_ruling-in-Ok.ensures.event c.in_ok-order.ensures c.in_ok-append-in-Ok.ensures.ok (c.amount_of-cost.ensures ∙ ap unsigned_abs may.kept) c.with_lay.ensures;
+      after = laid_steps c.args.by (in_turn game c.args.progress) c.args.line c.args.lay cost c.tell_ruling.new.history c.append.new.self _ c.amount_of-cost.result c.with_lay.result (told_as game _ c.args.by.president c.args.line c.obeyed.result _ c.in_ok-tell_ruling-in-Ok.ensures.event c.obeyed.ensures) c.in_ok-order.ensures c.in_ok-append-in-Ok.ensures.ok (c.amount_of-cost.ensures ∙ ap unsigned_abs may.kept) c.with_lay.ensures;
     }
 
 pub returns-in-Ok-clause-playable : goal.returns-in-Ok-clause-playable
@@ -51,5 +52,5 @@ returns-clause-turn c =
     record {
       answer = Err fault;
       answered = lay_by _ _ _ _ c.args.lay (Err fault) c.in_ok-board.ensures c.asker.ensures (lay_breaks fault rule c.in_ok-lay_rule-in-Err.ensures) c.in-Err.ensures.answer;
-      after = lay_refused_steps c.args.by (in_turn game c.args.progress) c.args.line c.args.lay fault rule c.tell_ruling-in-Err.new.history _ c.in_ok-tell_ruling-in-Err.ensures.event c.in_ok-order.ensures c.in_ok-lay_rule-in-Err.ensures;
+      after = lay_refused_steps c.args.by (in_turn game c.args.progress) c.args.line c.args.lay fault rule c.tell_ruling-in-Err.new.history _ (told_as game _ c.args.by.president c.args.line c.refused.result _ c.in_ok-tell_ruling-in-Err.ensures.event c.refused.ensures) c.in_ok-order.ensures c.in_ok-lay_rule-in-Err.ensures;
     }

@@ -2,6 +2,7 @@ use Rattle.std.proofs.Common.{Ok, Err, ap, refl, ◌∙◌}
 use Rattle.std.specs.Int.RustNames.{unsigned_abs}
 use Rattle.operating.proofs.Allowed.{amount_small, cost_kept, token_allowed}
 use Rattle.operating.proofs.Answered.{token_breaks, token_by, token_costs, token_refused_steps, placed_playable, placed_steps}
+use Rattle.operating.proofs.Told.{told_as}
 use Rattle.operating.specs.Ground.{ground_now}
 use Rattle.operating.specs.Judgement.{asker_of}
 use Rattle.operating.specs.InTurn.{in_turn}
@@ -32,7 +33,7 @@ returns-in-Ok-clause-turn c =
     record {
       answer = Ok cost;
       answered = answered;
-      after = placed_steps c.args.by (in_turn game c.args.progress) c.args.line c.args.place cost c.tell_ruling.new.history c.append.new.self _ c.amount_of-cost.result c.with_token.result c.in_ok-tell_ruling-in-Ok.ensures.event c.in_ok-order.ensures c.in_ok-append-in-Ok.ensures.ok (c.amount_of-cost.ensures ∙ ap unsigned_abs may.kept) c.with_token.ensures;
+      after = placed_steps c.args.by (in_turn game c.args.progress) c.args.line c.args.place cost c.tell_ruling.new.history c.append.new.self _ c.amount_of-cost.result c.with_token.result (told_as game _ c.args.by.president c.args.line c.obeyed.result _ c.in_ok-tell_ruling-in-Ok.ensures.event c.obeyed.ensures) c.in_ok-order.ensures c.in_ok-append-in-Ok.ensures.ok (c.amount_of-cost.ensures ∙ ap unsigned_abs may.kept) c.with_token.ensures;
     }
 
 pub returns-in-Ok-clause-playable : goal.returns-in-Ok-clause-playable
@@ -51,5 +52,5 @@ returns-clause-turn c =
     record {
       answer = Err fault;
       answered = token_by _ _ _ _ c.args.place (Err fault) c.in_ok-board.ensures c.asker.ensures (token_breaks fault rule c.in_ok-token_rule-in-Err.ensures) c.in-Err.ensures.answer;
-      after = token_refused_steps c.args.by (in_turn game c.args.progress) c.args.line c.args.place fault rule c.tell_ruling-in-Err.new.history _ c.in_ok-tell_ruling-in-Err.ensures.event c.in_ok-order.ensures c.in_ok-token_rule-in-Err.ensures;
+      after = token_refused_steps c.args.by (in_turn game c.args.progress) c.args.line c.args.place fault rule c.tell_ruling-in-Err.new.history _ (told_as game _ c.args.by.president c.args.line c.refused.result _ c.in_ok-tell_ruling-in-Err.ensures.event c.refused.ensures) c.in_ok-order.ensures c.in_ok-token_rule-in-Err.ensures;
     }
