@@ -445,20 +445,25 @@ impl Event {
     pub fn ownership(&self) -> Option<Ownership>
         ensures { result ≡ ownership_of self.now }
     {
-        match self {
-            Event::Sold { private, seat, .. } => Some(Ownership {
+        // Every look back over the list asks this of each event, nearly always in vain: a few
+        // comparisons cost less than the jump that a `match` makes.
+        if let Event::Sold { private, seat, .. } = self {
+            Some(Ownership {
                 private: *private,
                 owner: Some(Holder::Seat(*seat)),
-            }),
-            Event::Exchanged { .. } => Some(Ownership {
+            })
+        } else if let Event::Exchanged { .. } = self {
+            Some(Ownership {
                 private: Private::MohawkHudson,
                 owner: None,
-            }),
-            Event::Closed(private) => Some(Ownership {
+            })
+        } else if let Event::Closed(private) = self {
+            Some(Ownership {
                 private: *private,
                 owner: None,
-            }),
-            _ => None,
+            })
+        } else {
+            None
         }
     }
 
@@ -466,20 +471,22 @@ impl Event {
     pub fn bidding(&self) -> Option<Bidding>
         ensures { result ≡ bidding_of self.now }
     {
-        match self {
-            Event::Bids {
-                private,
-                seat,
-                amount,
-            } => {
-                let bid = Bid {
-                    seat: *seat,
-                    amount: *amount,
-                };
-                Some(Bidding::Made(*private, bid))
-            }
-            Event::Sold { private, .. } => Some(Bidding::Ended(*private)),
-            _ => None,
+        // (comparisons again)
+        if let Event::Bids {
+            private,
+            seat,
+            amount,
+        } = self
+        {
+            let bid = Bid {
+                seat: *seat,
+                amount: *amount,
+            };
+            Some(Bidding::Made(*private, bid))
+        } else if let Event::Sold { private, .. } = self {
+            Some(Bidding::Ended(*private))
+        } else {
+            None
         }
     }
 

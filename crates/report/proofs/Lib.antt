@@ -2,4 +2,5 @@ pub mod Arrival
 pub mod OneReport
 pub mod Seats
 pub mod Rounds
-pub mod Parts
+pub mod ByRound
+pub mod Taken

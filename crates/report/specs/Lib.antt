@@ -3,4 +3,5 @@ pub mod Column
 pub mod Line
 pub mod Statement
 pub mod Report
+pub mod Parts
 pub mod Laws

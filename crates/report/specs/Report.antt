@@ -55,10 +55,6 @@ texts_of_rounds file seats before (round ∷ rounds) =
 abbrev pub rounds_text : List ℕ → ℕ → List Event → List ℕ
 rounds_text file seats events = texts_of_rounds file seats [] (rounds_in events)
 
--- the same, of a game that was played
-abbrev pub rounds_text_of : Played → List ℕ
-rounds_text_of played = rounds_text played.file played.game.seats played.game.events
-
 -- the text of the round whose events stand at these places of a game
 abbrev pub text_between : Played → ℕ → ℕ → List ℕ
 text_between played begun end =

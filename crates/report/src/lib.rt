@@ -2,19 +2,22 @@
 //! the header, the lines of each round's events and the statement after them, the lines that are
 //! in no sheet, and why play stopped.
 //!
-//! `refusal_text` and `report` write it, and `round_text` one round of it: byte for byte the text
-//! that `specs/Report` defines, or the error that memory is refused. Each file has a report and no
-//! second.
+//! `refusal_text` and `report` write it, `Parts` gives it part by part, and `round_text` writes one
+//! round of it: byte for byte the text that `specs/Report` defines, or the error that memory is
+//! refused. Each file has a report and no second.
 //!
 //! Reading order: `column` (numbers and names in columns), `line` (an event as a line), `statement`
-//! (what each player and the bank hold), `text` (`refusal_text`, `round_text`, `report`), `laws`.
+//! (what each player and the bank hold), `text` (`refusal_text`, `round_text`), `parts` (`Parts`,
+//! `report`), `laws`.
 #![tactic(auto)]
 
 mod column;
 mod laws;
 mod line;
+mod parts;
 mod statement;
 mod text;
 
 pub use laws::{arrival_changes_no_report, one_report, report_is_its_parts, some_report};
-pub use text::{refusal_text, report, round_text};
+pub use parts::{Parts, report};
+pub use text::{refusal_text, round_text};

@@ -1,7 +1,6 @@
 ghost use Rattle.std.specs.Prelude.{◌≡◌, ◌≤◌, IfOk, OnOk, length};
 ghost use Rattle.report.specs.Column.{Adds};
-ghost use Rattle.report.specs.Report.{IsLengthOfRound, awaiting_text, end_text, ends_round as ends_a_round, header, is_round as is_the_round, name_owing, refusal_line, report_of, round_text_of, rounds_text_of, text_between, unread_lines};
-ghost use Rattle.sheets.specs.File.{unread_of};
+ghost use Rattle.report.specs.Report.{IsLengthOfRound, awaiting_text, end_text, ends_round as ends_a_round, header, is_round as is_the_round, name_owing, refusal_line, round_text_of, text_between, unread_lines};
 
 use crate::line::{push_event, push_name};
 use crate::statement::push_statement;
@@ -46,20 +45,8 @@ pub fn round_text(alloc: Global, game: &Game, round: Round) -> Result<Vec<u8>, A
     Ok(out)
 }
 
-/// The whole report of a game, or an error where memory is refused.
-pub fn report(alloc: Global, game: &Game) -> Result<Vec<u8>, AllocError>
-    ensures { IfOk result (λ text. text.items ≡ report_of game.now) }
-{
-    let mut out = Vec::new(alloc);
-    push_header(&mut out, game.sheets())?;
-    push_rounds(&mut out, game)?;
-    push_unread(&mut out, game.sheets().unread())?;
-    push_end(&mut out, game)?;
-    Ok(out)
-}
-
 #[tactic(auto, unfolding(crate::specs::Report::header))]
-fn push_header(out: &mut Vec<u8>, sheets: &Sheets) -> Result<(), AllocError>
+pub(crate) fn push_header(out: &mut Vec<u8>, sheets: &Sheets) -> Result<(), AllocError>
     ensures { OnOk result (Adds out.old out.new (header sheets.now)) }
 {
     out.extend_from_slice(HEAD)?;
@@ -71,24 +58,14 @@ fn push_header(out: &mut Vec<u8>, sheets: &Sheets) -> Result<(), AllocError>
     Ok(())
 }
 
-/// Adds the text of each round.
-fn push_rounds(out: &mut Vec<u8>, game: &Game) -> Result<(), AllocError>
-    ensures { OnOk result (Adds out.old out.new (rounds_text_of game.now)) }
-{
-    let history = game.history();
-    let events = history.events();
-    let mut begun = 0;
-    while begun < events.len() {
-        let end = begun + length_of_round(&events[begun..]);
-        push_round(out, game, begun, end)?;
-        begun = end;
-    }
-    Ok(())
-}
-
 /// Adds the text of the round whose events stand from `begun` up to `end`: their lines, and the
 /// statement after them.
-fn push_round(out: &mut Vec<u8>, game: &Game, begun: usize, end: usize) -> Result<(), AllocError>
+pub(crate) fn push_round(
+    out: &mut Vec<u8>,
+    game: &Game,
+    begun: usize,
+    end: usize,
+) -> Result<(), AllocError>
     requires ordered { begun ≤ end }
     requires within { end ≤ length game.now.game.events }
     ensures { OnOk result (Adds out.old out.new (text_between game.now begun end)) }
@@ -106,7 +83,7 @@ fn push_round(out: &mut Vec<u8>, game: &Game, begun: usize, end: usize) -> Resul
 }
 
 /// How many events the first of these rounds has.
-fn length_of_round(events: &[Event]) -> usize
+pub(crate) fn length_of_round(events: &[Event]) -> usize
     requires { 1 ≤ length events.now }
     ensures some { 1 ≤ result }
     ensures within { result ≤ length events.now }
@@ -136,7 +113,7 @@ fn ends_round(later: &[Event]) -> bool
     later.first().is_none_or(|event| event.round().is_some())
 }
 
-fn push_unread(out: &mut Vec<u8>, unread: &[Fault]) -> Result<(), AllocError>
+pub(crate) fn push_unread(out: &mut Vec<u8>, unread: &[Fault]) -> Result<(), AllocError>
     ensures { OnOk result (Adds out.old out.new (unread_lines 0 unread.now)) }
 {
     for (i, fault) in unread.iter().enumerate() {
@@ -149,7 +126,7 @@ fn push_unread(out: &mut Vec<u8>, unread: &[Fault]) -> Result<(), AllocError>
     Ok(())
 }
 
-fn push_end(out: &mut Vec<u8>, game: &Game) -> Result<(), AllocError>
+pub(crate) fn push_end(out: &mut Vec<u8>, game: &Game) -> Result<(), AllocError>
     ensures { OnOk result (Adds out.old out.new (end_text game.now.file game.now.end)) }
 {
     let End::Awaiting(round) = game.outcome();

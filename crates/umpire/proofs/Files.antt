@@ -1,18 +1,17 @@
 -- What was read of a file says what the whole file says.
-use Rattle.std.proofs.Common.{◌≡◌, ℕ, ◌<◌, ◌≤◌, ◌⊎◌, inl, inr, Bool, true, false, List, length, refl, sym, subst, arith, ◌∙◌}
+use Rattle.std.proofs.Common.{◌≡◌, ℕ, ◌<◌, ◌≤◌, ◌⊎◌, inl, inr, Bool, true, false, List, [], length, ap, refl, sym, subst, arith, ◌∙◌}
 use Rattle.std.specs.Prelude.{Option, Some, None, Result, Ok, Err, IfSome, IsOk}
-use Rattle.std.specs.Io.KnownBytes.{Appends}
-use Rattle.std.specs.Result.{result_err}
+use Rattle.std.proofs.KnownBytes.{Appends-nil, Keeps-refl}
 use Rattle.std.proofs.lemmas.List.{take_all, length-take-le}
-use Rattle.report.specs.Report.{IsReport, IsReportOf, refusal_line}
+use Rattle.report.specs.Report.{IsReport, IsReportOf}
 use Rattle.sheets.proofs.ContentLemmas.{too_long}
 use Rattle.sheets.specs.File.{Content, IsAccepted, content_of}
 use Rattle.sheets.specs.declared.fault.FileFault.{FileFault}
 use Rattle.sheets.specs.declared.fault.FileFault.TheVariants.{TooLong}
 use Rattle.umpire.specs.Failure.{AppendsFront}
-use Rattle.umpire.specs.Run.{IsReported, IsRefused, IsCutShort, IsFileOf, Stops, as_read}
+use Rattle.umpire.specs.Run.{IsReported, IsRefused, IsCutShort, IsFileOf, IsReadFault, IsWriteFault, Stops, as_read}
 use Rattle.umpire.specs.declared.fault.Fault.{Fault}
-use Rattle.umpire.specs.declared.fault.Fault.TheVariants.{Write}
+use Rattle.umpire.specs.declared.fault.Fault.TheVariants.{Read, Write, Memory, File}
 
 -- all of a file was read, or it is too long and so is what was read of it
 read_or_long : (bytes file : List ℕ) → file ≡ as_read bytes → (length bytes ≤ 4194304) ⊎ (4194304 < length bytes) → (bytes ≡ file) ⊎ ((content_of bytes ≡ Err TooLong) × (content_of file ≡ Err TooLong))
@@ -40,16 +39,6 @@ pub says : (given : Option (List ℕ)) (file : List ℕ) → IfSome given (λ by
 says None file read = record { whole = file; is_whole = tt; content = refl; accepted = λ accepted. refl }
 says (Some bytes) file read = says_by bytes file (read_or_long bytes file read (grind arith))
 
--- a file without a fault is accepted
-accepted_by : (content : Result Content FileFault) → result_err content ≡ None → IsOk content
-accepted_by (Ok content) none = refl
-accepted_by (Err fault) none = absurd cc
-
--- a file with a fault is refused
-refused_by : (content : Result Content FileFault) (fault : FileFault) → result_err content ≡ Some fault → content ≡ Err fault
-refused_by (Ok content) fault some = absurd cc
-refused_by (Err other) fault some = cc
-
 -- the report of what was read is that of the whole file
 report_of_whole : (whole file text : List ℕ) (content : Result Content FileFault) → content_of file ≡ content → content_of whole ≡ content_of file → (IsAccepted file → whole ≡ file) → IsReport file text → IsReport whole text
 report_of_whole whole file text (Ok content) is same accepted report =
@@ -58,48 +47,77 @@ report_of_whole whole file text (Err fault) is same accepted report =
     subst (λ (r : Result Content FileFault). IsReportOf whole r text) (sym (same ∙ is))
     (subst (λ (r : Result Content FileFault). IsReportOf file r text) is report)
 
+-- the report of the file that was read is that of the whole file
+report_of_read : (given : Option (List ℕ)) (file known text : List ℕ) (says_all : Says given file) → known ≡ file → IsReport known text → IsReport says_all.whole text
+report_of_read given file known text says_all is report =
+    report_of_whole says_all.whole file text (content_of file) refl says_all.content says_all.accepted
+    (subst (λ (other : List ℕ). IsReport other text) is report)
+
 -- a report that was written whole
-pub reported : (given old new : Option (List ℕ)) (file text : List ℕ) (fault : Option FileFault) → IfSome given (λ bytes. file ≡ as_read bytes) → fault ≡ result_err (content_of file) → fault ≡ None → IsReport file text → Appends old new text → IsReported given old new
-reported given old new file text fault read is none report written =
+pub reported : (given old new : Option (List ℕ)) (file : List ℕ) → IfSome given (λ bytes. file ≡ as_read bytes) → IsReported (Some file) old new → IsReported given old new
+reported given old new file read known =
     let says_all : Says given file = says given file read in
-    let accepted : IsAccepted file = accepted_by (content_of file) (sym is ∙ none) in
+    let accepted : IsAccepted file = subst (λ (other : List ℕ). IsAccepted other) known.whole known.accepted in
     record {
       file = says_all.whole;
-      text = text;
+      text = known.text;
       whole = says_all.is_whole;
       accepted = subst (λ (other : List ℕ). IsAccepted other) (sym (says_all.accepted accepted)) accepted;
-      report = report_of_whole says_all.whole file text (content_of file) refl says_all.content says_all.accepted report;
-      written = written;
+      report = report_of_read given file known.file known.text says_all known.whole known.report;
+      written = known.written;
     }
 
--- the line of a refused file
-refusal_by : (file text : List ℕ) (fault : FileFault) → content_of file ≡ Err fault → IsReport file text → text ≡ refusal_line fault
-refusal_by file text fault is report = subst (λ (r : Result Content FileFault). IsReportOf file r text) is report
-
 -- a refusal that was written whole
-pub refused : (given old new : Option (List ℕ)) (file text : List ℕ) (told : Option FileFault) (fault : FileFault) → IfSome given (λ bytes. file ≡ as_read bytes) → told ≡ result_err (content_of file) → told ≡ Some fault → IsReport file text → Appends old new text → IsRefused given old new fault
-refused given old new file text told fault read is some report written =
+refused : (given old new : Option (List ℕ)) (file : List ℕ) (fault : FileFault) → IfSome given (λ bytes. file ≡ as_read bytes) → IsRefused (Some file) old new fault → IsRefused given old new fault
+refused given old new file fault read known =
     let says_all : Says given file = says given file read in
-    let refused_file : content_of file ≡ Err fault = refused_by (content_of file) fault (sym is ∙ some) in
     record {
       file = says_all.whole;
       whole = says_all.is_whole;
-      refused = says_all.content ∙ refused_file;
-      written = subst (λ (other : List ℕ). Appends old new other) (refusal_by file text fault refused_file report) written;
+      refused = says_all.content ∙ ap content_of (sym known.whole) ∙ known.refused;
+      written = known.written;
     }
 
 -- a report of which a front was written
-pub cut_short : (given old new : Option (List ℕ)) (file text : List ℕ) → IfSome given (λ bytes. file ≡ as_read bytes) → IsReport file text → AppendsFront old new text → IsCutShort given old new
-cut_short given old new file text read report front =
+cut_short : (given old new : Option (List ℕ)) (file : List ℕ) → IfSome given (λ bytes. file ≡ as_read bytes) → IsCutShort (Some file) old new → IsCutShort given old new
+cut_short given old new file read known =
     let says_all : Says given file = says given file read in
     record {
       file = says_all.whole;
-      text = text;
+      text = known.text;
       whole = says_all.is_whole;
-      report = report_of_whole says_all.whole file text (content_of file) refl says_all.content says_all.accepted report;
-      front = front;
+      report = report_of_read given file known.file known.text says_all known.whole known.report;
+      front = known.front;
     }
 
--- what a failed write leaves
-pub stops : (given old new : Option (List ℕ)) (read_failed write_failed : Bool) (fault : Fault) → fault ≡ Write → read_failed ≡ false → write_failed ≡ true → IsCutShort given old new → Stops given old new read_failed write_failed fault
-stops given old new read_failed write_failed fault is read failed cut = rw is (read, failed, cut)
+-- what a fault leaves where this was read
+pub stops : (given old new : Option (List ℕ)) (file : List ℕ) (read_failed write_failed : Bool) (fault : Fault) → IfSome given (λ bytes. file ≡ as_read bytes) → read_failed ≡ false → Stops (Some file) old new false write_failed fault → Stops given old new read_failed write_failed fault
+stops given old new file read_failed write_failed Read read unfailed known = absurd cc
+stops given old new file read_failed write_failed Write read unfailed known = (unfailed, known.1, cut_short given old new file read known.2)
+stops given old new file read_failed write_failed Memory read unfailed known = (unfailed, known.1, cut_short given old new file read known.2)
+stops given old new file read_failed write_failed (File fault) read unfailed known = (unfailed, known.1, refused given old new file fault read known.2)
+
+-- nothing of a report is a front of it
+front_of_none : (given old : Option (List ℕ)) (file : List ℕ) → IsFileOf given file → (text : List ℕ) × IsReport file text → IsCutShort given old old
+front_of_none given old file whole some =
+    let none : AppendsFront old old some.0 = record { count = 0; within = omega arith; appended = Appends-nil old } in
+    record { file = file; text = some.0; whole = whole; report = some.1; front = none }
+
+-- where nothing is written yet, that is a front of the report, since each file has one
+pub nothing_written : ((file : List ℕ) → (text : List ℕ) × IsReport file text) → (given old : Option (List ℕ)) → IsCutShort given old old
+nothing_written some None old = front_of_none None old [] tt (some [])
+nothing_written some (Some bytes) old = front_of_none (Some bytes) old bytes refl (some bytes)
+
+-- what reading leaves where it stops early
+pub read_stops : ((file : List ℕ) → (text : List ℕ) × IsReport file text) → (given old : Option (List ℕ)) (read_failed write_failed : Bool) (fault : Fault) → IsReadFault read_failed fault → write_failed ≡ false → Stops given old old read_failed write_failed fault
+read_stops some given old read_failed write_failed Read is unfailed = (is, unfailed, Keeps-refl old)
+read_stops some given old read_failed write_failed Memory is unfailed = (is, unfailed, nothing_written some given old)
+read_stops some given old read_failed write_failed Write is unfailed = absurd is
+read_stops some given old read_failed write_failed (File fault) is unfailed = absurd is
+
+-- what writing leaves where it stops early
+pub write_stops : (given old new : Option (List ℕ)) (read_failed write_failed : Bool) (fault : Fault) → IsWriteFault write_failed fault → read_failed ≡ false → IsCutShort given old new → Stops given old new read_failed write_failed fault
+write_stops given old new read_failed write_failed Read is unfailed cut = absurd is
+write_stops given old new read_failed write_failed Write is unfailed cut = (unfailed, is, cut)
+write_stops given old new read_failed write_failed Memory is unfailed cut = (unfailed, is, cut)
+write_stops given old new read_failed write_failed (File fault) is unfailed cut = absurd is

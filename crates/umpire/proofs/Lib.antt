@@ -1,2 +1,4 @@
 pub mod Known
+pub mod Parts
 pub mod Files
+pub mod Reports

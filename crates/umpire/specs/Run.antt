@@ -23,6 +23,13 @@ IsReadFault failed Memory = failed ≡ false
 IsReadFault failed Write = ⊥
 IsReadFault failed (File fault) = ⊥
 
+-- why writing stopped early: a call failed or took nothing, or memory ran out
+abbrev pub IsWriteFault : Bool → Fault → Type 0
+IsWriteFault failed Write = failed ≡ true
+IsWriteFault failed Memory = failed ≡ false
+IsWriteFault failed Read = ⊥
+IsWriteFault failed (File fault) = ⊥
+
 -- the file is all the bytes that the reader gives, where they are known
 abbrev pub IsFileOf : Option (List ℕ) → List ℕ → Type 0
 IsFileOf given file = IfSome given (λ bytes. file ≡ bytes)
@@ -43,7 +50,7 @@ pub record IsRefused (given old new : Option (List ℕ)) (fault : FileFault) : T
   pub refused : content_of file ≡ Err fault
   pub written : Appends old new (refusal_line fault)
 
--- a front of the file's report follows what the writer held
+-- a front of the file's report, or nothing, follows what the writer held
 pub record IsCutShort (given old new : Option (List ℕ)) : Type 0 where
   pub file : List ℕ
   pub text : List ℕ
@@ -55,5 +62,5 @@ pub record IsCutShort (given old new : Option (List ℕ)) : Type 0 where
 abbrev pub Stops : Option (List ℕ) → Option (List ℕ) → Option (List ℕ) → Bool → Bool → Fault → Type 0
 Stops given old new read_failed write_failed Read = (read_failed ≡ true) × (write_failed ≡ false) × Keeps old new
 Stops given old new read_failed write_failed Write = (read_failed ≡ false) × (write_failed ≡ true) × IsCutShort given old new
-Stops given old new read_failed write_failed Memory = (read_failed ≡ false) × (write_failed ≡ false) × Keeps old new
+Stops given old new read_failed write_failed Memory = (read_failed ≡ false) × (write_failed ≡ false) × IsCutShort given old new
 Stops given old new read_failed write_failed (File fault) = (read_failed ≡ false) × (write_failed ≡ false) × IsRefused given old new fault

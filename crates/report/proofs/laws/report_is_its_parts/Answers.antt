@@ -1,4 +1,4 @@
-use Rattle.report.proofs.Parts.{parts_of_report}
+use Rattle.report.proofs.ByRound.{parts_of_report}
 use Rattle.report.proofs.laws.report_is_its_parts.Goals as goal
 
 pub returns : goal.returns

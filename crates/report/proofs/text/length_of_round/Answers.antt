@@ -1,4 +1,4 @@
-use Rattle.std.proofs.Common.{◌≡◌, ◌≤◌, length, false, drop, arith}
+use Rattle.std.proofs.Common.{◌≡◌, false, drop, arith}
 use Rattle.std.proofs.lemmas.Grind.{common_steps}
 use Rattle.report.specs.Report.{ends_round}
 use Rattle.report.proofs.Rounds.{first_of_some, one_more}
