@@ -1,9 +1,11 @@
 -- A text that is written part by part.
-use Rattle.std.proofs.Common.{◌≡◌, ℕ, ◌+◌, ◌≤◌, List, [], ◌++◌, length, take, drop, ap, append_assoc, append-nil, take-append-drop, refl, sym, subst, ◌∙◌, arith}
-use Rattle.std.specs.Prelude.{Option}
+use Rattle.std.proofs.Common.{◌≡◌, ℕ, ◌≤◌, List, [], ◌++◌, length, take, drop, ap, append_assoc, append-nil, take-append-drop, sym, subst, ◌∙◌, arith}
+use Rattle.std.specs.Global.{Global}
+use Rattle.std.specs.Prelude.{Option, Some, Vec}
 use Rattle.std.specs.Io.KnownBytes.{Appends}
 use Rattle.std.proofs.KnownBytes.{Appends-nil, Appends-trans}
 use Rattle.std.proofs.lemmas.Grind.{common_steps}
+use Rattle.report.specs.Parts.{TakesFront, TakesPart}
 use Rattle.umpire.specs.Failure.{AppendsFront}
 
 -- so much of a text was written that this is left of it
@@ -44,3 +46,9 @@ front_of_part old mid new text before part rest left is front =
     let later : List ℕ = drop front.count part ++ rest in
     let parted : before ≡ taken ++ later = is ∙ ap (λ l. l ++ rest) (sym (take-append-drop front.count part)) ∙ append_assoc taken (drop front.count part) rest in
     front_of_text old new text later (leaves_less old mid new text before taken later left parted front.appended)
+
+-- a part that was taken was the front of what was left
+pub part_taken : (text : List ℕ) (next : Option (Vec ℕ Global)) (part : Vec ℕ Global) (rest : List ℕ) → TakesPart text next rest → next ≡ Some part → text ≡ part.items ++ rest
+part_taken text next part rest taken is =
+    let front : TakesFront text part.items rest = subst (λ (one : Option (Vec ℕ Global)). TakesPart text one rest) is taken in
+    front.whole

@@ -1,11 +1,12 @@
 -- The report of the game of an accepted file is the file's report, and what is left where its writing stops.
 use Rattle.std.proofs.Common.{◌≡◌, ℕ, Bool, false, List, refl, subst}
-use Rattle.std.specs.Prelude.{Option, Some, Result, Ok, Err, IsOk, IfErr, OnErr, OnOk}
+use Rattle.std.specs.Prelude.{Option, Some, Result, Ok, Err, IsOk, IfErr, OnErr}
 use Rattle.std.specs.Io.KnownBytes.{Appends}
 use Rattle.report.specs.Report.{IsGameReport, IsReport, IsReportOf, refusal_line, report_of}
 use Rattle.rounds.specs.Play.{IsTheGame, Played, Plays}
-use Rattle.sheets.specs.File.{Content, IsAccepted, content_of}
+use Rattle.sheets.specs.File.{Content, Fails, IsAccepted, content_of}
 use Rattle.sheets.specs.declared.fault.FileFault.{FileFault}
+use Rattle.sheets.specs.declared.fault.FileFault.TheVariants.{Header, Players, TooLong, TooManySheets, Memory}
 use Rattle.umpire.specs.Failure.{AppendsFront}
 use Rattle.umpire.specs.Run.{IsCutShort, IsReported, IsWriteFault, Stops}
 use Rattle.umpire.specs.declared.fault.Fault.{Fault}
@@ -50,3 +51,16 @@ pub game_stops : {T : Type 0} (result : Result T Fault) (old new : Option (List 
 game_stops (Ok done) old new file text failed report fault front = tt
 game_stops (Err error) old new file text failed report fault front =
     write_stops (Some file) old new false failed error fault refl (front_reported old new file text report front)
+
+-- a fault that is not want of memory is why the file is refused
+pub refused_by : (fault : FileFault) (content : Result Content FileFault) → Fails fault content → (fault ≡ Memory → ⊥) → content ≡ Err fault
+refused_by Header content fails other = fails
+refused_by Players content fails other = fails
+refused_by TooLong content fails other = fails
+refused_by TooManySheets content fails other = fails
+refused_by Memory content fails other = absurd (other refl)
+
+-- P where there is an error
+pub on_err : {T E P : Type 0} (result : Result T E) → P → OnErr result P
+on_err (Ok value) holds = tt
+on_err (Err error) holds = holds

@@ -1,7 +1,8 @@
-//! The umpire: bytes of an order file in, bytes of its report out.
+//! The umpire: bytes of an order file in, bytes of its report out. The report is written part by
+//! part, so that memory never holds the text of more than one round.
 //!
 //! Reading order: `watched` (readers and writers that remember a failure), `fault`, `input`,
-//! `output`, `program` (`run`).
+//! `output` (a text), `program` (the report, and `run`).
 #![tactic(auto)]
 
 mod fault;
