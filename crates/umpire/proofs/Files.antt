@@ -9,7 +9,7 @@ use Rattle.sheets.specs.File.{Content, IsAccepted, content_of}
 use Rattle.sheets.specs.declared.fault.FileFault.{FileFault}
 use Rattle.sheets.specs.declared.fault.FileFault.TheVariants.{TooLong}
 use Rattle.umpire.specs.Failure.{AppendsFront}
-use Rattle.umpire.specs.Run.{IsReported, IsRefused, IsCutShort, IsFileOf, IsReadFault, IsWriteFault, Stops, as_read}
+use Rattle.umpire.specs.Run.{IsReported, IsRefused, IsCutShort, IsFileOf, IsReadFault, Stops, as_read}
 use Rattle.umpire.specs.declared.fault.Fault.{Fault}
 use Rattle.umpire.specs.declared.fault.Fault.TheVariants.{Read, Write, Memory, File}
 
@@ -114,10 +114,3 @@ read_stops some given old read_failed write_failed Read is unfailed = (is, unfai
 read_stops some given old read_failed write_failed Memory is unfailed = (is, unfailed, nothing_written some given old)
 read_stops some given old read_failed write_failed Write is unfailed = absurd is
 read_stops some given old read_failed write_failed (File fault) is unfailed = absurd is
-
--- what writing leaves where it stops early
-pub write_stops : (given old new : Option (List ℕ)) (read_failed write_failed : Bool) (fault : Fault) → IsWriteFault write_failed fault → read_failed ≡ false → IsCutShort given old new → Stops given old new read_failed write_failed fault
-write_stops given old new read_failed write_failed Read is unfailed cut = absurd is
-write_stops given old new read_failed write_failed Write is unfailed cut = (unfailed, is, cut)
-write_stops given old new read_failed write_failed Memory is unfailed cut = (unfailed, is, cut)
-write_stops given old new read_failed write_failed (File fault) is unfailed cut = absurd is

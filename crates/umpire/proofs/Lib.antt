@@ -1,4 +1,3 @@
 pub mod Known
 pub mod Parts
 pub mod Files
-pub mod Reports

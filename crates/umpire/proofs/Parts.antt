@@ -1,9 +1,9 @@
 -- A text that is written part by part.
-use Rattle.std.proofs.Common.{◌≡◌, ℕ, ◌≤◌, List, [], ◌++◌, length, take, drop, ap, append_assoc, append-nil, take-append-drop, sym, subst, ◌∙◌, arith}
+use Rattle.std.proofs.Common.{◌≡◌, ℕ, ◌≤◌, List, ◌++◌, length, take, drop, ap, append_assoc, take-append-drop, sym, subst, ◌∙◌, arith}
 use Rattle.std.specs.Global.{Global}
-use Rattle.std.specs.Prelude.{Option, Some, Vec}
+use Rattle.std.specs.Prelude.{Option, Some, Vec, Result, Ok, Err, OnErr}
 use Rattle.std.specs.Io.KnownBytes.{Appends}
-use Rattle.std.proofs.KnownBytes.{Appends-nil, Appends-trans}
+use Rattle.std.proofs.KnownBytes.{Appends-trans}
 use Rattle.std.proofs.lemmas.Grind.{common_steps}
 use Rattle.report.specs.Parts.{TakesFront, TakesPart}
 use Rattle.umpire.specs.Failure.{AppendsFront}
@@ -14,10 +14,6 @@ pub record LeavesRest (old new : Option (List ℕ)) (text rest : List ℕ) : Typ
   pub whole : done ++ rest ≡ text
   pub appended : Appends old new done
 
--- before the first part all of it is left
-pub leaves_all : (old : Option (List ℕ)) (text rest : List ℕ) → rest ≡ text → LeavesRest old old text rest
-leaves_all old text rest is = record { done = []; whole = is; appended = Appends-nil old }
-
 -- a part of what was left is written
 pub leaves_less : (old mid new : Option (List ℕ)) (text before part rest : List ℕ) → LeavesRest old mid text before → before ≡ part ++ rest → Appends mid new part → LeavesRest old new text rest
 leaves_less old mid new text before part rest left is written =
@@ -26,11 +22,6 @@ leaves_less old mid new text before part rest left is written =
       whole = append_assoc left.done part rest ∙ ap (λ l. left.done ++ l) (sym is) ∙ left.whole;
       appended = Appends-trans old mid new left.done part left.appended written;
     }
-
--- where nothing is left the text is written whole
-pub leaves_none : (old new : Option (List ℕ)) (text rest : List ℕ) → LeavesRest old new text rest → rest ≡ [] → Appends old new text
-leaves_none old new text rest left none =
-    subst (Appends old new) (sym (append-nil left.done) ∙ ap (λ l. left.done ++ l) (sym none) ∙ left.whole) left.appended
 
 -- what was written of a text is a front of it
 pub front_of_text : (old new : Option (List ℕ)) (text rest : List ℕ) → LeavesRest old new text rest → AppendsFront old new text
@@ -52,3 +43,8 @@ pub part_taken : (text : List ℕ) (next : Option (Vec ℕ Global)) (part : Vec 
 part_taken text next part rest taken is =
     let front : TakesFront text part.items rest = subst (λ (one : Option (Vec ℕ Global)). TakesPart text one rest) is taken in
     front.whole
+
+-- P where there is an error
+pub on_err : {T E P : Type 0} (result : Result T E) → P → OnErr result P
+on_err (Ok value) holds = tt
+on_err (Err error) holds = holds

@@ -1,5 +1,4 @@
-use Rattle.umpire.proofs.Parts.{front_of_part, front_of_text, leaves_less, part_taken}
-use Rattle.umpire.proofs.Reports.{on_err}
+use Rattle.umpire.proofs.Parts.{front_of_part, front_of_text, leaves_less, on_err, part_taken}
 use Rattle.umpire.proofs.program.write_report.Goals as goal
 
 pub returns-in_err-part-clause-front : goal.returns-in_err-part-clause-front
