@@ -86,19 +86,23 @@ where
     None
 }
 
+/// What an event brings in to an account and takes out of it.
+#[derive(Clone, Copy)]
+pub(crate) struct Flow {
+    pub(crate) came_in: Amount,
+    pub(crate) went_out: Amount,
+}
+
 /// An account to which some events bring and from which some take.
 pub(crate) trait Account {
     ghost brings: { Self → Event → ℕ };
 
     ghost takes: { Self → Event → ℕ };
 
-    /// What an event brings in.
-    fn brings(&self, event: &Event) -> Amount
-        ensures { result ≡ brings self.now event.now };
-
-    /// What an event takes out.
-    fn takes(&self, event: &Event) -> Amount
-        ensures { result ≡ takes self.now event.now };
+    /// What an event brings in and takes out.
+    fn flow(&self, event: &Event) -> Flow
+        ensures came_in { result.came_in ≡ brings self.now event.now }
+        ensures went_out { result.went_out ≡ takes self.now event.now };
 }
 
 /// What an account begins with, plus all that came in, less all that went out.
@@ -109,8 +113,9 @@ pub(crate) fn balance<A: Account>(account: &A, start: Amount, events: &[Event]) 
     let mut came_in = Money::from(start);
     let mut went_out = 0;
     for event in events {
-        came_in += Money::from(account.brings(event));
-        went_out += Money::from(account.takes(event));
+        let flow = account.flow(event);
+        came_in += Money::from(flow.came_in);
+        went_out += Money::from(flow.went_out);
     }
     came_in - went_out
 }

@@ -1,4 +1,5 @@
 //! The things of which events speak, and the accounts that they change.
+ghost use Rattle.std.specs.Prelude.{◌≡◌, if◌then◌else◌};
 ghost use Rattle.history.specs.Bids.{bid_said};
 ghost use Rattle.history.specs.Event.{bidding_of, floated_by, obeyed_of, office_of, operated_by, ownership_of, par_set, payment_of, phase_set, round_of as round_begun, square_set, sv_price_set, tile_laid, token_placed, train_moved, transfer_of};
 ghost use Rattle.history.specs.LookBack.{actor_of, owner_said, paid_by, paid_to};
@@ -7,10 +8,23 @@ ghost use Rattle.history.specs.Orders.{limit_in, par_of_baltimore_in, said_by};
 ghost use Rattle.history.specs.Shares.{brought_to, float_said, par_said, president_said, sale_said, square_said, taken_from};
 ghost use Rattle.history.specs.Trains.{any_comes, any_goes, train_comes, train_goes};
 
-use crate::aspect::{Account, Stable, Topic};
+use crate::aspect::{Account, Flow, Stable, Topic};
 use crate::event::{Bidding, Event, Holder, Party, Shareholder, TrainPlace};
 use map_tables::{Lay, Place};
 use tables::{Amount, Company, Kind, Private, Round, Seat, Square};
+
+/// Nothing comes in, and nothing goes out.
+const NO_FLOW: Flow = Flow {
+    came_in: 0,
+    went_out: 0,
+};
+
+/// A sum where something holds, and else nothing.
+fn sum_if(holds: bool, sum: Amount) -> Amount
+    ensures { result ≡ (if holds then sum else 0) }
+{
+    if holds { sum } else { 0 }
+}
 
 /// The cash of a party.
 #[derive(Clone, Copy)]
@@ -21,17 +35,13 @@ impl Account for Cash {
 
     ghost takes = { λ a event. paid_by a.0 (payment_of event) };
 
-    fn brings(&self, event: &Event) -> Amount {
-        match event.payment() {
-            Some(payment) if payment.to == self.0 => payment.amount,
-            _ => 0,
-        }
-    }
-
-    fn takes(&self, event: &Event) -> Amount {
-        match event.payment() {
-            Some(payment) if payment.from == self.0 => payment.amount,
-            _ => 0,
+    fn flow(&self, event: &Event) -> Flow {
+        let Some(payment) = event.payment() else {
+            return NO_FLOW;
+        };
+        Flow {
+            came_in: sum_if(payment.to == self.0, payment.amount),
+            went_out: sum_if(payment.from == self.0, payment.amount),
         }
     }
 }
@@ -144,21 +154,15 @@ impl Account for Shares {
 
     ghost takes = { λ a event. taken_from a.0 a.1 (transfer_of event) };
 
-    fn brings(&self, event: &Event) -> Amount {
-        match event.transfer() {
-            Some(transfer) if transfer.company == self.0 && transfer.to == self.1 => {
-                Amount::from(transfer.tenths)
-            }
-            _ => 0,
-        }
-    }
-
-    fn takes(&self, event: &Event) -> Amount {
-        match event.transfer() {
-            Some(transfer) if transfer.company == self.0 && transfer.from == self.1 => {
-                Amount::from(transfer.tenths)
-            }
-            _ => 0,
+    fn flow(&self, event: &Event) -> Flow {
+        let Some(transfer) = event.transfer() else {
+            return NO_FLOW;
+        };
+        let tenths = Amount::from(transfer.tenths);
+        let is_its_own = transfer.company == self.0;
+        Flow {
+            came_in: sum_if(is_its_own && transfer.to == self.1, tenths),
+            went_out: sum_if(is_its_own && transfer.from == self.1, tenths),
         }
     }
 }

@@ -22,8 +22,10 @@ use Rattle.order_grammar.specs.Name.{is_name}
 use Rattle.order_grammar.specs.Order.{parts_of}
 use Rattle.order_grammar.specs.Print.{spelling_of}
 use Rattle.order_grammar.specs.Words.{words_of, before_comment, is_printable}
+use Rattle.order_grammar.specs.declared.order.Offer as offers
+use Rattle.order_grammar.specs.declared.order.Offer.TheVariants as offer
 use Rattle.order_grammar.specs.declared.order.Order.{Order}
-use Rattle.order_grammar.specs.declared.order.Order.TheVariants.{Blank, Game, Players, Sheet, Turn, BuyPrivate, Bid, Limit, Par, BuyShare, Sell, ExchangeMohawk, Company as CompanyTurn, Lay, Token, Run, Pay, Withhold, BuyTrain, Discard}
+use Rattle.order_grammar.specs.declared.order.Order.TheVariants.{Blank, Game, Players, Sheet, Turn, BuyPrivate, Bid, Limit, Par, BuyShare, Sell, ExchangeMohawk, Company as CompanyTurn, Lay, Token, Run, Pay, Withhold, BuyTrain, Discard, BuyOwnedPrivate, Offer}
 use Rattle.order_grammar.specs.declared.order.Parts.{Parts}
 use Rattle.order_grammar.specs.declared.order.ShareSource.TheVariants.{InitialOffering, BankPool}
 use Rattle.order_grammar.specs.declared.order.TrainSource.{TrainSource}
@@ -119,12 +121,20 @@ abbrev pub AreSwapWords : Bool → List (List ℕ) → Type 0
 AreSwapWords true words = Then (IsWord (codes "SWAP")) End words
 AreSwapWords false words = End words
 
--- BANK, BANK TRADE and the kind that is traded in, or POOL
+-- BANK, BANK TRADE and the kind that is traded in, POOL, or the company that sells and the price
 abbrev pub AreSourceWords : TrainSource → List (List ℕ) → Type 0
 AreSourceWords source.Bank words = Then (IsWord (codes "BANK")) End words
 AreSourceWords (source.Trade kind) words =
     Then (IsWord (codes "BANK")) (Then (IsWord (codes "TRADE")) (Then (IsKind kind) End)) words
 AreSourceWords source.BankPool words = Then (IsWord (codes "POOL")) End words
+AreSourceWords (source.Company seller price) words = Then (IsCompany seller) (Then (IsNumber price) End) words
+
+-- PRIVATE, the private, its buyer and the price, or TRAIN, the kind, its seller, its buyer and the price
+abbrev pub AreOfferWords : offers.Offer → List (List ℕ) → Type 0
+AreOfferWords (offer.Private private buyer price) words =
+    Then (IsWord (codes "PRIVATE")) (Then (IsPrivate private) (Then (IsCompany buyer) (Then (IsNumber price) End))) words
+AreOfferWords (offer.Train kind seller buyer price) words =
+    Then (IsWord (codes "TRAIN")) (Then (IsKind kind) (Then (IsCompany seller) (Then (IsCompany buyer) (Then (IsNumber price) End)))) words
 
 -- these words spell the order, but that its numbers may be too large
 abbrev pub AreWordsFor : Order → List (List ℕ) → Type 0
@@ -159,6 +169,9 @@ AreWordsFor Withhold words = Then (IsWord (codes "WITHHOLD")) End words
 AreWordsFor (BuyTrain kind from) words = Then (IsWord (codes "TRAIN")) (Then (IsKind kind) (AreSourceWords from)) words
 AreWordsFor (Discard company kind) words =
     Then (IsWord (codes "DISCARD")) (Then (IsCompany company) (Then (IsKind kind) End)) words
+AreWordsFor (BuyOwnedPrivate private price) words =
+    Then (IsWord (codes "PRIVATE")) (Then (IsPrivate private) (Then (IsNumber price) End)) words
+AreWordsFor (Offer offer) words = Then (IsWord (codes "OFFER")) (AreOfferWords offer) words
 
 -- the line would spell the order if numbers had no greatest value
 pub record LooselySpells (line : List ℕ) (order : Order) : Type 0 where
