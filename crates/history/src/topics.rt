@@ -155,14 +155,15 @@ impl Account for Shares {
     ghost takes = { λ a event. taken_from a.0 a.1 (transfer_of event) };
 
     fn flow(&self, event: &Event) -> Flow {
-        let Some(transfer) = event.transfer() else {
-            return NO_FLOW;
-        };
-        let tenths = Amount::from(transfer.tenths);
-        let is_its_own = transfer.company == self.0;
-        Flow {
-            came_in: sum_if(is_its_own && transfer.to == self.1, tenths),
-            went_out: sum_if(is_its_own && transfer.from == self.1, tenths),
+        match event.transfer() {
+            Some(transfer) if transfer.company == self.0 => {
+                let tenths = Amount::from(transfer.tenths);
+                Flow {
+                    came_in: sum_if(transfer.to == self.1, tenths),
+                    went_out: sum_if(transfer.from == self.1, tenths),
+                }
+            }
+            _ => NO_FLOW,
         }
     }
 }
