@@ -1,4 +1,5 @@
 -- Orders and rulings as events keep them, in few bytes.
+use Rattle.std.specs.Prelude.{Bool, true, false}
 use Rattle.history.specs.KeptRun.{places_in}
 use Rattle.history.specs.declared.kept.OrderKept.{OrderKept}
 use Rattle.history.specs.declared.kept.OrderKept.TheVariants as kept
@@ -28,6 +29,23 @@ order_in_short short.Pay = order.Pay
 order_in_short short.Withhold = order.Withhold
 order_in_short (short.BuyTrain kind from) = order.BuyTrain kind from
 order_in_short (short.Discard company kind) = order.Discard company kind
+
+-- the form of an order takes few bytes
+abbrev pub is_short : Order → Bool
+is_short (order.BuyPrivate private) = true
+is_short (order.Bid private amount) = true
+is_short (order.Limit private amount) = true
+is_short (order.Par company price) = true
+is_short (order.BuyShare company from) = true
+is_short (order.Sell company tenths) = true
+is_short order.ExchangeMohawk = true
+is_short (order.Lay lay) = true
+is_short (order.Token place) = true
+is_short order.Pay = true
+is_short order.Withhold = true
+is_short (order.BuyTrain kind from) = true
+is_short (order.Discard company kind) = true
+is_short other = false
 
 -- the order that is kept
 abbrev pub order_in : OrderKept → Order

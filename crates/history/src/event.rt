@@ -445,8 +445,9 @@ impl Event {
     pub fn ownership(&self) -> Option<Ownership>
         ensures { result ≡ ownership_of self.now }
     {
-        // Every look back over the list asks this of each event, nearly always in vain: a few
-        // comparisons cost less than the jump that a `match` makes.
+        // Every look back over the list asks this of each event, nearly always in vain. A few
+        // comparisons cost about the same on every machine; the indirect jump that a `match` makes
+        // costs ten times as much on some.
         if let Event::Sold { private, seat, .. } = self {
             Some(Ownership {
                 private: *private,

@@ -1,7 +1,7 @@
 //! Orders and rulings as events keep them, in few bytes.
-ghost use Rattle.std.specs.Prelude.{◌≡◌, IfOk, IfSome};
+ghost use Rattle.std.specs.Prelude.{◌≡◌, false, IfOk, MatchOption};
 ghost use Rattle.history.specs.Event.{acts};
-ghost use Rattle.history.specs.Kept.{order_in_short, ruling_by};
+ghost use Rattle.history.specs.Kept.{is_short, order_in_short, ruling_by};
 ghost use Rattle.history.specs.Orders.{limit_obeyed, par_of_baltimore_in, par_of_baltimore_obeyed};
 ghost use Rattle.history.specs.declared.ruling.Ruling.TheVariants.{Faulty, Obeyed, Refused};
 ghost use Rattle.order_grammar.specs.declared.order.Order.TheVariants as order;
@@ -35,7 +35,8 @@ enum ShortOrder {
 impl ShortOrder {
     /// Keeps a copy of an order, if it is of one of these forms.
     fn keep(order: &Order) -> Option<ShortOrder>
-        ensures { IfSome result (λ short. order_in_short short ≡ order.now) }
+        ensures { MatchOption result (is_short order.now ≡ false)
+            (λ short. order_in_short short ≡ order.now) }
     {
         let short = match *order {
             Order::BuyPrivate(private) => ShortOrder::BuyPrivate(private),
