@@ -17,12 +17,3 @@ broken_before laid asker lay fault e =
       exact = λ none. absurd (let wrong : Some fault ≡ None = e ∙ none in let no : ⊥ = cc in no);
       given = sym (ap (cost_or (lay_cost_of laid.lays lay.hex)) (earlier (ground_rules laid asker lay) (reach_rules laid asker lay true) fault (sym e)));
     }
-
--- or that no piece of the tile is reached
-pub unreached : (laid : Ground) (asker : Asker) (lay : Lay) (reached : Bool) → first_broken (ground_rules laid asker lay) ≡ None → IsTrue reached ↔ IsConnected (position_of (with_lay laid lay)) asker.company lay → reached ≡ false → IsLayAnswer laid asker lay (Err NotReached)
-unreached laid asker lay reached none exact not =
-    record {
-      reached = reached;
-      exact = λ e. exact;
-      given = sym (ap (cost_or (lay_cost_of laid.lays lay.hex)) (kept (ground_rules laid asker lay) (reach_rules laid asker lay reached) none ∙ ap (λ b. first_broken (reach_rules laid asker lay b)) not));
-    }
