@@ -4,7 +4,7 @@ use Rattle.std.proofs.lemmas.Bool.{le-ltb, ltb-false, or_parts}
 use Rattle.std.proofs.lemmas.List.Sums.{sum_by-cons}
 use Rattle.std.specs.List.{count_by, list_any}
 use Rattle.board.specs.Fit.{FaultlessAreFit, board_fault_of, board_rules}
-use Rattle.map_tables.specs.Fit.{AreFit, has_bad_side, has_no_slot, is_over_full, is_wrong_kind}
+use Rattle.map_tables.specs.Fit.{AreFit, has_bad_side, has_no_slot, is_over_full}
 use Rattle.board.specs.Ground.{Ground}
 use Rattle.map_tables.specs.Lying.{is_part_of, is_stop, names, slots_at, slots_on, taken_at}
 use Rattle.board.specs.declared.fault.BoardFault.TheVariants as fault

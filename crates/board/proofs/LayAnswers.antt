@@ -1,11 +1,10 @@
 -- The answer to a lay that breaks a rule.
-use Rattle.std.proofs.Common.{◌≡◌, ◌∙◌, ap, sym, ◌↔◌, IsTrue, Bool, true, false, Some, None, Err}
-use Rattle.board.specs.Ground.{Ground, position_of, with_lay}
-use Rattle.board.specs.LayRules.{IsConnected, IsLayAnswer, cost_or, ground_rules, lay_cost_of, reach_rules}
+use Rattle.std.proofs.Common.{◌≡◌, ◌∙◌, ap, sym, true, Some, None, Err}
+use Rattle.board.specs.Ground.{Ground}
+use Rattle.board.specs.LayRules.{IsLayAnswer, cost_or, ground_rules, lay_cost_of, reach_rules}
 use Rattle.board.specs.declared.asker.Asker.{Asker}
 use Rattle.board.specs.declared.fault.LayFault.{LayFault}
-use Rattle.board.specs.declared.fault.LayFault.TheVariants.{NotReached}
-use Rattle.board.proofs.RuleTables.{earlier, kept}
+use Rattle.board.proofs.RuleTables.{earlier}
 use Rattle.map_tables.specs.declared.lay.Lay.{Lay}
 use Rattle.tables.specs.Rules.{first_broken}
 

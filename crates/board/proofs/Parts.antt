@@ -1,9 +1,8 @@
 -- A hex that is part of another's stop is red, so that no tile lies there and its track is that of its print.
 use Rattle.std.proofs.Common.{◌≡◌, ◌∙◌, ap, sym, subst, refl, inl, inr, false, Option, Some, None}
 use Rattle.std.specs.List.{list_any}
-use Rattle.board.specs.Fit.{board_fault_of}
 use Rattle.map_tables.specs.Fit.{is_wrong_kind}
-use Rattle.board.specs.Ground.{Ground, position_of}
+use Rattle.board.specs.Ground.{Ground}
 use Rattle.map_tables.specs.Lying.{by_tile, tile_on}
 use Rattle.board.specs.Parts.{PartsOfBoardsHaveOneStop}
 use Rattle.board.proofs.Fitting.{are_fit}
@@ -20,7 +19,6 @@ use Rattle.map_tables.specs.declared.hex.Hex.{Hex}
 use Rattle.map_tables.specs.declared.hex.Hex.TheVariants.{A9, I1}
 use Rattle.map_tables.specs.declared.lay.Lay.{Lay}
 use Rattle.map_tables.specs.declared.place.StopNumber.TheVariants.{Second}
-use Rattle.map_tables.specs.declared.print.HexKind.{HexKind}
 use Rattle.map_tables.specs.declared.print.HexKind.TheVariants.{Open, Red}
 use Rattle.map_tables.specs.declared.track.End.TheVariants.{Stop as AtStop}
 use Rattle.map_tables.specs.declared.track.Link.{Link}
