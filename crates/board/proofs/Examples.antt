@@ -1,8 +1,9 @@
 -- The examples are computed from the definitions; what is reached is shown by a token or a walk.
 use Rattle.std.proofs.Common.{◌≡◌, refl, inl, inr, true, false, [], ◌∷◌, Some, pos, Ok, Err}
 use Rattle.board.specs.Example.{WorkedExamples, beginner, city_beside, erie_at_home, pennsylvania_at_home, tile_59}
-use Rattle.board.specs.Fit.{has_bad_side, is_wrong_kind}
-use Rattle.board.specs.Ground.{position_of, tile_on, with_lay}
+use Rattle.map_tables.specs.Fit.{has_bad_side, is_wrong_kind}
+use Rattle.board.specs.Ground.{position_of, with_lay}
+use Rattle.map_tables.specs.Lying.{tile_on}
 use Rattle.board.specs.LayRules.{IsConnected, cost_or, ground_rules, is_blocked, is_colour_closed, is_lay_used, is_none_left, is_wrong_colour, lay_cost_of, lay_rules, loses_track, lying_of}
 use Rattle.board.specs.TokenRules.{IsReachedPlace, has_none_left, has_token_in, is_no_free_slot, is_token_used, kept_at, laid_by, token_cost_of, token_rules}
 use Rattle.board.specs.declared.fault.LayFault.TheVariants.{ColourClosed}

@@ -2,67 +2,51 @@
 use Rattle.std.proofs.Common.{◌≡◌, ◌∙◌, ap, sym, subst, refl, ◌+◌, ◌≤◌, inl, inr, true, false, cond, List, [], ◌∷◌, ◌++◌, Some, None, arith}
 use Rattle.std.proofs.lemmas.Bool.{or_parts}
 use Rattle.std.proofs.lemmas.List.Sums.{sum_by_push}
-use Rattle.std.specs.List.{list_any}
-use Rattle.board.specs.Fit.{board_fault_of, has_bad_side, has_no_slot, is_wrong_kind}
-use Rattle.board.specs.Ground.{Ground, ground_of, names, slots_at, taken_at, tile_on, with_lay, with_token}
-use Rattle.board.specs.Homes.{Fits, FitsWithoutHomes, HomeKeepsFit, LayKeepsFit, NothingFits, PhaseKeepsFit, TokenKeepsFit, home_token, homes_to_come, with_homes}
+use Rattle.board.specs.Ground.{Ground, with_lay, with_token}
+use Rattle.board.specs.Homes.{Fits, FitsWithoutHomes, HomeKeepsFit, LayKeepsFit, TokenKeepsFit}
 use Rattle.board.specs.LayRules.{ground_rules, is_wrong_colour}
 use Rattle.board.specs.TokenRules.{is_full_at, is_no_free_slot, kept_at, slot_rules}
 use Rattle.board.specs.declared.asker.Asker.{Asker}
-use Rattle.board.proofs.Fitting.{AreFit, are_fit, named, no_fault, none_push, room, slots_for_all}
+use Rattle.board.proofs.Fitting.{named, no_fault, none_push, room, slots_for_all}
 use Rattle.board.proofs.Growing.{stop_grows}
 use Rattle.board.proofs.KeptHomes.{among_append, among_first, free_where, home_named, home_takes_kept, home_there, homes_take, homes_take_no_more, kept_less, place_named}
-use Rattle.map_tables.specs.Hex.{index_of}
+use Rattle.map_tables.specs.Fit.{AreFit, has_bad_side, is_wrong_kind, home_token, homes_to_come}
 use Rattle.map_tables.specs.Home.{home_of}
+use Rattle.map_tables.specs.Lying.{names, slots_at, taken_at}
 use Rattle.map_tables.specs.Place.{joined_stop_of, stop_of}
-use Rattle.map_tables.specs.Print.{groups, plain_hexes, print_of}
 use Rattle.map_tables.specs.declared.lay.Lay.{Lay}
 use Rattle.map_tables.specs.declared.place.Place.{Place}
 use Rattle.map_tables.specs.declared.place.Stop.{Stop}
 use Rattle.tables.proofs.Rules.{none_broken}
 use Rattle.tables.specs.Rules.{first_broken}
 use Rattle.tables.specs.declared.roster.Company.{Company}
-use Rattle.tables.specs.declared.rolling_stock.Kind.{Kind}
 
--- a lay on what has no fault
-lay_keeps : (laid : Ground) (asker : Asker) (lay : Lay) → board_fault_of laid ≡ None → first_broken (ground_rules laid asker lay) ≡ None → board_fault_of (with_lay laid lay) ≡ None
-lay_keeps laid asker lay fits none =
-    let fit = are_fit laid fits in
+-- what lies, with the home tokens to come
+abbrev with_homes : Ground → Ground
+with_homes laid = record laid { tokens = laid.tokens ++ homes_to_come laid.tokens }
+
+-- a lay on what is fit
+lay_keeps : (laid : Ground) (asker : Asker) (lay : Lay) → AreFit laid.lays laid.tokens → first_broken (ground_rules laid asker lay) ≡ None → AreFit (laid.lays ++ lay ∷ []) laid.tokens
+lay_keeps laid asker lay fit none =
     let kept = none_broken (ground_rules laid asker lay) none in
     let tile = or_parts (is_wrong_colour laid.lays lay) (is_wrong_kind lay) kept.1.1.1.1.0 in
-    no_fault (with_lay laid lay) (record {
+    record {
       kinds = none_push is_wrong_kind laid.lays lay fit.kinds tile.1;
       sides = none_push has_bad_side laid.lays lay fit.sides kept.1.1.1.1.1.1.0;
       slots = slots_for_all (with_lay laid lay) (named laid fit) (λ stop.
           let before = room laid fit stop in
           let grown = stop_grows laid.lays lay stop fit.kinds tile.1 tile.0 in
           omega arith);
-    })
+    }
 
 -- and so with the home tokens to come
 pub lay_keeps_fit : LayKeepsFit
 lay_keeps_fit laid asker lay fits none = lay_keeps (with_homes laid) asker lay fits none
 
--- no rule asks for the phase
-pub phase_keeps_fit : PhaseKeepsFit
-phase_keeps_fit laid phase fits =
-    let fit = are_fit (with_homes laid) fits in
-    no_fault (with_homes (record laid { phase = phase })) (record { kinds = fit.kinds; sides = fit.sides; slots = fit.slots })
-
--- nothing fits: each home has a slot for its token
-no_home_is_over : (phase : Kind) → list_any (has_no_slot (with_homes (ground_of [] [] phase))) (homes_to_come []) ≡ false
-unfolding index_of groups plain_hexes print_of tile_on
-no_home_is_over phase = refl
-
-pub nothing_fits : NothingFits
-nothing_fits phase =
-    no_fault (with_homes (ground_of [] [] phase)) (record { kinds = refl; sides = refl; slots = no_home_is_over phase })
-
 -- what fits with the home tokens to come fits without them
 pub fits_without_homes : FitsWithoutHomes
-fits_without_homes laid fits =
-    let fit = are_fit (with_homes laid) fits in
-    no_fault laid (record {
+fits_without_homes laid fit =
+    no_fault laid.lays laid.tokens (record {
       kinds = fit.kinds;
       sides = fit.sides;
       slots = slots_for_all laid (λ token among. named (with_homes laid) fit token (among_first laid.tokens (homes_to_come laid.tokens) token among)) (λ stop.
@@ -72,10 +56,10 @@ fits_without_homes laid fits =
     })
 
 -- one more token that names a stop, for which each stop has room beside the slots that are kept then
-one_more : (laid : Ground) (token : Place × Company) → AreFit (with_homes laid) → ((stop : Stop) × (stop_of token.0 ≡ Some stop)) → ((stop : Stop) → taken_at (laid.tokens ++ token ∷ []) stop + kept_at (laid.tokens ++ token ∷ []) (joined_stop_of stop) ≤ slots_at laid.lays stop) → Fits (with_token laid token.0 token.1)
+one_more : (laid : Ground) (token : Place × Company) → Fits laid → ((stop : Stop) × (stop_of token.0 ≡ Some stop)) → ((stop : Stop) → taken_at (laid.tokens ++ token ∷ []) stop + kept_at (laid.tokens ++ token ∷ []) (joined_stop_of stop) ≤ slots_at laid.lays stop) → Fits (with_token laid token.0 token.1)
 one_more laid token fit names_one enough =
     let tokens = laid.tokens ++ token ∷ [] in
-    no_fault (with_homes (with_token laid token.0 token.1)) (record {
+    record {
       kinds = fit.kinds;
       sides = fit.sides;
       slots = slots_for_all (with_homes (with_token laid token.0 token.1)) (λ other among.
@@ -92,7 +76,7 @@ one_more laid token fit names_one enough =
           let most = homes_take_no_more tokens stop in
           let least = enough stop in
           omega arith);
-    })
+    }
 
 -- how many name a stop with one more
 taken_push : (tokens : List (Place × Company)) (token : Place × Company) (stop : Stop) → taken_at (tokens ++ token ∷ []) stop ≡ taken_at tokens stop + cond (names (joined_stop_of stop) token.0) 1 0
@@ -102,8 +86,7 @@ taken_push tokens token stop =
 -- a token by the rules
 pub token_keeps_fit : TokenKeepsFit
 unfolding is_no_free_slot
-token_keeps_fit laid asker place fits none =
-    let fit = are_fit (with_homes laid) fits in
+token_keeps_fit laid asker place fit none =
     let kept = none_broken (slot_rules laid asker place) none in
     let free : is_full_at laid (stop_of place) ≡ false = kept.1.1.0 in
     one_more laid (place, asker.company) fit (place_named laid place free) (λ stop.
@@ -118,8 +101,7 @@ token_keeps_fit laid asker place fits none =
 
 -- a home token
 pub home_keeps_fit : HomeKeepsFit
-home_keeps_fit laid company fits none =
-    let fit = are_fit (with_homes laid) fits in
+home_keeps_fit laid company fit none =
     one_more laid (home_token company) fit (home_of company, refl) (λ stop.
     let joined = joined_stop_of stop in
     let pushed = taken_push laid.tokens (home_token company) stop in

@@ -4,8 +4,8 @@ use Rattle.std.proofs.lemmas.Bool.{eqb-true, leb-true, le-leb, or_parts}
 use Rattle.std.proofs.lemmas.List.Sorted.{IsPermutation-reverse, list_any-IsPermutation}
 use Rattle.std.specs.List.{find, list_any}
 use Rattle.std.specs.Prelude.{◌==◌}
-use Rattle.board.specs.Fit.{is_wrong_kind, place_of_tile_kind, takes}
-use Rattle.board.specs.Ground.{by_tile, colour_on, is_stop, slots_at, slots_on, tile_on}
+use Rattle.map_tables.specs.Fit.{is_wrong_kind, place_of_tile_kind, takes}
+use Rattle.map_tables.specs.Lying.{by_tile, colour_on, is_stop, slots_at, slots_on, tile_on}
 use Rattle.board.specs.LayRules.{is_wrong_colour, place_of_colour}
 use Rattle.board.proofs.Same.{hex_is}
 use Rattle.board.proofs.Tiles.{last_lies, lies_there}

@@ -4,8 +4,9 @@ use Rattle.std.proofs.lemmas.Bool.{and_parts, leb-false}
 use Rattle.std.proofs.lemmas.List.Folds.{list_any-append}
 use Rattle.std.proofs.lemmas.List.Sums.{sum_by-append, sum_by-cons, sum_by-le-sum_by}
 use Rattle.std.specs.List.{count_by, filter, list_any}
-use Rattle.board.specs.Ground.{Ground, has_token, is_part_of, is_stop, names, same_stop, slots_at, slots_on, taken_at}
-use Rattle.board.specs.Homes.{home_token, homes_to_come}
+use Rattle.board.specs.Ground.{Ground}
+use Rattle.map_tables.specs.Lying.{has_token, is_part_of, is_stop, names, same_stop, slots_at, slots_on, taken_at}
+use Rattle.map_tables.specs.Fit.{home_token, homes_to_come}
 use Rattle.board.specs.TokenRules.{is_full_at, is_kept_for, kept_at}
 use Rattle.board.proofs.Same.{or_true, stop_is, stop_is_same}
 use Rattle.map_tables.specs.Home.{home_of}

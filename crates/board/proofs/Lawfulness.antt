@@ -1,6 +1,7 @@
 -- The position keeps the laws of positions, whatever was laid.
 use Rattle.std.proofs.Common.{◌≡◌, ◌∙◌, ap, sym, subst, refl, ◌≤◌, lit≤, true, false, cond, Option, Some, None}
-use Rattle.board.specs.Ground.{Ground, by_tile, is_red_kind, is_stop, position_of, tile_on, value_in}
+use Rattle.board.specs.Ground.{Ground, is_red_kind, position_of, value_in}
+use Rattle.map_tables.specs.Lying.{by_tile, is_stop, tile_on}
 use Rattle.board.proofs.Positions.{in_hex_is, not_shown, shown}
 use Rattle.board.proofs.Same.{hex_is}
 use Rattle.board.proofs.Tiles.{lies_there}

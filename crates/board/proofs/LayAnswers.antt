@@ -1,11 +1,10 @@
 -- The answer to a lay that breaks a rule.
-use Rattle.std.proofs.Common.{◌≡◌, ◌∙◌, ap, sym, ◌↔◌, IsTrue, Bool, true, false, Some, None, Err}
-use Rattle.board.specs.Ground.{Ground, position_of, with_lay}
-use Rattle.board.specs.LayRules.{IsConnected, IsLayAnswer, cost_or, ground_rules, lay_cost_of, reach_rules}
+use Rattle.std.proofs.Common.{◌≡◌, ◌∙◌, ap, sym, true, Some, None, Err}
+use Rattle.board.specs.Ground.{Ground}
+use Rattle.board.specs.LayRules.{IsLayAnswer, cost_or, ground_rules, lay_cost_of, reach_rules}
 use Rattle.board.specs.declared.asker.Asker.{Asker}
 use Rattle.board.specs.declared.fault.LayFault.{LayFault}
-use Rattle.board.specs.declared.fault.LayFault.TheVariants.{NotReached}
-use Rattle.board.proofs.RuleTables.{earlier, kept}
+use Rattle.board.proofs.RuleTables.{earlier}
 use Rattle.map_tables.specs.declared.lay.Lay.{Lay}
 use Rattle.tables.specs.Rules.{first_broken}
 
@@ -16,13 +15,4 @@ broken_before laid asker lay fault e =
       reached = true;
       exact = λ none. absurd (let wrong : Some fault ≡ None = e ∙ none in let no : ⊥ = cc in no);
       given = sym (ap (cost_or (lay_cost_of laid.lays lay.hex)) (earlier (ground_rules laid asker lay) (reach_rules laid asker lay true) fault (sym e)));
-    }
-
--- or that no piece of the tile is reached
-pub unreached : (laid : Ground) (asker : Asker) (lay : Lay) (reached : Bool) → first_broken (ground_rules laid asker lay) ≡ None → IsTrue reached ↔ IsConnected (position_of (with_lay laid lay)) asker.company lay → reached ≡ false → IsLayAnswer laid asker lay (Err NotReached)
-unreached laid asker lay reached none exact not =
-    record {
-      reached = reached;
-      exact = λ e. exact;
-      given = sym (ap (cost_or (lay_cost_of laid.lays lay.hex)) (kept (ground_rules laid asker lay) (reach_rules laid asker lay reached) none ∙ ap (λ b. first_broken (reach_rules laid asker lay b)) not));
     }

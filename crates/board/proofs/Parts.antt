@@ -1,8 +1,9 @@
 -- A hex that is part of another's stop is red, so that no tile lies there and its track is that of its print.
 use Rattle.std.proofs.Common.{◌≡◌, ◌∙◌, ap, sym, subst, refl, inl, inr, false, Option, Some, None}
 use Rattle.std.specs.List.{list_any}
-use Rattle.board.specs.Fit.{board_fault_of, is_wrong_kind}
-use Rattle.board.specs.Ground.{Ground, by_tile, position_of, tile_on}
+use Rattle.map_tables.specs.Fit.{is_wrong_kind}
+use Rattle.board.specs.Ground.{Ground}
+use Rattle.map_tables.specs.Lying.{by_tile, tile_on}
 use Rattle.board.specs.Parts.{PartsOfBoardsHaveOneStop}
 use Rattle.board.proofs.Fitting.{are_fit}
 use Rattle.board.proofs.Growing.{kind_is, lying_right}
@@ -18,7 +19,6 @@ use Rattle.map_tables.specs.declared.hex.Hex.{Hex}
 use Rattle.map_tables.specs.declared.hex.Hex.TheVariants.{A9, I1}
 use Rattle.map_tables.specs.declared.lay.Lay.{Lay}
 use Rattle.map_tables.specs.declared.place.StopNumber.TheVariants.{Second}
-use Rattle.map_tables.specs.declared.print.HexKind.{HexKind}
 use Rattle.map_tables.specs.declared.print.HexKind.TheVariants.{Open, Red}
 use Rattle.map_tables.specs.declared.track.End.TheVariants.{Stop as AtStop}
 use Rattle.map_tables.specs.declared.track.Link.{Link}
@@ -57,6 +57,6 @@ parts_of_boards_have_one_stop laid fits hex link among second =
     one_stop hex (subst (λ (h : InHex). IsAmong link h.links) (in_hex_is laid hex) among)
   where
     one_stop : (hex : Hex) → IsAmong link (by_tile (printed_links_of hex) laid_links_of (tile_on laid.lays hex)) → joined_hex hex ≡ hex
-    one_stop I1 track = gulf_has_one link (red_as_printed laid I1 link (are_fit laid fits).kinds gulf_is_red (tile_on laid.lays I1) refl track) second
-    one_stop A9 track = west_has_one link (red_as_printed laid A9 link (are_fit laid fits).kinds west_is_red (tile_on laid.lays A9) refl track) second
+    one_stop I1 track = gulf_has_one link (red_as_printed laid I1 link (are_fit laid.lays laid.tokens fits).kinds gulf_is_red (tile_on laid.lays I1) refl track) second
+    one_stop A9 track = west_has_one link (red_as_printed laid A9 link (are_fit laid.lays laid.tokens fits).kinds west_is_red (tile_on laid.lays A9) refl track) second
     one_stop hex track = refl

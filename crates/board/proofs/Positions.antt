@@ -3,7 +3,8 @@ use Rattle.std.proofs.Common.{◌≡◌, ◌∙◌, ap, refl, ℕ, zero, suc, �
 use Rattle.std.proofs.lemmas.Bool.{lt-ltb}
 use Rattle.std.proofs.lemmas.List.{get_or-map}
 use Rattle.std.specs.Prelude.{nat_lt}
-use Rattle.board.specs.Ground.{Ground, is_stop, lying_at, lying_in, position_of, stop_numbers, stops_in}
+use Rattle.board.specs.Ground.{Ground, lying_at, lying_in, position_of, stop_numbers, stops_in}
+use Rattle.map_tables.specs.Lying.{is_stop, slots_at, slots_on}
 use Rattle.map_tables.specs.Hex.{hexes, index_of, same_hex}
 use Rattle.map_tables.specs.Place.{joined_hex, joined_stop_of, stop_at, stop_index_of}
 use Rattle.map_tables.specs.Print.{print_of}
@@ -68,3 +69,11 @@ shown laid stop is = at_stop_is laid stop ∙ ap (λ b. cond b (lying_at laid (j
 -- and elsewhere nothing
 pub not_shown : (laid : Ground) (stop : Stop) → is_stop (joined_stop_of stop) ≡ false → at_stop (position_of laid) stop ≡ no_stop
 not_shown laid stop is = at_stop_is laid stop ∙ ap (λ b. cond b (lying_at laid (joined_stop_of stop)) no_stop) is
+
+-- the slots of a stop are those that the position has there
+pub slots_shown : (laid : Ground) (stop : Stop) → (at_stop (position_of laid) stop).slots ≡ slots_at laid.lays stop
+slots_shown laid stop =
+    (elim (is_stop (joined_stop_of stop)) as (λ b. is_stop (joined_stop_of stop) ≡ b → (at_stop (position_of laid) stop).slots ≡ cond b (slots_on laid.lays (joined_stop_of stop).hex) 0) [
+      | true ↦ λ is. ap (λ (s : AtStop). s.slots) (shown laid stop is)
+      | false ↦ λ is. ap (λ (s : AtStop). s.slots) (not_shown laid stop is)
+    ]) refl

@@ -4,7 +4,7 @@ use Rattle.std.proofs.lemmas.Bool.{eqb-true, leb-false}
 use Rattle.std.proofs.lemmas.List.Sums.{sum_by-cons}
 use Rattle.std.specs.List.{count_by}
 use Rattle.std.specs.Prelude.{◌==◌}
-use Rattle.board.specs.Ground.{tile_on}
+use Rattle.map_tables.specs.Lying.{tile_on}
 use Rattle.board.specs.LayRules.{ground_rules, is_none_left, is_tile, lying_of}
 use Rattle.board.specs.Stock.{LayKeepsStock}
 use Rattle.board.proofs.KeptHomes.{count_le}

@@ -1,12 +1,10 @@
 -- What lies on the map at one moment of a game: the tiles and the tokens that were laid, oldest first, and
--- the phase. The last tile that was laid on a hex lies there; those before it are back in the stock. Where no
--- tile lies, the hex shows its print. From this follows the position.
-use Rattle.std.specs.Prelude.{ℕ, zero, suc, ◌==◌, ◌&&◌, Bool, true, false, nat_lt, if◌then◌else◌, List, [], ◌∷◌, ◌++◌, map, reverse, Option, Some, None}
-use Rattle.std.specs.List.{count_by, filter, find, list_any}
+-- the phase. From this follows the position.
+use Rattle.std.specs.Prelude.{ℕ, zero, suc, Bool, true, false, nat_lt, if◌then◌else◌, List, [], ◌∷◌, ◌++◌, map}
 use Rattle.map_tables.specs.Hex.{hexes, same_hex}
-use Rattle.map_tables.specs.Lay.{laid_links_of}
-use Rattle.map_tables.specs.Place.{joined_hex, joined_stop_of, stop_at, stop_index_of, stop_of}
-use Rattle.map_tables.specs.Print.{print_of, printed_links_of}
+use Rattle.map_tables.specs.Lying.{by_tile, links_on, slots_on, tile_on, tokens_at}
+use Rattle.map_tables.specs.Place.{joined_hex, stop_at}
+use Rattle.map_tables.specs.Print.{print_of}
 use Rattle.map_tables.specs.Tile.{entry_of}
 use Rattle.map_tables.specs.declared.hex.Hex.{Hex}
 use Rattle.map_tables.specs.declared.lay.Lay.{Lay}
@@ -17,10 +15,7 @@ use Rattle.map_tables.specs.declared.place.StopNumber.TheVariants.{First, Second
 use Rattle.map_tables.specs.declared.print.HexKind.{HexKind}
 use Rattle.map_tables.specs.declared.print.HexKind.TheVariants.{Open, Grey, Red}
 use Rattle.map_tables.specs.declared.print.PrintedValue.{PrintedValue}
-use Rattle.map_tables.specs.declared.tiles.Colour.{Colour}
-use Rattle.map_tables.specs.declared.track.Link.{Link}
 use Rattle.reach.specs.Position.{AtStop, InHex, Position}
-use Rattle.tables.specs.Roster.{same_company}
 use Rattle.tables.specs.Train.{place_of_kind}
 use Rattle.tables.specs.declared.roster.Company.{Company}
 use Rattle.tables.specs.declared.rolling_stock.Kind.{Kind}
@@ -43,27 +38,6 @@ with_lay laid lay = record laid { lays = laid.lays ++ lay ∷ [] }
 abbrev pub with_token : Ground → Place → Company → Ground
 with_token laid place company = record laid { tokens = laid.tokens ++ (place, company) ∷ [] }
 
--- the tile that lies on a hex: the last that was laid there
-unfoldable pub tile_on : List Lay → Hex → Option Lay
-tile_on lays hex = find (λ lay. same_hex lay.hex hex) (reverse lays)
-
--- what the print shows, or what the tile shows that lies on it
-abbrev pub by_tile : {A : Type 0} → A → (Lay → A) → Option Lay → A
-by_tile printed laid None = printed
-by_tile printed laid (Some lay) = laid lay
-
--- the links of a hex
-abbrev pub links_on : List Lay → Hex → List Link
-links_on lays hex = by_tile (printed_links_of hex) laid_links_of (tile_on lays hex)
-
--- its colour
-abbrev pub colour_on : List Lay → Hex → Colour
-colour_on lays hex = by_tile (print_of hex).colour (λ lay. (entry_of lay.tile).colour) (tile_on lays hex)
-
--- how many tokens each of its stops takes
-abbrev pub slots_on : List Lay → Hex → ℕ
-slots_on lays hex = by_tile (print_of hex).slots (λ lay. (entry_of lay.tile).slots) (tile_on lays hex)
-
 -- a printed value in a phase
 abbrev pub value_in : Kind → PrintedValue → ℕ
 value_in phase value =
@@ -73,40 +47,6 @@ value_in phase value =
 abbrev pub value_on : Kind → List Lay → Hex → ℕ
 value_on phase lays hex =
     by_tile (value_in phase (print_of hex).value) (λ lay. (entry_of lay.tile).value) (tile_on lays hex)
-
--- whether a hex has a stop of this number; no tile changes how many it has
-abbrev pub is_stop : Stop → Bool
-is_stop stop = nat_lt (stop_index_of stop.number) (print_of stop.hex).stops
-
--- how many tokens a stop takes; none where there is no such stop
-abbrev pub slots_at : List Lay → Stop → ℕ
-slots_at lays stop =
-    let joined = joined_stop_of stop in if is_stop joined then slots_on lays joined.hex else 0
-
--- whether two stops are one
-abbrev pub same_stop : Stop → Stop → Bool
-same_stop a b = same_hex a.hex b.hex && stop_index_of a.number == stop_index_of b.number
-
--- whether a stop, if there is one, is part of this one
-abbrev pub is_part_of : Stop → Option Stop → Bool
-is_part_of stop None = false
-is_part_of stop (Some part) = same_stop (joined_stop_of part) stop
-
--- whether a place names a stop, or a part of it
-abbrev pub names : Stop → Place → Bool
-names stop place = is_part_of stop (stop_of place)
-
--- the companies whose tokens lie at a stop
-abbrev pub tokens_at : List (Place × Company) → Stop → List Company
-tokens_at tokens stop = map (λ token. token.1) (filter (λ token. names stop token.0) tokens)
-
--- how many tokens name a stop
-abbrev pub taken_at : List (Place × Company) → Stop → ℕ
-taken_at tokens stop = count_by (λ token. names (joined_stop_of stop) token.0) tokens
-
--- whether a company has a token there
-abbrev pub has_token : List (Place × Company) → Stop → Company → Bool
-has_token tokens stop company = list_any (λ token. names stop token.0 && same_company token.1 company) tokens
 
 -- whether a hex is red
 abbrev pub is_red_kind : HexKind → Bool

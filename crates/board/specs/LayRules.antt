@@ -6,8 +6,9 @@
 use Rattle.std.specs.Prelude.{◌≡◌, ℕ, ◌+◌, ◌==◌, ◌&&◌, ◌||◌, ◌⊎◌, ◌↔◌, Bool, false, not, nat_lt, nat_le, IsTrue, List, [], ◌∷◌, ◌++◌, Option, Some, None, Result, Ok, Err, ℤ, pos, slice_index_or, count_by}
 use Rattle.std.specs.Int.Signed.{lt_z}
 use Rattle.std.specs.List.{list_any}
-use Rattle.board.specs.Fit.{has_bad_side, is_open, is_wrong_kind}
-use Rattle.board.specs.Ground.{Ground, by_tile, colour_on, links_on, position_of, tile_on, with_lay}
+use Rattle.map_tables.specs.Fit.{has_bad_side, is_open, is_wrong_kind}
+use Rattle.board.specs.Ground.{Ground, position_of, with_lay}
+use Rattle.map_tables.specs.Lying.{by_tile, colour_on, links_on, tile_on}
 use Rattle.board.specs.Turn.{place_of_step}
 use Rattle.board.specs.declared.asker.Asker.{Asker}
 use Rattle.board.specs.declared.asker.TurnStep.TheVariants as step
@@ -130,9 +131,14 @@ abbrev pub cost_or : {Fault : Type 0} → ℕ → Option Fault → Result ℤ Fa
 cost_or cost None = Ok (pos cost)
 cost_or cost (Some fault) = Err fault
 
+-- the cost of a lay, or the first rule that it breaks, where it is known whether some piece of the tile is reached
+abbrev pub lay_answer_of : Ground → Asker → Lay → Bool → Result ℤ LayFault
+lay_answer_of laid asker lay reached =
+    cost_or (lay_cost_of laid.lays lay.hex) (first_broken (lay_rules laid asker lay reached))
+
 -- the answer to a lay: its cost, or the first rule that it breaks. Where the rules before it are kept, what
 -- is reached is looked at, in the position after the lay.
 pub record IsLayAnswer (laid : Ground) (asker : Asker) (lay : Lay) (answer : Result ℤ LayFault) : Type 0 where
   pub reached : Bool
   pub exact : first_broken (ground_rules laid asker lay) ≡ None → IsTrue reached ↔ IsConnected (position_of (with_lay laid lay)) asker.company lay
-  pub given : answer ≡ cost_or (lay_cost_of laid.lays lay.hex) (first_broken (lay_rules laid asker lay reached))
+  pub given : answer ≡ lay_answer_of laid asker lay reached

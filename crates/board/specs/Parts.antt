@@ -6,4 +6,4 @@ use Rattle.board.specs.Ground.{Ground, position_of}
 use Rattle.reach.specs.Lawful.{PartsHaveOneStop}
 
 abbrev pub PartsOfBoardsHaveOneStop : Type 0
-PartsOfBoardsHaveOneStop = (laid : Ground) → board_fault_of laid ≡ None → PartsHaveOneStop (position_of laid)
+PartsOfBoardsHaveOneStop = (laid : Ground) → board_fault_of laid.lays laid.tokens ≡ None → PartsHaveOneStop (position_of laid)

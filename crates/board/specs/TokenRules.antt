@@ -5,7 +5,8 @@
 use Rattle.std.specs.Prelude.{◌≡◌, ℕ, ◌+◌, ◌&&◌, ◌↔◌, Bool, true, not, nat_lt, nat_le, IsTrue, List, [], ◌∷◌, ◌++◌, Option, Some, None, Result, ℤ, pos, count_by}
 use Rattle.std.specs.Int.Signed.{lt_z}
 use Rattle.std.specs.List.{list_any}
-use Rattle.board.specs.Ground.{Ground, has_token, position_of, same_stop, slots_at, taken_at}
+use Rattle.board.specs.Ground.{Ground, position_of}
+use Rattle.map_tables.specs.Lying.{has_token, same_stop, slots_at, taken_at}
 use Rattle.board.specs.LayRules.{cost_or}
 use Rattle.board.specs.Turn.{place_of_step}
 use Rattle.board.specs.declared.asker.Asker.{Asker}
@@ -87,9 +88,14 @@ reach_rules laid asker reached =
 abbrev pub token_rules : Ground → Asker → Place → Bool → List (Rule TokenFault)
 token_rules laid asker place reached = slot_rules laid asker place ++ reach_rules laid asker reached
 
+-- the cost of a token, or the first rule that it breaks, where it is known whether the stop is reached
+abbrev pub token_answer_of : Ground → Asker → Place → Bool → Result ℤ TokenFault
+token_answer_of laid asker place reached =
+    cost_or (token_cost_of laid.tokens asker.company) (first_broken (token_rules laid asker place reached))
+
 -- the answer to a token: its cost, or the first rule that it breaks. Where the rules before it are kept, what
 -- is reached is looked at.
 pub record IsTokenAnswer (laid : Ground) (asker : Asker) (place : Place) (answer : Result ℤ TokenFault) : Type 0 where
   pub reached : Bool
   pub exact : first_broken (slot_rules laid asker place) ≡ None → IsTrue reached ↔ IsReachedPlace (position_of laid) asker.company place
-  pub given : answer ≡ cost_or (token_cost_of laid.tokens asker.company) (first_broken (token_rules laid asker place reached))
+  pub given : answer ≡ token_answer_of laid asker place reached

@@ -1,8 +1,9 @@
-ghost use Rattle.std.specs.Prelude.{◌≡◌, ◌⊎◌, Err, None, Some, IfErr, IfOk, IsOk, OnErr, OnOk};
+ghost use Rattle.std.specs.Prelude.{◌≡◌, None, IfErr, IfOk, IsOk, OnErr, OnOk, unwrap_or};
 ghost use Rattle.board.specs.Fit.{board_fault_of};
 ghost use Rattle.board.specs.Ground.{ground_of, with_lay, with_token};
 
 use crate::fault::BoardFault;
+use crate::fit::fault_of;
 use map_tables::{Lay, Place};
 use std::alloc::{AllocError, Global};
 use std::marker::Model;
@@ -27,7 +28,8 @@ impl Model for Board {
 
 impl Board {
     /// The board after these lays and tokens, oldest first, in a phase. It is refused by the first
-    /// of `Kind`, `BadSide` and `NoSlot` that holds of the two lists, or by `Memory`.
+    /// of `Kind`, `BadSide` and `NoSlot` that holds of the two lists. Where none does they are
+    /// copied, and the error is `Memory`.
     pub fn of(
         alloc: Global,
         lays: &[Lay],
@@ -35,21 +37,18 @@ impl Board {
         phase: Kind,
     ) -> Result<Board, BoardFault>
         ensures board { IfOk result (λ board. board ≡ ground_of lays.now tokens.now phase) }
-        ensures fits { IsOk result → board_fault_of (ground_of lays.now tokens.now phase) ≡ None }
-        ensures fault { IfErr result (λ fault. (fault ≡ BoardFault.Memory)
-            ⊎ (board_fault_of (ground_of lays.now tokens.now phase) ≡ Some fault)) }
+        ensures fits { IsOk result → board_fault_of lays.now tokens.now ≡ None }
+        ensures fault { IfErr result (λ fault.
+            fault ≡ unwrap_or (board_fault_of lays.now tokens.now) BoardFault.Memory) }
     {
-        let lays = Vec::from_slice(alloc, lays)?;
-        let tokens = Vec::from_slice(alloc, tokens)?;
-        let board = Board {
-            lays,
-            tokens,
-            phase,
-        };
-        match board.fault() {
-            Some(fault) => Err(fault),
-            None => Ok(board),
+        if let Some(fault) = fault_of(lays, tokens) {
+            return Err(fault);
         }
+        Ok(Board {
+            lays: Vec::from_slice(alloc, lays)?,
+            tokens: Vec::from_slice(alloc, tokens)?,
+            phase,
+        })
     }
 
     /// Lays a tile. An `Err` leaves the board as it was.

@@ -1,49 +1,51 @@
 ghost use Rattle.std.specs.Prelude.{◌≡◌};
 ghost use Rattle.std.specs.List.{list_any};
-ghost use Rattle.board.specs.Fit.{board_fault_of, has_bad_side, has_no_slot, has_print_at, is_bad_end, is_open, is_over_full, is_shut, is_side, is_wrong_kind, place_of_tile_kind, takes};
+ghost use Rattle.board.specs.Fit.{board_fault_of};
+ghost use Rattle.map_tables.specs.Fit.{has_bad_side, has_no_slot, has_print_at, is_bad_end, is_open, is_over_full, is_shut, is_side, is_wrong_kind, place_of_tile_kind, takes};
 ghost use Rattle.map_tables.specs.Place.{stop_of};
 
-use crate::board::Board;
 use crate::fault::BoardFault;
+use crate::shown::{slots_at, taken_at};
 use map_tables::{
     End, Hex, HexKind, Lay, Place, Side, TileKind, hex_kind, laid_links, neighbour, printed_links,
     printed_stops, tile,
 };
 use tables::Company;
 
-impl Board {
-    /// The first of the rules on what may lie that is broken; `None` where none is.
-    #[tactic(auto, unfolding(crate::specs::Fit::board_fault_of))]
-    pub(crate) fn fault(&self) -> Option<BoardFault>
-        ensures { result ≡ board_fault_of self.now }
-    {
-        if has_wrong_kind(&self.lays) {
-            return Some(BoardFault::Kind);
-        }
-        if have_bad_side(&self.lays) {
-            return Some(BoardFault::BadSide);
-        }
-        if self.lacks_slot(&self.tokens) {
-            return Some(BoardFault::NoSlot);
-        }
-        None
+/// The first of the rules on what may lie that is broken by these tiles and tokens; `None` where
+/// none is.
+#[tactic(auto, unfolding(crate::specs::Fit::board_fault_of))]
+pub(crate) fn fault_of(lays: &[Lay], tokens: &[(Place, Company)]) -> Option<BoardFault>
+    ensures { result ≡ board_fault_of lays.now tokens.now }
+{
+    if has_wrong_kind(lays) {
+        return Some(BoardFault::Kind);
     }
-
-    /// Whether one of some tokens has no slot.
-    fn lacks_slot(&self, tokens: &[(Place, Company)]) -> bool
-        ensures { result ≡ list_any (has_no_slot self.now) tokens.now }
-    {
-        tokens.iter().any(|token| self.is_over_full(token.0))
+    if have_bad_side(lays) {
+        return Some(BoardFault::BadSide);
     }
+    if lacks_slot(lays, tokens) {
+        return Some(BoardFault::NoSlot);
+    }
+    None
+}
 
-    /// Whether more tokens name a place than it takes.
-    fn is_over_full(&self, place: Place) -> bool
-        ensures { result ≡ is_over_full self.now (stop_of place) }
-    {
-        match place.stop() {
-            Some(stop) => self.slots(stop) < self.named(stop),
-            None => true,
-        }
+/// Whether one of these tokens has no slot.
+fn lacks_slot(lays: &[Lay], tokens: &[(Place, Company)]) -> bool
+    ensures { result ≡ list_any (has_no_slot lays.now tokens.now) tokens.now }
+{
+    tokens
+        .iter()
+        .any(|token| is_over_full(lays, tokens, token.0))
+}
+
+/// Whether more tokens name a place than it takes.
+fn is_over_full(lays: &[Lay], tokens: &[(Place, Company)], place: Place) -> bool
+    ensures { result ≡ is_over_full lays.now tokens.now (stop_of place) }
+{
+    match place.stop() {
+        Some(stop) => slots_at(lays, stop) < taken_at(tokens, stop),
+        None => true,
     }
 }
 
@@ -88,7 +90,7 @@ fn takes(hex: HexKind, tile: TileKind) -> bool
 
 /// Whether a tile is of another kind than its hex, or its stops are swapped where there are not
 /// two.
-#[tactic(auto, unfolding(crate::specs::Fit::is_wrong_kind))]
+#[tactic(auto, unfolding(map_tables::specs::Fit::is_wrong_kind))]
 pub(crate) fn is_wrong_kind(lay: Lay) -> bool
     ensures { result ≡ is_wrong_kind lay }
 {
@@ -96,7 +98,7 @@ pub(crate) fn is_wrong_kind(lay: Lay) -> bool
 }
 
 /// Whether some track of a tile leads to a bad side.
-#[tactic(auto, unfolding(crate::specs::Fit::has_bad_side))]
+#[tactic(auto, unfolding(map_tables::specs::Fit::has_bad_side))]
 pub(crate) fn has_bad_side(lay: Lay) -> bool
     ensures { result ≡ has_bad_side lay }
 {

@@ -1,12 +1,13 @@
 //! Laws of the definitions, each the contract of a function that does nothing.
 ghost use Rattle.board.specs.Example.{WorkedExamples};
-ghost use Rattle.board.specs.Homes.{FitsWithoutHomes, HomeKeepsFit, LayKeepsFit, NothingFits, PhaseKeepsFit, TokenKeepsFit};
+ghost use Rattle.board.specs.Fit.{FaultlessAreFit};
+ghost use Rattle.board.specs.Homes.{FitsWithoutHomes, HomeKeepsFit, LayKeepsFit, TokenKeepsFit};
 ghost use Rattle.board.specs.Parts.{PartsOfBoardsHaveOneStop};
 ghost use Rattle.board.specs.Stock.{LayKeepsStock};
 
-/// Before anything is laid what lies fits: each home has a slot for its token.
-pub fn nothing_fits()
-    ensures { NothingFits }
+/// What lies is not refused as a board exactly where it is fit.
+pub fn faultless_are_fit()
+    ensures { FaultlessAreFit }
 {}
 
 /// What fits with the home tokens that are still to come is not refused as a board.
@@ -27,11 +28,6 @@ pub fn token_keeps_fit()
 /// A home token keeps it so.
 pub fn home_keeps_fit()
     ensures { HomeKeepsFit }
-{}
-
-/// A new phase keeps it so.
-pub fn phase_keeps_fit()
-    ensures { PhaseKeepsFit }
 {}
 
 /// A lay by the rules leaves no more tiles of any number on the map than there are.

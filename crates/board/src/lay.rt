@@ -1,7 +1,8 @@
 ghost use Rattle.std.specs.Prelude.{◌≡◌, ◌⊎◌, ◌↔◌, ◌≤◌, ◌<◌, Err, None, IfOk, IsTrue, count_by};
 ghost use Rattle.std.specs.List.{list_any};
-ghost use Rattle.board.specs.Ground.{position_of, tile_on, with_lay};
-ghost use Rattle.board.specs.LayRules.{HaveStopIn, IsConnected, IsLayAnswer, ShareLink, ground_rules, is_blocked, is_colour_closed, is_kept, is_lay_used, is_none_left, is_tile, is_wrong_colour, lay_cost_of, loses_track, lying_of, place_of_colour};
+ghost use Rattle.board.specs.Ground.{position_of, with_lay};
+ghost use Rattle.map_tables.specs.Lying.{tile_on};
+ghost use Rattle.board.specs.LayRules.{HaveStopIn, IsConnected, IsLayAnswer, ShareLink, ground_rules, is_blocked, is_colour_closed, is_kept, is_lay_used, is_none_left, is_tile, is_wrong_colour, lay_answer_of, lay_cost_of, loses_track, lying_of, place_of_colour};
 ghost use Rattle.map_tables.specs.Hex.{same_hex};
 ghost use Rattle.map_tables.specs.Laws.{link_order};
 ghost use Rattle.map_tables.specs.Track.{end_order};
@@ -35,7 +36,17 @@ impl Board {
         if let Some(fault) = self.ground_fault(asker, lay) {
             return Err(fault);
         }
-        if !self.would_reach(asker.company, lay)? {
+        let reached = self.would_reach(asker.company, lay)?;
+        self.lay_answer(asker, lay, reached)
+    }
+
+    /// What a lay costs that keeps the rules before what is reached, or the first rule that it
+    /// breaks, where it is known whether some piece of the tile is reached.
+    fn lay_answer(&self, asker: &Asker, lay: Lay, reached: bool) -> Result<Money, LayFault>
+        requires { first_broken (ground_rules self.now asker.now lay) ≡ None }
+        ensures { result ≡ lay_answer_of self.now asker.now lay reached }
+    {
+        if !reached {
             return Err(LayFault::NotReached);
         }
         let cost = Money::from(self.lay_cost(lay.hex));

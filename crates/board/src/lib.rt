@@ -30,6 +30,6 @@ pub use asker::{Asker, TurnStep};
 pub use board::Board;
 pub use fault::{BoardFault, LayFault, TokenFault};
 pub use laws::{
-    fits_without_homes, home_keeps_fit, lay_keeps_fit, lay_keeps_stock, nothing_fits,
-    parts_of_boards_have_one_stop, phase_keeps_fit, token_keeps_fit, worked_examples,
+    faultless_are_fit, fits_without_homes, home_keeps_fit, lay_keeps_fit, lay_keeps_stock,
+    parts_of_boards_have_one_stop, token_keeps_fit, worked_examples,
 };

@@ -2,7 +2,8 @@ ghost use Rattle.std.specs.Prelude.{◌≡◌, length};
 ghost use Rattle.std.specs.List.{count_by};
 ghost use Rattle.map_tables.specs.declared.place.Place.{Place};
 ghost use Rattle.tables.specs.declared.roster.Company.{Company};
-ghost use Rattle.board.specs.Ground.{colour_on, links_on, has_token, is_red_kind, is_stop, names, position_of, same_stop, slots_at, slots_on, taken_at, tile_on, value_in, value_on};
+ghost use Rattle.board.specs.Ground.{is_red_kind, position_of, value_in, value_on};
+ghost use Rattle.map_tables.specs.Lying.{colour_on, links_on, has_token, is_stop, names, same_stop, slots_at, slots_on, taken_at, tile_on};
 ghost use Rattle.map_tables.specs.Hex.{same_hex};
 ghost use Rattle.reach.specs.Position.{at_stop};
 ghost use Rattle.tables.specs.Roster.{same_company};
@@ -74,7 +75,7 @@ pub(crate) fn is_stop(stop: Stop) -> bool
 }
 
 /// The last of some lays on a hex.
-#[tactic(auto, unfolding(crate::specs::Ground::tile_on))]
+#[tactic(auto, unfolding(map_tables::specs::Lying::tile_on))]
 fn last_on(lays: &[Lay], hex: Hex) -> Option<Lay>
     ensures { result ≡ tile_on lays.now hex }
 {
@@ -91,6 +92,35 @@ fn count_naming(tokens: &[(Place, Company)], stop: Stop) -> usize
     ensures { result ≡ count_by (λ (token : Place × Company). names stop token.0) tokens.now }
 {
     tokens.iter().filter(|token| names(stop, token.0)).count()
+}
+
+/// How many tokens each stop of a hex takes.
+fn slots_on(lays: &[Lay], hex: Hex) -> u8
+    ensures { result ≡ slots_on lays.now hex }
+{
+    match last_on(lays, hex) {
+        Some(lay) => tile(lay.tile).slots,
+        None => printed_slots(hex),
+    }
+}
+
+/// How many tokens a stop takes; 0 where there is no such stop.
+pub(crate) fn slots_at(lays: &[Lay], stop: Stop) -> usize
+    ensures { result ≡ slots_at lays.now stop }
+{
+    let stop = joined_stop(stop);
+    if is_stop(stop) {
+        usize::from(slots_on(lays, stop.hex))
+    } else {
+        0
+    }
+}
+
+/// How many tokens name a stop.
+pub(crate) fn taken_at(tokens: &[(Place, Company)], stop: Stop) -> usize
+    ensures { result ≡ taken_at tokens.now stop }
+{
+    count_naming(tokens, joined_stop(stop))
 }
 
 impl Board {
@@ -121,16 +151,6 @@ impl Board {
         }
     }
 
-    /// How many tokens each stop of a hex takes.
-    fn slots_on(&self, hex: Hex) -> u8
-        ensures { result ≡ slots_on self.now.lays hex }
-    {
-        match self.tile_on(hex) {
-            Some(lay) => tile(lay.tile).slots,
-            None => printed_slots(hex),
-        }
-    }
-
     /// What each stop of a hex is worth.
     fn value_on(&self, hex: Hex) -> Amount
         ensures { result ≡ value_on self.now.phase self.now.lays hex }
@@ -146,12 +166,7 @@ impl Board {
         ensures slots { result ≡ slots_at self.now.lays stop }
         ensures shown { result ≡ (at_stop (position_of self.now) stop).slots }
     {
-        let stop = joined_stop(stop);
-        if is_stop(stop) {
-            usize::from(self.slots_on(stop.hex))
-        } else {
-            0
-        }
+        slots_at(&self.lays, stop)
     }
 
     /// What a stop is worth; 0 where there is no such stop.
@@ -170,7 +185,7 @@ impl Board {
     pub(crate) fn named(&self, stop: Stop) -> usize
         ensures { result ≡ taken_at self.now.tokens stop }
     {
-        count_naming(&self.tokens, joined_stop(stop))
+        taken_at(&self.tokens, stop)
     }
 
     /// How many tokens lie at a stop; none where there is no such stop.

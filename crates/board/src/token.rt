@@ -1,6 +1,6 @@
 ghost use Rattle.std.specs.Prelude.{◌≡◌, ◌⊎◌, ◌↔◌, Err, None, Some, IfOk, IsTrue};
 ghost use Rattle.board.specs.Ground.{position_of};
-ghost use Rattle.board.specs.TokenRules.{IsReachedPlace, IsTokenAnswer, has_none_left, has_token_in, is_full_at, is_kept_for, is_no_free_slot, is_token_used, kept_at, laid_by, slot_rules, token_cost_of};
+ghost use Rattle.board.specs.TokenRules.{IsReachedPlace, IsTokenAnswer, has_none_left, has_token_in, is_full_at, is_kept_for, is_no_free_slot, is_token_used, kept_at, laid_by, slot_rules, token_answer_of, token_cost_of};
 ghost use Rattle.reach.specs.Position.{IsAmong};
 ghost use Rattle.tables.specs.Rules.{first_broken};
 
@@ -24,7 +24,17 @@ impl Board {
         if let Some(fault) = self.slot_fault(asker, place) {
             return Err(fault);
         }
-        if !self.reaches(asker.company, place)? {
+        let reached = self.reaches(asker.company, place)?;
+        self.token_answer(asker, place, reached)
+    }
+
+    /// What a token costs that keeps the rules before what is reached, or the first rule that it
+    /// breaks, where it is known whether the stop is reached.
+    fn token_answer(&self, asker: &Asker, place: Place, reached: bool) -> Result<Money, TokenFault>
+        requires { first_broken (slot_rules self.now asker.now place) ≡ None }
+        ensures { result ≡ token_answer_of self.now asker.now place reached }
+    {
+        if !reached {
             return Err(TokenFault::NotReached);
         }
         let cost = Money::from(self.token_cost(asker.company));

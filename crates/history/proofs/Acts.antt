@@ -7,7 +7,7 @@ use Rattle.history.proofs.Rolling.{trains_kept}
 use Rattle.history.proofs.Choices.{chosen, passed_over}
 use Rattle.history.proofs.BidWords.{differ_after_bid, differ_after_sale, elsewhere_kept, bid_silent, sale_silent, same_private_is, seated_after_bid, seated_after_sale, small_after_bid, small_after_sale, tied_by_bid, untied_by_sale}
 use Rattle.history.proofs.EventAtEnd.{bids_of_before, cash_of_at_end, cash_of_before, is_sold_before, last_said_at_end, shares_of_before, square_of_before, sv_price_of_at_end}
-use Rattle.history.proofs.Soundness.{companies_kept, differ_kept, floated_kept, given_kept, held_kept, led_kept, offered_kept, price_kept, seated_kept, small_kept, solvent_kept, ten_kept, within_after, within_kept}
+use Rattle.history.proofs.Soundness.{companies_kept, differ_kept, fit_kept, floated_kept, given_kept, held_kept, led_kept, offered_kept, price_kept, seated_kept, small_kept, solvent_kept, ten_kept, within_after, within_kept}
 use Rattle.history.proofs.Owned.{owner_is_party}
 use Rattle.history.proofs.Standing.{bids_split}
 use Rattle.history.specs.Bids.{bids_elsewhere_of, free_cash_of, tied_on}
@@ -63,6 +63,7 @@ bid_sound game private seat amount low seated apart affordable sound =
       floated = floated_kept game.events (Bids private seat amount) refl refl refl refl sound.floated;
       within = within_kept game.seats game.events (Bids private seat amount) refl sound.within;
       trains = trains_kept game.events (Bids private seat amount) refl sound.trains;
+      fit = fit_kept game.events (Bids private seat amount) refl refl sound.fit;
     }
 
 -- after a sale each seat still has what its bids tie
@@ -156,6 +157,7 @@ sale_sound game private seat price unsold seated affordable sound =
       floated = floated_kept game.events (Sold private seat price) refl refl refl refl sound.floated;
       within = within_after game.seats game.events (Sold private seat price) (seated, tt) sound.within;
       trains = trains_kept game.events (Sold private seat price) refl sound.trains;
+      fit = fit_kept game.events (Sold private seat price) refl refl sound.fit;
     }
 
 -- a revenue takes nothing from a holder
@@ -180,6 +182,7 @@ revenue_sound game private owner amount owns sound =
       floated = floated_kept game.events (Revenue private owner amount) refl refl refl refl sound.floated;
       within = within_after game.seats game.events (Revenue private owner amount) (tt, owner_is_party game private owner sound owns) sound.within;
       trains = trains_kept game.events (Revenue private owner amount) refl sound.trains;
+      fit = fit_kept game.events (Revenue private owner amount) refl refl sound.fit;
     }
 
 -- a new price of SV, which is 0 only once SV is sold
@@ -201,6 +204,7 @@ price_sound game price some given sound =
       floated = floated_kept game.events (Price price) refl refl refl refl sound.floated;
       within = within_kept game.seats game.events (Price price) refl sound.within;
       trains = trains_kept game.events (Price price) refl sound.trains;
+      fit = fit_kept game.events (Price price) refl refl sound.fit;
     }
 
 -- SV, once its price is 0, is given away to a seat at the table
@@ -228,4 +232,5 @@ gift_sound game seat unsold seated sound =
       floated = floated_kept priced.events (Sold SchuylkillValley seat 0) refl refl refl refl (floated_kept game.events (Price 0) refl refl refl refl sound.floated);
       within = within_after priced.seats priced.events (Sold SchuylkillValley seat 0) (seated, tt) (within_kept game.seats game.events (Price 0) refl sound.within);
       trains = trains_kept priced.events (Sold SchuylkillValley seat 0) refl (trains_kept game.events (Price 0) refl sound.trains);
+      fit = fit_kept priced.events (Sold SchuylkillValley seat 0) refl refl (fit_kept game.events (Price 0) refl refl sound.fit);
     }

@@ -6,7 +6,7 @@ use Rattle.history.proofs.Rolling.{trains_kept}
 use Rattle.history.proofs.Choices.{new_word, nothing_there, old_word, same_company_is, truth}
 use Rattle.history.proofs.EventAtEnd.{bids_of_before, cash_of_at_end, is_floated_before, last_said_at_end, par_of_before, president_of_before, shares_of_before, square_of_before}
 use Rattle.history.proofs.Settled.{IsSettled, sound_of, told_same, told_settled}
-use Rattle.history.proofs.Soundness.{companies_kept, differ_kept, floated_kept, given_kept, held_kept, is_led_kept, least_offered_before, led_kept, offered_kept, price_kept, seated_kept, small_kept, solvent_kept, ten_kept, within_after, within_kept}
+use Rattle.history.proofs.Soundness.{companies_kept, differ_kept, fit_kept, floated_kept, given_kept, held_kept, is_led_kept, least_offered_before, led_kept, offered_kept, price_kept, seated_kept, small_kept, solvent_kept, ten_kept, within_after, within_kept}
 use Rattle.history.proofs.Starts.{least_eight, president_after}
 use Rattle.history.proofs.Tenths.{held_after, moved, part, shares_after, ten_after}
 use Rattle.history.specs.Event.{floated_by, party_at, square_set}
@@ -45,6 +45,7 @@ block_settled game company seat tenths price seated many sound =
       offered = λ other unplaced. let before = sound.offered other (sym (square_of_before game.events (Sells company seat tenths price) other refl) ∙ unplaced) in omega (arith, ints, shares_after game.events (Sells company seat tenths price) (block company seat tenths) other InitialOffering refl, least_offered_before game.events (Sells company seat tenths price) other refl);
       within = within_after game.seats game.events (Sells company seat tenths price) (tt, seated) sound.within;
       trains = trains_kept game.events (Sells company seat tenths price) refl sound.trains;
+      fit = fit_kept game.events (Sells company seat tenths price) refl refl sound.fit;
     }
 
 -- after a sale that may break the bank
@@ -149,6 +150,7 @@ president_settled game company seat settled =
       offered = offered_kept game.events (President company seat) refl refl refl settled.offered;
       within = within_kept game.seats game.events (President company seat) refl settled.within;
       trains = trains_kept game.events (President company seat) refl settled.trains;
+      fit = fit_kept game.events (President company seat) refl refl settled.fit;
     }
 
 -- a sale after which the presidency passes to a seat with two
@@ -173,6 +175,7 @@ settled_of game sound =
       offered = sound.offered;
       within = sound.within;
       trains = sound.trains;
+      fit = sound.fit;
     }
 
 -- a company is led after the presidency of one has passed to a seat with no fewer tenths
@@ -238,6 +241,7 @@ float_sound game company amount few sound =
       offered = offered_kept game.events (Floats company amount) refl refl refl sound.offered;
       within = within_after game.seats game.events (Floats company amount) (tt, tt) sound.within;
       trains = trains_kept game.events (Floats company amount) refl sound.trains;
+      fit = fit_kept game.events (Floats company amount) refl refl sound.fit;
     }) (led_kept game.events (Floats company amount) refl refl refl refl sound.led) (λ other floated. is_led_kept game.events (Floats company amount) other refl refl refl (elim (truth (same_company company other)) [
       | inl same ↦ subst (IsLed game.events) (same_company_is company other same) (is_led_few game company (square_of game.events company) refl few sound)
       | inr apart ↦ sound.floated other (sym (ap is_some (old_word (same_company company other) company (last_said (λ e. float_said other (floated_by e)) game.events) apart)) ∙ sym (floated_after game.events company other amount) ∙ floated)
@@ -282,4 +286,5 @@ move_sound game company from to started sound =
       offered = λ other unplaced. let before = sound.offered other (had_none game.events company other to unplaced) in omega (arith, ints, shares_of_before game.events (Moves company to) other InitialOffering refl, least_offered_before game.events (Moves company to) other refl);
       within = within_kept game.seats game.events (Moves company to) refl sound.within;
       trains = trains_kept game.events (Moves company to) refl sound.trains;
+      fit = fit_kept game.events (Moves company to) refl refl sound.fit;
     }) (λ other square placed. let before = had_square game.events company other from to square started placed in is_led_kept game.events (Moves company to) other refl refl refl (sound.led other before.0 before.1)) (floated_kept game.events (Moves company to) refl refl refl refl sound.floated)

@@ -4,9 +4,9 @@ use Rattle.std.proofs.Common.{◌≡◌, ℕ, ◌+◌, List, [], ◌∷◌, ◌+
 use Rattle.std.proofs.lemmas.Int.{ints}
 use Rattle.history.proofs.Rolling.{trains_kept}
 use Rattle.history.proofs.EventAtEnd.{is_floated_before, par_of_before, president_of_before, square_of_before}
-use Rattle.history.proofs.Soundness.{differ_kept, given_kept, least_offered_before, price_kept, seated_kept, small_kept, within_after}
+use Rattle.history.proofs.Soundness.{differ_kept, fit_kept, given_kept, least_offered_before, price_kept, seated_kept, small_kept, within_after}
 use Rattle.history.proofs.Tenths.{IsAtTable, held_after, moved, part, shares_after, ten_after}
-use Rattle.history.specs.Event.{bidding_of, floated_by, office_of, ownership_of, par_set, payment_of, place_of_source, square_set, sv_price_set, train_moved, transfer_of}
+use Rattle.history.specs.Event.{bidding_of, floated_by, office_of, ownership_of, par_set, payment_of, place_of_source, square_set, sv_price_set, tile_laid, token_placed, train_moved, transfer_of}
 use Rattle.history.specs.LookBack.{Game, with_event}
 use Rattle.history.specs.Money.{IsWithin}
 use Rattle.history.specs.Shares.{shares_of, square_of}
@@ -57,6 +57,8 @@ pub record Gains (seats : ℕ) (event : Event) (transfer : Transfer) : Type 0 wh
   pub no_float : floated_by event ≡ None
   pub no_price : sv_price_set event ≡ None
   pub no_train : train_moved event ≡ None
+  pub no_tile : tile_laid event ≡ None
+  pub no_token : token_placed event ≡ None
   pub pays : IsWithin seats (payment_of event)
 
 -- no seat has fewer tenths
@@ -116,4 +118,5 @@ gain_sound game event transfer gains many enough solvent companies sound =
       floated = floated_gained game.events event transfer gains.moves gains.from_bank gains.no_par gains.no_float gains.no_office sound.floated;
       within = within_after game.seats game.events event gains.pays sound.within;
       trains = trains_kept game.events event gains.no_train sound.trains;
+      fit = fit_kept game.events event gains.no_tile gains.no_token sound.fit;
     }

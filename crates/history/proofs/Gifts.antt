@@ -41,6 +41,8 @@ gift_gains seats company seat tenths seated =
       no_float = refl;
       no_price = refl;
       no_train = refl;
+      no_tile = refl;
+      no_token = refl;
       pays = tt;
     }
 

@@ -5,12 +5,12 @@ use Rattle.std.proofs.lemmas.Int.{ints}
 use Rattle.history.proofs.Choices.{same_company_is, truth}
 use Rattle.history.proofs.EventAtEnd.{bids_of_before, cash_of_at_end}
 use Rattle.history.proofs.Rolling.{trains_kept}
-use Rattle.history.proofs.Soundness.{differ_kept, floated_kept, given_kept, held_kept, led_kept, offered_kept, price_kept, quiet_sound, seated_kept, small_kept, ten_kept, within_after}
+use Rattle.history.proofs.Soundness.{differ_kept, fit_kept, floated_kept, given_kept, held_kept, led_kept, offered_kept, price_kept, seated_kept, small_kept, ten_kept, within_after}
 use Rattle.history.specs.Event.{bidding_of, floated_by, office_of, ownership_of, par_set, party_at, party_of_company, payment_of, square_set, sv_price_set, transfer_of}
 use Rattle.history.specs.Laws.{HomeKeepsSound, LayKeepsSound, TokenKeepsSound, WithholdingKeepsSound}
 use Rattle.history.specs.LookBack.{Game, cash_of, paid_by, with_event}
 use Rattle.history.specs.Money.{IsWithin}
-use Rattle.history.specs.Sound.{CompaniesAreSolvent, IsSound}
+use Rattle.history.specs.Sound.{CompaniesAreSolvent, IsSound, LiesFit}
 use Rattle.history.specs.Trains.{TrainsAreHeld}
 use Rattle.history.specs.declared.event.Event.{Event}
 use Rattle.history.specs.declared.event.Event.TheVariants.{Home, Laid, Token, Withheld}
@@ -38,9 +38,9 @@ abbrev pub CompaniesCanPay : Game → Event → Type 0
 CompaniesCanPay game event =
     (company : Company) → pos (paid_by (party_of_company company) (payment_of event)) ≤ℤ cash_of game.seats game.events (party_of_company company)
 
--- such an event keeps a list sound, where trains are held after it
-pub payment_sound : (game : Game) (event : Event) → OnlyPays event → NoSeatPays event → CompaniesCanPay game event → IsWithin game.seats (payment_of event) → TrainsAreHeld (game.events ++ event ∷ []) → IsSound game → IsSound (with_event game event)
-payment_sound game event only no_seat can pays trains sound =
+-- such an event keeps a list sound, where trains are held and what lies fits after it
+pub payment_sound : (game : Game) (event : Event) → OnlyPays event → NoSeatPays event → CompaniesCanPay game event → IsWithin game.seats (payment_of event) → TrainsAreHeld (game.events ++ event ∷ []) → LiesFit (game.events ++ event ∷ []) → IsSound game → IsSound (with_event game event)
+payment_sound game event only no_seat can pays trains fit sound =
     record {
       solvent = λ seat. let before = sound.solvent seat in omega (arith, ints, cash_of_at_end game.seats game.events event (party_at seat), bids_of_before game.events event seat only.no_bid, no_seat seat);
       companies = λ company. let enough = can company in omega (arith, ints, cash_of_at_end game.seats game.events event (party_of_company company));
@@ -56,6 +56,7 @@ payment_sound game event only no_seat can pays trains sound =
       floated = floated_kept game.events event only.no_par only.no_float only.no_office only.no_transfer sound.floated;
       within = within_after game.seats game.events event pays sound.within;
       trains = trains;
+      fit = fit;
     }
 
 -- a company that pays the bank has what it pays, where the one that pays has
@@ -68,20 +69,20 @@ can_pay game company other cost enough solvent =
 
 -- a lay
 pub lay_sound : LayKeepsSound
-lay_sound game company lay cost enough sound =
-    payment_sound game (Laid company lay cost) (record { no_owner = refl; no_bid = refl; no_transfer = refl; no_par = refl; no_square = refl; no_office = refl; no_float = refl; no_price = refl }) (λ seat. refl) (λ other. can_pay game company other cost enough sound.companies) (tt, tt) (trains_kept game.events (Laid company lay cost) refl sound.trains) sound
+lay_sound game company lay cost enough fit sound =
+    payment_sound game (Laid company lay cost) (record { no_owner = refl; no_bid = refl; no_transfer = refl; no_par = refl; no_square = refl; no_office = refl; no_float = refl; no_price = refl }) (λ seat. refl) (λ other. can_pay game company other cost enough sound.companies) (tt, tt) (trains_kept game.events (Laid company lay cost) refl sound.trains) fit sound
 
 -- a token
 pub token_sound : TokenKeepsSound
-token_sound game company place cost enough sound =
-    payment_sound game (Token company place cost) (record { no_owner = refl; no_bid = refl; no_transfer = refl; no_par = refl; no_square = refl; no_office = refl; no_float = refl; no_price = refl }) (λ seat. refl) (λ other. can_pay game company other cost enough sound.companies) (tt, tt) (trains_kept game.events (Token company place cost) refl sound.trains) sound
+token_sound game company place cost enough fit sound =
+    payment_sound game (Token company place cost) (record { no_owner = refl; no_bid = refl; no_transfer = refl; no_par = refl; no_square = refl; no_office = refl; no_float = refl; no_price = refl }) (λ seat. refl) (λ other. can_pay game company other cost enough sound.companies) (tt, tt) (trains_kept game.events (Token company place cost) refl sound.trains) fit sound
 
 -- a company that withholds
 pub withholding_sound : WithholdingKeepsSound
 withholding_sound game company amount sound =
-    payment_sound game (Withheld company amount) (record { no_owner = refl; no_bid = refl; no_transfer = refl; no_par = refl; no_square = refl; no_office = refl; no_float = refl; no_price = refl }) (λ seat. refl) (λ other. sound.companies other) (tt, tt) (trains_kept game.events (Withheld company amount) refl sound.trains) sound
+    payment_sound game (Withheld company amount) (record { no_owner = refl; no_bid = refl; no_transfer = refl; no_par = refl; no_square = refl; no_office = refl; no_float = refl; no_price = refl }) (λ seat. refl) (λ other. sound.companies other) (tt, tt) (trains_kept game.events (Withheld company amount) refl sound.trains) (fit_kept game.events (Withheld company amount) refl refl sound.fit) sound
 
--- a home token says nothing of what parties have
+-- a home token
 pub home_sound : HomeKeepsSound
-home_sound game company place sound =
-    quiet_sound game (Home company place) (record { payment = refl; ownership = refl; bidding = refl; transfer = refl; par = refl; square = refl; office = refl; float = refl; sv_price = refl; train = refl }) sound
+home_sound game company place fit sound =
+    payment_sound game (Home company place) (record { no_owner = refl; no_bid = refl; no_transfer = refl; no_par = refl; no_square = refl; no_office = refl; no_float = refl; no_price = refl }) (λ seat. refl) (λ other. sound.companies other) tt (trains_kept game.events (Home company place) refl sound.trains) fit sound

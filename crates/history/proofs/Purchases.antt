@@ -8,7 +8,7 @@ use Rattle.history.proofs.Choices.{chosen, passed_over, same_company_is, truth}
 use Rattle.history.proofs.Acts.{stays_sold}
 use Rattle.history.proofs.EventAtEnd.{bids_of_before, cash_of_at_end, last_said_at_end, square_of_before, sv_price_of_before}
 use Rattle.history.proofs.Gains.{EnoughAreLeft, Gains, bank_at_table, floated_gained, gain_sound, led_gained, source_of_bank}
-use Rattle.history.proofs.Soundness.{companies_kept, differ_kept, free_cash_before, price_kept, seated_kept, small_kept, solvent_kept, within_kept}
+use Rattle.history.proofs.Soundness.{companies_kept, differ_kept, fit_kept, free_cash_before, price_kept, seated_kept, small_kept, solvent_kept, within_kept}
 use Rattle.history.proofs.Starts.{start_sound_by}
 use Rattle.history.proofs.Tenths.{held_after, moved, part, shares_after, ten_after}
 use Rattle.history.specs.Bids.{free_cash_of}
@@ -72,6 +72,8 @@ purchase_gains seats company seat tenths from price seated =
       no_float = refl;
       no_price = refl;
       no_train = refl;
+      no_tile = refl;
+      no_token = refl;
       pays = (seated, tt);
     }
 
@@ -177,4 +179,5 @@ exchange_sound game seat from owner seated many sound =
       floated = floated_gained game.events (Exchanged seat from) (exchange seat from) refl (source_of_bank from) refl refl refl sound.floated;
       within = within_kept game.seats game.events (Exchanged seat from) refl sound.within;
       trains = trains_kept game.events (Exchanged seat from) refl sound.trains;
+      fit = fit_kept game.events (Exchanged seat from) refl refl sound.fit;
     }

@@ -3,12 +3,12 @@
 use Rattle.std.proofs.Common.{true, false, if◌then◌else◌, List, [], ◌∷◌, ◌++◌, refl}
 use Rattle.history.proofs.Rolling.{trains_kept}
 use Rattle.history.proofs.EventAtEnd.{quiet_same}
-use Rattle.history.proofs.Soundness.{companies_kept, differ_kept, given_kept, held_kept, offered_kept, price_kept, seated_kept, small_kept, solvent_kept, ten_kept, within_kept}
+use Rattle.history.proofs.Soundness.{companies_kept, differ_kept, fit_kept, given_kept, held_kept, offered_kept, price_kept, seated_kept, small_kept, solvent_kept, ten_kept, within_kept}
 use Rattle.history.specs.Event.{IsQuiet}
 use Rattle.history.specs.Laws.{SaysTheSame}
 use Rattle.history.specs.LookBack.{Game, sv_price_of, with_event}
 use Rattle.history.specs.Money.{AreWithin}
-use Rattle.history.specs.Sound.{AreLed, AreOffered, AreTenInAll, BiddersAreSeated, BidsAreSmall, BidsDiffer, CompaniesAreSolvent, FloatedAreLed, IsGivenAway, IsSound, IsSvPrice, SeatsAreSolvent, TenthsAreHeld}
+use Rattle.history.specs.Sound.{AreLed, AreOffered, AreTenInAll, BiddersAreSeated, BidsAreSmall, BidsDiffer, CompaniesAreSolvent, FloatedAreLed, IsGivenAway, IsSound, IsSvPrice, LiesFit, SeatsAreSolvent, TenthsAreHeld}
 use Rattle.history.specs.Tell.{breaks, broken_told}
 use Rattle.history.specs.Trains.{TrainsAreHeld}
 use Rattle.history.specs.declared.event.Event.{Event}
@@ -28,6 +28,7 @@ pub record IsSettled (game : Game) : Type 0 where
   pub offered : AreOffered game.events
   pub within : AreWithin game.seats game.events
   pub trains : TrainsAreHeld game.events
+  pub fit : LiesFit game.events
 
 -- a list where they are led too
 pub sound_of : (game : Game) → IsSettled game → AreLed game.events → FloatedAreLed game.events → IsSound game
@@ -47,6 +48,7 @@ sound_of game settled led floated =
       floated = floated;
       within = settled.within;
       trains = settled.trains;
+      fit = settled.fit;
     }
 
 -- a quiet event keeps it so
@@ -65,6 +67,7 @@ settled_quiet game event quiet settled =
       offered = offered_kept game.events event quiet.ownership quiet.square quiet.transfer settled.offered;
       within = within_kept game.seats game.events event quiet.payment settled.within;
       trains = trains_kept game.events event quiet.train settled.trains;
+      fit = fit_kept game.events event quiet.tile quiet.token settled.fit;
     }
 
 -- BROKEN is quiet
@@ -81,6 +84,8 @@ broken_quiet =
       float = refl;
       sv_price = refl;
       train = refl;
+      tile = refl;
+      token = refl;
     }
 
 -- a list says the same as itself

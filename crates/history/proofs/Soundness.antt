@@ -1,19 +1,24 @@
 -- What keeps a list sound: an event without the aspects of a fact keeps that fact.
 use Rattle.std.proofs.Common.{◌≡◌, ℕ, ◌≤◌, List, [], ◌∷◌, ◌++◌, None, pos, ◌≤ℤ◌, ◌-ℤ◌, ◌+ℤ◌, ℤ, refl, sym, subst, ap, ◌∙◌, arith, if◌then◌else◌, inl}
 use Rattle.std.proofs.lemmas.Int.{ints}
+use Rattle.history.proofs.InOrder.{lays_before, tokens_before}
 use Rattle.history.proofs.Rolling.{no_trains, trains_kept}
 use Rattle.history.proofs.EventAtEnd.{bid_of_before, bids_of_before, cash_of_before, is_closed_before, is_floated_before, is_sold_before, par_of_before, president_of_before, shares_of_before, square_of_before, sv_price_of_before}
 use Rattle.history.specs.Bids.{bids_of, free_cash_of}
-use Rattle.history.specs.Event.{bidding_of, floated_by, office_of, ownership_of, par_set, party_at, payment_of, square_set, sv_price_set, transfer_of}
+use Rattle.history.specs.Event.{bidding_of, floated_by, office_of, ownership_of, par_set, party_at, payment_of, square_set, sv_price_set, tile_laid, token_placed, transfer_of}
 use Rattle.history.specs.Laws.{QuietKeepsSound}
 use Rattle.history.specs.LookBack.{Game, cash_of, sv_price_of, with_event}
 use Rattle.history.specs.Money.{AreWithin, IsWithin}
+use Rattle.history.specs.Operating.{lays_of, tokens_of}
 use Rattle.history.specs.Shares.{held_by, shares_of}
-use Rattle.history.specs.Sound.{AreLed, AreOffered, AreTenInAll, BiddersAreSeated, BidsAreSmall, BidsDiffer, CompaniesAreSolvent, FloatedAreLed, IsGivenAway, IsLed, IsSound, IsSvPrice, SeatsAreSolvent, TenthsAreHeld, least_offered}
+use Rattle.history.specs.Sound.{AreLed, AreOffered, AreTenInAll, BiddersAreSeated, BidsAreSmall, BidsDiffer, CompaniesAreSolvent, FloatedAreLed, IsGivenAway, IsLed, IsSound, IsSvPrice, LiesFit, SeatsAreSolvent, TenthsAreHeld, least_offered}
 use Rattle.history.specs.declared.event.Event.{Event}
 use Rattle.history.specs.declared.event.Holder.TheVariants as holder
 use Rattle.history.specs.declared.event.Party.TheVariants as party
 use Rattle.history.specs.declared.event.Shareholder.TheVariants.{InitialOffering, BankPool, Seat as OfSeat}
+use Rattle.map_tables.proofs.NothingFits.{nothing_fits}
+use Rattle.map_tables.specs.Fit.{AreFitWithHomes}
+use Rattle.map_tables.specs.declared.lay.Lay.{Lay}
 use Rattle.tables.specs.Seat.{all_seats}
 use Rattle.tables.specs.declared.roster.Company.{Company}
 use Rattle.tables.specs.declared.roster.Company.TheVariants.{Pennsylvania, NewYorkCentral, CanadianPacific, BaltimoreOhio, ChesapeakeOhio, Erie, NewHaven, BostonMaine}
@@ -124,6 +129,11 @@ within_after seats (first ∷ events) event pays within = (within.0, within_afte
 pub within_kept : (seats : ℕ) (events : List Event) (event : Event) → payment_of event ≡ None → AreWithin seats events → AreWithin seats (events ++ event ∷ [])
 within_kept seats events event none within = within_after seats events event (subst (IsWithin seats) (sym none) tt) within
 
+-- without a tile or a token what lies fits as before
+pub fit_kept : (events : List Event) (event : Event) → tile_laid event ≡ None → token_placed event ≡ None → LiesFit events → LiesFit (events ++ event ∷ [])
+fit_kept events event no_tile no_token fit =
+    subst (λ (lays : List Lay). AreFitWithHomes lays (tokens_of (events ++ event ∷ []))) (sym (lays_before events event no_tile)) (subst (AreFitWithHomes (lays_of events)) (sym (tokens_before events event no_token)) fit)
+
 -- a quiet event keeps each fact
 pub quiet_sound : QuietKeepsSound
 quiet_sound game event quiet sound =
@@ -142,6 +152,7 @@ quiet_sound game event quiet sound =
       floated = floated_kept game.events event quiet.par quiet.float quiet.office quiet.transfer sound.floated;
       within = within_kept game.seats game.events event quiet.payment sound.within;
       trains = trains_kept game.events event quiet.train sound.trains;
+      fit = fit_kept game.events event quiet.tile quiet.token sound.fit;
     }
 
 -- at first nobody bids
@@ -182,4 +193,5 @@ start_sound seats =
       floated = λ company floated. absurd (cc);
       within = tt;
       trains = no_trains;
+      fit = nothing_fits;
     }

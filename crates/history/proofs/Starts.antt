@@ -7,7 +7,7 @@ use Rattle.history.proofs.Rolling.{trains_kept}
 use Rattle.history.proofs.Choices.{new_word, old_word, same_company_is, something, truth}
 use Rattle.history.proofs.EventAtEnd.{is_floated_before, last_said_at_end, par_of_before, president_of_before, shares_of_before, square_of_before}
 use Rattle.history.proofs.Gains.{Gains}
-use Rattle.history.proofs.Soundness.{companies_kept, differ_kept, given_kept, held_kept, least_offered_before, price_kept, seated_kept, small_kept, solvent_kept, ten_kept, within_after, within_kept}
+use Rattle.history.proofs.Soundness.{companies_kept, differ_kept, fit_kept, given_kept, held_kept, least_offered_before, price_kept, seated_kept, small_kept, solvent_kept, ten_kept, within_after, within_kept}
 use Rattle.history.proofs.Tenths.{held_after, moved, shares_after, ten_after}
 use Rattle.history.specs.Event.{office_of, par_set, placed, square_set}
 use Rattle.history.specs.Laws.{StartKeepsSound}
@@ -182,6 +182,7 @@ start_sound_by game company seat price event gains is_par unplaced solvent compa
       floated = all_floated_led game company seat price at.0 event at.1 gains is_par (sound.held company (OfSeat seat)) sound.floated;
       within = within_kept game.seats given.events (President company seat) refl (within_after game.seats par.events event gains.pays (within_kept game.seats game.events (Par company price) refl sound.within));
       trains = trains_kept given.events (President company seat) refl (trains_kept par.events event gains.no_train (trains_kept game.events (Par company price) refl sound.trains));
+      fit = fit_kept given.events (President company seat) refl refl (fit_kept par.events event gains.no_tile gains.no_token (fit_kept game.events (Par company price) refl refl sound.fit));
     }
 
 -- the two tenths are given
@@ -199,6 +200,8 @@ started_sound game company seat price is_par unplaced seated sound =
       no_float = refl;
       no_price = refl;
       no_train = refl;
+      no_tile = refl;
+      no_token = refl;
       pays = tt;
     }
     in

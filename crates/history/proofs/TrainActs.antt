@@ -7,7 +7,7 @@ use Rattle.history.proofs.Acts.{fewer, stays_sold}
 use Rattle.history.proofs.EventAtEnd.{last_said_at_end, shares_of_before, square_of_before, sv_price_of_before}
 use Rattle.history.proofs.Payments.{can_pay, payment_sound}
 use Rattle.history.proofs.Rolling.{trains_after_move, trains_after_sale, trains_kept}
-use Rattle.history.proofs.Soundness.{companies_kept, differ_kept, floated_kept, held_kept, led_kept, price_kept, quiet_sound, seated_kept, small_kept, solvent_kept, ten_kept, within_kept}
+use Rattle.history.proofs.Soundness.{companies_kept, differ_kept, fit_kept, floated_kept, held_kept, led_kept, price_kept, quiet_sound, seated_kept, small_kept, solvent_kept, ten_kept, within_kept}
 use Rattle.history.specs.Event.{ownership_of}
 use Rattle.history.specs.Laws.{ClosingKeepsSound, DiscardKeepsSound, DividendKeepsSound, PhaseKeepsSound, RunKeepsSound, RustingKeepsSound, TradeKeepsSound, TrainPurchaseKeepsSound}
 use Rattle.history.specs.LookBack.{is_closed, is_sold, last_said, owner_said}
@@ -30,17 +30,17 @@ use Rattle.tables.specs.declared.roster.Private.TheVariants.{SchuylkillValley, M
 -- a run
 pub run_sound : RunKeepsSound
 run_sound game company revenue sound =
-    quiet_sound game (Runs company revenue) (record { payment = refl; ownership = refl; bidding = refl; transfer = refl; par = refl; square = refl; office = refl; float = refl; sv_price = refl; train = refl }) sound
+    quiet_sound game (Runs company revenue) (record { payment = refl; ownership = refl; bidding = refl; transfer = refl; par = refl; square = refl; office = refl; float = refl; sv_price = refl; train = refl; tile = refl; token = refl }) sound
 
 -- a phase
 pub phase_sound : PhaseKeepsSound
 phase_sound game kind sound =
-    quiet_sound game (Phase kind) (record { payment = refl; ownership = refl; bidding = refl; transfer = refl; par = refl; square = refl; office = refl; float = refl; sv_price = refl; train = refl }) sound
+    quiet_sound game (Phase kind) (record { payment = refl; ownership = refl; bidding = refl; transfer = refl; par = refl; square = refl; office = refl; float = refl; sv_price = refl; train = refl; tile = refl; token = refl }) sound
 
 -- a dividend
 pub dividend_sound : DividendKeepsSound
 dividend_sound game company paid amount party sound =
-    payment_sound game (Dividend company paid amount) (record { no_owner = refl; no_bid = refl; no_transfer = refl; no_par = refl; no_square = refl; no_office = refl; no_float = refl; no_price = refl }) (λ seat. refl) (λ other. sound.companies other) (tt, party) (trains_kept game.events (Dividend company paid amount) refl sound.trains) sound
+    payment_sound game (Dividend company paid amount) (record { no_owner = refl; no_bid = refl; no_transfer = refl; no_par = refl; no_square = refl; no_office = refl; no_float = refl; no_price = refl }) (λ seat. refl) (λ other. sound.companies other) (tt, party) (trains_kept game.events (Dividend company paid amount) refl sound.trains) (fit_kept game.events (Dividend company paid amount) refl refl sound.fit) sound
 
 -- after a train that is there has come to the company that buys it
 pub came_held : (events : List Event) (company : Company) (kind : Kind) (from : TrainSeller) (price : ℕ) → IsThere events from kind → TrainsAreHeld events → TrainsAreHeld (events ++ Train company kind from price ∷ [])
@@ -52,22 +52,22 @@ came_held events company kind seller.BankPool price there held =
 -- the purchase of a train
 pub train_purchase_sound : TrainPurchaseKeepsSound
 train_purchase_sound game company kind from price there enough sound =
-    payment_sound game (Train company kind from price) (record { no_owner = refl; no_bid = refl; no_transfer = refl; no_par = refl; no_square = refl; no_office = refl; no_float = refl; no_price = refl }) (λ seat. refl) (λ other. can_pay game company other price enough sound.companies) (tt, tt) (came_held game.events company kind from price there sound.trains) sound
+    payment_sound game (Train company kind from price) (record { no_owner = refl; no_bid = refl; no_transfer = refl; no_par = refl; no_square = refl; no_office = refl; no_float = refl; no_price = refl }) (λ seat. refl) (λ other. can_pay game company other price enough sound.companies) (tt, tt) (came_held game.events company kind from price there sound.trains) (fit_kept game.events (Train company kind from price) refl refl sound.fit) sound
 
 -- a train that is traded in
 pub trade_sound : TradeKeepsSound
 trade_sound game company kind has sound =
-    payment_sound game (Traded company kind) (record { no_owner = refl; no_bid = refl; no_transfer = refl; no_par = refl; no_square = refl; no_office = refl; no_float = refl; no_price = refl }) (λ seat. refl) (λ other. sound.companies other) tt (trains_after_move game.events (Traded company kind) (Some company) kind place.BankPool refl has sound.trains) sound
+    payment_sound game (Traded company kind) (record { no_owner = refl; no_bid = refl; no_transfer = refl; no_par = refl; no_square = refl; no_office = refl; no_float = refl; no_price = refl }) (λ seat. refl) (λ other. sound.companies other) tt (trains_after_move game.events (Traded company kind) (Some company) kind place.BankPool refl has sound.trains) (fit_kept game.events (Traded company kind) refl refl sound.fit) sound
 
 -- one that is discarded
 pub discard_sound : DiscardKeepsSound
 discard_sound game company kind has sound =
-    payment_sound game (Discarded company kind) (record { no_owner = refl; no_bid = refl; no_transfer = refl; no_par = refl; no_square = refl; no_office = refl; no_float = refl; no_price = refl }) (λ seat. refl) (λ other. sound.companies other) tt (trains_after_move game.events (Discarded company kind) (Some company) kind place.BankPool refl has sound.trains) sound
+    payment_sound game (Discarded company kind) (record { no_owner = refl; no_bid = refl; no_transfer = refl; no_par = refl; no_square = refl; no_office = refl; no_float = refl; no_price = refl }) (λ seat. refl) (λ other. sound.companies other) tt (trains_after_move game.events (Discarded company kind) (Some company) kind place.BankPool refl has sound.trains) (fit_kept game.events (Discarded company kind) refl refl sound.fit) sound
 
 -- one that rusts
 pub rusting_sound : RustingKeepsSound
 rusting_sound game owner kind has sound =
-    payment_sound game (Rusted owner kind) (record { no_owner = refl; no_bid = refl; no_transfer = refl; no_par = refl; no_square = refl; no_office = refl; no_float = refl; no_price = refl }) (λ seat. refl) (λ other. sound.companies other) tt (trains_after_move game.events (Rusted owner kind) owner kind place.OutOfPlay refl has sound.trains) sound
+    payment_sound game (Rusted owner kind) (record { no_owner = refl; no_bid = refl; no_transfer = refl; no_par = refl; no_square = refl; no_office = refl; no_float = refl; no_price = refl }) (λ seat. refl) (λ other. sound.companies other) tt (trains_after_move game.events (Rusted owner kind) owner kind place.OutOfPlay refl has sound.trains) (fit_kept game.events (Rusted owner kind) refl refl sound.fit) sound
 
 -- a private stays closed once that is said of one again
 closed_still : (same : Bool) (word : Option (Option Holder)) → (is_some word && is_none (option_flatten word)) ≡ true → (is_some (option_or (if same then Some None else None) word) && is_none (option_flatten (option_or (if same then Some None else None) word))) ≡ true
@@ -121,4 +121,5 @@ closing_sound game private sound =
       floated = floated_kept game.events (Closed private) refl refl refl refl sound.floated;
       within = within_kept game.seats game.events (Closed private) refl sound.within;
       trains = trains_kept game.events (Closed private) refl sound.trains;
+      fit = fit_kept game.events (Closed private) refl refl sound.fit;
     }

@@ -248,7 +248,7 @@ abbrev pub acts : Ruling → Bool
 acts (Obeyed order) = is_act order
 acts other = false
 
--- an event says nothing of what parties have and own, or of SV's price
+-- an event says nothing of what parties have and own, of SV's price, or of what lies on the map
 pub record IsQuiet (event : Event) : Type 0 where
   pub payment : payment_of event ≡ None
   pub ownership : ownership_of event ≡ None
@@ -260,6 +260,8 @@ pub record IsQuiet (event : Event) : Type 0 where
   pub float : floated_by event ≡ None
   pub sv_price : sv_price_set event ≡ None
   pub train : train_moved event ≡ None
+  pub tile : tile_laid event ≡ None
+  pub token : token_placed event ≡ None
 
 -- the code of a rule of the opening
 abbrev pub code_of_opening_rule : OpeningRule → List ℕ

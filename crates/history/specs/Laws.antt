@@ -7,7 +7,7 @@ use Rattle.history.specs.Bids.{bid_of, bids_elsewhere_of, bids_of, bids_on as th
 use Rattle.history.specs.Money.{IsParty, cash_together, parties}
 use Rattle.history.specs.Operating.{lays_of, rulings_in_round, rulings_then, tokens_of}
 use Rattle.history.specs.Shares.{arrival_of, is_floated, is_par_value, par_of, president_of, shares_of, square_of, square_said}
-use Rattle.history.specs.Sound.{IsSound, IsSvPrice, least_offered}
+use Rattle.history.specs.Sound.{IsSound, IsSvPrice, LiesFit, least_offered}
 use Rattle.history.specs.Tell.{broken_told}
 use Rattle.history.specs.declared.event.Event.{Event}
 use Rattle.history.specs.declared.event.Event.TheVariants.{Bids, Sold, Price, Revenue, Given, Par, President, Bought, Sells, Exchanged, Floats, Moves, Home, Laid, Token, Withheld, Runs, Dividend, Traded, Train, Phase, Rusted, Discarded, Closed}
@@ -189,22 +189,23 @@ MoveKeepsSound =
     (game : Game) (company : Company) (from to : Square) →
     square_of game.events company ≡ Some from → IsSound game → IsSound (with_event game (Moves company to))
 
--- a company's home token keeps a list sound
+-- a company's home token keeps a list sound, where what lies fits with it
 abbrev pub HomeKeepsSound : Type 0
 HomeKeepsSound =
-    (game : Game) (company : Company) (place : Place) → IsSound game → IsSound (with_event game (Home company place))
+    (game : Game) (company : Company) (place : Place) →
+    LiesFit (game.events ++ Home company place ∷ []) → IsSound game → IsSound (with_event game (Home company place))
 
--- a token that a company can pay keeps a list sound
+-- a token that a company can pay keeps a list sound, where what lies fits with it
 abbrev pub TokenKeepsSound : Type 0
 TokenKeepsSound =
     (game : Game) (company : Company) (place : Place) (cost : ℕ) →
-    pos cost ≤ℤ cash_of game.seats game.events (party_of_company company) → IsSound game → IsSound (with_event game (Token company place cost))
+    pos cost ≤ℤ cash_of game.seats game.events (party_of_company company) → LiesFit (game.events ++ Token company place cost ∷ []) → IsSound game → IsSound (with_event game (Token company place cost))
 
--- a lay that a company can pay keeps a list sound
+-- a lay that a company can pay keeps a list sound, where what lies fits with it
 abbrev pub LayKeepsSound : Type 0
 LayKeepsSound =
     (game : Game) (company : Company) (lay : Lay) (cost : ℕ) →
-    pos cost ≤ℤ cash_of game.seats game.events (party_of_company company) → IsSound game → IsSound (with_event game (Laid company lay cost))
+    pos cost ≤ℤ cash_of game.seats game.events (party_of_company company) → LiesFit (game.events ++ Laid company lay cost ∷ []) → IsSound game → IsSound (with_event game (Laid company lay cost))
 
 -- a company that withholds what it earned keeps a list sound
 abbrev pub WithholdingKeepsSound : Type 0

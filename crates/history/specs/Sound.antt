@@ -7,12 +7,14 @@
 -- a company that has a square or has floated has one of the six par values and a president with at least
 -- two tenths;
 -- every payment goes between the bank, seats at the table and companies;
--- nobody has fewer than no trains of a kind, and the bank has sold no more of them than there are.
+-- nobody has fewer than no trains of a kind, and the bank has sold no more of them than there are;
+-- the tiles and tokens that were laid fit on the map, with the home tokens that are still to come.
 -- Each fact is about a few aspects of events: an event without those keeps it.
 use Rattle.std.specs.Prelude.{◌≡◌, ◌⊎◌, ℕ, ◌<◌, ◌≤◌, true, if◌then◌else◌, List, Some, None, pos, ◌≤ℤ◌}
 use Rattle.history.specs.Bids.{bid_of, free_cash_of}
 use Rattle.history.specs.LookBack.{Game, cash_of, is_closed, is_sold, sv_price_of}
 use Rattle.history.specs.Money.{AreWithin}
+use Rattle.history.specs.Operating.{lays_of, tokens_of}
 use Rattle.history.specs.Shares.{is_floated, is_par_value, par_of, president_of, shares_of, square_of, tenths_in_all}
 use Rattle.history.specs.Trains.{TrainsAreHeld}
 use Rattle.history.specs.declared.event.Event.{Event}
@@ -20,6 +22,7 @@ use Rattle.history.specs.declared.event.Holder.TheVariants as holder
 use Rattle.history.specs.declared.event.Party.TheVariants as party
 use Rattle.history.specs.declared.event.Shareholder.{Shareholder}
 use Rattle.history.specs.declared.event.Shareholder.TheVariants.{InitialOffering, Seat as OfSeat}
+use Rattle.map_tables.specs.Fit.{AreFitWithHomes}
 use Rattle.tables.specs.declared.roster.Company.{Company}
 use Rattle.tables.specs.declared.roster.Company.TheVariants.{Pennsylvania, NewYorkCentral}
 use Rattle.tables.specs.declared.roster.Private.{Private}
@@ -95,6 +98,10 @@ AreLed events = (company : Company) (square : Square) → square_of events compa
 abbrev pub FloatedAreLed : List Event → Type 0
 FloatedAreLed events = (company : Company) → is_floated events company ≡ true → IsLed events company
 
+-- what lies on the map fits
+abbrev pub LiesFit : List Event → Type 0
+LiesFit events = AreFitWithHomes (lays_of events) (tokens_of events)
+
 pub record IsSound (game : Game) : Type 0 where
   pub solvent : SeatsAreSolvent game
   pub companies : CompaniesAreSolvent game
@@ -110,3 +117,4 @@ pub record IsSound (game : Game) : Type 0 where
   pub floated : FloatedAreLed game.events
   pub within : AreWithin game.seats game.events
   pub trains : TrainsAreHeld game.events
+  pub fit : LiesFit game.events

@@ -11,8 +11,8 @@ use std::alloc::AllocError;
 use tables::{Private, Seat, revenue};
 
 impl History {
-    /// Adds an event that changes nothing of what parties have and own. An `Err` leaves the list as
-    /// it was.
+    /// Adds an event that changes nothing of what parties have and own, and nothing on the map. An
+    /// `Err` leaves the list as it was.
     pub fn tell(&mut self, event: Event) -> Result<(), AllocError>
         requires sum { sum_of event ≤ 1000000 }
         requires quiet { IsQuiet event }

@@ -11,3 +11,4 @@ mod Turning
 mod Turns
 mod Values
 pub mod Texts
+pub mod NothingFits

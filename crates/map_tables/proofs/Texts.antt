@@ -1,5 +1,5 @@
 -- A text names a hex, a place, a tile or a rotation exactly where it is the text of that.
-use Rattle.std.proofs.Common.{◌≡◌, ℕ, ◌+◌, ◌*◌, ◌-◌, ◌/◌, ◌%◌, ◌^◌, ◌<◌, ◌≤◌, ◌==◌, ◌&&◌, Bool, ltb, nat_le, nat_lt, true, false, cond, inl, inr, List, [], ◌∷◌, ◌++◌, Option, Some, None, length, take, drop, decimal, append_assoc, refl, sym, ap, ◌∙◌, arith}
+use Rattle.std.proofs.Common.{◌≡◌, ℕ, ◌+◌, ◌*◌, ◌-◌, ◌/◌, ◌%◌, ◌^◌, ◌<◌, ◌≤◌, ◌==◌, ◌&&◌, ltb, nat_le, nat_lt, true, cond, inl, inr, List, [], ◌∷◌, ◌++◌, Option, Some, None, length, take, drop, decimal, append_assoc, refl, sym, ap, ◌∙◌, arith}
 use Rattle.std.specs.Option.{option_and_then}
 use Rattle.std.proofs.lemmas.Bool.{cases_Bool, cases_lt, and_parts, eqb-true, ltb-true, lt-ltb}
 use Rattle.std.proofs.lemmas.Bool.Decides.{nat_tests}

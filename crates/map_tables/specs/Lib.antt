@@ -10,4 +10,6 @@ pub mod PrintedHex
 pub mod Lay
 pub mod Text
 pub mod Home
+pub mod Lying
+pub mod Fit
 pub mod Laws

@@ -1,5 +1,6 @@
 //! What holds of the tables: each law is the contract of a function that does nothing.
 ghost use Rattle.std.specs.Prelude.{◌≡◌};
+ghost use Rattle.map_tables.specs.Fit.{NothingFits};
 ghost use Rattle.map_tables.specs.Hex.{hexes};
 ghost use Rattle.map_tables.specs.Laws.{
   HomesTakeTokens,
@@ -93,6 +94,11 @@ pub fn red_areas_are_joined()
 /// Each company's home takes a token by its print.
 pub fn homes_take_tokens()
     ensures { HomesTakeTokens }
+{}
+
+/// Before anything is laid what lies fits: each home has a slot for its token.
+pub fn nothing_fits()
+    ensures { NothingFits }
 {}
 
 /// A text names a hex, a place, a tile or a rotation exactly where it is the text of that.

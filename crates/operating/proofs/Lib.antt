@@ -2,11 +2,6 @@ pub mod Told
 pub mod Fitting
 pub mod Allowed
 pub mod Once
-pub mod Adds
-pub mod TrainsAdd
-pub mod Adding
-pub mod Seats
-pub mod Operated
 pub mod Found
 pub mod Decided
 pub mod Ends
@@ -27,4 +22,6 @@ pub mod Held
 pub mod Fleet
 pub mod Still
 pub mod TurnSteps
-pub mod TurnTrains
+pub mod TurnEvents
+pub mod TurnLaws
+pub mod Operated

@@ -1,7 +1,7 @@
 -- The hexes of the code are those of the map.
 use Rattle.std.proofs.Common.{◌∙◌, ap}
 use Rattle.std.specs.List.{count_by}
-use Rattle.board.specs.Ground.{tile_on}
+use Rattle.map_tables.specs.Lying.{tile_on}
 use Rattle.board.specs.LayRules.{is_tile, lying_of}
 use Rattle.board.proofs.board.Board.lying_of.Goals as goal
 

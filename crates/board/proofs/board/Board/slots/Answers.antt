@@ -1,17 +1,13 @@
 -- The slots of a stop are those that the position has there.
-use Rattle.std.proofs.Common.{◌≡◌, ap, sym, true, false}
-use Rattle.board.specs.Ground.{is_stop}
-use Rattle.board.proofs.Positions.{shown, not_shown}
-use Rattle.map_tables.specs.Place.{joined_stop_of}
-use Rattle.reach.specs.Position.{AtStop}
+use Rattle.std.proofs.Common.{◌∙◌, List, ap, sym}
+use Rattle.board.proofs.Positions.{slots_shown}
+use Rattle.board.specs.Ground.{Ground}
+use Rattle.map_tables.specs.Lying.{slots_at}
+use Rattle.map_tables.specs.declared.lay.Lay.{Lay}
 use Rattle.board.proofs.board.Board.slots.Goals as goal
 
-pub returns-then-is_stop-clause-shown : goal.returns-then-is_stop-clause-shown
-returns-then-is_stop-clause-shown c =
-    let is : is_stop (joined_stop_of c.args.stop) ≡ true = cc in
-    let here = ap (λ (s : AtStop). s.slots) (shown c.args.self.now c.args.stop is) in cc
-
-pub returns-else-is_stop-clause-shown : goal.returns-else-is_stop-clause-shown
-returns-else-is_stop-clause-shown c =
-    let is : is_stop (joined_stop_of c.args.stop) ≡ false = cc in
-    sym (ap (λ (s : AtStop). s.slots) (not_shown c.args.self.now c.args.stop is))
+pub returns-clause-shown : goal.returns-clause-shown
+returns-clause-shown c =
+    c.slots_at.ensures
+    ∙ ap (λ (lays : List Lay). slots_at lays c.args.stop) (c.deref.ensures.value ∙ ap (λ (laid : Ground). laid.lays) c.self.view_is)
+    ∙ sym (slots_shown c.args.self.now c.args.stop)

@@ -1,7 +1,8 @@
 -- The tokens at a stop are those that the position has there.
 use Rattle.std.proofs.Common.{◌≡◌, ◌∙◌, ap, sym, true, false, length}
 use Rattle.std.specs.List.{count_by}
-use Rattle.board.specs.Ground.{Ground, is_stop, names}
+use Rattle.board.specs.Ground.{Ground}
+use Rattle.map_tables.specs.Lying.{is_stop, names}
 use Rattle.board.proofs.Positions.{shown, not_shown}
 use Rattle.board.proofs.Tokens.{count_is}
 use Rattle.map_tables.specs.Place.{joined_stop_of}

@@ -1,6 +1,6 @@
 -- What a stop is worth is what that the position has there.
 use Rattle.std.proofs.Common.{◌≡◌, ap, sym, true, false}
-use Rattle.board.specs.Ground.{is_stop}
+use Rattle.map_tables.specs.Lying.{is_stop}
 use Rattle.board.proofs.Positions.{shown, not_shown}
 use Rattle.map_tables.specs.Place.{joined_stop_of}
 use Rattle.reach.specs.Position.{AtStop}

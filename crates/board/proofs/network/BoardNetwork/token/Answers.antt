@@ -1,6 +1,6 @@
 -- Whether a company has a token at a stop is what the position has there.
 use Rattle.std.proofs.Common.{◌≡◌, ◌∙◌, ap, sym, subst, true, false}
-use Rattle.board.specs.Ground.{has_token, is_stop}
+use Rattle.map_tables.specs.Lying.{has_token, is_stop}
 use Rattle.board.proofs.Positions.{shown, not_shown}
 use Rattle.board.proofs.Tokens.{among_is, is_among}
 use Rattle.map_tables.specs.Place.{joined_stop_of}

@@ -1,6 +1,4 @@
-use Rattle.std.proofs.Common.{◌≡◌, List, ℕ, ◌++◌, ◌∷◌, [], decimal, arith, ap, length, ◌∙◌}
-use Rattle.map_tables.specs.Hex.{column_of, row_of}
-use Rattle.map_tables.specs.Text.{text_of_hex}
+use Rattle.std.proofs.Common.{◌≡◌, [], arith, ap, length}
 use Rattle.map_tables.proofs.Texts.{hex_text-le, hex_written}
 use Rattle.map_tables.proofs.hex.Hex.text.Goals as goal
 
