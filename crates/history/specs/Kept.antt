@@ -1,4 +1,5 @@
 -- Orders and rulings as events keep them, in few bytes.
+use Rattle.std.specs.Prelude.{◌≡◌, ◌<◌, Bool, true, false, length}
 use Rattle.history.specs.KeptRun.{places_in}
 use Rattle.history.specs.declared.kept.OrderKept.{OrderKept}
 use Rattle.history.specs.declared.kept.OrderKept.TheVariants as kept
@@ -28,6 +29,28 @@ order_in_short short.Pay = order.Pay
 order_in_short short.Withhold = order.Withhold
 order_in_short (short.BuyTrain kind from) = order.BuyTrain kind from
 order_in_short (short.Discard company kind) = order.Discard company kind
+
+-- an order of play, but no run: its form takes few bytes
+abbrev pub has_short_form : Order → Bool
+has_short_form (order.BuyPrivate private) = true
+has_short_form (order.Bid private amount) = true
+has_short_form (order.Limit private amount) = true
+has_short_form (order.Par company price) = true
+has_short_form (order.BuyShare company from) = true
+has_short_form (order.Sell company tenths) = true
+has_short_form order.ExchangeMohawk = true
+has_short_form (order.Lay lay) = true
+has_short_form (order.Token place) = true
+has_short_form order.Pay = true
+has_short_form order.Withhold = true
+has_short_form (order.BuyTrain kind from) = true
+has_short_form (order.Discard company kind) = true
+has_short_form other = false
+
+-- an order that is kept behind a box: a run of over five places, or an order of no play
+abbrev pub TakesBox : Order → Type 0
+TakesBox (order.Run kind run) = 5 < length run
+TakesBox other = has_short_form other ≡ false
 
 -- the order that is kept
 abbrev pub order_in : OrderKept → Order

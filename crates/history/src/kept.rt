@@ -1,7 +1,7 @@
 //! Orders and rulings as events keep them, in few bytes.
-ghost use Rattle.std.specs.Prelude.{◌≡◌, IfOk, IfSome};
+ghost use Rattle.std.specs.Prelude.{◌≡◌, false, MatchOption, MatchResult};
 ghost use Rattle.history.specs.Event.{acts};
-ghost use Rattle.history.specs.Kept.{order_in_short, ruling_by};
+ghost use Rattle.history.specs.Kept.{TakesBox, has_short_form, order_in_short, ruling_by};
 ghost use Rattle.history.specs.Orders.{limit_obeyed, par_of_baltimore_in, par_of_baltimore_obeyed};
 ghost use Rattle.history.specs.declared.ruling.Ruling.TheVariants.{Faulty, Obeyed, Refused};
 ghost use Rattle.order_grammar.specs.declared.order.Order.TheVariants as order;
@@ -33,9 +33,10 @@ enum ShortOrder {
 }
 
 impl ShortOrder {
-    /// Keeps a copy of an order, if it is of one of these forms.
+    /// Keeps a copy of an order; `None` where it is of none of these forms.
     fn keep(order: &Order) -> Option<ShortOrder>
-        ensures { IfSome result (λ short. order_in_short short ≡ order.now) }
+        ensures { MatchOption result (has_short_form order.now ≡ false)
+            (λ short. order_in_short short ≡ order.now) }
     {
         let short = match *order {
             Order::BuyPrivate(private) => ShortOrder::BuyPrivate(private),
@@ -107,7 +108,7 @@ impl KeptOrder {
     /// Keeps a copy of an order. An `Err` comes only where a box gets no memory; of the orders that
     /// are ruled, only a run of more than five places needs one.
     pub fn keep(alloc: Global, order: &Order) -> Result<KeptOrder, AllocError>
-        ensures { IfOk result (λ kept. kept ≡ order.now) }
+        ensures { MatchResult result (λ kept. kept ≡ order.now) (λ _. TakesBox order.now) }
     {
         let kept = match order {
             Order::Run { kind, run } => match ShortRun::keep(run) {

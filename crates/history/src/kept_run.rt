@@ -1,6 +1,6 @@
 //! A run as a ruling keeps it, in two bytes a place: one of few places by itself, any other in a
 //! block of exactly its size.
-ghost use Rattle.std.specs.Prelude.{◌≡◌, ◌≤◌, IfOk, IfSome, length};
+ghost use Rattle.std.specs.Prelude.{◌≡◌, ◌<◌, ◌≤◌, IfOk, MatchOption, length};
 ghost use Rattle.history.specs.KeptRun.{places_in};
 
 use crate::kept_place::KeptPlace;
@@ -21,7 +21,7 @@ pub(crate) enum ShortRun {
 impl ShortRun {
     /// Keeps a copy of a run; `None` where it has more than five places.
     pub(crate) fn keep(run: &Run) -> Option<ShortRun>
-        ensures { IfSome result (λ short. places_in short ≡ run.now) }
+        ensures { MatchOption result (5 < length run.now) (λ short. places_in short ≡ run.now) }
     {
         match *run.as_slice() {
             [a, b] => Some(ShortRun::Two([KeptPlace::of(a), KeptPlace::of(b)])),

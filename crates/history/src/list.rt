@@ -1,6 +1,7 @@
-ghost use Rattle.std.specs.Prelude.{◌≡◌, ◌↔◌, ◌≤◌, IfOk, IsTrue, OnOk, OnErr, option_map, pos, slice_get, []};
+ghost use Rattle.std.specs.Prelude.{◌≡◌, ◌↔◌, ◌≤◌, IsTrue, MatchResult, OnOk, OnErr, option_map, pos, slice_get, []};
 ghost use Rattle.history.specs.Bids.{bid_of, free_cash_of};
 ghost use Rattle.history.specs.Event.{sum_of};
+ghost use Rattle.history.specs.Kept.{TakesBox};
 ghost use Rattle.history.specs.LookBack.{FitsMemory, IsModerate, broken_in, cash_of, cheapest_in, cheapest_of, is_sold, is_sold_in, owner_in, owner_of, priority_of, round_of, sv_price_of, with_event};
 ghost use Rattle.history.specs.Operating.{has_operated, lays_of, rulings_in_round, tokens_of, tokens_placed};
 ghost use Rattle.history.specs.Shares.{arrival_of, has_sold_in_round, is_floated, is_started, par_of, president_of, shares_of, square_of};
@@ -152,9 +153,9 @@ impl History {
     }
 
     /// Keeps a copy of an order, by the list's own allocator. An `Err` comes only where a box gets
-    /// no memory.
+    /// no memory; of the orders that are ruled, only a run of more than five places needs one.
     pub fn keep(&self, order: &Order) -> Result<KeptOrder, AllocError>
-        ensures { IfOk result (λ kept. kept ≡ order.now) }
+        ensures { MatchResult result (λ kept. kept ≡ order.now) (λ _. TakesBox order.now) }
     {
         KeptOrder::keep(*self.events.allocator(), order)
     }

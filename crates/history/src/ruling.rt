@@ -2,6 +2,7 @@ ghost use Rattle.std.specs.Prelude.{◌≡◌};
 ghost use Rattle.history.specs.Event.{code_of_lay_rule, code_of_opening_rule, code_of_pay_rule, code_of_refusal, code_of_run_rule, code_of_stock_rule, code_of_token_rule, code_of_train_rule};
 
 use order_grammar::{Fault, Order};
+use thiserror::Error;
 
 /// Which rule of play an order breaks first, by the family of the rule.
 #[derive(Clone, Copy, Debug, PartialEq, Eq)]
@@ -40,22 +41,29 @@ impl Refusal {
 }
 
 /// A rule that an order in an opening round may break.
-#[derive(Clone, Copy, Debug, PartialEq, Eq)]
+#[derive(Clone, Copy, Debug, PartialEq, Eq, Drop, Error)]
 pub enum OpeningRule {
     /// A1: the order is no purchase of a private and no bid, or a par value is set for a company
     /// other than BO, or to a sum that is no par value.
+    #[error("the order has no place in an opening round")]
     NotOfOpening,
     /// A2: the private is sold.
+    #[error("the private is sold")]
     Sold,
     /// A3: the private to buy is not the cheapest that is unsold.
+    #[error("the private is not the cheapest that is unsold")]
     NotCheapest,
     /// A4: the bid is not 5 above the face value and above every earlier bid.
+    #[error("the bid is not 5 above the face value and above every earlier bid")]
     BidTooLow,
     /// A5: the sum is over the seat's cash that is free of its other bids.
+    #[error("the sum is over the seat's free cash")]
     CashTooSmall,
     /// A6: the seat has bought or bid in this turn.
+    #[error("the seat has bought or bid in this turn")]
     TurnUsed,
     /// A7: the bid is for the cheapest private that is unsold.
+    #[error("the bid is for the cheapest private that is unsold")]
     BidForCheapest,
 }
 
@@ -77,37 +85,51 @@ impl OpeningRule {
 }
 
 /// A rule that an order in a stock round may break.
-#[derive(Clone, Copy, Debug, PartialEq, Eq)]
+#[derive(Clone, Copy, Debug, PartialEq, Eq, Drop, Error)]
 pub enum StockRule {
     /// S1: the order is none of a stock round.
+    #[error("the order has no place in a stock round")]
     NotOfStock,
     /// S2: nothing is sold in the first stock round.
+    #[error("nothing is sold in the first stock round")]
     SaleInFirstRound,
     /// S3: none are to be sold, or more than the seat has.
+    #[error("none are to be sold, or more than the seat has")]
     NotHeld,
     /// S4: the bank pool would have over five tenths of the company.
+    #[error("the bank pool would have over five tenths of the company")]
     PoolFull,
     /// S5: the seat is president, would keep fewer than two tenths, and no other seat has two.
+    #[error("no other seat could follow the president")]
     PresidentMustStay,
     /// S6: the seat has sold tenths of the company in this round.
+    #[error("the seat has sold tenths of the company in this round")]
     SoldInRound,
     /// S7: none are where they are to be bought.
+    #[error("none are where they are to be bought")]
     NoneThere,
     /// S8: the sum is no par value, or the company has none.
+    #[error("the sum is no par value, or the company has none")]
     NoParValue,
     /// S9: a company that is started can't be started, and of one that is not nothing is bought or
     /// sold.
+    #[error("the company is started, or it is not")]
     WrongStart,
     /// S10: the sum is over the seat's cash that is free of its bids.
+    #[error("the sum is over the seat's free cash")]
     CashTooSmall,
     /// S11: the certificate would count, and the seat has reached the limit.
+    #[error("the seat has reached the limit of certificates")]
     CertificateLimit,
     /// S12: the seat would have over six tenths of the company.
+    #[error("the seat would have over six tenths of the company")]
     OverSixTenths,
     /// S13: the seat has bought in this turn.
+    #[error("the seat has bought in this turn")]
     BoughtBefore,
     /// S14: the seat doesn't own MH, no tenth of NYC is with the bank, or the seat would have over
     /// six.
+    #[error("MH cannot be exchanged")]
     NoExchange,
 }
 

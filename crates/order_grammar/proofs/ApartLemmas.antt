@@ -84,13 +84,16 @@ spoilt (Value v) = refl
 abbrev DoNotFit : List Class → Repeated → List (List ℕ) → Type 0
 DoNotFit classes r words = ◌≡◌ {A = Result (List values.Value × Tail) Fault} (values_reading classes r words) (Err WrongWords)
 
-wrong_first : (c : Class) (classes : List Class) (r : Repeated) (word : List ℕ) (words : List (List ℕ)) → class_reading c word ≡ Wrong → DoNotFit (c ∷ classes) r (word ∷ words)
+wrong_first : (c : Class) (classes : List Class) (r : Repeated) (word : List ℕ) (words : List (List ℕ)) → class_reading c word ≡ Wrong →
+    DoNotFit (c ∷ classes) r (word ∷ words)
 wrong_first c classes r word words wrong = rw wrong refl
 
-wrong_later : (c : Class) (classes : List Class) (r : Repeated) (word : List ℕ) (words : List (List ℕ)) → DoNotFit classes r words → DoNotFit (c ∷ classes) r (word ∷ words)
+wrong_later : (c : Class) (classes : List Class) (r : Repeated) (word : List ℕ) (words : List (List ℕ)) → DoNotFit classes r words →
+    DoNotFit (c ∷ classes) r (word ∷ words)
 wrong_later c classes r word words wrong = rw wrong (spoilt (class_reading c word))
 
-shapes_apart : (classes : List Class) (r : Repeated) (others : List Class) (s : Repeated) (words : List (List ℕ)) → are_shapes_apart classes r others s ≡ true → DoNotFit classes r words ⊎ DoNotFit others s words
+shapes_apart : (classes : List Class) (r : Repeated) (others : List Class) (s : Repeated) (words : List (List ℕ)) → are_shapes_apart classes r others s ≡ true →
+    DoNotFit classes r words ⊎ DoNotFit others s words
 shapes_apart (c ∷ classes) r (other ∷ others) s [] apart = inl refl
 shapes_apart (c ∷ classes) r (other ∷ others) s (word ∷ words) apart =
     elim (or_cases (are_classes_apart c other) (are_shapes_apart classes r others s) apart) [
@@ -116,7 +119,8 @@ abbrev pub IsNear : Result Order Fault → Type 0
 IsNear reading = 2 ≤ nearness reading
 
 -- words that do not fit a row are not near by it
-far : (row : Row) (first : List ℕ) (rest : List (List ℕ)) → (same_word first (text_of_keyword row.keyword) ≡ false) ⊎ DoNotFit row.classes row.repeated rest → nearness (row_reading row first rest) ≤ 1
+far : (row : Row) (first : List ℕ) (rest : List (List ℕ)) → (same_word first (text_of_keyword row.keyword) ≡ false) ⊎ DoNotFit row.classes row.repeated rest →
+    nearness (row_reading row first rest) ≤ 1
 far row first rest (inl different) = rw different (omega arith)
 far row first rest (inr wrong) =
     elim (cases_Bool (same_word first (text_of_keyword row.keyword))) [
@@ -125,7 +129,8 @@ far row first rest (inr wrong) =
     ]
 
 -- where words are near by a row, they are not by one that is apart
-pub rows_apart : (row other : Row) (first : List ℕ) (rest : List (List ℕ)) → are_rows_apart row other ≡ true → IsNear (row_reading row first rest) → nearness (row_reading other first rest) ≤ 1
+pub rows_apart : (row other : Row) (first : List ℕ) (rest : List (List ℕ)) → are_rows_apart row other ≡ true → IsNear (row_reading row first rest) →
+    nearness (row_reading other first rest) ≤ 1
 rows_apart row other first rest apart near =
     elim (cases_Bool (same_word first (text_of_keyword other.keyword))) [
       | inr different ↦ far other first rest (inl different)

@@ -2,6 +2,7 @@ pub mod NameLemmas
 pub mod ClassLemmas
 pub mod KeywordLemmas
 pub mod OrderLemmas
+pub mod SmallLemmas
 pub mod TextLemmas
 pub mod ShapeLemmas
 pub mod ApartLemmas

@@ -9,7 +9,7 @@ use Rattle.order_grammar.specs.Limits.{line_most}
 use Rattle.order_grammar.specs.Line.{reading_of}
 use Rattle.order_grammar.specs.LineFault.{IsTooLong, HasStrayByte, first_words_of_forms, BeginsNoForm, IsFaultOf}
 use Rattle.order_grammar.specs.Order.{parts_of, order_from}
-use Rattle.order_grammar.specs.Spells.{AreWordsFor, are_small}
+use Rattle.order_grammar.specs.Spells.{AreWordsFor}
 use Rattle.order_grammar.specs.Words.{same_word, before_comment, is_printable, words_of}
 use Rattle.order_grammar.specs.declared.fault.Fault.{Fault}
 use Rattle.order_grammar.specs.declared.fault.Fault.TheVariants.{TooLong, StrayByte, UnknownWord, WrongWords, NumberTooLarge}
@@ -21,6 +21,7 @@ use Rattle.order_grammar.proofs.FormLemmas.{with_row}
 use Rattle.order_grammar.proofs.KeywordLemmas.{same_word-is}
 use Rattle.order_grammar.proofs.RowLemmas.{IsAmong, among_any, all_among, nearest_has, words_say}
 use Rattle.order_grammar.proofs.ShapeLemmas.{ReadThus, values_made}
+use Rattle.order_grammar.proofs.SmallLemmas.{are_small, small_by_parts, small_of_parts}
 use Rattle.order_grammar.proofs.SpellsLemmas.{spelt_words_read, large_words_read, words_read_spell}
 
 -- a byte that is not printable
@@ -79,7 +80,8 @@ begun_is_listed : (first : List ℕ) → list_any (begins_form first) forms ≡ 
 begun_is_listed first begun =
     let row = among_any (begins_form first) forms begun in
     let listed = all_among (λ (r : Row). list_any (same_word (text_of_keyword r.keyword)) first_words_of_forms) forms row.0 forms_listed row.1 in
-    subst (Contains first_words_of_forms) (sym (same_word-is first (text_of_keyword row.0.keyword) row.2)) (contained first_words_of_forms (text_of_keyword row.0.keyword) listed)
+    subst (Contains first_words_of_forms) (sym (same_word-is first (text_of_keyword row.0.keyword) row.2))
+    (contained first_words_of_forms (text_of_keyword row.0.keyword) listed)
 
 -- a form begins with a listed word
 listed_is_begun : (first : List ℕ) → Contains first_words_of_forms first → list_any (begins_form first) forms ≡ true
@@ -87,8 +89,10 @@ listed_is_begun first listed =
     elim (cases_Bool (list_any (begins_form first) forms)) [
       | inl begun ↦ begun
       | inr none ↦
-          let at : list_any (begins_form (get_or first_words_of_forms listed.0 first)) forms ≡ false = ap (λ (word : List ℕ). list_any (begins_form word) forms) listed.2 ∙ none in
-          let wrong : false ≡ true = sym (list_all_at (λ (word : List ℕ). list_any (begins_form word) forms) first_words_of_forms listed.0 first listed.1 at) ∙ listed_begin in
+          let at : list_any (begins_form (get_or first_words_of_forms listed.0 first)) forms ≡ false =
+          ap (λ (word : List ℕ). list_any (begins_form word) forms) listed.2 ∙ none in
+          let wrong : false ≡ true =
+          sym (list_all_at (λ (word : List ℕ). list_any (begins_form word) forms) first_words_of_forms listed.0 first listed.1 at) ∙ listed_begin in
           absurd (false≢true wrong)
     ]
 
@@ -100,14 +104,16 @@ order_near k read =
       | None ↦ lit≤ tt
     ]
 
-values_near : (row : Row) (rest : List (List ℕ)) (read : Result (List Value × Tail) Fault) → ReadThus row.classes row.repeated rest read → 1 ≤ nearness (order_of_values row.keyword read)
+values_near : (row : Row) (rest : List (List ℕ)) (read : Result (List Value × Tail) Fault) → ReadThus row.classes row.repeated rest read →
+    1 ≤ nearness (order_of_values row.keyword read)
 values_near row rest (Ok read) h = order_near row.keyword read
 values_near row rest (Err NumberTooLarge) h = lit≤ tt
 values_near row rest (Err WrongWords) h = lit≤ tt
 values_near row rest (Err other) h = absurd h
 
 -- by a row that begins with the word
-row_near : (row : Row) (first : List ℕ) (rest : List (List ℕ)) → same_word first (text_of_keyword row.keyword) ≡ true → 1 ≤ nearness (row_reading row first rest)
+row_near : (row : Row) (first : List ℕ) (rest : List (List ℕ)) → same_word first (text_of_keyword row.keyword) ≡ true →
+    1 ≤ nearness (row_reading row first rest)
 row_near row first rest same = rw same (values_near row rest (values_reading row.classes row.repeated rest) (values_made row.classes row.repeated rest))
 
 -- the nearer of two is at least as near as each
@@ -119,20 +125,24 @@ nearer-le a b =
     ]
 
 -- more rows come no less near
-rows-le : (first : List ℕ) (rest : List (List ℕ)) (start : Result Order Fault) (rows : List Row) → nearness start ≤ nearness (fold (with_row first rest) start rows)
+rows-le : (first : List ℕ) (rest : List (List ℕ)) (start : Result Order Fault) (rows : List Row) →
+    nearness start ≤ nearness (fold (with_row first rest) start rows)
 rows-le first rest start [] = omega arith
 rows-le first rest start (row ∷ rows) =
     omega (arith, (nearer-le start (row_reading row first rest)).0, rows-le first rest (nearer start (row_reading row first rest)) rows)
 
 -- each row comes no nearer than the nearest
-row-le : (rows : List Row) (row : Row) (first : List ℕ) (rest : List (List ℕ)) (start : Result Order Fault) → IsAmong row rows → nearness (row_reading row first rest) ≤ nearness (fold (with_row first rest) start rows)
+row-le : (rows : List Row) (row : Row) (first : List ℕ) (rest : List (List ℕ)) (start : Result Order Fault) → IsAmong row rows →
+    nearness (row_reading row first rest) ≤ nearness (fold (with_row first rest) start rows)
 row-le [] row first rest start among = absurd among
 row-le (other ∷ rows) row first rest start (inl is) =
-    omega (arith, ap (λ (r : Row). nearness (row_reading r first rest)) is, (nearer-le start (row_reading other first rest)).1, rows-le first rest (nearer start (row_reading other first rest)) rows)
+    omega
+    (arith, ap (λ (r : Row). nearness (row_reading r first rest)) is, (nearer-le start (row_reading other first rest)).1, rows-le first rest (nearer start (row_reading other first rest)) rows)
 row-le (other ∷ rows) row first rest start (inr later) = row-le rows row first rest (nearer start (row_reading other first rest)) later
 
 -- a word that no form begins with is unknown
-unknown : (rows : List Row) (first : List ℕ) (rest : List (List ℕ)) → list_any (begins_form first) rows ≡ false → fold (with_row first rest) (Err UnknownWord) rows ≡ Err UnknownWord
+unknown : (rows : List Row) (first : List ℕ) (rest : List (List ℕ)) → list_any (begins_form first) rows ≡ false →
+    fold (with_row first rest) (Err UnknownWord) rows ≡ Err UnknownWord
 unknown [] first rest none = refl
 unknown (row ∷ rows) first rest none =
     let parts = or_parts (begins_form first row) (list_any (begins_form first) rows) none in
@@ -185,9 +195,12 @@ other_fault words fault none other e =
 loosely_near : (words : List (List ℕ)) (order : Order) → AreWordsFor order words → (words_reading words ≡ Err WrongWords) → ⊥
 loosely_near words order spelt wrong =
     elim (cases_Bool (are_small (parts_of order))) [
-      | inl small ↦ let no : ◌≡◌ {A = Result Order Fault} (Ok order) (Err WrongWords) = sym (spelt_words_read words order spelt small) ∙ wrong in cc
+      | inl small ↦
+          let no : ◌≡◌ {A = Result Order Fault} (Ok order) (Err WrongWords) =
+          sym (spelt_words_read words order spelt (small_of_parts order small)) ∙ wrong in cc
       | inr large ↦
-          let no : ◌≡◌ {A = Result Order Fault} (Err NumberTooLarge) (Err WrongWords) = sym (large_words_read words order spelt (λ small. false≢true (sym large ∙ small))) ∙ wrong in
+          let no : ◌≡◌ {A = Result Order Fault} (Err NumberTooLarge) (Err WrongWords) =
+          sym (large_words_read words order spelt (λ small. false≢true (sym large ∙ small_by_parts order small))) ∙ wrong in
           cc
     ]
 
@@ -205,7 +218,8 @@ large_spell (first ∷ rest) e =
     rw e at says
 
 -- the fault of words is that of their line
-words_fault : (line : List ℕ) (fault : Fault) → (IsTooLong line → ⊥) → (HasStrayByte line → ⊥) → words_reading (words_of line) ≡ Err fault → IsFaultOf line fault
+words_fault : (line : List ℕ) (fault : Fault) → (IsTooLong line → ⊥) → (HasStrayByte line → ⊥) → words_reading (words_of line) ≡ Err fault →
+    IsFaultOf line fault
 words_fault line UnknownWord short clean e = (short, clean, unknown_begins (words_of line) e)
 words_fault line WrongWords short clean e = (
   short,
@@ -220,7 +234,8 @@ words_fault line NumberTooLarge short clean e =
       begins_some_form (words_of line) NumberTooLarge (λ same. cc) e,
       (some.0, record { short = omega arith; printable = all_printable line clean; words = some.1 }),
       λ spelt.
-          let wrong : ◌≡◌ {A = Result Order Fault} (Ok spelt.0) (Err NumberTooLarge) = sym (spelt_words_read (words_of line) spelt.0 spelt.1.loosely.words spelt.1.small) ∙ e in
+          let wrong : ◌≡◌ {A = Result Order Fault} (Ok spelt.0) (Err NumberTooLarge) =
+          sym (spelt_words_read (words_of line) spelt.0 spelt.1.loosely.words spelt.1.small) ∙ e in
           cc,
     )
 words_fault line other short clean e = absurd (other_fault (words_of line) other refl (λ same. cc) e)
@@ -247,7 +262,8 @@ fault_had line fault e =
     ]
 
 -- words that begin a form, and would spell no order, are wrong words
-wrong_words : (words : List (List ℕ)) (reading : Result Order Fault) → words_reading words ≡ reading → (BeginsNoForm words → ⊥) → ((order : Order) → AreWordsFor order words → ⊥) → reading ≡ Err WrongWords
+wrong_words : (words : List (List ℕ)) (reading : Result Order Fault) → words_reading words ≡ reading → (BeginsNoForm words → ⊥) →
+    ((order : Order) → AreWordsFor order words → ⊥) → reading ≡ Err WrongWords
 wrong_words words (Ok order) e known none = absurd (none order (words_read_spell words order e).0)
 wrong_words words (Err NumberTooLarge) e known none = let some = large_spell words e in absurd (none some.0 some.1)
 wrong_words words (Err WrongWords) e known none = refl
@@ -265,7 +281,8 @@ fault_read line UnknownWord is = words_decide line is.0 is.1 ∙ no_form_read (w
 fault_read line WrongWords is =
     let short = is.0 in
     words_decide line is.0 is.1
-    ∙ wrong_words (words_of line) (words_reading (words_of line)) refl is.2 (λ order are. is.3 (order, record { short = omega arith; printable = all_printable line is.1; words = are }))
+    ∙ wrong_words (words_of line) (words_reading (words_of line)) refl is.2
+    (λ order are. is.3 (order, record { short = omega arith; printable = all_printable line is.1; words = are }))
 fault_read line NumberTooLarge is =
     let order = is.3.0 in
     let loosely = is.3.1 in

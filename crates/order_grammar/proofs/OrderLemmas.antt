@@ -40,20 +40,27 @@ formed keyword.Buy ((value.Private private) ∷ []) tail.Nothing h = record { or
 formed keyword.Bid ((value.Private private) ∷ (value.Number amount) ∷ []) tail.Nothing h = record { order = Bid private amount; made = refl; parts = refl }
 formed keyword.Limit ((value.Private private) ∷ (value.Number amount) ∷ []) tail.Nothing h = record { order = Limit private amount; made = refl; parts = refl }
 formed keyword.Par ((value.Company company) ∷ (value.Number price) ∷ []) tail.Nothing h = record { order = Par company price; made = refl; parts = refl }
-formed keyword.Buy ((value.Company company) ∷ (value.Word keyword.InitialOffering) ∷ []) tail.Nothing h = record { order = BuyShare company InitialOffering; made = refl; parts = refl }
-formed keyword.Buy ((value.Company company) ∷ (value.Word keyword.Pool) ∷ []) tail.Nothing h = record { order = BuyShare company BankPool; made = refl; parts = refl }
+formed keyword.Buy ((value.Company company) ∷ (value.Word keyword.InitialOffering) ∷ []) tail.Nothing h =
+    record { order = BuyShare company InitialOffering; made = refl; parts = refl }
+formed keyword.Buy ((value.Company company) ∷ (value.Word keyword.Pool) ∷ []) tail.Nothing h =
+    record { order = BuyShare company BankPool; made = refl; parts = refl }
 formed keyword.Sell ((value.Company company) ∷ (value.Number tenths) ∷ []) tail.Nothing h = record { order = Sell company tenths; made = refl; parts = refl }
 formed keyword.Exchange ((value.Word keyword.Mohawk) ∷ []) tail.Nothing h = record { order = ExchangeMohawk; made = refl; parts = refl }
 formed keyword.Company ((value.Company company) ∷ []) tail.Nothing h = record { order = CompanyTurn company; made = refl; parts = refl }
-formed keyword.Lay ((value.Tile tile) ∷ (value.Hex hex) ∷ (value.Rotation rot) ∷ []) tail.Nothing h = record { order = Lay (lay_of tile hex rot false); made = refl; parts = refl }
-formed keyword.Lay ((value.Tile tile) ∷ (value.Hex hex) ∷ (value.Rotation rot) ∷ (value.Word keyword.Swap) ∷ []) tail.Nothing h = record { order = Lay (lay_of tile hex rot true); made = refl; parts = refl }
+formed keyword.Lay ((value.Tile tile) ∷ (value.Hex hex) ∷ (value.Rotation rot) ∷ []) tail.Nothing h =
+    record { order = Lay (lay_of tile hex rot false); made = refl; parts = refl }
+formed keyword.Lay ((value.Tile tile) ∷ (value.Hex hex) ∷ (value.Rotation rot) ∷ (value.Word keyword.Swap) ∷ []) tail.Nothing h =
+    record { order = Lay (lay_of tile hex rot true); made = refl; parts = refl }
 formed keyword.Token ((value.Place place) ∷ []) tail.Nothing h = record { order = Token place; made = refl; parts = refl }
 formed keyword.Run ((value.Kind kind) ∷ []) (tail.Places run) h = record { order = Run kind run; made = refl; parts = refl }
 formed keyword.Pay [] tail.Nothing h = record { order = Pay; made = refl; parts = refl }
 formed keyword.Withhold [] tail.Nothing h = record { order = Withhold; made = refl; parts = refl }
-formed keyword.Train ((value.Kind kind) ∷ (value.Word keyword.Bank) ∷ []) tail.Nothing h = record { order = BuyTrain kind source.Bank; made = refl; parts = refl }
-formed keyword.Train ((value.Kind kind) ∷ (value.Word keyword.Bank) ∷ (value.Word keyword.Trade) ∷ (value.Kind other) ∷ []) tail.Nothing h = record { order = BuyTrain kind (source.Trade other); made = refl; parts = refl }
-formed keyword.Train ((value.Kind kind) ∷ (value.Word keyword.Pool) ∷ []) tail.Nothing h = record { order = BuyTrain kind source.BankPool; made = refl; parts = refl }
+formed keyword.Train ((value.Kind kind) ∷ (value.Word keyword.Bank) ∷ []) tail.Nothing h =
+    record { order = BuyTrain kind source.Bank; made = refl; parts = refl }
+formed keyword.Train ((value.Kind kind) ∷ (value.Word keyword.Bank) ∷ (value.Word keyword.Trade) ∷ (value.Kind other) ∷ []) tail.Nothing h =
+    record { order = BuyTrain kind (source.Trade other); made = refl; parts = refl }
+formed keyword.Train ((value.Kind kind) ∷ (value.Word keyword.Pool) ∷ []) tail.Nothing h =
+    record { order = BuyTrain kind source.BankPool; made = refl; parts = refl }
 formed keyword.Discard ((value.Company company) ∷ (value.Kind kind) ∷ []) tail.Nothing h = record { order = Discard company kind; made = refl; parts = refl }
 formed k values t h = absurd (false≢true h)
 
@@ -62,7 +69,8 @@ abbrev pub IsMadeAgain : Order → Option Parts → Type 0
 IsMadeAgain order None = order ≡ Blank
 IsMadeAgain order (Some parts) = order_from parts.keyword parts.values.items parts.tail ≡ Some order
 
-lay_made_again : (tile : TileNo) (hex : Hex) (rot : Rotation) (swap : Bool) → IsMadeAgain (Lay (lay_of tile hex rot swap)) (parts_of (Lay (lay_of tile hex rot swap)))
+lay_made_again : (tile : TileNo) (hex : Hex) (rot : Rotation) (swap : Bool) →
+    IsMadeAgain (Lay (lay_of tile hex rot swap)) (parts_of (Lay (lay_of tile hex rot swap)))
 lay_made_again tile hex rot true = refl
 lay_made_again tile hex rot false = refl
 
@@ -108,7 +116,8 @@ AreWordsByParts (Some parts) words =
     Then (IsWord (text_of_keyword parts.keyword)) (AreTextsOf parts.values.items parts.tail) words × (has_form parts ≡ true)
 
 -- the words of a players line
-players_by_parts : (words names : List (List ℕ)) → Then (IsWord (text_of_keyword keyword.Players)) (AreNames names) words → AreWordsByParts (made_of keyword.Players [] (tail.Names (record { items = names }))) words
+players_by_parts : (words names : List (List ℕ)) → Then (IsWord (text_of_keyword keyword.Players)) (AreNames names) words →
+    AreWordsByParts (made_of keyword.Players [] (tail.Names (record { items = names }))) words
 players_by_parts [] names h = absurd h
 players_by_parts (first ∷ words) names h =
     let least = le-leb 3 _ h.1.least in
@@ -126,7 +135,9 @@ run_by_parts (first ∷ second ∷ words) kind run h =
     ((h.0, (h.1.0, h.1.1.named)), rw (least, most) refl)
 
 -- of the forms only that of a run has places
-run_counted : (kind : Kind) (run : List Place) → has_form (record { keyword = keyword.Run; values = record { items = value.Kind kind ∷ [] }; tail = tail.Places run }) ≡ true → is_run_length (length run) ≡ true
+run_counted : (kind : Kind) (run : List Place) →
+    has_form (record { keyword = keyword.Run; values = record { items = value.Kind kind ∷ [] }; tail = tail.Places run }) ≡ true →
+    is_run_length (length run) ≡ true
 run_counted kind run h =
     elim (cases_Bool (is_run_length (length run))) [
       | inl some ↦ some
@@ -141,11 +152,13 @@ run_of_parts (first ∷ second ∷ words) kind run h =
     (h.0.0, (h.0.1.0, record { named = h.0.1.1; least = leb-true 2 _ counted.0; most = leb-true _ 280 counted.1 }))
 
 -- the words of a lay
-lay_by_parts : (tile : TileNo) (hex : Hex) (rot : Rotation) (swap : Bool) (words : List (List ℕ)) → AreWordsFor (Lay (lay_of tile hex rot swap)) words → AreWordsByParts (parts_of (Lay (lay_of tile hex rot swap))) words
+lay_by_parts : (tile : TileNo) (hex : Hex) (rot : Rotation) (swap : Bool) (words : List (List ℕ)) → AreWordsFor (Lay (lay_of tile hex rot swap)) words →
+    AreWordsByParts (parts_of (Lay (lay_of tile hex rot swap))) words
 lay_by_parts tile hex rot true words h = (h, refl)
 lay_by_parts tile hex rot false words h = (h, refl)
 
-lay_of_parts : (tile : TileNo) (hex : Hex) (rot : Rotation) (swap : Bool) (words : List (List ℕ)) → AreWordsByParts (parts_of (Lay (lay_of tile hex rot swap))) words → AreWordsFor (Lay (lay_of tile hex rot swap)) words
+lay_of_parts : (tile : TileNo) (hex : Hex) (rot : Rotation) (swap : Bool) (words : List (List ℕ)) →
+    AreWordsByParts (parts_of (Lay (lay_of tile hex rot swap))) words → AreWordsFor (Lay (lay_of tile hex rot swap)) words
 lay_of_parts tile hex rot true words h = h.0
 lay_of_parts tile hex rot false words h = h.0
 
@@ -163,14 +176,17 @@ by_parts (Lay lay) words h = lay_by_parts lay.tile lay.hex lay.rot lay.swap word
 by_parts other words h = (h, refl)
 
 -- of the forms only that of a players line has names
-players_names : (names : List (List ℕ)) → has_form (record { keyword = keyword.Players; values = record { items = [] }; tail = tail.Names (record { items = names }) }) ≡ true → are_names 3 6 names ≡ true
+players_names : (names : List (List ℕ)) →
+    has_form (record { keyword = keyword.Players; values = record { items = [] }; tail = tail.Names (record { items = names }) }) ≡ true →
+    are_names 3 6 names ≡ true
 players_names names h =
     elim (cases_Bool (are_names 3 6 names)) [
       | inl some ↦ some
       | inr none ↦ let wrong = rw none at h in absurd (false≢true wrong)
     ]
 
-players_of_parts : (words names : List (List ℕ)) → AreWordsByParts (made_of keyword.Players [] (tail.Names (record { items = names }))) words → Then (IsWord (text_of_keyword keyword.Players)) (AreNames names) words
+players_of_parts : (words names : List (List ℕ)) → AreWordsByParts (made_of keyword.Players [] (tail.Names (record { items = names }))) words →
+    Then (IsWord (text_of_keyword keyword.Players)) (AreNames names) words
 players_of_parts [] names h = absurd h.0
 players_of_parts (first ∷ words) names h =
     let counted = and_parts _ _ (players_names names h.1) in
@@ -191,7 +207,8 @@ of_parts (Lay lay) words h = lay_of_parts lay.tile lay.hex lay.rot lay.swap word
 of_parts other words h = h.0
 
 -- the order that parts make is that of which they are
-pub remade : (order : Order) (parts : Parts) (made : Option Order) → Some parts ≡ parts_of order → made ≡ order_from parts.keyword parts.values.items parts.tail → unwrap_or made Blank ≡ order
+pub remade : (order : Order) (parts : Parts) (made : Option Order) → Some parts ≡ parts_of order →
+    made ≡ order_from parts.keyword parts.values.items parts.tail → unwrap_or made Blank ≡ order
 remade order parts made is by =
     let again : order_from parts.keyword parts.values.items parts.tail ≡ Some order = subst (IsMadeAgain order) (sym is) (made_again order) in
     ap (λ (o : Option Order). unwrap_or o Blank) (by ∙ again)

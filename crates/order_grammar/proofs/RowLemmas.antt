@@ -6,7 +6,7 @@ use Rattle.std.proofs.lemmas.Bool.{cases_Bool, cases_lt, le-ltb, lt-ltb, and_par
 use Rattle.order_grammar.specs.Form.{Row, forms, values_reading, order_of_values, nearness, nearer, row_reading, words_reading, is_row_of}
 use Rattle.order_grammar.specs.Keyword.{text_of_keyword}
 use Rattle.order_grammar.specs.Order.{made_of, parts_of, order_from}
-use Rattle.order_grammar.specs.Spells.{is_small, are_small, HasSmallNumbers, AreWordsFor}
+use Rattle.order_grammar.specs.Spells.{HasSmallNumbers, AreWordsFor}
 use Rattle.order_grammar.specs.Words.{same_word}
 use Rattle.order_grammar.specs.declared.fault.Fault.{Fault}
 use Rattle.order_grammar.specs.declared.fault.Fault.TheVariants.{UnknownWord, WrongWords, NumberTooLarge}
@@ -19,6 +19,7 @@ use Rattle.order_grammar.proofs.ApartLemmas.{are_rows_apart, are_all_apart, form
 use Rattle.order_grammar.proofs.FormLemmas.{with_row}
 use Rattle.order_grammar.proofs.KeywordLemmas.{same_keyword, same_word-is, same_word-self}
 use Rattle.order_grammar.proofs.OrderLemmas.{formed, IsMadeAgain, made_again, AreTextsOf, AreWordsByParts, by_parts, of_parts}
+use Rattle.order_grammar.proofs.SmallLemmas.{is_small, are_small, small_of_parts}
 use Rattle.order_grammar.proofs.ShapeLemmas.{sized, values_read, AreValuesOf, ReadThus, values_made}
 
 -- a row stands among others
@@ -48,16 +49,20 @@ abbrev pub read_as : Order → Bool → Result Order Fault
 read_as order small = cond small (Ok order) (Err NumberTooLarge)
 
 -- values that make an order
-order_sized : (k : Keyword) (values : List Value) (t : Tail) (order : Order) (small : Bool) → order_from k values t ≡ Some order → order_of_values k (sized values t small) ≡ read_as order small
+order_sized : (k : Keyword) (values : List Value) (t : Tail) (order : Order) (small : Bool) → order_from k values t ≡ Some order →
+    order_of_values k (sized values t small) ≡ read_as order small
 order_sized k values t order true made = rw (made, order_of_values) refl
 order_sized k values t order false made = refl
 
 -- words of parts are read so by the row of their form
-row_read : (row : Row) (k : Keyword) (values : List Value) (t : Tail) (order : Order) (first : List ℕ) (rest : List (List ℕ)) → is_row_of k values t row ≡ true → first ≡ text_of_keyword k → AreTextsOf values t rest → order_from k values t ≡ Some order → row_reading row first rest ≡ read_as order (list_all is_small values)
+row_read : (row : Row) (k : Keyword) (values : List Value) (t : Tail) (order : Order) (first : List ℕ) (rest : List (List ℕ)) →
+    is_row_of k values t row ≡ true → first ≡ text_of_keyword k → AreTextsOf values t rest → order_from k values t ≡ Some order →
+    row_reading row first rest ≡ read_as order (list_all is_small values)
 row_read row k values t order first rest of is are made =
     let parts = and_parts _ _ of in
     let keyword : row.keyword ≡ k = same_keyword row.keyword k parts.0 in
-    let begins : same_word first (text_of_keyword row.keyword) ≡ true = ap (λ (word : List ℕ). same_word word (text_of_keyword row.keyword)) (is ∙ ap text_of_keyword (sym keyword)) ∙ same_word-self (text_of_keyword row.keyword) in
+    let begins : same_word first (text_of_keyword row.keyword) ≡ true =
+    ap (λ (word : List ℕ). same_word word (text_of_keyword row.keyword)) (is ∙ ap text_of_keyword (sym keyword)) ∙ same_word-self (text_of_keyword row.keyword) in
     rw (begins, values_read row.classes row.repeated values t rest parts.1 are, keyword) (order_sized k values t order (list_all is_small values) made)
 
 -- what is near is near to an order
@@ -66,7 +71,8 @@ near_read_as order true = lit≤ tt
 near_read_as order false = lit≤ tt
 
 -- nothing that is less near takes its place
-stays : (rows : List Row) (first : List ℕ) (rest : List (List ℕ)) (found : Result Order Fault) → IsNear found → ((row : Row) → IsAmong row rows → nearness (row_reading row first rest) ≤ 1) → fold (with_row first rest) found rows ≡ found
+stays : (rows : List Row) (first : List ℕ) (rest : List (List ℕ)) (found : Result Order Fault) → IsNear found →
+    ((row : Row) → IsAmong row rows → nearness (row_reading row first rest) ≤ 1) → fold (with_row first rest) found rows ≡ found
 stays [] first rest found near others = refl
 stays (row ∷ rows) first rest found near others =
     let test : ltb (nearness found) (nearness (row_reading row first rest)) ≡ false = le-ltb _ _ (omega (arith, near, others row (inl refl))) in
@@ -79,7 +85,8 @@ all_among p (other ∷ rows) row all (inl is) = ap p is ∙ (and_parts (p other)
 all_among p (other ∷ rows) row all (inr later) = all_among p rows row (and_parts (p other) (list_all p rows) all).1 later
 
 -- of two rows that are apart one is not near
-not_both : (row other : Row) (first : List ℕ) (rest : List (List ℕ)) → are_rows_apart row other ≡ true → IsNear (row_reading other first rest) → nearness (row_reading row first rest) ≤ 1
+not_both : (row other : Row) (first : List ℕ) (rest : List (List ℕ)) → are_rows_apart row other ≡ true → IsNear (row_reading other first rest) →
+    nearness (row_reading row first rest) ≤ 1
 not_both row other first rest apart near =
     elim (cases_lt 1 (nearness (row_reading row first rest))) [
       | inl also ↦ absurd (omega (arith, near, rows_apart row other first rest apart (omega arith)))
@@ -95,7 +102,8 @@ no_nearer a b first second =
     ]
 
 -- where words are near by a row of a table whose rows are apart, that is what they are by the table
-rows_read : (rows : List Row) (row : Row) (first : List ℕ) (rest : List (List ℕ)) (start found : Result Order Fault) → are_all_apart rows ≡ true → IsAmong row rows → row_reading row first rest ≡ found → IsNear found → nearness start ≤ 1 → fold (with_row first rest) start rows ≡ found
+rows_read : (rows : List Row) (row : Row) (first : List ℕ) (rest : List (List ℕ)) (start found : Result Order Fault) → are_all_apart rows ≡ true →
+    IsAmong row rows → row_reading row first rest ≡ found → IsNear found → nearness start ≤ 1 → fold (with_row first rest) start rows ≡ found
 rows_read [] row first rest start found apart among read near far = absurd among
 rows_read (other ∷ rows) row first rest start found apart (inl is) read near far =
     let here : row_reading other first rest ≡ found = ap (λ (r : Row). row_reading r first rest) (sym is) ∙ read in
@@ -108,18 +116,22 @@ rows_read (other ∷ rows) row first rest start found apart (inl is) read near f
 rows_read (other ∷ rows) row first rest start found apart (inr later) read near far =
     let near_row : IsNear (row_reading row first rest) = subst IsNear (sym read) near in
     let parts = and_parts (list_all (are_rows_apart other) rows) (are_all_apart rows) apart in
-    let not_near : nearness (row_reading other first rest) ≤ 1 = not_both other row first rest (all_among (are_rows_apart other) rows row parts.0 later) near_row in
-    rows_read rows row first rest (nearer start (row_reading other first rest)) found parts.1 later read near (no_nearer start (row_reading other first rest) far not_near)
+    let not_near : nearness (row_reading other first rest) ≤ 1 =
+    not_both other row first rest (all_among (are_rows_apart other) rows row parts.0 later) near_row in
+    rows_read rows row first rest (nearer start (row_reading other first rest)) found parts.1 later read near
+    (no_nearer start (row_reading other first rest) far not_near)
 
 -- words of an order's parts are read so
-parts_read : (order : Order) (parts : Option Parts) (words : List (List ℕ)) → IsMadeAgain order parts → AreWordsByParts parts words → words_reading words ≡ read_as order (are_small parts)
+parts_read : (order : Order) (parts : Option Parts) (words : List (List ℕ)) → IsMadeAgain order parts → AreWordsByParts parts words →
+    words_reading words ≡ read_as order (are_small parts)
 parts_read order None [] made are = ap (λ (o : Order). Ok o) (sym made)
 parts_read order None (word ∷ words) made are = absurd are
 parts_read order (Some parts) [] made are = absurd are.0
 parts_read order (Some parts) (first ∷ rest) made are =
     let row = among_any (is_row_of parts.keyword parts.values.items parts.tail) forms are.1 in
     let read = row_read row.0 parts.keyword parts.values.items parts.tail order first rest row.2 are.0.0 are.0.1 made in
-    rows_read forms row.0 first rest (Err UnknownWord) (read_as order (list_all is_small parts.values.items)) forms_apart row.1 read (near_read_as order (list_all is_small parts.values.items)) (omega arith)
+    rows_read forms row.0 first rest (Err UnknownWord) (read_as order (list_all is_small parts.values.items)) forms_apart row.1 read
+    (near_read_as order (list_all is_small parts.values.items)) (omega arith)
 
 -- words that spell an order, but that its numbers may be too large, are read so
 pub words_for_read : (words : List (List ℕ)) (order : Order) → AreWordsFor order words → words_reading words ≡ read_as order (are_small (parts_of order))
@@ -132,20 +144,23 @@ SaysOf first rest (Err NumberTooLarge) = (order : Order) × AreWordsFor order (f
 SaysOf first rest (Err other) = Unit {0}
 
 -- an order whose parts have these values is spelt by their words
-spelt_by_values : (row : Row) (first : List ℕ) (rest : List (List ℕ)) (values : List Value) (t : Tail) → IsAmong row forms → same_word first (text_of_keyword row.keyword) ≡ true → AreValuesOf row.classes row.repeated rest values t →
+spelt_by_values : (row : Row) (first : List ℕ) (rest : List (List ℕ)) (values : List Value) (t : Tail) → IsAmong row forms →
+    same_word first (text_of_keyword row.keyword) ≡ true → AreValuesOf row.classes row.repeated rest values t →
     (order : Order) × (order_from row.keyword values t ≡ Some order) × (parts_of order ≡ made_of row.keyword values t) × AreWordsFor order (first ∷ rest)
 spelt_by_values row first rest values t among same are =
     let fits : is_row_of row.keyword values t row ≡ true = and_from _ _ (same_word-self (text_of_keyword row.keyword)) are.of_classes in
     let formed_so : list_any (is_row_of row.keyword values t) forms ≡ true = any_among (is_row_of row.keyword values t) forms row among fits in
     let one = formed row.keyword values t formed_so in
-    let texts : AreWordsByParts (made_of row.keyword values t) (first ∷ rest) = ((same_word-is first (text_of_keyword row.keyword) same, are.texts), formed_so) in
+    let texts : AreWordsByParts (made_of row.keyword values t) (first ∷ rest) =
+    ((same_word-is first (text_of_keyword row.keyword) same, are.texts), formed_so) in
     (one.order, one.made, one.parts, of_parts one.order (first ∷ rest) (subst (λ (p : Option Parts). AreWordsByParts p (first ∷ rest)) (sym one.parts) texts))
 
 -- the order of values that were read
-order_says : (row : Row) (first : List ℕ) (rest : List (List ℕ)) (read : Result (List Value × Tail) Fault) → IsAmong row forms → same_word first (text_of_keyword row.keyword) ≡ true → ReadThus row.classes row.repeated rest read → SaysOf first rest (order_of_values row.keyword read)
+order_says : (row : Row) (first : List ℕ) (rest : List (List ℕ)) (read : Result (List Value × Tail) Fault) → IsAmong row forms →
+    same_word first (text_of_keyword row.keyword) ≡ true → ReadThus row.classes row.repeated rest read → SaysOf first rest (order_of_values row.keyword read)
 order_says row first rest (Ok read) among same h =
     let one = spelt_by_values row first rest read.0 read.1 among same h.0 in
-    rw (one.1, order_of_values) (one.3, ap are_small one.2 ∙ h.1)
+    rw (one.1, order_of_values) (one.3, small_of_parts one.0 (ap are_small one.2 ∙ h.1))
 order_says row first rest (Err NumberTooLarge) among same h =
     let one = spelt_by_values row first rest h.0 h.1 among same h.2 in
     (one.0, one.3)
@@ -162,10 +177,12 @@ row_says row first rest among =
 
 -- the nearer of two is one of them
 pub nearer-is : (a b : Result Order Fault) → (nearer a b ≡ a) ⊎ (nearer a b ≡ b)
-nearer-is a b = elim (nat_lt (nearness a) (nearness b)) as (λ t. (cond {A = Result Order Fault} t b a ≡ a) ⊎ (cond {A = Result Order Fault} t b a ≡ b)) [ true ↦ inr refl | false ↦ inl refl ]
+nearer-is a b =
+    elim (nat_lt (nearness a) (nearness b)) as (λ t. (cond {A = Result Order Fault} t b a ≡ a) ⊎ (cond {A = Result Order Fault} t b a ≡ b)) [ true ↦ inr refl | false ↦ inl refl ]
 
 -- what holds of the start and of each row's reading holds of the nearest
-pub nearest_has : (P : Result Order Fault → Type 0) (rows : List Row) (first : List ℕ) (rest : List (List ℕ)) (start : Result Order Fault) → P start → ((row : Row) → IsAmong row rows → P (row_reading row first rest)) → P (fold (with_row first rest) start rows)
+pub nearest_has : (P : Result Order Fault → Type 0) (rows : List Row) (first : List ℕ) (rest : List (List ℕ)) (start : Result Order Fault) → P start →
+    ((row : Row) → IsAmong row rows → P (row_reading row first rest)) → P (fold (with_row first rest) start rows)
 nearest_has P [] first rest start begun each = begun
 nearest_has P (row ∷ rows) first rest start begun each =
     let here : P (row_reading row first rest) = each row (inl refl) in

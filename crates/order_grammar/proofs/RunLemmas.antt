@@ -26,11 +26,13 @@ pub none_so_far : (words : List (List ℕ)) → ArePlacesSoFar [] words words
 none_so_far words = record { size = omega arith; places = all_to_come (places_reading words); few = omega arith }
 
 -- one more
-one_more : (so_far : List Place) (place : Place) (found : Option (List Place)) → places_with (so_far ++ place ∷ []) found ≡ places_with so_far (with_place (Some place) found)
+one_more : (so_far : List Place) (place : Place) (found : Option (List Place)) →
+    places_with (so_far ++ place ∷ []) found ≡ places_with so_far (with_place (Some place) found)
 one_more so_far place (Some places) = ap (λ (all : List Place). Some all) (append_assoc so_far (place ∷ []) places)
 one_more so_far place None = refl
 
-pub place_more : (so_far : List Place) (word : List ℕ) (rest words : List (List ℕ)) (place : Place) → ArePlacesSoFar so_far (word ∷ rest) words → place_of_text word ≡ Some place → length so_far < 280 → ArePlacesSoFar (so_far ++ place ∷ []) rest words
+pub place_more : (so_far : List Place) (word : List ℕ) (rest words : List (List ℕ)) (place : Place) → ArePlacesSoFar so_far (word ∷ rest) words →
+    place_of_text word ≡ Some place → length so_far < 280 → ArePlacesSoFar (so_far ++ place ∷ []) rest words
 place_more so_far word rest words place known is room = record {
   size = omega (arith, known.size, length-append so_far (place ∷ []));
   places = one_more so_far place (places_reading rest) ∙ ap (λ (found : Option Place). places_with so_far (with_place found (places_reading rest))) (sym is) ∙ known.places;
@@ -45,12 +47,14 @@ run_of_none words none =
       | inr other ↦ rw (other, run_reading) refl
     ]
 
-pub no_place : (so_far : List Place) (word : List ℕ) (rest words : List (List ℕ)) → ArePlacesSoFar so_far (word ∷ rest) words → place_of_text word ≡ None → run_reading words ≡ None
+pub no_place : (so_far : List Place) (word : List ℕ) (rest words : List (List ℕ)) → ArePlacesSoFar so_far (word ∷ rest) words → place_of_text word ≡ None →
+    run_reading words ≡ None
 no_place so_far word rest words known none =
     run_of_none words (sym known.places ∙ ap (λ (found : Option Place). places_with so_far (with_place found (places_reading rest))) none)
 
 -- nor is there one of over 280 words
-pub too_many : (so_far : List Place) (word : List ℕ) (rest words : List (List ℕ)) → ArePlacesSoFar so_far (word ∷ rest) words → 280 ≤ length so_far → run_reading words ≡ None
+pub too_many : (so_far : List Place) (word : List ℕ) (rest words : List (List ℕ)) → ArePlacesSoFar so_far (word ∷ rest) words → 280 ≤ length so_far →
+    run_reading words ≡ None
 too_many so_far word rest words known full =
     elim (cases_Bool (is_run_length (length words))) [
       | inl counted ↦
@@ -60,7 +64,8 @@ too_many so_far word rest words known full =
     ]
 
 -- the run of places that are all
-pub run_of_places : (so_far : List Place) (words : List (List ℕ)) → ArePlacesSoFar so_far [] words → cond (nat_le 2 (length so_far)) (Some so_far) None ≡ run_reading words
+pub run_of_places : (so_far : List Place) (words : List (List ℕ)) → ArePlacesSoFar so_far [] words →
+    cond (nat_le 2 (length so_far)) (Some so_far) None ≡ run_reading words
 run_of_places so_far words known =
     let size : length words ≡ length so_far = omega (arith, known.size) in
     let most : nat_le (length so_far) 280 ≡ true = le-leb (length so_far) 280 known.few in

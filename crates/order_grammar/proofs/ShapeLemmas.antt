@@ -10,7 +10,6 @@ use Rattle.map_tables.specs.declared.place.Place.{Place}
 use Rattle.map_tables.proofs.Texts.{texts_read}
 use Rattle.order_grammar.specs.Class.{class_reading, is_of_class}
 use Rattle.order_grammar.specs.Form.{are_names, is_run_length, places_reading, with_place, tail_reading, with_value, values_reading, is_of_repeated, are_of_classes}
-use Rattle.order_grammar.specs.Spells.{is_small}
 use Rattle.order_grammar.specs.declared.class.Class.{Class}
 use Rattle.order_grammar.specs.declared.class.Reading.{Reading}
 use Rattle.order_grammar.specs.declared.class.Reading.TheVariants.{Value, TooLarge, Wrong}
@@ -22,6 +21,7 @@ use Rattle.order_grammar.specs.declared.order.Tail.{Tail}
 use Rattle.order_grammar.specs.declared.order.Tail.TheVariants as tail
 use Rattle.order_grammar.specs.declared.order.Value as values
 use Rattle.order_grammar.proofs.OrderLemmas.{AreTextsOf, AreWordsOfTail}
+use Rattle.order_grammar.proofs.SmallLemmas.{is_small}
 use Rattle.order_grammar.proofs.TextLemmas.{value_read, large_value_read, IsValueOf, ReadAs, class_read}
 
 -- the words of places are read as them
@@ -32,7 +32,8 @@ places_again (place ∷ run) =
     rw (first, places_again run) refl
 
 -- words of which each names a place are those of the places
-named_by : (word : List ℕ) (words : List (List ℕ)) (first : Option Place) (rest : Option (List Place)) (run : List Place) → place_of_text word ≡ first → ((places : List Place) → rest ≡ Some places → words ≡ map text_of_place places) → with_place first rest ≡ Some run → word ∷ words ≡ map text_of_place run
+named_by : (word : List ℕ) (words : List (List ℕ)) (first : Option Place) (rest : Option (List Place)) (run : List Place) → place_of_text word ≡ first →
+    ((places : List Place) → rest ≡ Some places → words ≡ map text_of_place places) → with_place first rest ≡ Some run → word ∷ words ≡ map text_of_place run
 named_by word words (Some place) (Some places) run is others e =
     ap (λ (w : List ℕ). w ∷ words) ((texts_read.places word place).0 is) ∙ ap (λ (ws : List (List ℕ)). text_of_place place ∷ ws) (others places refl)
     ∙ ap (map text_of_place) (same_Some (place ∷ places) run e)
@@ -74,7 +75,8 @@ sized-large made t true = refl
 sized-large made t false = refl
 
 -- texts of values of the row are read as them
-pub values_read : (classes : List Class) (r : Repeated) (made : List values.Value) (t : Tail) (words : List (List ℕ)) → are_of_classes classes r made t ≡ true → AreTextsOf made t words → values_reading classes r words ≡ sized made t (list_all is_small made)
+pub values_read : (classes : List Class) (r : Repeated) (made : List values.Value) (t : Tail) (words : List (List ℕ)) → are_of_classes classes r made t ≡ true →
+    AreTextsOf made t words → values_reading classes r words ≡ sized made t (list_all is_small made)
 values_read [] r [] t words of are = rw (tail_read r t words of are, values_reading) refl
 values_read [] r (v ∷ made) t words of are = absurd (false≢true of)
 values_read (c ∷ classes) r [] t words of are = absurd (false≢true of)
@@ -101,13 +103,15 @@ ReadThus classes r words (Err WrongWords) = Unit {0}
 ReadThus classes r words (Err other) = ⊥
 
 -- one more value of the row
-one_more : (c : Class) (classes : List Class) (r : Repeated) (word : List ℕ) (words : List (List ℕ)) (v : values.Value) (made : List values.Value) (t : Tail) → IsValueOf c word v → AreValuesOf classes r words made t → AreValuesOf (c ∷ classes) r (word ∷ words) (v ∷ made) t
+one_more : (c : Class) (classes : List Class) (r : Repeated) (word : List ℕ) (words : List (List ℕ)) (v : values.Value) (made : List values.Value) (t : Tail) →
+    IsValueOf c word v → AreValuesOf classes r words made t → AreValuesOf (c ∷ classes) r (word ∷ words) (v ∷ made) t
 one_more c classes r word words v made t first rest = record {
   of_classes = and_from (is_of_class c v) (are_of_classes classes r made t) first.of_class rest.of_classes;
   texts = (first.text_of, rest.texts);
 }
 
-with_value_read : (c : Class) (classes : List Class) (r : Repeated) (word : List ℕ) (words : List (List ℕ)) (first : Reading) (rest : Result (List values.Value × Tail) Fault) → ReadAs c word first → ReadThus classes r words rest → ReadThus (c ∷ classes) r (word ∷ words) (with_value first rest)
+with_value_read : (c : Class) (classes : List Class) (r : Repeated) (word : List ℕ) (words : List (List ℕ)) (first : Reading) (rest : Result (List values.Value × Tail) Fault) →
+    ReadAs c word first → ReadThus classes r words rest → ReadThus (c ∷ classes) r (word ∷ words) (with_value first rest)
 with_value_read c classes r word words Wrong rest f s = tt
 with_value_read c classes r word words TooLarge (Ok read) f s =
     (f.0 ∷ read.0, read.1, one_more c classes r word words f.0 read.0 read.1 f.1 s.0, and_left (is_small f.0) (list_all is_small read.0) f.2)
@@ -123,18 +127,21 @@ with_value_read c classes r word words (Value v) (Err WrongWords) f s = tt
 with_value_read c classes r word words (Value v) (Err other) f s = absurd s
 
 -- names at the end
-names_made : (least most : ℕ) (words : List (List ℕ)) (named : Bool) → are_names least most words ≡ named → ReadThus [] (repeated.Names least most) words (elim (cond named (Some (tail.Names (record { items = words }))) None) [ Some t ↦ Ok ([], t) | None ↦ Err WrongWords ])
+names_made : (least most : ℕ) (words : List (List ℕ)) (named : Bool) → are_names least most words ≡ named →
+    ReadThus [] (repeated.Names least most) words (elim (cond named (Some (tail.Names (record { items = words }))) None) [ Some t ↦ Ok ([], t) | None ↦ Err WrongWords ])
 names_made least most words true e = (record { of_classes = e; texts = refl }, refl)
 names_made least most words false e = tt
 
 -- places at the end
-places_made : (words : List (List ℕ)) (found : Option (List Place)) → places_reading words ≡ found → is_run_length (length words) ≡ true → ReadThus [] repeated.Places words (elim (option_map tail.Places found) [ Some t ↦ Ok ([], t) | None ↦ Err WrongWords ])
+places_made : (words : List (List ℕ)) (found : Option (List Place)) → places_reading words ≡ found → is_run_length (length words) ≡ true →
+    ReadThus [] repeated.Places words (elim (option_map tail.Places found) [ Some t ↦ Ok ([], t) | None ↦ Err WrongWords ])
 places_made words (Some run) e counted =
     let named = places_named words run e in
     (record { of_classes = sym (as_many run words named) ∙ counted; texts = named }, refl)
 places_made words None e counted = tt
 
-run_made : (words : List (List ℕ)) (counted : Bool) → is_run_length (length words) ≡ counted → ReadThus [] repeated.Places words (elim (option_map tail.Places (cond counted (places_reading words) None)) [ Some t ↦ Ok ([], t) | None ↦ Err WrongWords ])
+run_made : (words : List (List ℕ)) (counted : Bool) → is_run_length (length words) ≡ counted →
+    ReadThus [] repeated.Places words (elim (option_map tail.Places (cond counted (places_reading words) None)) [ Some t ↦ Ok ([], t) | None ↦ Err WrongWords ])
 run_made words true e = places_made words (places_reading words) refl e
 run_made words false e = tt
 

@@ -41,7 +41,7 @@ use Rattle.order_grammar.specs.Name.{is_name, is_capital, is_digit, is_letter_or
 use Rattle.order_grammar.specs.Order.{made_of, parts_of}
 use Rattle.order_grammar.specs.Print.{spaced, joined, text_of_value, words_of_tail, words_of_parts, spelling_of}
 use Rattle.order_grammar.specs.Row.{has_room, is_short}
-use Rattle.order_grammar.specs.Spells.{IsNumber, IsNumbered, is_small, are_small, is_round_of_line, has_word, have_words, FitsLine, IsOrder}
+use Rattle.order_grammar.specs.Spells.{IsNumber, IsNumbered, is_round_of_line, has_word, have_words, FitsLine, IsOrder}
 use Rattle.order_grammar.specs.Words.{before, with_word, words_from, raised, words_of, is_printable, same_word}
 use Rattle.order_grammar.specs.declared.class.Class.{Class}
 use Rattle.order_grammar.specs.declared.form.Repeated.{Repeated}
@@ -57,6 +57,7 @@ use Rattle.order_grammar.specs.declared.order.Value.{Value}
 use Rattle.order_grammar.specs.declared.order.Value.TheVariants as value
 use Rattle.order_grammar.proofs.OrderLemmas.{IsTextOf, AreTextsOf, AreWordsOfTail, AreWordsByParts, of_parts}
 use Rattle.order_grammar.proofs.RowLemmas.{among_any, all_among}
+use Rattle.order_grammar.proofs.SmallLemmas.{is_small, are_small, small_of_parts}
 use Rattle.order_grammar.proofs.SpellsLemmas.{spelt_words_read}
 use Rattle.order_grammar.proofs.WordLemmas.{words_from-word}
 
@@ -101,7 +102,8 @@ raised-plain (byte ∷ bytes) h =
     rw ((plain_byte byte parts.0).stays, raised-plain bytes parts.1) refl
 
 -- no byte of a plain word ends it
-before-plain : (stop : ℕ) (word rest : List ℕ) → ((byte : ℕ) → PlainByte byte → (byte == stop) ≡ false) → list_all is_plain word ≡ true → before stop (word ++ rest) ≡ word ++ before stop rest
+before-plain : (stop : ℕ) (word rest : List ℕ) → ((byte : ℕ) → PlainByte byte → (byte == stop) ≡ false) → list_all is_plain word ≡ true →
+    before stop (word ++ rest) ≡ word ++ before stop rest
 before-plain stop [] rest other h = refl
 before-plain stop (byte ∷ bytes) rest other h =
     let parts = and_parts (is_plain byte) (list_all is_plain bytes) h in
@@ -124,7 +126,8 @@ unfolding ArePlain
 before-spaced [] h = refl
 before-spaced (word ∷ words) h =
     ap (before 35) (spaced-cons word words)
-    ∙ ap (λ (bytes : List ℕ). 32 ∷ bytes) (before-plain 35 word (spaced words) (λ byte p. p.no_comment) h.0.plain ∙ ap (λ (bytes : List ℕ). word ++ bytes) (before-spaced words h.1))
+    ∙ ap (λ (bytes : List ℕ). 32 ∷ bytes)
+    (before-plain 35 word (spaced words) (λ byte p. p.no_comment) h.0.plain ∙ ap (λ (bytes : List ℕ). word ++ bytes) (before-spaced words h.1))
     ∙ sym (spaced-cons word words)
 
 -- they are printable
@@ -153,9 +156,11 @@ in_front [] words h = absurd (omega arith)
 in_front (byte ∷ bytes) words h = refl
 
 -- a word in front of them
-words_from-joined : (word : List ℕ) (words : List (List ℕ)) → IsPlain word → words_from [] (spaced words) ≡ words → words_from [] (word ++ spaced words) ≡ word ∷ words
+words_from-joined : (word : List ℕ) (words : List (List ℕ)) → IsPlain word → words_from [] (spaced words) ≡ words →
+    words_from [] (word ++ spaced words) ≡ word ∷ words
 words_from-joined word words plain rest =
-    let first : before 32 (word ++ spaced words) ≡ word = before-plain 32 word (spaced words) (λ byte p. p.no_space) plain.plain ∙ ap (λ (bytes : List ℕ). word ++ bytes) (before_next words) ∙ append-nil word in
+    let first : before 32 (word ++ spaced words) ≡ word =
+    before-plain 32 word (spaced words) (λ byte p. p.no_space) plain.plain ∙ ap (λ (bytes : List ℕ). word ++ bytes) (before_next words) ∙ append-nil word in
     words_from-word [] (word ++ spaced words)
     ∙ ap (λ (w : List ℕ). with_word w (words_from [] (drop (length w) (word ++ spaced words)))) first
     ∙ ap (λ (bytes : List ℕ). with_word word (words_from [] bytes)) (drop_at word (spaced words) (length word) refl)
@@ -185,12 +190,15 @@ unfolding ArePlain
 reading_of-joined [] h fits = refl
 reading_of-joined (word ∷ words) h fits =
     let line = joined (word ∷ words) in
-    let clear : before 35 line ≡ line = before-plain 35 word (spaced words) (λ byte p. p.no_comment) h.0.plain ∙ ap (λ (bytes : List ℕ). word ++ bytes) (before-spaced words h.1) in
+    let clear : before 35 line ≡ line =
+    before-plain 35 word (spaced words) (λ byte p. p.no_comment) h.0.plain ∙ ap (λ (bytes : List ℕ). word ++ bytes) (before-spaced words h.1) in
     let short : ltb line_most (length line) ≡ false = le-ltb line_most (length line) fits in
     let printable : list_all is_printable (before 35 line) ≡ true =
-    ap (list_all is_printable) clear ∙ list_all-append is_printable word (spaced words) ∙ and_from _ _ (printable-plain word h.0.plain) (printable-spaced words h.1) in
+    ap (list_all is_printable) clear ∙ list_all-append is_printable word (spaced words)
+    ∙ and_from _ _ (printable-plain word h.0.plain) (printable-spaced words h.1) in
     let here : words_of line ≡ word ∷ words =
-    ap (λ (bytes : List ℕ). map raised (words_from [] bytes)) clear ∙ ap (map raised) (words_from-joined word words h.0 (words_from-spaced words h.1)) ∙ raised-words (word ∷ words) h in
+    ap (λ (bytes : List ℕ). map raised (words_from [] bytes)) clear ∙ ap (map raised) (words_from-joined word words h.0 (words_from-spaced words h.1))
+    ∙ raised-words (word ∷ words) h in
     rw (short, printable) (ap words_reading here)
 
 -- letters in upper case and digits are plain
@@ -218,7 +226,8 @@ digits_one number small = (one_digit number small, omega arith)
 digits_more : (number : ℕ) (digits : List ℕ) → 10 ≤ number → DigitsOf (number / 10) digits → DigitsOf number (digits ++ ((48 + number % 10) ∷ []))
 digits_more number digits large h =
     let last = one_digit (number % 10) (omega arith) in
-    let value : value_of_digits (digits ++ ((48 + number % 10) ∷ [])) ≡ value_of_digits digits * 10 + (48 + number % 10 - 48) = fold_push (λ value digit. value * 10 + (digit - 48)) 0 digits (48 + number % 10) in
+    let value : value_of_digits (digits ++ ((48 + number % 10) ∷ [])) ≡ value_of_digits digits * 10 + (48 + number % 10 - 48) =
+    fold_push (λ value digit. value * 10 + (digit - 48)) 0 digits (48 + number % 10) in
     (list_all-append is_digit digits ((48 + number % 10) ∷ []) ∙ and_from _ _ h.0 last, value ∙ omega (arith, h.1))
 
 some_digits : (digits : List ℕ) → 0 < length digits → list_all is_digit digits ≡ true → are_digits digits ≡ true
@@ -255,7 +264,8 @@ name_plain (first ∷ rest) is =
     let others = and_parts (nat_le (length rest) 7) (list_all is_letter_or_digit rest) parts.1 in
     let few = leb-true (length rest) 7 others.0 in
     let here : is_letter_or_digit first ≡ true = or_left (is_capital first) (is_digit first) parts.0 in
-    record { some = omega arith; few = omega (arith, few); plain = plain_letters (first ∷ rest) (and_from (is_letter_or_digit first) (list_all is_letter_or_digit rest) here others.1) }
+    record
+    { some = omega arith; few = omega (arith, few); plain = plain_letters (first ∷ rest) (and_from (is_letter_or_digit first) (list_all is_letter_or_digit rest) here others.1) }
 
 names_plain : (names : List (List ℕ)) → list_all is_name names ≡ true → ArePlain names
 unfolding ArePlain
@@ -303,7 +313,8 @@ record IsNumberedText (letters : List ℕ) (number : ℕ) : Type 0 where
   small : nat_le number number_most ≡ true
   plain : IsPlain (letters ++ decimal number)
 
-numbered_text : (letters : List ℕ) (number : ℕ) → length letters ≤ 2 → list_all is_plain letters ≡ true → (nat_le 1 number && nat_le number number_most) ≡ true → IsNumberedText letters number
+numbered_text : (letters : List ℕ) (number : ℕ) → length letters ≤ 2 → list_all is_plain letters ≡ true →
+    (nat_le 1 number && nat_le number number_most) ≡ true → IsNumberedText letters number
 numbered_text letters number two letters_plain has =
     let parts = and_parts (nat_le 1 number) (nat_le number number_most) has in
     let least = leb-true 1 number parts.0 in
@@ -369,9 +380,11 @@ hex_plain hex =
 place_plain_from : (hex : Hex) (stop : Option StopNumber) → IsPlain (text_of_hex hex ++ stop_text stop)
 place_plain_from hex None = subst IsPlain (sym (append-nil (text_of_hex hex))) (hex_plain hex)
 place_plain_from hex (Some First) =
-    plain_joined (text_of_hex hex) (stop_text (Some First)) (hex_plain hex) (omega (arith, hex_text-le hex, ap length (decimal_digit 0 (omega arith)))) (decimal_plain 0 (omega arith)).plain
+    plain_joined (text_of_hex hex) (stop_text (Some First)) (hex_plain hex) (omega (arith, hex_text-le hex, ap length (decimal_digit 0 (omega arith))))
+    (decimal_plain 0 (omega arith)).plain
 place_plain_from hex (Some Second) =
-    plain_joined (text_of_hex hex) (stop_text (Some Second)) (hex_plain hex) (omega (arith, hex_text-le hex, ap length (decimal_digit 1 (omega arith)))) (decimal_plain 1 (omega arith)).plain
+    plain_joined (text_of_hex hex) (stop_text (Some Second)) (hex_plain hex) (omega (arith, hex_text-le hex, ap length (decimal_digit 1 (omega arith))))
+    (decimal_plain 1 (omega arith)).plain
 
 turns_small : (rotation : Rotation) → nat_le (turns_of rotation) number_most ≡ true
 turns_small Zero = refl
@@ -389,7 +402,8 @@ value_spelt (value.Company co) has = record { text = refl; small = refl; plain =
 value_spelt (value.Kind k) has = record { text = refl; small = refl; plain = plain_word (code_of_kind k) (kind_plain k) }
 value_spelt (value.Tile tile) has = record { text = refl; small = refl; plain = decimal_plain (number_of_tile tile) (omega (arith, number_short tile)) }
 value_spelt (value.Hex hex) has = record { text = refl; small = refl; plain = hex_plain hex }
-value_spelt (value.Rotation rotation) has = record { text = refl; small = refl; plain = decimal_plain (turns_of rotation) (leb-true (turns_of rotation) number_most (turns_small rotation)) }
+value_spelt (value.Rotation rotation) has =
+    record { text = refl; small = refl; plain = decimal_plain (turns_of rotation) (leb-true (turns_of rotation) number_most (turns_small rotation)) }
 value_spelt (value.Place place) has = record { text = refl; small = refl; plain = place_plain_from place.hex place.stop }
 value_spelt (value.Word k) has = record { text = refl; small = refl; plain = plain_word (text_of_keyword k) (keyword_plain k) }
 
@@ -412,7 +426,8 @@ values_spelt (v ∷ values) t has plain =
     let parts = and_parts (has_word v) (list_all has_word values) has in
     let first = value_spelt v parts.0 in
     let rest = values_spelt values t parts.1 plain in
-    record { texts = (first.text, rest.texts); small = and_from (is_small v) (list_all is_small values) first.small rest.small; plain = (first.plain, rest.plain) }
+    record
+    { texts = (first.text, rest.texts); small = and_from (is_small v) (list_all is_small values) first.small rest.small; plain = (first.plain, rest.plain) }
 
 -- what is repeated is not much, unless it is the places of a run
 abbrev IsFew : Tail → Type 0
@@ -440,7 +455,8 @@ tail_short repeated.Places (tail.Places run) room of = record { plain = places_p
 tail_short r t room of = absurd (false≢true of)
 
 -- as many values as classes, and then what is repeated
-values_short : (classes : List Class) (r : Repeated) (values : List Value) (t : Tail) → has_room r ≡ true → are_of_classes classes r values t ≡ true → (length values ≡ length classes) × IsShortTail t
+values_short : (classes : List Class) (r : Repeated) (values : List Value) (t : Tail) → has_room r ≡ true → are_of_classes classes r values t ≡ true →
+    (length values ≡ length classes) × IsShortTail t
 values_short [] r [] t room of = (refl, tail_short r t room of)
 values_short [] r (v ∷ values) t room of = absurd (false≢true of)
 values_short (c ∷ classes) r [] t room of = absurd (false≢true of)
@@ -468,7 +484,8 @@ fits_by_parts (Run k run) fits = fits
 fits_by_parts other fits = tt
 
 -- parts of a form that have words fit a line
-parts_fit : (k : Keyword) (values : List Value) (t : Tail) → length values ≤ 5 → IsFew t → ArePlain (words_of_parts (made_of k values t)) → FitWithPlaces k values t → length (joined (words_of_parts (made_of k values t))) ≤ line_most
+parts_fit : (k : Keyword) (values : List Value) (t : Tail) → length values ≤ 5 → IsFew t → ArePlain (words_of_parts (made_of k values t)) →
+    FitWithPlaces k values t → length (joined (words_of_parts (made_of k values t))) ≤ line_most
 parts_fit k values tail.Nothing five few plain fits =
     few_fit _ plain (omega (arith, length-append (map text_of_value values) [], length-map values text_of_value, five))
 parts_fit k values (tail.Names names) five few plain fits =
@@ -476,15 +493,18 @@ parts_fit k values (tail.Names names) five few plain fits =
 parts_fit k values (tail.Places run) five few plain fits = fits
 
 -- parts of a form that have words are read as what they make
-parts_read : (order : Order) (parts : Option Parts) → parts_of order ≡ parts → have_words parts ≡ true → FitsParts parts → reading_of (joined (words_of_parts parts)) ≡ Ok order
+parts_read : (order : Order) (parts : Option Parts) → parts_of order ≡ parts → have_words parts ≡ true → FitsParts parts →
+    reading_of (joined (words_of_parts parts)) ≡ Ok order
 unfolding ArePlain
 parts_read order None is has fits =
-    reading_of-joined [] tt (omega arith) ∙ spelt_words_read [] order (of_parts order [] (subst (λ (p : Option Parts). AreWordsByParts p []) (sym is) tt)) (ap are_small is)
+    reading_of-joined [] tt (omega arith)
+    ∙ spelt_words_read [] order (of_parts order [] (subst (λ (p : Option Parts). AreWordsByParts p []) (sym is) tt)) (small_of_parts order (ap are_small is))
 parts_read order (Some parts) is has fits =
     let values = parts.values.items in
     let h = and_parts (has_form parts) (list_all has_word values) has in
     let row = among_any (is_row_of parts.keyword values parts.tail) forms h.0 in
-    let of_row = and_parts (same_word (text_of_keyword row.0.keyword) (text_of_keyword parts.keyword)) (are_of_classes row.0.classes row.0.repeated values parts.tail) row.2 in
+    let of_row =
+    and_parts (same_word (text_of_keyword row.0.keyword) (text_of_keyword parts.keyword)) (are_of_classes row.0.classes row.0.repeated values parts.tail) row.2 in
     let short = and_parts (nat_le (length row.0.classes) 5) (has_room row.0.repeated) (all_among is_short forms row.0 forms_short row.1) in
     let counted = values_short row.0.classes row.0.repeated values parts.tail short.1 of_row.1 in
     let spelt = values_spelt values parts.tail h.1 counted.1.plain in
@@ -492,7 +512,8 @@ parts_read order (Some parts) is has fits =
     let plain : ArePlain words = (plain_word (text_of_keyword parts.keyword) (keyword_plain parts.keyword), spelt.plain) in
     let five : length values ≤ 5 = omega (arith, counted.0, leb-true (length row.0.classes) 5 short.0) in
     reading_of-joined words plain (parts_fit parts.keyword values parts.tail five counted.1.few plain fits)
-    ∙ spelt_words_read words order (of_parts order words (subst (λ (p : Option Parts). AreWordsByParts p words) (sym is) ((refl, spelt.texts), h.0))) (ap are_small is ∙ spelt.small)
+    ∙ spelt_words_read words order (of_parts order words (subst (λ (p : Option Parts). AreWordsByParts p words) (sym is) ((refl, spelt.texts), h.0)))
+    (small_of_parts order (ap are_small is ∙ spelt.small))
 
 -- the spelling of an order is read as it
 pub spelling_read : (order : Order) → IsOrder order → reading_of (spelling_of order) ≡ Ok order

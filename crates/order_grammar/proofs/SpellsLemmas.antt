@@ -6,26 +6,28 @@ use Rattle.order_grammar.specs.Form.{words_reading}
 use Rattle.order_grammar.specs.Limits.{line_most}
 use Rattle.order_grammar.specs.Line.{reading_of}
 use Rattle.order_grammar.specs.Order.{parts_of}
-use Rattle.order_grammar.specs.Spells.{AreWordsFor, HasSmallNumbers, are_small, Spells}
+use Rattle.order_grammar.specs.Spells.{AreWordsFor, HasSmallNumbers, Spells}
 use Rattle.order_grammar.specs.Words.{before_comment, is_printable, words_of}
 use Rattle.order_grammar.specs.declared.fault.Fault.{Fault}
 use Rattle.order_grammar.specs.declared.fault.Fault.TheVariants.{TooLong, StrayByte, NumberTooLarge}
 use Rattle.order_grammar.specs.declared.order.Order.{Order}
 use Rattle.order_grammar.specs.declared.order.Order.TheVariants.{Blank}
 use Rattle.order_grammar.proofs.RowLemmas.{words_for_read, words_say}
+use Rattle.order_grammar.proofs.SmallLemmas.{are_small, small_by_parts, small_of_parts}
 
 -- words that spell an order are read as it
 pub spelt_words_read : (words : List (List ℕ)) (order : Order) → AreWordsFor order words → HasSmallNumbers order → words_reading words ≡ Ok order
 spelt_words_read words order are small =
-    let few : are_small (parts_of order) ≡ true = small in
+    let few : are_small (parts_of order) ≡ true = small_by_parts order small in
     let read = words_for_read words order are in
     rw few at read
 
 -- but for a number, as too large
-pub large_words_read : (words : List (List ℕ)) (order : Order) → AreWordsFor order words → (HasSmallNumbers order → ⊥) → words_reading words ≡ Err NumberTooLarge
+pub large_words_read : (words : List (List ℕ)) (order : Order) → AreWordsFor order words → (HasSmallNumbers order → ⊥) →
+    words_reading words ≡ Err NumberTooLarge
 large_words_read words order are large =
     elim (cases_Bool (are_small (parts_of order))) [
-      | inl small ↦ absurd (large small)
+      | inl small ↦ absurd (large (small_of_parts order small))
       | inr many ↦
           let read = words_for_read words order are in
           rw many at read
@@ -35,7 +37,7 @@ large_words_read words order are large =
 pub words_read_spell : (words : List (List ℕ)) (order : Order) → words_reading words ≡ Ok order → AreWordsFor order words × HasSmallNumbers order
 words_read_spell [] order e =
     let blank : Blank ≡ order = cc in
-    rw (← blank) (tt, refl)
+    rw (← blank) (tt, tt)
 words_read_spell (first ∷ rest) order e =
     let says = words_say first rest in
     rw e at says

@@ -23,7 +23,7 @@ use Rattle.order_grammar.specs.Class.{are_digits, value_of_digits, digits_readin
 use Rattle.order_grammar.specs.Keyword.{text_of_keyword}
 use Rattle.tables.specs.Round.{number_most, operating_most}
 use Rattle.order_grammar.specs.Name.{is_name}
-use Rattle.order_grammar.specs.Spells.{IsNumber, IsNumbered, IsOperating, IsRoundOfLine, is_small}
+use Rattle.order_grammar.specs.Spells.{IsNumber, IsNumbered, IsOperating, IsRoundOfLine}
 use Rattle.order_grammar.specs.Words.{same_word}
 use Rattle.order_grammar.specs.declared.class.Class.{Class}
 use Rattle.order_grammar.specs.declared.class.Class.TheVariants as class
@@ -35,21 +35,25 @@ use Rattle.order_grammar.specs.declared.order.Value as values
 use Rattle.order_grammar.specs.declared.order.Value.TheVariants as value
 use Rattle.order_grammar.proofs.KeywordLemmas.{same_keyword, same_word-is, same_word-self}
 use Rattle.order_grammar.proofs.OrderLemmas.{IsTextOf}
+use Rattle.order_grammar.proofs.SmallLemmas.{is_small}
 
 -- digits that are a number are read as it
-number_read : (stands_for : ℕ → values.Value) (text : List ℕ) (number : ℕ) → IsNumber number text → nat_le number number_most ≡ true → digits_reading stands_for text ≡ Value (stands_for number)
+number_read : (stands_for : ℕ → values.Value) (text : List ℕ) (number : ℕ) → IsNumber number text → nat_le number number_most ≡ true →
+    digits_reading stands_for text ≡ Value (stands_for number)
 number_read stands_for text number is small =
     let digits : are_digits text ≡ true = is.digits in
     rw (digits, is.value, small) refl
 
 -- or as too large
-number_too_large : (stands_for : ℕ → values.Value) (text : List ℕ) (number : ℕ) → IsNumber number text → nat_le number number_most ≡ false → digits_reading stands_for text ≡ TooLarge
+number_too_large : (stands_for : ℕ → values.Value) (text : List ℕ) (number : ℕ) → IsNumber number text → nat_le number number_most ≡ false →
+    digits_reading stands_for text ≡ TooLarge
 number_too_large stands_for text number is large =
     let digits : are_digits text ≡ true = is.digits in
     rw (digits, is.value, large) refl
 
 -- digits that do not begin with 0 are the number of a round
-round_digits_read : (series : Series) (digits : List ℕ) (number : ℕ) → (get_or digits 0 0 ≡ 48 → ⊥) → IsNumber number digits → round_number_reading series digits ≡ digits_reading (λ n. value.Round (round_of_series series n)) digits
+round_digits_read : (series : Series) (digits : List ℕ) (number : ℕ) → (get_or digits 0 0 ≡ 48 → ⊥) → IsNumber number digits →
+    round_number_reading series digits ≡ digits_reading (λ n. value.Round (round_of_series series n)) digits
 round_digits_read series [] number other is = absurd (false≢true is.digits)
 round_digits_read series (digit ∷ digits) number other is =
     let test : (digit == 48) ≡ false = ne_eqb digit 48 other in
@@ -64,13 +68,15 @@ in_set_read number least most =
     ap (λ (digits : List ℕ). number_in_set (46 ∷ digits)) (decimal_digit number (omega (arith, most))) ∙ rw (low, high, value) refl
 
 -- the numbers of an operating round are read as that of its set
-operating_read : (digits : List ℕ) (number : ℕ) → 1 ≤ number → number ≤ operating_most → operating_reading (digits ++ (codes "." ++ decimal number)) ≡ round_number_reading (numbered.Operating number) digits
+operating_read : (digits : List ℕ) (number : ℕ) → 1 ≤ number → number ≤ operating_most →
+    operating_reading (digits ++ (codes "." ++ decimal number)) ≡ round_number_reading (numbered.Operating number) digits
 operating_read digits number least most =
     let behind = codes "." ++ decimal number in
     let two : length behind ≡ 2 = ap (λ (ds : List ℕ). length (46 ∷ ds)) (decimal_digit number (omega (arith, most))) in
     let size : length digits ≡ length (digits ++ behind) - 2 = omega (arith, two, length-append digits behind) in
     let front : take (length (digits ++ behind) - 2) (digits ++ behind) ≡ digits = take_at digits behind _ size in
-    let back : number_in_set (drop (length (digits ++ behind) - 2) (digits ++ behind)) ≡ Some number = ap number_in_set (drop_at digits behind _ size) ∙ in_set_read number least most in
+    let back : number_in_set (drop (length (digits ++ behind) - 2) (digits ++ behind)) ≡ Some number =
+    ap number_in_set (drop_at digits behind _ size) ∙ in_set_read number least most in
     by_numbers (digits ++ behind) digits number front back where
       by_numbers : (word digits : List ℕ) (number : ℕ) → take (length word - 2) word ≡ digits → number_in_set (drop (length word - 2) word) ≡ Some number → operating_reading word ≡ round_number_reading (numbered.Operating number) digits
       by_numbers word digits number front back = rw (back, front, operating_reading) refl
@@ -92,10 +98,12 @@ operating_by : (text : List ℕ) (set number : ℕ) → IsOperating set number t
 operating_by text set number is =
     let whole : text ≡ codes "OR" ++ (is.numbered.0 ++ (codes "." ++ decimal number)) =
     is.whole ∙ append_assoc is.front (codes ".") (decimal number) ∙ ap (λ (front : List ℕ). front ++ (codes "." ++ decimal number)) is.numbered.1 in
-    record { digits = is.numbered.0; no_zero = is.numbered.2; is_number = is.numbered.3; read = ap round_reading whole ∙ operating_read is.numbered.0 number is.least is.most }
+    record
+    { digits = is.numbered.0; no_zero = is.numbered.2; is_number = is.numbered.3; read = ap round_reading whole ∙ operating_read is.numbered.0 number is.least is.most }
 
 -- a round that is written is read as its digits are
-round_read : (series : Series) (text : List ℕ) (number : ℕ) → IsReadBy series number text → (reading : Reading) → ((digits : List ℕ) → IsNumber number digits → digits_reading (λ n. value.Round (round_of_series series n)) digits ≡ reading) → round_reading text ≡ reading
+round_read : (series : Series) (text : List ℕ) (number : ℕ) → IsReadBy series number text → (reading : Reading) →
+    ((digits : List ℕ) → IsNumber number digits → digits_reading (λ n. value.Round (round_of_series series n)) digits ≡ reading) → round_reading text ≡ reading
 round_read series text number is reading read =
     is.read ∙ round_digits_read series is.digits number is.no_zero is.is_number ∙ read is.digits is.is_number
 
@@ -119,11 +127,14 @@ value_read class.Name (value.Name name) text of is small =
     let named : is_name text ≡ true = ap is_name is.0 ∙ is.1 in
     rw named (ap (λ (n : List ℕ). Value (value.Name n)) is.0)
 value_read class.Round (value.Round (Opening number)) text of is small =
-    round_read numbered.Opening text number (opening_by text number is) (Value (value.Round (Opening number))) (λ digits one. number_read (λ n. value.Round (Opening n)) digits number one small)
+    round_read numbered.Opening text number (opening_by text number is) (Value (value.Round (Opening number)))
+    (λ digits one. number_read (λ n. value.Round (Opening n)) digits number one small)
 value_read class.Round (value.Round (Stock number)) text of is small =
-    round_read numbered.Stock text number (stock_by text number is) (Value (value.Round (Stock number))) (λ digits one. number_read (λ n. value.Round (Stock n)) digits number one small)
+    round_read numbered.Stock text number (stock_by text number is) (Value (value.Round (Stock number)))
+    (λ digits one. number_read (λ n. value.Round (Stock n)) digits number one small)
 value_read class.Round (value.Round (Operating set number)) text of is small =
-    round_read (numbered.Operating number) text set (operating_by text set number is) (Value (value.Round (Operating set number))) (λ digits one. number_read (λ n. value.Round (Operating n number)) digits set one small)
+    round_read (numbered.Operating number) text set (operating_by text set number is) (Value (value.Round (Operating set number)))
+    (λ digits one. number_read (λ n. value.Round (Operating n number)) digits set one small)
 value_read class.Private (value.Private p) text of is small = ap private_reading is ∙ private_read p
 value_read class.Company (value.Company co) text of is small = ap company_reading is ∙ company_read co
 value_read class.Kind (value.Kind k) text of is small = ap kind_reading is ∙ kind_read k
@@ -137,14 +148,18 @@ value_read (class.Word k) (value.Word other) text of is small =
 value_read c v text of is small = absurd (false≢true of)
 
 -- else as too large
-pub large_value_read : (c : Class) (v : values.Value) (text : List ℕ) → is_of_class c v ≡ true → IsTextOf v text → is_small v ≡ false → class_reading c text ≡ TooLarge
+pub large_value_read : (c : Class) (v : values.Value) (text : List ℕ) → is_of_class c v ≡ true → IsTextOf v text → is_small v ≡ false →
+    class_reading c text ≡ TooLarge
 large_value_read class.Number (value.Number number) text of is large = number_too_large value.Number text number is large
 large_value_read class.Round (value.Round (Opening number)) text of is large =
-    round_read numbered.Opening text number (opening_by text number is) TooLarge (λ digits one. number_too_large (λ n. value.Round (Opening n)) digits number one large)
+    round_read numbered.Opening text number (opening_by text number is) TooLarge
+    (λ digits one. number_too_large (λ n. value.Round (Opening n)) digits number one large)
 large_value_read class.Round (value.Round (Stock number)) text of is large =
-    round_read numbered.Stock text number (stock_by text number is) TooLarge (λ digits one. number_too_large (λ n. value.Round (Stock n)) digits number one large)
+    round_read numbered.Stock text number (stock_by text number is) TooLarge
+    (λ digits one. number_too_large (λ n. value.Round (Stock n)) digits number one large)
 large_value_read class.Round (value.Round (Operating set number)) text of is large =
-    round_read (numbered.Operating number) text set (operating_by text set number is) TooLarge (λ digits one. number_too_large (λ n. value.Round (Operating n number)) digits set one large)
+    round_read (numbered.Operating number) text set (operating_by text set number is) TooLarge
+    (λ digits one. number_too_large (λ n. value.Round (Operating n number)) digits set one large)
 large_value_read c (value.Number number) text of is large = absurd (false≢true of)
 large_value_read c (value.Round round) text of is large = absurd (false≢true of)
 large_value_read c v text of is large = absurd (false≢true (sym large))
@@ -161,7 +176,8 @@ ReadAs c text TooLarge = (v : values.Value) × IsValueOf c text v × (is_small v
 ReadAs c text (Value v) = IsValueOf c text v × (is_small v ≡ true)
 
 -- digits
-digits_read : (c : Class) (stands_for : ℕ → values.Value) (text whole : List ℕ) → ((number : ℕ) → is_small (stands_for number) ≡ nat_le number number_most) → (IsNumber (value_of_digits text) text → IsValueOf c whole (stands_for (value_of_digits text))) → ReadAs c whole (digits_reading stands_for text)
+digits_read : (c : Class) (stands_for : ℕ → values.Value) (text whole : List ℕ) → ((number : ℕ) → is_small (stands_for number) ≡ nat_le number number_most) →
+    (IsNumber (value_of_digits text) text → IsValueOf c whole (stands_for (value_of_digits text))) → ReadAs c whole (digits_reading stands_for text)
 digits_read c stands_for text whole small is =
     elim (cases_Bool (are_digits text)) [
       | inl digits ↦
@@ -180,13 +196,16 @@ small_round numbered.Stock number = refl
 small_round (numbered.Operating number) set = refl
 
 -- the number of a round of some series, in a text that is the round's where the digits are a number
-round_number_read : (series : Series) (digits text : List ℕ) → ((number : ℕ) → (get_or digits 0 0 ≡ 48 → ⊥) → IsNumber number digits → IsRoundOfLine (round_of_series series number) text) → ReadAs class.Round text (round_number_reading series digits)
+round_number_read : (series : Series) (digits text : List ℕ) →
+    ((number : ℕ) → (get_or digits 0 0 ≡ 48 → ⊥) → IsNumber number digits → IsRoundOfLine (round_of_series series number) text) →
+    ReadAs class.Round text (round_number_reading series digits)
 round_number_read series [] text is = tt
 round_number_read series (digit ∷ digits) text is =
     elim (cases_Bool (digit == 48)) [
       | inl zero ↦ rw zero tt
       | inr other ↦
-          rw other (digits_read class.Round (λ n. value.Round (round_of_series series n)) (digit ∷ digits) text (small_round series) (λ one. record { of_class = refl; text_of = is (value_of_digits (digit ∷ digits)) (eqb-false digit 48 other) one }))
+          rw other
+          (digits_read class.Round (λ n. value.Round (round_of_series series n)) (digit ∷ digits) text (small_round series) (λ one. record { of_class = refl; text_of = is (value_of_digits (digit ∷ digits)) (eqb-false digit 48 other) one }))
     ]
 
 -- a text that begins with two letters
@@ -216,7 +235,8 @@ in_set (point ∷ digit ∷ []) number e =
 in_set (a ∷ b ∷ c ∷ rest) number e = absurd cc
 
 -- the numbers of an operating round
-operating_made : (word text : List ℕ) (found : Option ℕ) → text ≡ codes "OR" ++ word → number_in_set (drop (length word - 2) word) ≡ found → ReadAs class.Round text (operating_reading word)
+operating_made : (word text : List ℕ) (found : Option ℕ) → text ≡ codes "OR" ++ word → number_in_set (drop (length word - 2) word) ≡ found →
+    ReadAs class.Round text (operating_reading word)
 operating_made word text None is e = rw (e, operating_reading) tt
 operating_made word text (Some number) is e =
     let digits = take (length word - 2) word in
@@ -235,10 +255,13 @@ operating_made word text (Some number) is e =
 round_made : (text : List ℕ) → ReadAs class.Round text (round_reading text)
 round_made text =
     elim (cases_Bool (same_word (take 2 text) (codes "PR"))) [
-      | inl same ↦ rw same (round_number_read numbered.Opening (drop 2 text) text (λ number other one. (drop 2 text, lettered text (codes "PR") same, other, one)))
+      | inl same ↦
+          rw same (round_number_read numbered.Opening (drop 2 text) text (λ number other one. (drop 2 text, lettered text (codes "PR") same, other, one)))
       | inr other ↦
           elim (cases_Bool (same_word (take 2 text) (codes "SR"))) [
-            | inl same ↦ rw (other, same) (round_number_read numbered.Stock (drop 2 text) text (λ number no_zero one. (drop 2 text, lettered text (codes "SR") same, no_zero, one)))
+            | inl same ↦
+                rw (other, same)
+                (round_number_read numbered.Stock (drop 2 text) text (λ number no_zero one. (drop 2 text, lettered text (codes "SR") same, no_zero, one)))
             | inr neither ↦
                 elim (cases_Bool (same_word (take 2 text) (codes "OR"))) [
                   | inl same ↦ rw (other, neither, same) (operating_made (drop 2 text) text _ (lettered text (codes "OR") same) refl)
@@ -253,7 +276,8 @@ CodeAs {X} code stands_for text (Value v) = (one : X) × (v ≡ stands_for one) 
 CodeAs code stands_for text Wrong = Unit {0}
 CodeAs code stands_for text TooLarge = ⊥
 
-code_made : {X : Type 0} (code : X → List ℕ) (stands_for : X → values.Value) (all : List X) (text : List ℕ) → CodeAs code stands_for text (code_reading code stands_for all text)
+code_made : {X : Type 0} (code : X → List ℕ) (stands_for : X → values.Value) (all : List X) (text : List ℕ) →
+    CodeAs code stands_for text (code_reading code stands_for all text)
 code_made code stands_for [] text = tt
 code_made code stands_for (first ∷ others) text =
     elim (cases_Bool (same_word text (code first))) [

@@ -1,8 +1,7 @@
 -- A player's name is a letter, then up to seven letters or digits; letters are raised. To a contract
 -- a name is its text.
-use Rattle.std.specs.Prelude.{◌≡◌, ℕ, ◌-◌, ◌≤◌, Bool, false, ◌&&◌, ◌||◌, nat_le, List, [], ◌∷◌, ◌++◌, length, take, drop, replicate, refl}
-use Rattle.std.proofs.Common.{arith}
-use Rattle.std.proofs.lemmas.Grind.{common_steps}
+use Rattle.std.specs.Prelude.{◌≡◌, ℕ, ◌-◌, ◌≤◌, Bool, false, ◌&&◌, ◌||◌, nat_le, List, [], ◌∷◌, ◌++◌, length, take, drop, replicate}
+use Rattle.std.proofs.Common.{sym, ap, subst, ◌∙◌, length-take-le, take-append-drop}
 use Rattle.std.specs.List.{list_all}
 
 -- a capital letter, a digit
@@ -20,9 +19,13 @@ abbrev pub is_name : List ℕ → Bool
 is_name [] = false
 is_name (first ∷ rest) = is_capital first && (nat_le (length rest) 7 && list_all is_letter_or_digit rest)
 
--- what is cut to its length and filled up again is as it was
-pub padded_again : (letters : List ℕ) (count : ℕ) → count ≤ 8 → length letters ≡ 8 → drop count letters ≡ replicate (8 - count) 0 → ◌≡◌ {A = List ℕ × ℕ} (take count letters ++ replicate (8 - length (take count letters)) 0, length (take count letters)) (letters, count)
+-- letters that are cut to their length and filled up again are as they were: the law of a name's view
+-- asks for this, so it stands here and not among the proofs
+pub padded_again : (letters : List ℕ) (count : ℕ) → count ≤ 8 → length letters ≡ 8 → drop count letters ≡ replicate (8 - count) 0 →
+    ◌≡◌ {A = List ℕ × ℕ} (take count letters ++ replicate (8 - length (take count letters)) 0, length (take count letters)) (letters, count)
 padded_again letters count short whole blank =
-    let here : length (take count letters) ≡ count = grind (arith, common_steps) in
-    let joined : take count letters ++ drop count letters ≡ letters = grind (arith, common_steps) in
-    rw (here, ← blank, joined) refl
+    let Padded : List ℕ → ℕ → List ℕ × ℕ = λ all number. (all, number) in
+    let within : count ≤ length letters = subst (λ (size : ℕ). count ≤ size) (sym whole) short in
+    ap (λ (size : ℕ). Padded (take count letters ++ replicate (8 - size) 0) size) (length-take-le count letters within)
+    ∙ ap (λ (rest : List ℕ). Padded (take count letters ++ rest) count) (sym blank)
+    ∙ ap (λ (all : List ℕ). Padded all count) (take-append-drop count letters)

@@ -166,26 +166,21 @@ pub record LooselySpells (line : List ℕ) (order : Order) : Type 0 where
   pub printable : IsTrue (list_all is_printable (before_comment line))
   pub words : AreWordsFor order (words_of line)
 
--- whether a round's number, or that of its set, is small enough for a line
-abbrev pub is_small_round : Round → Bool
-is_small_round (Opening number) = nat_le number number_most
-is_small_round (Stock number) = nat_le number number_most
-is_small_round (Operating set number) = nat_le set number_most
+-- the number of a round, or that of its set, is one that a line may have
+abbrev pub IsSmallRound : Round → Type 0
+IsSmallRound (Opening number) = number ≤ number_most
+IsSmallRound (Stock number) = number ≤ number_most
+IsSmallRound (Operating set number) = set ≤ number_most
 
--- whether a value has no number that is too large
-abbrev pub is_small : Value → Bool
-is_small (value.Number number) = nat_le number number_most
-is_small (value.Round round) = is_small_round round
-is_small other = true
-
--- whether parts have no number that is too large
-abbrev pub are_small : Option Parts → Bool
-are_small None = true
-are_small (Some parts) = list_all is_small parts.values.items
-
--- each number of the order is small enough for a line
+-- each number of the order is one that a line may have: these forms have numbers
 abbrev pub HasSmallNumbers : Order → Type 0
-HasSmallNumbers order = IsTrue (are_small (parts_of order))
+HasSmallNumbers (Game game version) = (game ≤ number_most) × (version ≤ number_most)
+HasSmallNumbers (Sheet name round) = IsSmallRound round
+HasSmallNumbers (Bid private amount) = amount ≤ number_most
+HasSmallNumbers (Limit private amount) = amount ≤ number_most
+HasSmallNumbers (Par company price) = price ≤ number_most
+HasSmallNumbers (Sell company tenths) = tenths ≤ number_most
+HasSmallNumbers other = Unit {0}
 
 -- the line spells the order
 pub record Spells (line : List ℕ) (order : Order) : Type 0 where

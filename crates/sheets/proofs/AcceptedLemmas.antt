@@ -27,7 +27,8 @@ chosen true one other first second = first
 chosen false one other first second = second
 
 -- the players that are taken are as many as may play
-from_names : (names players : List (List ℕ)) (fit : Bool) → (nat_le 3 (length names) && (nat_le (length names) 6 && all_differ names)) ≡ fit → cond fit (Some names) None ≡ Some players → MayPlay (length players)
+from_names : (names players : List (List ℕ)) (fit : Bool) → (nat_le 3 (length names) && (nat_le (length names) 6 && all_differ names)) ≡ fit →
+    cond fit (Some names) None ≡ Some players → MayPlay (length players)
 from_names names players true fit taken =
     let parts = and_parts (nat_le 3 (length names)) (nat_le (length names) 6 && all_differ names) fit in
     let most : nat_le (length names) 6 ≡ true = (and_parts (nat_le (length names) 6) (all_differ names) parts.1).0 in
@@ -43,10 +44,12 @@ from_line (Ok other) players named = cc
 from_line (Err fault) players named = cc
 
 -- so has what the lines after the header say
-from_body : (body : List (List ℕ)) (found : Option (List (List ℕ))) → ((players : List (List ℕ)) → found ≡ Some players → MayPlay (length players)) → HasPlayers (body_content body found)
+from_body : (body : List (List ℕ)) (found : Option (List (List ℕ))) → ((players : List (List ℕ)) → found ≡ Some players → MayPlay (length players)) →
+    HasPlayers (body_content body found)
 from_body body None play = refused Players
 from_body body (Some players) play =
-    chosen (nat_lt sheets_most (good_lines players body)) (Err TooManySheets) (Ok (record { players = players; body = body })) (refused TooManySheets) (λ ok. play players refl)
+    chosen (nat_lt sheets_most (good_lines players body)) (Err TooManySheets) (Ok (record { players = players; body = body })) (refused TooManySheets)
+    (λ ok. play players refl)
 
 from_players : (lines : List (List ℕ)) → HasPlayers (players_content lines)
 from_players [] = refused Players

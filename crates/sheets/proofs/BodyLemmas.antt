@@ -31,7 +31,8 @@ unfolding begins
 begins_none players line e = rw e refl
 
 -- a line that begins no sheet changes none
-skipped : (players lines : List (List ℕ)) (line : List ℕ) (post : Post) → begins players line ≡ None → sheet_in players (line ∷ lines) post ≡ sheet_in players lines post
+skipped : (players lines : List (List ℕ)) (line : List ℕ) (post : Post) → begins players line ≡ None →
+    sheet_in players (line ∷ lines) post ≡ sheet_in players lines post
 skipped players lines line post e = rw e (option_or-none (sheet_in players lines post))
 
 -- nor is it counted
@@ -39,7 +40,8 @@ uncounted : (players lines : List (List ℕ)) (line : List ℕ) → begins playe
 uncounted players lines line e = rw e (zero-add (good_lines players lines))
 
 -- a line that begins a sheet is counted
-counted : (players lines : List (List ℕ)) (line : List ℕ) (post : Post) → begins players line ≡ Some post → good_lines players (line ∷ lines) ≡ 1 + good_lines players lines
+counted : (players lines : List (List ℕ)) (line : List ℕ) (post : Post) → begins players line ≡ Some post →
+    good_lines players (line ∷ lines) ≡ 1 + good_lines players lines
 counted players lines line post e = rw e refl
 
 -- a block goes on with a line that has another first word
@@ -54,36 +56,44 @@ block-end : (line : List ℕ) (lines : List (List ℕ)) → is_sheet_line line �
 block-end line lines e = rw e refl
 
 -- a line inside a sheet has no code
-unread-inside : (players lines : List (List ℕ)) (line : List ℕ) → is_sheet_line line ≡ false → unread_in players true (line ∷ lines) ≡ unread_in players true lines
+unread-inside : (players lines : List (List ℕ)) (line : List ℕ) → is_sheet_line line ≡ false →
+    unread_in players true (line ∷ lines) ≡ unread_in players true lines
 unread-inside players lines line e = rw e refl
 
 -- a line outside has one
-unread-outside : (players lines : List (List ℕ)) (line : List ℕ) → is_sheet_line line ≡ false → unread_in players false (line ∷ lines) ≡ unread_fault line ∷ unread_in players false lines
+unread-outside : (players lines : List (List ℕ)) (line : List ℕ) → is_sheet_line line ≡ false →
+    unread_in players false (line ∷ lines) ≡ unread_fault line ∷ unread_in players false lines
 unread-outside players lines line e = rw e refl
 
 -- a good SHEET line has none
-unread-good : (players lines : List (List ℕ)) (line : List ℕ) (inside : Bool) (post : Post) → is_sheet_line line ≡ true → begins players line ≡ Some post → unread_in players inside (line ∷ lines) ≡ unread_in players true lines
+unread-good : (players lines : List (List ℕ)) (line : List ℕ) (inside : Bool) (post : Post) → is_sheet_line line ≡ true → begins players line ≡ Some post →
+    unread_in players inside (line ∷ lines) ≡ unread_in players true lines
 unread-good players lines line inside post e b = rw (e, b) refl
 
 -- a SHEET line with a fault has one
-unread-bad : (players lines : List (List ℕ)) (line : List ℕ) (inside : Bool) → is_sheet_line line ≡ true → begins players line ≡ None → unread_in players inside (line ∷ lines) ≡ unread_fault line ∷ unread_in players false lines
+unread-bad : (players lines : List (List ℕ)) (line : List ℕ) (inside : Bool) → is_sheet_line line ≡ true → begins players line ≡ None →
+    unread_in players inside (line ∷ lines) ≡ unread_fault line ∷ unread_in players false lines
 unread-bad players lines line inside e b = rw (e, b) refl
 
 -- what a SHEET line leaves to read is the same whether a sheet is open before it or not
-unread-either : (players lines : List (List ℕ)) (line : List ℕ) → is_sheet_line line ≡ true → unread_in players true (line ∷ lines) ≡ unread_in players false (line ∷ lines)
+unread-either : (players lines : List (List ℕ)) (line : List ℕ) → is_sheet_line line ≡ true →
+    unread_in players true (line ∷ lines) ≡ unread_in players false (line ∷ lines)
 unread-either players lines line e = rw e refl
 
 -- a block that goes on
-open-line : (post q : Post) (had lines : List (List ℕ)) (line : List ℕ) → is_sheet_line line ≡ false → open_with (Some (record { post = post; lines = had })) (line ∷ lines) q ≡ open_with (Some (record { post = post; lines = had ++ line ∷ [] })) lines q
+open-line : (post q : Post) (had lines : List (List ℕ)) (line : List ℕ) → is_sheet_line line ≡ false →
+    open_with (Some (record { post = post; lines = had })) (line ∷ lines) q ≡ open_with (Some (record { post = post; lines = had ++ line ∷ [] })) lines q
 open-line post q had lines line e =
     ap (λ b. cond (same_post post q) (Some b) None) (ap (λ b. had ++ b) (block-line line lines e) ∙ sym (append_assoc had (line ∷ []) (block lines)))
 
 -- a block that ends
-open-end : (post q : Post) (had lines : List (List ℕ)) (line : List ℕ) → is_sheet_line line ≡ true → open_with (Some (record { post = post; lines = had })) (line ∷ lines) q ≡ cond (same_post post q) (Some had) None
+open-end : (post q : Post) (had lines : List (List ℕ)) (line : List ℕ) → is_sheet_line line ≡ true →
+    open_with (Some (record { post = post; lines = had })) (line ∷ lines) q ≡ cond (same_post post q) (Some had) None
 open-end post q had lines line e = ap (λ b. cond (same_post post q) (Some b) None) (ap (λ b. had ++ b) (block-end line lines e) ∙ append-nil had)
 
 -- a sheet that begins
-begun : (players lines : List (List ℕ)) (line : List ℕ) (post q : Post) (had : Option (List (List ℕ))) → begins players line ≡ Some post → option_or (sheet_in players (line ∷ lines) q) had ≡ option_or (sheet_in players lines q) (option_or (open_with (Some (record { post = post; lines = [] })) lines q) had)
+begun : (players lines : List (List ℕ)) (line : List ℕ) (post q : Post) (had : Option (List (List ℕ))) → begins players line ≡ Some post →
+    option_or (sheet_in players (line ∷ lines) q) had ≡ option_or (sheet_in players lines q) (option_or (open_with (Some (record { post = post; lines = [] })) lines q) had)
 begun players lines line post q had e = rw e (option_or-option_or (sheet_in players lines q) (cond (same_post post q) (Some (block lines)) None) had)
 
 module _ (players body : List (List ℕ)) (sheets : Post → Option (List (List ℕ))) (unread : List Fault) (good : ℕ) where

@@ -26,7 +26,8 @@ many : (players body : List (List ℕ)) → sheets_most < good_lines players bod
 many players body h = let t : nat_lt sheets_most (good_lines players body) ≡ true = lt-ltb sheets_most (good_lines players body) h in rw t refl
 
 -- another body
-pub few_enough : (players body : List (List ℕ)) → good_lines players body ≤ sheets_most → body_content body (Some players) ≡ Ok (record { players = players; body = body })
+pub few_enough : (players body : List (List ℕ)) → good_lines players body ≤ sheets_most →
+    body_content body (Some players) ≡ Ok (record { players = players; body = body })
 few_enough players body h = let t : nat_lt sheets_most (good_lines players body) ≡ false = le-ltb sheets_most (good_lines players body) h in rw t refl
 
 -- a fault of the file
@@ -38,7 +39,8 @@ fails TooLong content e = e
 fails TooManySheets content e = e
 
 -- a fault of the body
-pub fails_by : (players body : List (List ℕ)) (fault : FileFault) (content : Result Content FileFault) → content ≡ body_content body (Some players) → StopsBy (good_lines players body) fault → Fails fault content
+pub fails_by : (players body : List (List ℕ)) (fault : FileFault) (content : Result Content FileFault) → content ≡ body_content body (Some players) →
+    StopsBy (good_lines players body) fault → Fails fault content
 fails_by players body Memory content e h = tt
 fails_by players body Header content e h = absurd h
 fails_by players body Players content e h = absurd h
@@ -46,7 +48,9 @@ fails_by players body TooLong content e h = absurd h
 fails_by players body TooManySheets content e h = e ∙ many players body h
 
 -- what is kept of a file is what it says
-pub collected : (file : List ℕ) (players body : List (List ℕ)) (sheets : Post → Option (List (List ℕ))) (unread : List Fault) → content_of file ≡ Ok (record { players = players; body = body }) → 3 ≤ length players → length players ≤ 6 → ((post : Post) → sheets post ≡ sheet_in players body post) → unread ≡ unread_in players false body → IsCollected file players sheets unread
+pub collected : (file : List ℕ) (players body : List (List ℕ)) (sheets : Post → Option (List (List ℕ))) (unread : List Fault) →
+    content_of file ≡ Ok (record { players = players; body = body }) → 3 ≤ length players → length players ≤ 6 →
+    ((post : Post) → sheets post ≡ sheet_in players body post) → unread ≡ unread_in players false body → IsCollected file players sheets unread
 unfolding players_of body_of sheet_of unread_of
 collected file players body sheets unread e least most same codes = record {
   accepted = rw e refl;

@@ -10,7 +10,8 @@ use Rattle.tables.specs.declared.round.Round.{Round}
 use Rattle.sheets.proofs.BodyLemmas.{option_or-none}
 
 -- what a line begins, in front of what later lines begin
-begun_first : (seat : ℕ) (round : Round) (lines : List (List ℕ)) (begun : Option Post) (later : List Sent) → option_or (last_for round later) (lines_begun (post_at seat round) lines begun) ≡ last_for round (sent_by seat lines begun ++ later)
+begun_first : (seat : ℕ) (round : Round) (lines : List (List ℕ)) (begun : Option Post) (later : List Sent) →
+    option_or (last_for round later) (lines_begun (post_at seat round) lines begun) ≡ last_for round (sent_by seat lines begun ++ later)
 begun_first seat round lines None later = option_or-none (last_for round later)
 begun_first seat round lines (Some post) later =
     elim (eqb post.seat.0 seat) as (λ t. option_or (last_for round later) (cond (t && same_round post.round round) (Some lines) None) ≡ last_for round (cond t (record { round = post.round; lines = lines } ∷ []) [] ++ later)) [

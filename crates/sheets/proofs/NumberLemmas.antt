@@ -68,7 +68,8 @@ module _ (spelt : ReadWhereSpelt) (players : List (List ℕ)) where
   -- the same post has a round as small
   found_small : (one post : Post) (lines : List (List ℕ)) (same : Bool) → same_post one post ≡ same → number_of one.round ≤ number_most → IsSome (cond same (Some lines) None) → number_of post.round ≤ number_most
   found_small one post lines true same small there =
-      subst (λ (n : ℕ). n ≤ number_most) (same_number one.round post.round (and_parts (one.seat.0 == post.seat.0) (same_round one.round post.round) same).1) small
+      subst (λ (n : ℕ). n ≤ number_most) (same_number one.round post.round (and_parts (one.seat.0 == post.seat.0) (same_round one.round post.round) same).1)
+      small
   found_small one post lines false same small there = absurd (search rules)
 
   -- a sheet that is there was begun later, or by this line

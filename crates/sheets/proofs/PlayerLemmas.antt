@@ -68,19 +68,23 @@ name_test a b =
     (λ h. sym ((same_decides b a).0 h), λ e. (same_decides b a).1 (sym e))
 
 -- one more player before the place
-seat_step : (t : Bool) (seat : ℕ) (o : Option Seat) (place : Option ℕ) → o ≡ option_map (λ i. record { 0 = i }) place → cond t (Some (record { 0 = seat })) o ≡ option_map (λ i. record { 0 = i }) (cond t (Some seat) place)
+seat_step : (t : Bool) (seat : ℕ) (o : Option Seat) (place : Option ℕ) → o ≡ option_map (λ i. record { 0 = i }) place →
+    cond t (Some (record { 0 = seat })) o ≡ option_map (λ i. record { 0 = i }) (cond t (Some seat) place)
 seat_step true seat o place e = refl
 seat_step false seat o place e = e
 
 -- the seat of a name, counted from a seat, is its place counted from there
-seat_is_place : (seat : ℕ) (players : List (List ℕ)) (name : List ℕ) → seat_from seat players name ≡ option_map (λ i. record { 0 = i }) (position_from (is_equal name) seat players)
+seat_is_place : (seat : ℕ) (players : List (List ℕ)) (name : List ℕ) →
+    seat_from seat players name ≡ option_map (λ i. record { 0 = i }) (position_from (is_equal name) seat players)
 seat_is_place seat [] name = refl
 seat_is_place seat (player ∷ players) name =
     ap (λ t. cond t (Some (record { 0 = seat })) (seat_from (seat + 1) players name)) (sym (name_test name player))
-    ∙ seat_step (is_equal name player) seat (seat_from (seat + 1) players name) (position_from (is_equal name) (seat + 1) players) (seat_is_place (seat + 1) players name)
+    ∙ seat_step (is_equal name player) seat (seat_from (seat + 1) players name) (position_from (is_equal name) (seat + 1) players)
+    (seat_is_place (seat + 1) players name)
 
 -- the seat of a name is its place among the names
-pub seat_found : (players : List (List ℕ)) (name : List ℕ) (place : Option ℕ) → place ≡ position (is_equal name) players → option_map (λ i. record { 0 = i }) place ≡ seat_from 0 players name
+pub seat_found : (players : List (List ℕ)) (name : List ℕ) (place : Option ℕ) → place ≡ position (is_equal name) players →
+    option_map (λ i. record { 0 = i }) place ≡ seat_from 0 players name
 seat_found players name place e = ap (option_map (λ i. record { 0 = i })) (e ∙ position_from-zero (is_equal name) players) ∙ sym (seat_is_place 0 players name)
 
 -- one name twice
@@ -100,13 +104,15 @@ repeats (player ∷ before) after name h =
     (ap (λ t. t || list_any (is_equal name) before) (sym (name_test name player)) ∙ h) (repeats before after name))
 
 -- one name more
-more : (a l m rest longer : Bool) → (a || l) ≡ false → (not m && rest) ≡ true → (l ≡ false → rest ≡ true → longer ≡ true) → (not (m || (a || false)) && longer) ≡ true
+more : (a l m rest longer : Bool) → (a || l) ≡ false → (not m && rest) ≡ true → (l ≡ false → rest ≡ true → longer ≡ true) →
+    (not (m || (a || false)) && longer) ≡ true
 more true l m rest longer h d ih = absurd (true≢false h)
 more false l true rest longer h d ih = absurd (true≢false (sym d))
 more false l false rest longer h d ih = ih h d
 
 -- names still differ where the next is not among those before it
-differs : (before : List (List ℕ)) (name : List ℕ) → list_any (is_equal name) before ≡ false → all_differ before ≡ true → all_differ (before ++ name ∷ []) ≡ true
+differs : (before : List (List ℕ)) (name : List ℕ) → list_any (is_equal name) before ≡ false → all_differ before ≡ true →
+    all_differ (before ++ name ∷ []) ≡ true
 differs [] name h d = refl
 differs (player ∷ before) name h d =
     rw (list_any-append (same_word player) before (name ∷ []))

@@ -51,7 +51,8 @@ module _ (players body : List (List ℕ)) (sheets : Post → Option (List (List 
       rw (h.0, h.1, h.2) (None, tt, stands_bad players body sheets unread good line (written_lines rest) is b s)
   reaches_by line rest (Some post) None codes count is b h s = absurd h.0
   reaches_by line rest (Some post) (Some sheet) codes count is b h s =
-      rw (h.2, h.3) (Some (record { post = post; lines = [] }), (h.0.0, ([], subst (λ t. BeginsWith [] [] rest t) (sym h.0.1) (begins_with_nothing rest))), stands_begun players body sheets unread good line (written_lines rest) post is b h.1 s)
+      rw (h.2, h.3)
+      (Some (record { post = post; lines = [] }), (h.0.0, ([], subst (λ t. BeginsWith [] [] rest t) (sym h.0.1) (begins_with_nothing rest))), stands_begun players body sheets unread good line (written_lines rest) post is b h.1 s)
 
   -- after a SHEET line
   pub reaches_begun : (line rest : List ℕ) (sheet : Option OpenSheet) (codes : List Fault) (count : ℕ) → is_sheet_line line ≡ true → HasBegun rest (fault_of_reading (reading_of line)) good unread (post_begun players (reading_of line)) sheet count codes → Stands players body (line ∷ written_lines rest) None sheets unread good → Reaches players body rest sheet sheets codes count
@@ -69,7 +70,9 @@ module _ (players body : List (List ℕ)) (sheets : Post → Option (List (List 
   stops_begun line lines fault is h s = stops_by line lines (post_begun players (reading_of line)) fault (rw is refl) h s
 
 -- a SHEET line comes, and the sheet before it has been kept
-pub reaches_sheet_line : (players body : List (List ℕ)) (sheets kept : Post → Option (List (List ℕ))) (unread : List Fault) (good : ℕ) (line rest text : List ℕ) (sheet : Option OpenSheet) → is_sheet_line line ≡ true → written_lines text ≡ line ∷ written_lines rest → ((post : Post) → kept post ≡ closed sheet text sheets post) → Reaches players body text sheet sheets unread good → Stands players body (line ∷ written_lines rest) None kept unread good
+pub reaches_sheet_line : (players body : List (List ℕ)) (sheets kept : Post → Option (List (List ℕ))) (unread : List Fault) (good : ℕ) (line rest text : List ℕ) (sheet : Option OpenSheet) →
+    is_sheet_line line ≡ true → written_lines text ≡ line ∷ written_lines rest → ((post : Post) → kept post ≡ closed sheet text sheets post) →
+    Reaches players body text sheet sheets unread good → Stands players body (line ∷ written_lines rest) None kept unread good
 reaches_sheet_line players body sheets kept unread good line rest text sheet is lines same r =
     stands_same players body (closed sheet text sheets) unread good kept (line ∷ written_lines rest) None same
     (kept_before players body sheets unread good line (written_lines rest) text sheet r.0 is r.1 (subst (λ ls. Stands players body ls r.0 sheets unread good) lines r.2))
@@ -82,7 +85,8 @@ module _ (players body : List (List ℕ)) (sheets : Post → Option (List (List 
   ended text None (Some had) h none s post = absurd h
   ended text (Some sheet) None h none s post = absurd h
   ended text (Some sheet) (Some had) h none s post =
-      let whole : take (length sheet.text.now - 0) sheet.text.now ≡ sheet.text.now = let n : length sheet.text.now - 0 ≡ length sheet.text.now = omega arith in rw n (take-length sheet.text.now) in
+      let whole : take (length sheet.text.now - 0) sheet.text.now ≡ sheet.text.now =
+      let n : length sheet.text.now - 0 ≡ length sheet.text.now = omega arith in rw n (take-length sheet.text.now) in
       let lines : written_lines (take (length sheet.text.now - 0) sheet.text.now) ≡ had.lines ++ [] =
       ap written_lines whole ∙ lines_of_both h.1.0 had.lines text sheet.text.now h.1.1 ∙ ap (λ ls. had.lines ++ ls) none in
       ap (λ p. cond (same_post p post) (Some (written_lines (take (length sheet.text.now - 0) sheet.text.now))) (sheets post)) h.0

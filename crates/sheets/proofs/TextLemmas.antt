@@ -55,7 +55,8 @@ cut_again front next rest a b = record {
 }
 
 -- the bytes before an LF are a line
-one_line : (line front : List ℕ) → ((k : ℕ) → k < length front → get_or front k 0 ≡ 10 → ⊥) → lines_from line (front ++ 10 ∷ []) ≡ without_return (line ++ front) ∷ []
+one_line : (line front : List ℕ) → ((k : ℕ) → k < length front → get_or front k 0 ≡ 10 → ⊥) →
+    lines_from line (front ++ 10 ∷ []) ≡ without_return (line ++ front) ∷ []
 one_line line [] none = rw (append-nil line) refl
 one_line line (byte ∷ front) none =
     let other : eqb byte 10 ≡ false = ne_eqb byte 10 (none 0 (omega arith)) in
@@ -74,15 +75,18 @@ without_return-last [] last = refl
 without_return-last (a ∷ []) last = elim (eqb last 13) as (λ b. a ∷ cond b [] (last ∷ []) ≡ cond b (a ∷ []) (a ∷ last ∷ [])) [ true ↦ refl | false ↦ refl ]
 without_return-last (a ∷ b ∷ front) last =
     ap (λ l. a ∷ l) (without_return-last (b ∷ front) last)
-    ∙ elim (eqb last 13) as (λ t. a ∷ cond t (b ∷ front) (b ∷ (front ++ last ∷ [])) ≡ cond t (a ∷ b ∷ front) (a ∷ b ∷ (front ++ last ∷ []))) [ true ↦ refl | false ↦ refl ]
+    ∙ elim (eqb last 13) as (λ t. a ∷ cond t (b ∷ front) (b ∷ (front ++ last ∷ [])) ≡ cond t (a ∷ b ∷ front) (a ∷ b ∷ (front ++ last ∷ [])))
+    [ true ↦ refl | false ↦ refl ]
 
 -- a text with an LF begins with the line before it
-pub begins_with_line : (text : List ℕ) (end : ℕ) → end < length text → get_or text end 0 ≡ 10 → ((k : ℕ) → k < end → get_or text k 0 ≡ 10 → ⊥) → BeginsWith (take (end + 1) text) (written (without_return (take end text) ∷ [])) (drop (end + 1) text) text
+pub begins_with_line : (text : List ℕ) (end : ℕ) → end < length text → get_or text end 0 ≡ 10 → ((k : ℕ) → k < end → get_or text k 0 ≡ 10 → ⊥) →
+    BeginsWith (take (end + 1) text) (written (without_return (take end text) ∷ [])) (drop (end + 1) text) text
 unfolding written_lines
 begins_with_line text end within here none =
     let front : take (end + 1) text ≡ take end text ++ 10 ∷ [] = rw (add-one, take-suc text end 0 within, here) refl in
     let short : length (take end text) ≡ end = grind (arith, common_steps) in
-    let clear : (k : ℕ) → k < length (take end text) → get_or (take end text) k 0 ≡ 10 → ⊥ = λ k h e. none k (omega arith) (sym (get_or-take end text k 0 (omega arith)) ∙ e) in
+    let clear : (k : ℕ) → k < length (take end text) → get_or (take end text) k 0 ≡ 10 → ⊥ =
+    λ k h e. none k (omega arith) (sym (get_or-take end text k 0 (omega arith)) ∙ e) in
     record {
       whole = sym (take-append-drop (end + 1) text);
       first = ap (λ t. written (lines_from [] t)) front ∙ ap written (one_line [] (take end text) clear);
@@ -90,7 +94,8 @@ begins_with_line text end within here none =
     }
 
 -- a text with no LF is its last line
-pub begins_with_last : (text : List ℕ) → 0 < length text → ((k : ℕ) → k < length text → get_or text k 0 ≡ 10 → ⊥) → BeginsWith text (written (text ∷ [])) [] text
+pub begins_with_last : (text : List ℕ) → 0 < length text → ((k : ℕ) → k < length text → get_or text k 0 ≡ 10 → ⊥) →
+    BeginsWith text (written (text ∷ [])) [] text
 unfolding written_lines
 begins_with_last [] some none = absurd (omega arith)
 begins_with_last (byte ∷ text) some none = record {
@@ -105,7 +110,8 @@ unfolding written_lines
 begins_with_nothing text = record { whole = refl; first = refl; cut = cut_at_start text }
 
 -- what stands behind a front comes after its lines
-pub one_after_another : (front next : List ℕ) (lines more : List (List ℕ)) (middle rest text : List ℕ) → BeginsWith front lines middle text → BeginsWith next more rest middle → BeginsWith (front ++ next) (lines ++ more) rest text
+pub one_after_another : (front next : List ℕ) (lines more : List (List ℕ)) (middle rest text : List ℕ) → BeginsWith front lines middle text →
+    BeginsWith next more rest middle → BeginsWith (front ++ next) (lines ++ more) rest text
 one_after_another front next lines more middle rest text a b =
     let both : text ≡ front ++ (next ++ rest) = a.whole ∙ ap (λ t. front ++ t) b.whole in
     let cut : IsCut front (next ++ rest) = subst (λ t. IsCut front t) b.whole a.cut in
@@ -116,25 +122,31 @@ one_after_another front next lines more middle rest text a b =
     }
 
 -- the lines of a text that was cut
-pub lines_of_both : (front : List ℕ) (lines : List (List ℕ)) (rest text : List ℕ) → BeginsWith front lines rest text → written_lines text ≡ lines ++ written_lines rest
+pub lines_of_both : (front : List ℕ) (lines : List (List ℕ)) (rest text : List ℕ) → BeginsWith front lines rest text →
+    written_lines text ≡ lines ++ written_lines rest
 lines_of_both front lines rest text a =
     let cut : written_lines (front ++ rest) ≡ written_lines front ++ written_lines rest = a.cut.joins rest [] (append-nil rest) in
     ap written_lines a.whole ∙ cut ∙ ap (λ ls. ls ++ written_lines rest) a.first
 
 -- the front of a text, by what is left of it
-pub front_by_rest : (front : List ℕ) (lines : List (List ℕ)) (rest text : List ℕ) → BeginsWith front lines rest text → take (length text - length rest) text ≡ front
-front_by_rest front lines rest text a = rw (a.whole, length-append front rest) (let n : (length front + length rest) - length rest ≡ length front = omega arith in rw (n, take-append_seam front rest) refl)
+pub front_by_rest : (front : List ℕ) (lines : List (List ℕ)) (rest text : List ℕ) → BeginsWith front lines rest text →
+    take (length text - length rest) text ≡ front
+front_by_rest front lines rest text a =
+    rw (a.whole, length-append front rest)
+    (let n : (length front + length rest) - length rest ≡ length front = omega arith in rw (n, take-append_seam front rest) refl)
 
 -- what is left behind a place, up to the end
 pub behind : (text : List ℕ) (n : ℕ) → take (length text - n) (drop n text) ≡ drop n text
 behind text n = rw (← length-drop n text) (take-length (drop n text))
 
 -- a front without written lines, and then a blank line
-pub after_blank : (front next line middle rest text : List ℕ) → is_blank line ≡ true → BeginsWith front [] middle text → BeginsWith next (written (line ∷ [])) rest middle → BeginsWith (front ++ next) [] rest text
+pub after_blank : (front next line middle rest text : List ℕ) → is_blank line ≡ true → BeginsWith front [] middle text →
+    BeginsWith next (written (line ∷ [])) rest middle → BeginsWith (front ++ next) [] rest text
 after_blank front next line middle rest text blank a b =
     one_after_another front next [] [] middle rest text a (subst (λ t. BeginsWith next (cond (not t) (line ∷ []) []) rest middle) blank b)
 
 -- a front without written lines, and then a line that counts
-pub before_line : (front next line middle rest text : List ℕ) → is_blank line ≡ false → BeginsWith front [] middle text → BeginsWith next (written (line ∷ [])) rest middle → BeginsWith (front ++ next) (line ∷ []) rest text
+pub before_line : (front next line middle rest text : List ℕ) → is_blank line ≡ false → BeginsWith front [] middle text →
+    BeginsWith next (written (line ∷ [])) rest middle → BeginsWith (front ++ next) (line ∷ []) rest text
 before_line front next line middle rest text blank a b =
     one_after_another front next [] (line ∷ []) middle rest text a (subst (λ t. BeginsWith next (cond (not t) (line ∷ []) []) rest middle) blank b)

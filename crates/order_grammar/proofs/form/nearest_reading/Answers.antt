@@ -20,7 +20,8 @@ returns-in-Ok c =
     let next = rows-next first rest (Err c.loop-form.nearest) c.args.forms.now i _ c.loop-form-test.true c.read.result c.read.ensures in
     let found : fold (with_row first rest) (nearer (Err c.loop-form.nearest) c.read.result) others ≡ Ok c.in-Ok.order =
     ap (λ (r : Result Order Fault). fold (with_row first rest) (nearer (Err c.loop-form.nearest) r) others) c.in-Ok.is
-    ∙ ap (λ (r : Result Order Fault). fold (with_row first rest) r others) (nearer-found c.loop-form.nearest c.in-Ok.order) ∙ found_stays first rest c.in-Ok.order others in
+    ∙ ap (λ (r : Result Order Fault). fold (with_row first rest) r others) (nearer-found c.loop-form.nearest c.in-Ok.order)
+    ∙ found_stays first rest c.in-Ok.order others in
     sym found ∙ sym next ∙ c.loop-form.invariant
 
 pub loop-form-preserved : goal.loop-form-preserved
@@ -31,7 +32,8 @@ loop-form-preserved c =
     let others = drop (i + 1) (map row_of c.args.forms.now) in
     let next = rows-next first rest (Err c.loop-form.nearest) c.args.forms.now i _ c.loop-form-test.true c.read.result c.read.ensures in
     ap (λ (r : Result Order Fault). fold (with_row first rest) r others) c.nearer-nearest.ensures
-    ∙ ap (λ (r : Result Order Fault). fold (with_row first rest) (nearer (Err c.loop-form.nearest) r) others) (sym c.in-Err.is) ∙ sym next ∙ c.loop-form.invariant
+    ∙ ap (λ (r : Result Order Fault). fold (with_row first rest) (nearer (Err c.loop-form.nearest) r) others) (sym c.in-Err.is) ∙ sym next
+    ∙ c.loop-form.invariant
 
 -- a form of another word brings nothing nearer
 pub loop-form-preserved-then-not-is_word : goal.loop-form-preserved-then-not-is_word
@@ -41,5 +43,6 @@ loop-form-preserved-then-not-is_word c =
     let i = c.loop-form.form-index in
     let others = drop (i + 1) (map row_of c.args.forms.now) in
     let different = ap (same_word first) (sym c.text.ensures) ∙ (sym c.is_word.ensures ∙ c.if-not-is_word.true) in
-    let next = rows-next first rest (Err c.loop-form.nearest) c.args.forms.now i _ c.loop-form-test.true (Err UnknownWord) (unknown-row _ first rest different) in
+    let next =
+    rows-next first rest (Err c.loop-form.nearest) c.args.forms.now i _ c.loop-form-test.true (Err UnknownWord) (unknown-row _ first rest different) in
     ap (λ (r : Result Order Fault). fold (with_row first rest) r others) (sym (nearer-unknown c.loop-form.nearest)) ∙ sym next ∙ c.loop-form.invariant

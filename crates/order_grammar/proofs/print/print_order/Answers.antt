@@ -15,7 +15,9 @@ returns-in-Names-clause-err c =
     let begun = c.in_ok-extend_from_slice.ensures.items ∙ ap (λ (text : List ℕ). old ++ text) c.text.ensures in
     on_err_weaker c.print_names.result
     (λ adds. order_front old _ _ c.print_names.new.text.items c.args.order.now c.in-Some.parts _ (sym c.in-Some.ensures) begun
-    (c.in_ok-print_values.ensures.ok ∙ ap (λ values. c.extend_from_slice.new.self.items ++ values_text values) c.as_slice.ensures.value) (ap words_of_tail c.in-Names.is ∙ ap (λ names. names.items) (sym c.in-Names.names-is) ∙ sym c.as_slice-in-Names.ensures.value) adds) c.print_names.ensures.err
+    (c.in_ok-print_values.ensures.ok ∙ ap (λ values. c.extend_from_slice.new.self.items ++ values_text values) c.as_slice.ensures.value)
+    (ap words_of_tail c.in-Names.is ∙ ap (λ names. names.items) (sym c.in-Names.names-is) ∙ sym c.as_slice-in-Names.ensures.value)
+    adds) c.print_names.ensures.err
 
 pub returns-in-Places-clause-err : goal.returns-in-Places-clause-err
 returns-in-Places-clause-err c =
@@ -23,4 +25,6 @@ returns-in-Places-clause-err c =
     let begun = c.in_ok-extend_from_slice.ensures.items ∙ ap (λ (text : List ℕ). old ++ text) c.text.ensures in
     on_err_weaker c.print_places.result
     (λ adds. order_front old _ _ c.print_places.new.text.items c.args.order.now c.in-Some.parts _ (sym c.in-Some.ensures) begun
-    (c.in_ok-print_values.ensures.ok ∙ ap (λ values. c.extend_from_slice.new.self.items ++ values_text values) c.as_slice.ensures.value) (ap words_of_tail c.in-Places.is ∙ ap (map text_of_place) (sym c.in-Places.run-is ∙ sym c.as_slice-in-Places.ensures.places)) adds) c.print_places.ensures.err
+    (c.in_ok-print_values.ensures.ok ∙ ap (λ values. c.extend_from_slice.new.self.items ++ values_text values) c.as_slice.ensures.value)
+    (ap words_of_tail c.in-Places.is ∙ ap (map text_of_place) (sym c.in-Places.run-is ∙ sym c.as_slice-in-Places.ensures.places))
+    adds) c.print_places.ensures.err

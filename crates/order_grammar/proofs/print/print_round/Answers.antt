@@ -6,11 +6,15 @@ use Rattle.order_grammar.proofs.print.print_round.Goals as goal
 
 pub returns-in_ok-extend_from_slice-in-Opening-clause-err : goal.returns-in_ok-extend_from_slice-in-Opening-clause-err
 returns-in_ok-extend_from_slice-in-Opening-clause-err c =
-    on_err_weaker c.print_number.result (λ stays. record { front = codes "PR"; rest = decimal c.in-Opening.number; added = stays ∙ c.in_ok-extend_from_slice-in-Opening.ensures.items; whole = ap text_of_round c.in-Opening.is }) c.print_number.ensures.err
+    on_err_weaker c.print_number.result
+    (λ stays. record { front = codes "PR"; rest = decimal c.in-Opening.number; added = stays ∙ c.in_ok-extend_from_slice-in-Opening.ensures.items; whole = ap text_of_round c.in-Opening.is })
+    c.print_number.ensures.err
 
 pub returns-in_ok-extend_from_slice-in-Stock-clause-err : goal.returns-in_ok-extend_from_slice-in-Stock-clause-err
 returns-in_ok-extend_from_slice-in-Stock-clause-err c =
-    on_err_weaker c.print_number-in-Stock.result (λ stays. record { front = codes "SR"; rest = decimal c.in-Stock.number; added = stays ∙ c.in_ok-extend_from_slice-in-Stock.ensures.items; whole = ap text_of_round c.in-Stock.is }) c.print_number-in-Stock.ensures.err
+    on_err_weaker c.print_number-in-Stock.result
+    (λ stays. record { front = codes "SR"; rest = decimal c.in-Stock.number; added = stays ∙ c.in_ok-extend_from_slice-in-Stock.ensures.items; whole = ap text_of_round c.in-Stock.is })
+    c.print_number-in-Stock.ensures.err
 
 pub returns-in_err-print_number-in-Operating-clause-err : goal.returns-in_err-print_number-in-Operating-clause-err
 returns-in_err-print_number-in-Operating-clause-err c =

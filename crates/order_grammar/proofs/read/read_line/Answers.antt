@@ -13,16 +13,22 @@ pub returns-in_err-order-clause-order : goal.returns-in_err-order-clause-order
 returns-in_err-order-clause-order c =
     let line = c.args.line.now in
     let p = err_from_is_err_and c.from_residual.result c.from_residual.ensures.1 in
-    let all = all_from_yields_List is_printable _ _ c.all.result c.all.ensures.ran (YieldsList-from_slice c.before_comment.result.now cc) (λ x b q k. search (rules, tests)) in
-    let printable : list_all is_printable (before_comment line) ≡ true = ap (list_all is_printable) (sym c.before_comment.ensures) ∙ sym all ∙ c.if-not-all.false in
+    let all =
+    all_from_yields_List is_printable _ _ c.all.result c.all.ensures.ran (YieldsList-from_slice c.before_comment.result.now cc)
+    (λ x b q k. search (rules, tests)) in
+    let printable : list_all is_printable (before_comment line) ≡ true =
+    ap (list_all is_printable) (sym c.before_comment.ensures) ∙ sym all ∙ c.if-not-all.false in
     let fault : order_of c.from_residual.result ≡ Err c.in_err-order.field-0.0 = ap order_of p.1 ∙ ap (λ (f : Fault). Err f) p.2 in
     fault ∙ sym c.in_err-order.was ∙ c.order_of_words.ensures ∙ line_reading line c.of-words.result c.if-line-gt-LINE_MOST.false printable c.of-words.ensures
 
 pub returns-clause-order : goal.returns-clause-order
 returns-clause-order c =
     let line = c.args.line.now in
-    let all = all_from_yields_List is_printable _ _ c.all.result c.all.ensures.ran (YieldsList-from_slice c.before_comment.result.now cc) (λ x b q k. search (rules, tests)) in
-    let printable : list_all is_printable (before_comment line) ≡ true = ap (list_all is_printable) (sym c.before_comment.ensures) ∙ sym all ∙ c.if-not-all.false in
+    let all =
+    all_from_yields_List is_printable _ _ c.all.result c.all.ensures.ran (YieldsList-from_slice c.before_comment.result.now cc)
+    (λ x b q k. search (rules, tests)) in
+    let printable : list_all is_printable (before_comment line) ≡ true =
+    ap (list_all is_printable) (sym c.before_comment.ensures) ∙ sym all ∙ c.if-not-all.false in
     sym c.in_ok-order.was ∙ c.order_of_words.ensures ∙ line_reading line c.of-words.result c.if-line-gt-LINE_MOST.false printable c.of-words.ensures
 
 pub returns-clause-words : goal.returns-clause-words

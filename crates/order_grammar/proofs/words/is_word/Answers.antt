@@ -13,8 +13,11 @@ pub returns-then-written-word : goal.returns-then-written-word
 returns-then-written-word c =
     let written = c.args.written.now in
     let word = c.args.word.now in
-    let pairs = YieldsList-from_zip (YieldsList-at c.zip.ensures.first (YieldsList-from_slice written c.iter.ensures.rest)) (YieldsList-at c.zip.ensures.second (YieldsList-from_slice word c.iter-then-written-word.ensures.rest)) in
-    all_from_yields_List (λ (pair : ℕ × ℕ). to_ascii_uppercase pair.0 == pair.1) c.all.new.self _ c.all.result c.all.ensures.ran pairs (λ x b q k. search (rules, tests))
+    let pairs =
+    YieldsList-from_zip (YieldsList-at c.zip.ensures.first (YieldsList-from_slice written c.iter.ensures.rest))
+    (YieldsList-at c.zip.ensures.second (YieldsList-from_slice word c.iter-then-written-word.ensures.rest)) in
+    all_from_yields_List (λ (pair : ℕ × ℕ). to_ascii_uppercase pair.0 == pair.1) c.all.new.self _ c.all.result c.all.ensures.ran pairs
+    (λ x b q k. search (rules, tests))
     ∙ same_word-zip written word c.if-written-word.true
 
 pub returns-else-written-word : goal.returns-else-written-word

@@ -14,4 +14,6 @@ returns-in_err-take_line-clause-err c =
 pub returns-clause-sheets : goal.returns-clause-sheets
 returns-clause-sheets c = λ post.
     let done = c.loop-piece.collection in
-    c.in_ok-close.ensures.sheets post ∙ sheets_at_end c.args.players.now (written_lines c.args.body.now) (get same_post done.sheets) done.unread.items done.good c.loop-piece.rest.now done.current c.in_default.ensures.lines c.loop-piece.invariant.reaches post
+    c.in_ok-close.ensures.sheets post
+    ∙ sheets_at_end c.args.players.now (written_lines c.args.body.now) (get same_post done.sheets) done.unread.items done.good c.loop-piece.rest.now
+    done.current c.in_default.ensures.lines c.loop-piece.invariant.reaches post

@@ -40,7 +40,8 @@ invariant_of-result c =
     let few : good_lines names body ≤ sheets_most = c.in_ok-collection.ensures.good in
     let content : content_of c.args.file.now ≡ body_content body (Some names) =
     short_enough c.args.file.now c.if-file-gt-FILE_MOST.false ∙ c.in_ok-after_header.ensures.content ∙ c.in_ok-players.ensures.content in
-    collected c.args.file.now names body (get same_post kept.sheets) kept.unread.items (content ∙ few_enough names body few) c.in_ok-players.ensures.least c.in_ok-players.ensures.most
+    collected c.args.file.now names body (get same_post kept.sheets) kept.unread.items (content ∙ few_enough names body few) c.in_ok-players.ensures.least
+    c.in_ok-players.ensures.most
     c.in_ok-collection.ensures.sheets c.in_ok-collection.ensures.unread
 
 pub returns-clause-accepted : goal.returns-clause-accepted

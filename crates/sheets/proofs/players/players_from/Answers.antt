@@ -8,7 +8,8 @@ returns-then-not-is_new c =
     let keys = c.loop-name.players.keys in
     let name = c.name-item.result in
     let among : list_any (is_equal name) keys ≡ true = was_among _ _ c.in_ok-is_new.ensures.added c.if-not-is_new.true in
-    no_players c.args.names.now (repeated c.args.names.now keys c.loop-name.name-index name c.loop-name-test.true c.name-item.is c.loop-name.invariant.kept among)
+    no_players c.args.names.now
+    (repeated c.args.names.now keys c.loop-name.name-index name c.loop-name-test.true c.name-item.is c.loop-name.invariant.kept among)
 
 pub loop-name-preserved : goal.loop-name-preserved
 loop-name-preserved c =

@@ -11,4 +11,6 @@ returns-in-Some-clause-first c =
     rw (c.without_return.ensures, behind c.args.text.now (c.in-Some.end + 1)) (take (end + 1) text, begins_with_line text end h.within h.is h.none_before)
 
 pub returns-in-None-clause-first : goal.returns-in-None-clause-first
-returns-in-None-clause-first c = let some : length c.args.text.now ≡ 0 → ⊥ = eqb-false (length c.args.text.now) 0 (sym c.if-is_empty.ensures) in (c.args.text.now, begins_with_last c.args.text.now (omega arith) c.in-None.ensures)
+returns-in-None-clause-first c =
+    let some : length c.args.text.now ≡ 0 → ⊥ =
+    eqb-false (length c.args.text.now) 0 (sym c.if-is_empty.ensures) in (c.args.text.now, begins_with_last c.args.text.now (omega arith) c.in-None.ensures)

@@ -21,4 +21,5 @@ pub returns-then-not-is_blank-clause-lines : goal.returns-then-not-is_blank-clau
 returns-then-not-is_blank-clause-lines c =
     let a = c.loop-piece.invariant in
     let b = c.in-Some.ensures.first in
-    lines_of_both (a.0 ++ b.0) (c.in-Some.piece.line.now ∷ []) c.in-Some.piece.rest.now c.args.text.now (before_line a.0 b.0 c.in-Some.piece.line.now _ _ _ (sym c.is_blank.ensures ∙ c.if-not-is_blank.true) a.1 b.1)
+    lines_of_both (a.0 ++ b.0) (c.in-Some.piece.line.now ∷ []) c.in-Some.piece.rest.now c.args.text.now
+    (before_line a.0 b.0 c.in-Some.piece.line.now _ _ _ (sym c.is_blank.ensures ∙ c.if-not-is_blank.true) a.1 b.1)

@@ -25,7 +25,10 @@ loop-place-preserved c =
     }
 
 pub returns-clause-cash : goal.returns-clause-cash
-returns-clause-cash c = at_places (λ (its : Company) (z : ℤ). z ≡ cash_of c.args.now.now.seats c.args.now.now.events.now (party.Holder (holder.Company its))) (pos 0) _ (λ k less. c.loop-place.invariant.cash k (omega (arith, less, c.loop-place-test.false)))
+returns-clause-cash c =
+    at_places (λ (its : Company) (z : ℤ). z ≡ cash_of c.args.now.now.seats c.args.now.now.events.now (party.Holder (holder.Company its))) (pos 0) _
+    (λ k less. c.loop-place.invariant.cash k (omega (arith, less, c.loop-place-test.false)))
 
 pub returns-clause-moderate : goal.returns-clause-moderate
-returns-clause-moderate c = at_places (λ (its : Company) (z : ℤ). IsModerate z) (pos 0) _ (λ k less. c.loop-place.invariant.moderate k (omega (arith, less, c.loop-place-test.false)))
+returns-clause-moderate c =
+    at_places (λ (its : Company) (z : ℤ). IsModerate z) (pos 0) _ (λ k less. c.loop-place.invariant.moderate k (omega (arith, less, c.loop-place-test.false)))

@@ -20,9 +20,12 @@ returns-in_ok-close-clause-ok c =
     let h = c.in_ok-close.ensures in
     on_ok_weaker c.begin.result
     (λ m body r.
-    let s = reaches_sheet_line players body (get same_post old.sheets) (get same_post mid.sheets) old.unread.items old.good line rest c.args.text.now old.current is c.requires.lines h.sheets r in
+    let s =
+    reaches_sheet_line players body (get same_post old.sheets) (get same_post mid.sheets) old.unread.items old.good line rest c.args.text.now old.current is
+    c.requires.lines h.sheets r in
     let t : Stands players body (line ∷ written_lines rest) None (get same_post mid.sheets) mid.unread.items mid.good = rw (h.unread, h.good) s in
-    rw c.begin.ensures.sheets (reaches_begun players body (get same_post mid.sheets) mid.unread.items mid.good line rest new.current new.unread.items new.good is m t))
+    rw c.begin.ensures.sheets
+    (reaches_begun players body (get same_post mid.sheets) mid.unread.items mid.good line rest new.current new.unread.items new.good is m t))
     c.begin.ensures.ok
 
 pub returns-in_ok-close-clause-err : goal.returns-in_ok-close-clause-err
@@ -36,7 +39,9 @@ returns-in_ok-close-clause-err c =
     let h = c.in_ok-close.ensures in
     IfErr-weaker c.begin.result _ _
     (λ fault m body r.
-    let s = reaches_sheet_line players body (get same_post old.sheets) (get same_post mid.sheets) old.unread.items old.good line rest c.args.text.now old.current is c.requires.lines h.sheets r in
+    let s =
+    reaches_sheet_line players body (get same_post old.sheets) (get same_post mid.sheets) old.unread.items old.good line rest c.args.text.now old.current is
+    c.requires.lines h.sheets r in
     let t : Stands players body (line ∷ written_lines rest) None (get same_post mid.sheets) mid.unread.items mid.good = rw (h.unread, h.good) s in
     stops_begun players body (get same_post mid.sheets) mid.unread.items mid.good line (written_lines rest) fault is m t)
     c.begin.ensures.err
@@ -47,7 +52,8 @@ returns-then-is_some-clause-ok c = λ body r.
     let rest : List ℕ = c.args.piece.rest.now in
     let old = c.args.self.now in
     let other : is_sheet_line line ≡ false = sym c.if-is_sheet_line.ensures in
-    reaches_inside c.args.players.now body (get same_post old.sheets) old.unread.items old.good c.requires.first.0 line rest c.args.text.now old.current r.0 (sym c.if-is_some.ensures) other c.requires.first.1 r.1
+    reaches_inside c.args.players.now body (get same_post old.sheets) old.unread.items old.good c.requires.first.0 line rest c.args.text.now old.current r.0
+    (sym c.if-is_some.ensures) other c.requires.first.1 r.1
     (subst (λ ls. Stands c.args.players.now body ls r.0 (get same_post old.sheets) old.unread.items old.good) c.requires.lines r.2)
 
 pub returns-in_ok-push-clause-ok : goal.returns-in_ok-push-clause-ok

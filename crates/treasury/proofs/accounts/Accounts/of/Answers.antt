@@ -9,9 +9,11 @@ use mir.Val.{SFits}
 pub returns-clause-accounts : goal.returns-clause-accounts
 returns-clause-accounts c =
     let fits : SFits w128 c.cash.result = search rules in
-    accounts_of c.args.history.now _ c.now-now.result.seats c.now-now.result.events.now c.now-now.ensures.seats c.now-now.ensures.events (to_z-of_z w128 c.cash.result fits ∙ c.cash.ensures.sum) c.cash_of_seats.ensures.cash c.cash_of_companies.ensures.cash
+    accounts_of c.args.history.now _ c.now-now.result.seats c.now-now.result.events.now c.now-now.ensures.seats c.now-now.ensures.events
+    (to_z-of_z w128 c.cash.result fits ∙ c.cash.ensures.sum) c.cash_of_seats.ensures.cash c.cash_of_companies.ensures.cash
 
 pub returns-clause-moderate : goal.returns-clause-moderate
 returns-clause-moderate c =
     let fits : SFits w128 c.cash.result = search rules in
-    moderate_of _ (subst (λ (z : ℤ). IsModerate z) (sym (to_z-of_z w128 c.cash.result fits)) c.cash.ensures.within) c.cash_of_seats.ensures.moderate c.cash_of_companies.ensures.moderate
+    moderate_of _ (subst (λ (z : ℤ). IsModerate z) (sym (to_z-of_z w128 c.cash.result fits)) c.cash.ensures.within) c.cash_of_seats.ensures.moderate
+    c.cash_of_companies.ensures.moderate
