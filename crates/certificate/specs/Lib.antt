@@ -2,5 +2,6 @@ pub mod Legal
 pub mod Named
 pub mod Fault
 pub mod Code
+pub mod Set
 pub mod Tally
 pub mod Law
