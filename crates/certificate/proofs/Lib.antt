@@ -11,3 +11,7 @@ pub mod Sharing
 pub mod Counting
 pub mod Written
 pub mod Earning
+pub mod Finite
+pub mod Choosing
+pub mod Greatest
+pub mod Relabelled

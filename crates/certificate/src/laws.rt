@@ -8,6 +8,13 @@ ghost use Rattle.certificate.specs.Law.{
   RunsEarnByBorders,
   RunsShareNoBorder,
 };
+ghost use Rattle.certificate.specs.Greatest.{
+  AGreatestExists,
+  GreaterTrainsEarnNoLess,
+  MoreTrainsEarnNoLess,
+  OneGreatest,
+  OrderOfTrainsChangesNothing,
+};
 
 use map_tables::neighbours_pair;
 
@@ -50,4 +57,30 @@ pub fn runs_earn_by_borders()
 /// Each legal run can be written out: some places name it, from 2 to 280.
 pub fn each_legal_run_is_named()
     ensures { EachLegalRunIsNamed }
+{}
+
+/// There is a greatest revenue that a company's trains can earn, whatever lies: some legal set of
+/// runs earns it and none earns more. It is at most 50,000 dollars.
+pub fn a_greatest_exists()
+    ensures { AGreatestExists }
+{}
+
+/// There is no second greatest revenue.
+pub fn one_greatest()
+    ensures { OneGreatest }
+{}
+
+/// More trains never earn less.
+pub fn more_trains_earn_no_less()
+    ensures { MoreTrainsEarnNoLess }
+{}
+
+/// A train that may visit as many stops as another, or more, never earns less in its place.
+pub fn greater_trains_earn_no_less()
+    ensures { GreaterTrainsEarnNoLess }
+{}
+
+/// The order of a company's trains changes nothing.
+pub fn order_of_trains_changes_nothing()
+    ensures { OrderOfTrainsChangesNothing }
 {}

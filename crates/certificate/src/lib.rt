@@ -24,8 +24,10 @@ mod used;
 
 pub use check::check_run;
 pub use laws::{
-    borders_are_told_apart, crossed_borders_are_used, each_legal_run_is_named, legal_by_marks,
-    legal_where_no_rule_is_broken, runs_earn_by_borders, runs_share_no_border,
+    a_greatest_exists, borders_are_told_apart, crossed_borders_are_used, each_legal_run_is_named,
+    greater_trains_earn_no_less, legal_by_marks, legal_where_no_rule_is_broken,
+    more_trains_earn_no_less, one_greatest, order_of_trains_changes_nothing, runs_earn_by_borders,
+    runs_share_no_border,
 };
 pub use run_fault::RunFault;
 pub use used::Used;
