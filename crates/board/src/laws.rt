@@ -2,7 +2,6 @@
 ghost use Rattle.board.specs.Example.{WorkedExamples};
 ghost use Rattle.board.specs.Fit.{FaultlessAreFit};
 ghost use Rattle.board.specs.Homes.{FitsWithoutHomes, HomeKeepsFit, LayKeepsFit, TokenKeepsFit};
-ghost use Rattle.board.specs.Parts.{PartsOfBoardsHaveOneStop};
 ghost use Rattle.board.specs.Stock.{LayKeepsStock};
 
 /// What lies is not refused as a board exactly where it is fit.
@@ -33,12 +32,6 @@ pub fn home_keeps_fit()
 /// A lay by the rules leaves no more tiles of any number on the map than there are.
 pub fn lay_keeps_stock()
     ensures { LayKeepsStock }
-{}
-
-/// On a board that is not refused the hexes that are part of another's stop, I1 and A9, have that
-/// stop alone: no tile lies there. So each legal run on it can be written out.
-pub fn parts_of_boards_have_one_stop()
-    ensures { PartsOfBoardsHaveOneStop }
 {}
 
 /// Two small examples: a tile whose colour has not come, and then with its stops swapped; a token

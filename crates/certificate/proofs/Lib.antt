@@ -1,4 +1,5 @@
 pub mod Tests
+pub mod Marks
 pub mod Along
 pub mod Kept
 pub mod Ruled
@@ -10,3 +11,7 @@ pub mod Sharing
 pub mod Counting
 pub mod Written
 pub mod Earning
+pub mod Finite
+pub mod Choosing
+pub mod Greatest
+pub mod Relabelled

@@ -3,9 +3,17 @@ ghost use Rattle.certificate.specs.Law.{
   BordersAreToldApart,
   CrossedBordersAreUsed,
   EachLegalRunIsNamed,
+  LegalByMarks,
   LegalWhereNoRuleIsBroken,
   RunsEarnByBorders,
   RunsShareNoBorder,
+};
+ghost use Rattle.certificate.specs.Greatest.{
+  AGreatestExists,
+  GreaterTrainsEarnNoLess,
+  MoreTrainsEarnNoLess,
+  OneGreatest,
+  OrderOfTrainsChangesNothing,
 };
 
 use map_tables::neighbours_pair;
@@ -24,9 +32,15 @@ pub fn borders_are_told_apart()
     neighbours_pair();
 }
 
-/// After a run those borders are used that were used before it, and those that it crosses.
+/// After a run those borders are used that were used before it, and those that it crosses: its
+/// borders are marked, and no others.
 pub fn crossed_borders_are_used()
     ensures { CrossedBordersAreUsed }
+{}
+
+/// A run is legal by the marks of the used borders exactly where it is legal over these borders.
+pub fn legal_by_marks()
+    ensures { LegalByMarks }
 {}
 
 /// A run that is legal once the borders of another are used shares no border with it.
@@ -40,8 +54,33 @@ pub fn runs_earn_by_borders()
     ensures { RunsEarnByBorders }
 {}
 
-/// Each legal run can be written out: some places name it, from 2 to 280. A hex that is a part of
-/// another's stop must have that stop alone, as it has on the map.
+/// Each legal run can be written out: some places name it, from 2 to 280.
 pub fn each_legal_run_is_named()
     ensures { EachLegalRunIsNamed }
+{}
+
+/// There is a greatest revenue that a company's trains can earn, whatever lies: some legal set of
+/// runs earns it and none earns more. It is at most 50,000 dollars.
+pub fn a_greatest_exists()
+    ensures { AGreatestExists }
+{}
+
+/// There is no second greatest revenue.
+pub fn one_greatest()
+    ensures { OneGreatest }
+{}
+
+/// More trains never earn less.
+pub fn more_trains_earn_no_less()
+    ensures { MoreTrainsEarnNoLess }
+{}
+
+/// A train that may visit as many stops as another, or more, never earns less in its place.
+pub fn greater_trains_earn_no_less()
+    ensures { GreaterTrainsEarnNoLess }
+{}
+
+/// The order of a company's trains changes nothing.
+pub fn order_of_trains_changes_nothing()
+    ensures { OrderOfTrainsChangesNothing }
 {}
