@@ -1,27 +1,10 @@
-//! Games built event by event, two order files with their reports, and readers and writers over
-//! memory that give and take as they are told and count what they saw.
+//! A small game with its report, and readers and writers over memory that give and take as they
+//! are told and count what they saw.
 
-use history::{Event, History};
-use sheets::{Sheets, collect};
-use std::alloc::{AllocError, Global};
+use std::alloc::Global;
 use std::io;
 use std::io::{Read, Write};
-use std::process::Abort;
 use umpire::{Fault, Watched, run};
-
-/// The sheets of a file that is not refused.
-pub(crate) fn collected<'a>(rt: &impl Abort, alloc: Global, file: &'a str) -> Sheets<'a> {
-    match collect(alloc, file.as_bytes()) {
-        Ok(sheets) => sheets,
-        Err(_) => panic!(rt; "refused: {file}"),
-    }
-}
-
-/// Adds an event, for which there is room.
-pub(crate) fn add(rt: &impl Abort, history: &mut History, event: Event) -> Result<(), AllocError> {
-    assert!(rt; history.has_room(&event));
-    history.append(event)
-}
 
 /// ANN buys SV in the first opening round, and then all pass.
 pub(crate) const FIRST: &str = "GAME 1830 1
@@ -48,23 +31,6 @@ PLAYER BOB        800  0  0  0  0  0  0  0  0  0
 PLAYER CYD        800  0  0  0  0  0  0  0  0  0
 BANK   9615
 AWAITING PR2 ANN BOB CYD
-";
-
-/// Nobody buys in four opening rounds.
-pub(crate) const GIFT: &str = "GAME 1830 1
-PLAYERS ANN BOB CYD
-SHEET ANN PR1
-SHEET BOB PR1
-SHEET CYD PR1
-SHEET ANN PR2
-SHEET BOB PR2
-SHEET CYD PR2
-SHEET ANN PR3
-SHEET BOB PR3
-SHEET CYD PR3
-SHEET ANN PR4
-SHEET BOB PR4
-SHEET CYD PR4
 ";
 
 /// What a reader does when it is called once more after it has told of its end.
@@ -230,23 +196,4 @@ pub(crate) fn outcome_of(alloc: Global, mut source: Source, mut sink: Sink) -> O
         write_failed,
         reads: source.calls,
     }
-}
-
-/// The outcome for a file, where nothing fails.
-pub(crate) fn plain(alloc: Global, file: &str) -> Outcome {
-    outcome_of(
-        alloc,
-        Source::giving(file, 1_000),
-        Sink::taking(alloc, 1_000),
-    )
-}
-
-/// Plays a file that is not refused, whose report is to end so.
-pub(crate) fn ends_with(rt: &impl Abort, alloc: Global, file: &str, end: &str) {
-    let run = plain(alloc, file);
-    assert_eq!(rt; run.result, Ok(()));
-    assert!(rt;
-        run.text.as_slice().ends_with(end.as_bytes()),
-        "not with {end}"
-    );
 }

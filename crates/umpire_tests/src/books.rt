@@ -1,0 +1,61 @@
+//! Money that is paid, tenths that change hands, and the rounds after the bank is broken.
+
+use certs::Holdings;
+use history::{Event, History, Holder, Party, Shareholder, Transfer};
+use rounds::{Next, next};
+use std::alloc::AllocError;
+use tables::{Company, Round, Seat};
+use treasury::Accounts;
+
+#[test]
+fn pays_what_there_is(rt: HostRuntime) {
+    let ann = Party::Holder(Holder::Seat(Seat(0)));
+    let prr = Party::Holder(Holder::Company(Company::Pennsylvania));
+    let history = History::start(rt.alloc(), 3);
+    let mut accounts = Accounts::of(&history);
+    assert!(rt; accounts.pay(ann, prr, 801).is_err());
+    assert!(rt; accounts.cash(ann) == 800 && accounts.cash(prr) == 0);
+    assert!(rt; accounts.pay(ann, prr, 670).is_ok());
+    assert!(rt; accounts.cash(ann) == 130 && accounts.cash(prr) == 670);
+}
+
+/// ANN presides over BO with two tenths, and then BOB has three.
+#[test]
+fn presidency_follows_a_transfer(rt: HostRuntime) -> Result<(), AllocError> {
+    let company = Company::BaltimoreOhio;
+    let (ann, bob) = (Seat(0), Seat(1));
+    let mut history = History::start(rt.alloc(), 3);
+    history.append(Event::Given {
+        company,
+        seat: ann,
+        tenths: 2,
+    })?;
+    history.append(Event::President { company, seat: ann })?;
+    let mut holdings = Holdings::of(&history);
+    assert!(rt; holdings.president(company) == Some(ann));
+    holdings.transfer(Transfer {
+        company,
+        from: Shareholder::InitialOffering,
+        to: Shareholder::Seat(bob),
+        tenths: 3,
+    });
+    assert!(rt; holdings.president(company) == Some(bob));
+    assert!(rt; holdings.tenths(company, Shareholder::InitialOffering) == 5);
+    Ok(())
+}
+
+#[test]
+fn ends_after_a_set(rt: HostRuntime) {
+    let first = Round::Operating { set: 2, number: 1 };
+    let second = Round::Operating { set: 2, number: 2 };
+    assert_eq!(rt; next(first, 2, true, true), Next::Round(second));
+    assert_eq!(rt; next(second, 2, true, true), Next::Ended);
+    assert_eq!(rt; next(second, 2, true, false), Next::Round(Round::Stock(3)));
+}
+
+#[test]
+fn has_room_for_a_million_and_no_more(rt: HostRuntime) {
+    let history = History::start(rt.alloc(), 5);
+    assert!(rt; history.has_room(&Event::Price { price: 1_000_000 }));
+    assert!(rt; !history.has_room(&Event::Price { price: 1_000_001 }));
+}
