@@ -14,4 +14,5 @@ pub mod LineFaultLemmas
 pub mod WordLemmas
 pub mod FrontLemmas
 pub mod LineLemmas
+pub mod HasWords
 pub mod SpellingLemmas

@@ -41,7 +41,7 @@ use Rattle.order_grammar.specs.Name.{is_name, is_capital, is_digit, is_letter_or
 use Rattle.order_grammar.specs.Order.{made_of, parts_of}
 use Rattle.order_grammar.specs.Print.{spaced, joined, text_of_value, words_of_tail, words_of_parts, spelling_of}
 use Rattle.order_grammar.specs.Row.{has_room, is_short}
-use Rattle.order_grammar.specs.Spells.{IsNumber, IsNumbered, is_round_of_line, has_word, have_words, FitsLine, IsOrder}
+use Rattle.order_grammar.specs.Spells.{IsNumber, IsNumbered, is_round_of_line, FitsLine, IsOrder}
 use Rattle.order_grammar.specs.Words.{before, with_word, words_from, raised, words_of, is_printable, same_word}
 use Rattle.order_grammar.specs.declared.class.Class.{Class}
 use Rattle.order_grammar.specs.declared.form.Repeated.{Repeated}
@@ -55,6 +55,7 @@ use Rattle.order_grammar.specs.declared.order.Tail.{Tail}
 use Rattle.order_grammar.specs.declared.order.Tail.TheVariants as tail
 use Rattle.order_grammar.specs.declared.order.Value.{Value}
 use Rattle.order_grammar.specs.declared.order.Value.TheVariants as value
+use Rattle.order_grammar.proofs.HasWords.{has_word, has_words, have_words}
 use Rattle.order_grammar.proofs.OrderLemmas.{IsTextOf, AreTextsOf, AreWordsOfTail, AreWordsByParts, of_parts}
 use Rattle.order_grammar.proofs.RowLemmas.{among_any, all_among}
 use Rattle.order_grammar.proofs.SmallLemmas.{is_small, are_small, small_of_parts}
@@ -517,4 +518,4 @@ parts_read order (Some parts) is has fits =
 
 -- the spelling of an order is read as it
 pub spelling_read : (order : Order) → IsOrder order → reading_of (spelling_of order) ≡ Ok order
-spelling_read order is = parts_read order (parts_of order) refl is.0 (fits_by_parts order is.1)
+spelling_read order is = parts_read order (parts_of order) refl (has_words order is.0) (fits_by_parts order is.1)

@@ -1,5 +1,5 @@
 -- A line is read as an order exactly where it spells it.
-use Rattle.std.proofs.Common.{◌≡◌, ℕ, true, ltb, inl, inr, List, [], ◌∷◌, Result, Ok, Err, length, refl}
+use Rattle.std.proofs.Common.{◌≡◌, ℕ, true, ltb, inl, inr, List, [], ◌∷◌, Result, Ok, Err, length}
 use Rattle.std.specs.List.{list_all}
 use Rattle.std.proofs.lemmas.Bool.{cases_Bool, le-ltb, ltb-false}
 use Rattle.order_grammar.specs.Form.{words_reading}

@@ -1,6 +1,6 @@
 -- Which lines spell which orders, each form by itself, and which orders have a spelling. A line is
 -- loosely spelt where it would spell an order if numbers had no greatest value.
-use Rattle.std.specs.Prelude.{◌≡◌, ◌≢◌, ⊤, ℕ, ◌≤◌, Bool, true, false, ◌&&◌, nat_le, IsTrue, List, [], ◌∷◌, ◌++◌, Option, Some, None, length, map, codes, decimal, slice_index}
+use Rattle.std.specs.Prelude.{◌≡◌, ◌≢◌, ⊤, ℕ, ◌≤◌, Bool, true, false, ◌&&◌, nat_le, IsTrue, List, [], ◌∷◌, ◌++◌, length, map, codes, decimal, slice_index}
 use Rattle.std.specs.List.{list_all}
 use Rattle.map_tables.specs.Text.{text_of_hex, text_of_place, text_of_rotation, text_of_tile}
 use Rattle.map_tables.specs.declared.hex.Hex.{Hex}
@@ -15,21 +15,16 @@ use Rattle.tables.specs.declared.roster.Private.{Private}
 use Rattle.tables.specs.declared.round.Round.{Round}
 use Rattle.tables.specs.declared.round.Round.TheVariants.{Opening, Stock, Operating}
 use Rattle.order_grammar.specs.Class.{are_digits, value_of_digits}
-use Rattle.order_grammar.specs.Form.{has_form}
 use Rattle.order_grammar.specs.Limits.{line_most}
 use Rattle.tables.specs.Round.{number_most, operating_most}
 use Rattle.order_grammar.specs.Name.{is_name}
-use Rattle.order_grammar.specs.Order.{parts_of}
 use Rattle.order_grammar.specs.Print.{spelling_of}
 use Rattle.order_grammar.specs.Words.{words_of, before_comment, is_printable}
 use Rattle.order_grammar.specs.declared.order.Order.{Order}
 use Rattle.order_grammar.specs.declared.order.Order.TheVariants.{Blank, Game, Players, Sheet, Turn, BuyPrivate, Bid, Limit, Par, BuyShare, Sell, ExchangeMohawk, Company as CompanyTurn, Lay, Token, Run, Pay, Withhold, BuyTrain, Discard}
-use Rattle.order_grammar.specs.declared.order.Parts.{Parts}
 use Rattle.order_grammar.specs.declared.order.ShareSource.TheVariants.{InitialOffering, BankPool}
 use Rattle.order_grammar.specs.declared.order.TrainSource.{TrainSource}
 use Rattle.order_grammar.specs.declared.order.TrainSource.TheVariants as source
-use Rattle.order_grammar.specs.declared.order.Value.{Value}
-use Rattle.order_grammar.specs.declared.order.Value.TheVariants as value
 
 -- this very word
 abbrev pub IsWord : List ℕ → List ℕ → Type 0
@@ -194,17 +189,12 @@ is_round_of_line (Stock number) = nat_le 1 number && nat_le number number_most
 is_round_of_line (Operating set number) =
     (nat_le 1 set && nat_le set number_most) && (nat_le 1 number && nat_le number operating_most)
 
--- whether a value has a word
-abbrev pub has_word : Value → Bool
-has_word (value.Number number) = nat_le number number_most
-has_word (value.Name name) = is_name name
-has_word (value.Round round) = is_round_of_line round
-has_word other = true
-
--- whether parts are those of a form, and have words
-abbrev pub have_words : Option Parts → Bool
-have_words None = true
-have_words (Some parts) = has_form parts && list_all has_word parts.values.items
+-- three to six names, a name and a round, small numbers, two to 280 places: what the form of the order asks
+abbrev pub HasSpelling : Order → Type 0
+HasSpelling (Players names) = (3 ≤ length names.items) × (length names.items ≤ 6) × IsTrue (list_all is_name names.items)
+HasSpelling (Sheet name round) = IsTrue (is_name name) × IsTrue (is_round_of_line round)
+HasSpelling (Run kind run) = (2 ≤ length run) × (length run ≤ 280)
+HasSpelling other = HasSmallNumbers other
 
 -- the spelling is no longer than a line: only a run may have too many places for that
 abbrev pub FitsLine : Order → Type 0
@@ -213,4 +203,4 @@ FitsLine other = ⊤
 
 -- an order that has a spelling
 abbrev pub IsOrder : Order → Type 0
-IsOrder order = IsTrue (have_words (parts_of order)) × FitsLine order
+IsOrder order = HasSpelling order × FitsLine order

@@ -4,7 +4,7 @@ use Rattle.std.specs.Option.{option_or}
 use Rattle.std.proofs.lemmas.Bool.{and_parts}
 use Rattle.std.proofs.lemmas.Bool.Decides.{nat_tests}
 use Rattle.order_grammar.specs.Line.{reading_of}
-use Rattle.order_grammar.specs.Spells.{Spells, is_small_round}
+use Rattle.order_grammar.specs.Spells.{IsSmallRound, Spells}
 use Rattle.order_grammar.specs.declared.fault.Fault.{Fault}
 use Rattle.order_grammar.specs.declared.order.Order.{Order}
 use Rattle.order_grammar.specs.declared.order.Order.TheVariants as order
@@ -34,10 +34,10 @@ same_number (Operating a m) (Opening b) same = cc
 same_number (Operating a m) (Stock b) same = cc
 
 -- a round that a line names has a small number
-small_round : (round : Round) → is_small_round round ≡ true → number_of round ≤ number_most
-small_round (Opening number) small = grind (arith, nat_tests)
-small_round (Stock set) small = grind (arith, nat_tests)
-small_round (Operating set number) small = grind (arith, nat_tests)
+small_round : (round : Round) → IsSmallRound round → number_of round ≤ number_most
+small_round (Opening number) small = small
+small_round (Stock number) small = small
+small_round (Operating set number) small = small
 
 module _ (spelt : ReadWhereSpelt) (players : List (List ℕ)) where
   -- a sheet is for the round that its line names
@@ -45,8 +45,8 @@ module _ (spelt : ReadWhereSpelt) (players : List (List ℕ)) where
   named_small line name round None post read begun = cc
   named_small line name round (Some seat) post read begun =
       let same : record { seat = seat; round = round } ≡ post = cc in
-      let small : (is_small_round round && true) ≡ true = ((spelt line (order.Sheet name round)).0 read).small in
-      subst (λ (r : Round). number_of r ≤ number_most) (ap (λ (one : Post). one.round) same) (small_round round (and_parts (is_small_round round) true small).0)
+      let small : IsSmallRound round = ((spelt line (order.Sheet name round)).0 read).small in
+      subst (λ (r : Round). number_of r ≤ number_most) (ap (λ (one : Post). one.round) same) (small_round round small)
 
   -- so is that of each sheet that a line with this reading begins
   begun_small : (line : List ℕ) (reading : Result Order Fault) (post : Post) → reading_of line ≡ reading → post_begun players reading ≡ Some post → number_of post.round ≤ number_most
