@@ -38,7 +38,8 @@ not_both (Some other) company none some = cc
 
 module _ (once : OneCompanyTurn) (file : List ℕ) (round : Round) where
   -- the turns lead to one end
-  turns_once : (first second : List Company) (old a b : Game) → TakeTurns file round first old a → next_company a.events ≡ None → TakeTurns file round second old b → next_company b.events ≡ None → a ≡ b
+  turns_once : (first second : List Company) (old a b : Game) → TakeTurns file round first old a →
+      next_company a.events ≡ None → TakeTurns file round second old b → next_company b.events ≡ None → a ≡ b
   turns_once [] [] old a b first first_over second second_over = sym first ∙ second
   turns_once [] (company ∷ others) old a b first first_over second second_over =
       absurd (not_both (next_company old.events) company (ap (λ (game : Game). next_company game.events) first ∙ first_over) second.1.is_next)
@@ -59,7 +60,9 @@ operating_once once file round old a b first second =
     ∙ sym second.after
 
 -- one company more takes its turn
-pub one_more_turn : (file : List ℕ) (round : Round) (companies : List Company) (company : Company) (old mid new : Game) → TakeTurns file round companies old mid → TakesTurn file round company mid new → TakeTurns file round (companies ++ company ∷ []) old new
+pub one_more_turn : (file : List ℕ) (round : Round) (companies : List Company) (company : Company) (old mid new : Game) →
+    TakeTurns file round companies old mid → TakesTurn file round company mid new →
+    TakeTurns file round (companies ++ company ∷ []) old new
 one_more_turn file round [] company old mid new turns turn =
     (new, subst (λ (game : Game). TakesTurn file round company game new) (sym turns) turn, refl)
 one_more_turn file round (first ∷ others) company old mid new turns turn =
@@ -96,7 +99,9 @@ module _ (operates_too : CompanyOperates) (ordered : AreOrdered) (file : List �
       omega (arith, rest, fewer)
 
   -- how often a company took a turn, and whether it had operated before, say whether it has now
-  turns_taken : (companies : List Company) (old new : Game) (company : Company) → TakeTurns file round companies old new → times company companies + (if has_operated old.events company then 1 else 0) ≡ (if has_operated new.events company then 1 else 0)
+  turns_taken : (companies : List Company) (old new : Game) (company : Company) →
+      TakeTurns file round companies old new →
+      times company companies + (if has_operated old.events company then 1 else 0) ≡ (if has_operated new.events company then 1 else 0)
   turns_taken [] old new company turns =
       let same : ◌≡◌ {A = ℕ} (if has_operated old.events company then 1 else 0) (if has_operated new.events company then 1 else 0) = ap (λ (game : Game). if has_operated game.events company then 1 else 0) turns in
       omega (arith, same)
@@ -132,7 +137,8 @@ says_no_turn company event says =
     ∙ ap (λ (turn : Option Company). option_map Some (turn_said company turn)) says.turn
 
 -- nobody has operated where a round has begun, and then events stand aside
-no_one_yet : (events new : List Event) (round : Round) (company : Company) → Grows (events ++ event.Round round ∷ []) new → has_operated new company ≡ false
+no_one_yet : (events new : List Event) (round : Round) (company : Company) →
+    Grows (events ++ event.Round round ∷ []) new → has_operated new company ≡ false
 no_one_yet events new round company grows =
     of_growing (OperatedAlike company)
     (record {

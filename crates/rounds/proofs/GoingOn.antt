@@ -1,5 +1,5 @@
 -- A list of events goes on within a round: no event that is new begins a round.
-use Rattle.std.proofs.Common.{◌≡◌, ℕ, List, [], ◌∷◌, ◌++◌, Bool, true, false, ◌||◌, Option, Some, None, is_some, refl, sym, ap, ◌∙◌}
+use Rattle.std.proofs.Common.{◌≡◌, ℕ, List, [], ◌∷◌, ◌++◌, Bool, false, ◌||◌, Option, Some, None, is_some, refl, sym, ap, ◌∙◌}
 use Rattle.std.proofs.lemmas.List.{append_assoc, append-nil}
 use Rattle.history.specs.Event.{round_of}
 use Rattle.history.specs.LookBack.{Game}
@@ -38,7 +38,8 @@ goes_further a b c first second =
     }
 
 -- a first event that begins no round
-none_first : (first : Option Round) (rest : Bool) (more : List Round) → (is_some first || rest) ≡ false → (rest ≡ false → more ≡ []) → with_round first more ≡ []
+none_first : (first : Option Round) (rest : Bool) (more : List Round) → (is_some first || rest) ≡ false →
+    (rest ≡ false → more ≡ []) → with_round first more ≡ []
 none_first None rest more none others = others none
 none_first (Some round) rest more none others = absurd (cc)
 
@@ -54,7 +55,8 @@ by_turns adds file round company old new turn =
     record { more = only.more; longer = ap (λ (game : Game). game.events) only.added; quiet = begin_none only.more only.no_round }
 
 -- a round adds its own ROUND event, and begins no other
-pub round_goes_on : TurnOnlyAdds → (file : List ℕ) (round : Round) (old new : Game) → IsPlayed file round old new → GoesOn (old.events ++ event.Round round ∷ []) new.events
+pub round_goes_on : TurnOnlyAdds → (file : List ℕ) (round : Round) (old new : Game) →
+    IsPlayed file round old new → GoesOn (old.events ++ event.Round round ∷ []) new.events
 round_goes_on adds file =
     of_begun GoesOn
     (record {

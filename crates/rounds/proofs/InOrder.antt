@@ -24,7 +24,8 @@ AreBefore [] round = ⊤
 AreBefore (one ∷ rounds) round = (rank_of one < rank_of round) × AreBefore rounds round
 
 -- a round that is before each of these and before one more
-one_more_after : (first : Round) (rounds : List Round) (round : Round) → IsBeforeEach first rounds → rank_of first < rank_of round → IsBeforeEach first (rounds ++ round ∷ [])
+one_more_after : (first : Round) (rounds : List Round) (round : Round) → IsBeforeEach first rounds →
+    rank_of first < rank_of round → IsBeforeEach first (rounds ++ round ∷ [])
 one_more_after first [] round each before = (lt-ltb (rank_of first) (rank_of round) before, tt)
 one_more_after first (one ∷ rounds) round each before = (each.0, one_more_after first rounds round each.1 before)
 

@@ -22,7 +22,8 @@ standing_lines_grow seat events (line ∷ lines) =
     (standing_lines_grow seat (after_standing_line seat events line) lines)
 
 -- by those of each seat
-standing_grows : (file : List ℕ) (round : Round) (events : List Event) (seats : List ℕ) → Grows events (after_all_before after_standing_line file round events seats)
+standing_grows : (file : List ℕ) (round : Round) (events : List Event) (seats : List ℕ) →
+    Grows events (after_all_before after_standing_line file round events seats)
 standing_grows file round events [] = stays events
 standing_grows file round events (seat ∷ seats) =
     further events (after_lines_before after_standing_line file round events seat) _

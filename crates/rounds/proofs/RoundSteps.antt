@@ -1,6 +1,6 @@
 -- What holds between a list and itself, of one after the other, of each event that stands aside and of each company's
 -- turn, holds of a round from its ROUND event on. What these and a ROUND event keep, each round of a game keeps.
-use Rattle.std.proofs.Common.{◌≡◌, ℕ, zero, suc, Bool, true, false, ◌&&◌, List, [], ◌∷◌, ◌++◌, Option, Some, None, is_none, refl, sym, subst}
+use Rattle.std.proofs.Common.{◌≡◌, ℕ, zero, suc, Bool, true, ◌&&◌, List, [], ◌∷◌, ◌++◌, Option, Some, None, is_none, refl, sym, subst}
 use Rattle.std.proofs.lemmas.Bool.{and_parts}
 use Rattle.std.proofs.lemmas.List.{append_assoc, append-nil}
 use Rattle.std.specs.List.{list_all}
@@ -93,7 +93,8 @@ module _ (R : List Event → List Event → Type 0) (on : IsPassedOn R) where
         let end : List Event = finished file round old.seats turned in
         subst (λ (game : Game). R begun game.events) (sym played.after)
         (on.both begun start.events end (of_growing begun start.events (opened_grows file round old))
-        (on.both start.events turned end (of_turns round played.turns.companies start played.turned played.turns.turns) (of_growing turned end (finished_grows file round old.seats turned))))
+        (on.both start.events turned end (of_turns round played.turns.companies start played.turned played.turns.turns)
+        (of_growing turned end (finished_grows file round old.seats turned))))
 
     -- of each round that has begun
     pub of_begun : (round : Round) (old new : Game) → IsPlayed file round old new → R (old.events ++ event.Round round ∷ []) new.events
@@ -119,7 +120,8 @@ pub record IsKept (P : List Event → Type 0) : Type 0 where
   pub turns : OfTurns (Keeps P)
 
 -- so it holds after each round of each game
-pub in_each_game : (P : List Event → Type 0) → IsKept P → (file : List ℕ) (rounds : ℕ) (there : Between) → AreRounds file rounds (before_play file) there → P there.game.events
+pub in_each_game : (P : List Event → Type 0) → IsKept P → (file : List ℕ) (rounds : ℕ) (there : Between) →
+    AreRounds file rounds (before_play file) there → P there.game.events
 in_each_game P kept file zero there played =
     subst (λ (at : Between). P at.game.events) played kept.first
 in_each_game P kept file (suc rounds) there played =

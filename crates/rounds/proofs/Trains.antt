@@ -1,5 +1,5 @@
 -- Trains stand after each round, and phases go on.
-use Rattle.std.proofs.Common.{ℕ, ◌≤◌, List, refl, ap, arith}
+use Rattle.std.proofs.Common.{◌≤◌, List, refl, ap, arith}
 use Rattle.history.specs.Trains.{phase_of}
 use Rattle.history.specs.declared.event.Event.{Event}
 use Rattle.history.specs.declared.event.Event.TheVariants as event
@@ -21,16 +21,17 @@ trains_stand first others turns =
     })
 
 -- the phase is the same after a longer list, or a later one
-abbrev GoesOn : List Event → List Event → Type 0
-GoesOn before after = place_of_kind (phase_of before) ≤ place_of_kind (phase_of after)
+abbrev PhaseGoesOn : List Event → List Event → Type 0
+PhaseGoesOn before after = place_of_kind (phase_of before) ≤ place_of_kind (phase_of after)
 
 -- so phases go on
 pub phases_go_on : PhasesGoOnInTurns → PhasesGoOnInRounds
 phases_go_on turns file old new round =
-    of_round GoesOn
+    of_round PhaseGoesOn
     (record {
       same = λ events. omega arith;
       both = λ a b c one two. omega arith;
       aside = λ events event says. omega (arith, ap place_of_kind (phase_kept events event says.phase));
     })
-    turns file (λ events round. omega (arith, ap place_of_kind (phase_kept events (event.Round round) refl))) old.next old.game new.game round.played
+    turns file (λ events round. omega (arith, ap place_of_kind (phase_kept events (event.Round round) refl)))
+    old.next old.game new.game round.played
