@@ -1,6 +1,6 @@
 -- Later sheets change nothing, since the sequence goes forward and each round is played from its own
 -- sheets alone.
-use Rattle.std.proofs.Common.{◌≡◌, ℕ, zero, suc, false, ◌≤◌, ◌<◌, List, length, sym, subst, ap, ◌∙◌, arith}
+use Rattle.std.proofs.Common.{◌≡◌, ℕ, zero, suc, false, ◌≤◌, ◌<◌, List, length, sym, ap, ◌∙◌, arith}
 use Rattle.privates.specs.Turn.{all_sold}
 use Rattle.rounds.proofs.Forward.{played_forward}
 use Rattle.rounds.proofs.InSet.{StandsInSet, comes_in_set}
@@ -24,7 +24,8 @@ module _ (numbered : SheetsAreNumbered) (last : Round) (first second : List ℕ)
       same_round first second old new agree.players (λ seat. agree.sheets seat old.next up_to) round
 
   -- so are those that lead to one up to the last
-  pub all_alike : (rounds : ℕ) (there : Between) → rank_of there.next ≤ rank_of last → AreRounds first rounds (before_play first) there → AreRounds second rounds (before_play second) there
+  pub all_alike : (rounds : ℕ) (there : Between) → rank_of there.next ≤ rank_of last →
+      AreRounds first rounds (before_play first) there → AreRounds second rounds (before_play second) there
   all_alike zero there up_to played = sym (same_before first second agree.players) ∙ played
   all_alike (suc rounds) there up_to played =
       let before = forward played.0 there (comes_in_set first rounds played.0 played.1) played.2 in

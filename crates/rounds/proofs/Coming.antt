@@ -17,11 +17,20 @@ pub of_coming : (P : Round → Type 0) (coming : Next) (later : Round) → comin
 of_coming P coming later comes holds = subst (λ (it : Next). OfNext P it) comes holds
 
 -- after an operating round: the next of the set, or the stock round of the next set
-pub after_operating : (P : Round → Type 0) (set number in_set : ℕ) (all_sold broken : Bool) → (nat_lt number in_set ≡ true → P (Operating set (number + 1))) → (nat_lt number in_set ≡ false → P (Stock (set + 1))) → OfNext P (following (Operating set number) in_set all_sold broken)
+pub after_operating : (P : Round → Type 0) (set number in_set : ℕ) (all_sold broken : Bool) →
+    (nat_lt number in_set ≡ true → P (Operating set (number + 1))) →
+    (nat_lt number in_set ≡ false → P (Stock (set + 1))) →
+    OfNext P (following (Operating set number) in_set all_sold broken)
 after_operating P set number in_set all_sold broken goes_on ends =
-    elim (nat_lt number in_set) as (λ (more : Bool). nat_lt number in_set ≡ more → OfNext P (if more then next.Round (Operating set (number + 1)) else (if broken then next.Ended else next.Round (Stock (set + 1))))) [
-      | true ↦ λ more. goes_on more
-      | false ↦ λ past. elim broken as (λ (b : Bool). OfNext P (if b then next.Ended else next.Round (Stock (set + 1)))) [ true ↦ tt | false ↦ ends past ]
+    let after : Next = if broken then next.Ended else next.Round (Stock (set + 1)) in
+    elim (nat_lt number in_set) as (λ (more : Bool). nat_lt number in_set ≡ more →
+    OfNext P (if more then next.Round (Operating set (number + 1)) else after)) [
+      | true ↦ goes_on
+      | false ↦ λ past.
+          elim broken as (λ (b : Bool). OfNext P (if b then next.Ended else next.Round (Stock (set + 1)))) [
+            | true ↦ tt
+            | false ↦ ends past
+          ]
     ]
     refl
 
@@ -34,7 +43,11 @@ pub some_comes : BankAloneEndsIt
 some_comes (Opening number) in_set all_sold = (_, refl)
 some_comes (Stock set) in_set all_sold = (_, refl)
 some_comes (Operating set number) in_set all_sold =
-    elim (nat_lt number in_set) as (λ (more : Bool). (later : Round) × ((if more then next.Round (Operating set (number + 1)) else next.Round (Stock (set + 1))) ≡ next.Round later)) [ true ↦ (_, refl) | false ↦ (_, refl) ]
+    elim (nat_lt number in_set) as (λ (more : Bool). (later : Round) ×
+    ((if more then next.Round (Operating set (number + 1)) else next.Round (Stock (set + 1))) ≡ next.Round later)) [
+      | true ↦ (_, refl)
+      | false ↦ (_, refl)
+    ]
 
 -- the end is no round
 no_round : (round : Round) → next.Ended ≡ next.Round round → ⊥

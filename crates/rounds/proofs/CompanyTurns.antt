@@ -1,17 +1,22 @@
 -- The turns of the companies in an operating round: they lead to one end, which comes after at most eight, and
 -- no company takes two.
-use Rattle.std.proofs.Common.{◌≡◌, ℕ, zero, suc, ◌+◌, ◌<◌, ◌≤◌, Bool, true, false, ◌||◌, if◌then◌else◌, List, [], ◌∷◌, ◌++◌, length, Option, Some, None, refl, sym, ap, subst, ◌∙◌, arith}
+use Rattle.std.proofs.Common.{◌≡◌, ℕ, zero, suc, ◌+◌, ◌<◌, ◌≤◌, Bool, true, false, ◌||◌, if◌then◌else◌, List, [], ◌∷◌, ◌++◌, length, Option, Some, None, is_some, refl, sym, ap, subst, ◌∙◌, arith}
 use Rattle.std.proofs.Math.Bool.{or-false, or-true}
+use Rattle.std.specs.Option.{option_map}
 use Rattle.history.proofs.Choices.{same_company_is}
-use Rattle.history.specs.LookBack.{Game}
-use Rattle.history.specs.Operating.{has_operated}
+use Rattle.history.proofs.EventAtEnd.{now_said_before, now_said_here}
+use Rattle.history.specs.Event.{operated_by}
+use Rattle.history.specs.LookBack.{Game, in_round}
+use Rattle.history.specs.Operating.{has_operated, turn_said}
 use Rattle.history.specs.declared.event.Event.{Event}
+use Rattle.history.specs.declared.event.Event.TheVariants as event
 use Rattle.market.specs.OperatingOrder.{IsOperatingOrder, operating_order_of, times}
 use Rattle.operating.specs.Laws.{CompanyOperates, CompanyTurnEnds, OneCompanyTurn}
 use Rattle.operating.specs.Turn.{IsCompanyTurn}
-use Rattle.rounds.proofs.Aside.{no_one_yet}
+use Rattle.rounds.proofs.Growing.{Grows}
 use Rattle.rounds.proofs.Idle.{all_have_operated, fewer_idle, idle_few, idle_of, next_is_idle}
 use Rattle.rounds.proofs.OperatingGrows.{opened_grows}
+use Rattle.rounds.proofs.RoundSteps.{SaysNothing, of_growing}
 use Rattle.rounds.specs.OperatingRound.{CompaniesOperateOnce, EndsSoon, OneOperatingRound, TakeTurns, TakesTurn, TurnsLead, finished, next_company, opened}
 use Rattle.tables.specs.Roster.{same_company}
 use Rattle.tables.specs.declared.roster.Company.{Company}
@@ -33,7 +38,8 @@ not_both (Some other) company none some = cc
 
 module _ (once : OneCompanyTurn) (file : List ℕ) (round : Round) where
   -- the turns lead to one end
-  turns_once : (first second : List Company) (old a b : Game) → TakeTurns file round first old a → next_company a.events ≡ None → TakeTurns file round second old b → next_company b.events ≡ None → a ≡ b
+  turns_once : (first second : List Company) (old a b : Game) → TakeTurns file round first old a →
+      next_company a.events ≡ None → TakeTurns file round second old b → next_company b.events ≡ None → a ≡ b
   turns_once [] [] old a b first first_over second second_over = sym first ∙ second
   turns_once [] (company ∷ others) old a b first first_over second second_over =
       absurd (not_both (next_company old.events) company (ap (λ (game : Game). next_company game.events) first ∙ first_over) second.1.is_next)
@@ -54,7 +60,9 @@ operating_once once file round old a b first second =
     ∙ sym second.after
 
 -- one company more takes its turn
-pub one_more_turn : (file : List ℕ) (round : Round) (companies : List Company) (company : Company) (old mid new : Game) → TakeTurns file round companies old mid → TakesTurn file round company mid new → TakeTurns file round (companies ++ company ∷ []) old new
+pub one_more_turn : (file : List ℕ) (round : Round) (companies : List Company) (company : Company) (old mid new : Game) →
+    TakeTurns file round companies old mid → TakesTurn file round company mid new →
+    TakeTurns file round (companies ++ company ∷ []) old new
 one_more_turn file round [] company old mid new turns turn =
     (new, subst (λ (game : Game). TakesTurn file round company game new) (sym turns) turn, refl)
 one_more_turn file round (first ∷ others) company old mid new turns turn =
@@ -91,7 +99,9 @@ module _ (operates_too : CompanyOperates) (ordered : AreOrdered) (file : List �
       omega (arith, rest, fewer)
 
   -- how often a company took a turn, and whether it had operated before, say whether it has now
-  turns_taken : (companies : List Company) (old new : Game) (company : Company) → TakeTurns file round companies old new → times company companies + (if has_operated old.events company then 1 else 0) ≡ (if has_operated new.events company then 1 else 0)
+  turns_taken : (companies : List Company) (old new : Game) (company : Company) →
+      TakeTurns file round companies old new →
+      times company companies + (if has_operated old.events company then 1 else 0) ≡ (if has_operated new.events company then 1 else 0)
   turns_taken [] old new company turns =
       let same : ◌≡◌ {A = ℕ} (if has_operated old.events company then 1 else 0) (if has_operated new.events company then 1 else 0) = ap (λ (game : Game). if has_operated game.events company then 1 else 0) turns in
       omega (arith, same)
@@ -111,6 +121,33 @@ module _ (operates_too : CompanyOperates) (ordered : AreOrdered) (file : List �
             omega (arith, rest, now, count)
       ]
       refl
+
+-- a list and a longer one say alike whether a company has operated
+abbrev OperatedAlike : Company → List Event → List Event → Type 0
+OperatedAlike company before after = has_operated after company ≡ has_operated before company
+
+-- what is said of a company's turn within a round
+abbrev in_turns : Company → Event → Option (Option Company)
+in_turns company = in_round (λ event. turn_said company (operated_by event))
+
+-- events that stand aside say nothing of it
+says_no_turn : (company : Company) (event : Event) → SaysNothing event → in_turns company event ≡ None
+says_no_turn company event says =
+    ap (λ (round : Option Round). if is_some round then Some None else option_map Some (turn_said company (operated_by event))) says.round
+    ∙ ap (λ (turn : Option Company). option_map Some (turn_said company turn)) says.turn
+
+-- nobody has operated where a round has begun, and then events stand aside
+no_one_yet : (events new : List Event) (round : Round) (company : Company) →
+    Grows (events ++ event.Round round ∷ []) new → has_operated new company ≡ false
+no_one_yet events new round company grows =
+    of_growing (OperatedAlike company)
+    (record {
+      same = λ events. refl;
+      both = λ a b c one two. two ∙ one;
+      aside = λ events event says. ap is_some (now_said_before (in_turns company) events event (says_no_turn company event says));
+    })
+    (events ++ event.Round round ∷ []) new grows
+    ∙ ap is_some (now_said_here (in_turns company) events (event.Round round) None refl)
 
 -- an operating round ends
 pub operating_ends : CompanyOperates → CompanyTurnEnds → AreOrdered → (file : List ℕ) (round : Round) (old : Game) → EndsSoon file round old

@@ -42,7 +42,9 @@ module _ (opening_ends : EachOpeningEnds) (stock_ends : EachStockRoundEnds) (ope
       (played.new, played.played, ap (λ (game : Game). game.seats) played.played.after)
 
   -- what can be played is played one round further, and then fewer places are left
-  one_more : SheetsAreNumbered → (old : Between) → 0 < length (players_of file) → StandsInSet old.next old.in_set → all_posted file old.next ≡ true → (new : Between) × IsRound file old new × StandsInSet new.next new.in_set × (places_left new.next < places_left old.next)
+  one_more : SheetsAreNumbered → (old : Between) → 0 < length (players_of file) →
+      StandsInSet old.next old.in_set → all_posted file old.next ≡ true →
+      (new : Between) × IsRound file old new × StandsInSet new.next new.in_set × (places_left new.next < places_left old.next)
   one_more numbered old some stands posted =
       let played = played_ends old.next old.game in
       let sold = all_sold played.0.events in
@@ -54,7 +56,9 @@ module _ (opening_ends : EachOpeningEnds) (stock_ends : EachStockRoundEnds) (ope
       )
 
   -- after so many rounds, and with fewer places left than this, play comes to an end
-  plays_within : SheetsAreNumbered → (bound done : ℕ) (old : Between) → 0 < length (players_of file) → StandsInSet old.next old.in_set → AreRounds file done (before_play file) old → places_left old.next < bound → (last : Between) × Plays file last
+  plays_within : SheetsAreNumbered → (bound done : ℕ) (old : Between) → 0 < length (players_of file) →
+      StandsInSet old.next old.in_set → AreRounds file done (before_play file) old →
+      places_left old.next < bound → (last : Between) × Plays file last
   plays_within numbered zero done old some stands rounds few = absurd (omega arith)
   plays_within numbered (suc bound) done old some stands rounds few =
       elim (cases_Bool (all_posted file old.next)) [

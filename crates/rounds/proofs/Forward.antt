@@ -1,6 +1,6 @@
 -- The sequence goes forward in the order of all rounds, and no sheet is past the last of them: so play
 -- comes to an end.
-use Rattle.std.proofs.Common.{◌≡◌, ℕ, ◌+◌, ◌-◌, ◌<◌, ◌≤◌, Bool, true, false, ◌&&◌, nat_lt, if◌then◌else◌, List, length, is_some, refl, arith, rules}
+use Rattle.std.proofs.Common.{◌≡◌, ℕ, ◌+◌, ◌-◌, ◌<◌, ◌≤◌, Bool, true, false, List, length, is_some, arith, rules}
 use Rattle.std.proofs.lemmas.Bool.{lt-ltb}
 use Rattle.history.specs.declared.event.Event.{Event}
 use Rattle.rounds.proofs.Coming.{OfNext, after_operating, of_coming}
@@ -17,17 +17,23 @@ use Rattle.tables.specs.declared.round.Round.{Round}
 use Rattle.tables.specs.declared.round.Round.TheVariants.{Opening, Stock, Operating}
 
 -- a round that follows a round has a later place
-later_place : (round : Round) (in_set : ℕ) (all_sold broken : Bool) → number_of round ≤ number_most → turn_in_set round ≤ operating_most → OfNext (λ later. rank_of round < rank_of later) (following round in_set all_sold broken)
+later_place : (round : Round) (in_set : ℕ) (all_sold broken : Bool) → number_of round ≤ number_most →
+    turn_in_set round ≤ operating_most →
+    OfNext (λ later. rank_of round < rank_of later) (following round in_set all_sold broken)
 later_place (Opening number) in_set true broken small turn = omega arith
 later_place (Opening number) in_set false broken small turn = omega arith
 later_place (Stock set) in_set all_sold broken small turn = omega arith
 later_place (Operating set number) in_set all_sold broken small turn =
-    after_operating (λ (later : Round). stock_rank set + number < rank_of later) set number in_set all_sold broken (λ more. omega arith) (λ past. omega arith)
+    after_operating (λ (later : Round). stock_rank set + number < rank_of later) set number in_set all_sold broken
+    (λ more. omega arith) (λ past. omega arith)
 
 -- so has one that comes
-later_than : (round later : Round) (in_set : ℕ) (all_sold broken : Bool) → number_of round ≤ number_most → turn_in_set round ≤ operating_most → following round in_set all_sold broken ≡ next.Round later → rank_of round < rank_of later
+later_than : (round later : Round) (in_set : ℕ) (all_sold broken : Bool) → number_of round ≤ number_most →
+    turn_in_set round ≤ operating_most → following round in_set all_sold broken ≡ next.Round later →
+    rank_of round < rank_of later
 later_than round later in_set all_sold broken small turn comes =
-    of_coming (λ (later : Round). rank_of round < rank_of later) (following round in_set all_sold broken) later comes (later_place round in_set all_sold broken small turn)
+    of_coming (λ (later : Round). rank_of round < rank_of later) (following round in_set all_sold broken) later comes
+    (later_place round in_set all_sold broken small turn)
 
 -- the law of the sequence
 pub goes_forward : SequenceGoesForward
@@ -45,19 +51,22 @@ before_the_last (Stock set) small turn = omega arith
 before_the_last (Operating set number) small turn = omega arith
 
 -- a round that all have posted is numbered within the limit
-pub posted_small : SheetsAreNumbered → (file : List ℕ) (round : Round) → 0 < length (players_of file) → all_posted file round ≡ true → number_of round ≤ number_most
+pub posted_small : SheetsAreNumbered → (file : List ℕ) (round : Round) → 0 < length (players_of file) →
+    all_posted file round ≡ true → number_of round ≤ number_most
 posted_small numbered file round some posted =
     let first : is_some (sheet_of file 0 round) ≡ true = posted_each (λ seat. is_some (sheet_of file seat round)) 0 (length (players_of file)) 0 posted (omega arith) (omega arith) in
     numbered file 0 round (search rules)
 
 module _ (numbered : SheetsAreNumbered) (file : List ℕ) (round later : Round) (in_set : ℕ) (all_sold broken : Bool) where
   -- what follows a round that is played comes later
-  pub played_forward : 0 < length (players_of file) → StandsInSet round in_set → all_posted file round ≡ true → following round in_set all_sold broken ≡ next.Round later → rank_of round < rank_of later
+  pub played_forward : 0 < length (players_of file) → StandsInSet round in_set → all_posted file round ≡ true →
+      following round in_set all_sold broken ≡ next.Round later → rank_of round < rank_of later
   played_forward some stands posted comes =
       later_than round later in_set all_sold broken (posted_small numbered file round some posted) (in_any_set round in_set stands) comes
 
   -- and leaves fewer places
-  pub fewer_places : 0 < length (players_of file) → StandsInSet round in_set → all_posted file round ≡ true → following round in_set all_sold broken ≡ next.Round later → places_left later < places_left round
+  pub fewer_places : 0 < length (players_of file) → StandsInSet round in_set → all_posted file round ≡ true →
+      following round in_set all_sold broken ≡ next.Round later → places_left later < places_left round
   fewer_places some stands posted comes =
       let small = posted_small numbered file round some posted in
       let within = before_the_last round small (in_any_set round in_set stands) in
@@ -65,7 +74,8 @@ module _ (numbered : SheetsAreNumbered) (file : List ℕ) (round later : Round) 
       omega arith
 
 -- what a round asks holds before the next, if it holds after the one that was played
-gifts_next : (round : Round) (in_set : ℕ) (all_sold broken : Bool) (events : List Event) → GiftsWait round events → OfNext (λ later. GiftsWait later events) (following round in_set all_sold broken)
+gifts_next : (round : Round) (in_set : ℕ) (all_sold broken : Bool) (events : List Event) →
+    GiftsWait round events → OfNext (λ later. GiftsWait later events) (following round in_set all_sold broken)
 gifts_next (Opening number) in_set true broken events waits = tt
 gifts_next (Opening number) in_set false broken events waits = waits
 gifts_next (Stock set) in_set all_sold broken events waits = tt
@@ -73,6 +83,9 @@ gifts_next (Operating set number) in_set all_sold broken events waits =
     after_operating (λ (later : Round). GiftsWait later events) set number in_set all_sold broken (λ more. tt) (λ past. tt)
 
 -- so it does before one that comes
-pub gifts_go_on : (round later : Round) (in_set : ℕ) (all_sold broken : Bool) (events : List Event) → GiftsWait round events → following round in_set all_sold broken ≡ next.Round later → GiftsWait later events
+pub gifts_go_on : (round later : Round) (in_set : ℕ) (all_sold broken : Bool) (events : List Event) →
+    GiftsWait round events → following round in_set all_sold broken ≡ next.Round later →
+    GiftsWait later events
 gifts_go_on round later in_set all_sold broken events waits comes =
-    of_coming (λ (later : Round). GiftsWait later events) (following round in_set all_sold broken) later comes (gifts_next round in_set all_sold broken events waits)
+    of_coming (λ (later : Round). GiftsWait later events) (following round in_set all_sold broken) later comes
+    (gifts_next round in_set all_sold broken events waits)

@@ -1,13 +1,14 @@
 -- A list of events goes on within a round: no event that is new begins a round.
-use Rattle.std.proofs.Common.{◌≡◌, List, [], ◌∷◌, ◌++◌, Bool, true, false, ◌||◌, Option, Some, None, is_some, refl, ap, ◌∙◌}
-use Rattle.std.proofs.lemmas.List.{append_assoc}
-use Rattle.std.specs.List.{list_any}
+use Rattle.std.proofs.Common.{◌≡◌, ℕ, List, [], ◌∷◌, ◌++◌, Bool, false, ◌||◌, Option, Some, None, is_some, refl, sym, ap, ◌∙◌}
+use Rattle.std.proofs.lemmas.List.{append_assoc, append-nil}
 use Rattle.history.specs.Event.{round_of}
+use Rattle.history.specs.LookBack.{Game}
 use Rattle.history.specs.declared.event.Event.{Event}
-use Rattle.operating.specs.Laws.{BeginsNoRound}
-use Rattle.rounds.proofs.Aside.{none_begun}
-use Rattle.rounds.proofs.Growing.{Grows}
+use Rattle.history.specs.declared.event.Event.TheVariants as event
+use Rattle.operating.specs.Laws.{BeginsNoRound, TurnOnlyAdds}
+use Rattle.rounds.proofs.RoundSteps.{OfTurns, of_begun}
 use Rattle.rounds.specs.Begun.{rounds_begun, with_round}
+use Rattle.rounds.specs.Play.{IsPlayed}
 use Rattle.tables.specs.declared.round.Round.{Round}
 
 -- the list goes on, and nothing that is new begins a round
@@ -28,7 +29,7 @@ begun_in_both (event ∷ front) back =
     ap (with_round (round_of event)) (begun_in_both front back) ∙ round_in_front (round_of event) (rounds_begun front) (rounds_begun back)
 
 -- it goes on further
-pub goes_further : (a b c : List Event) → GoesOn a b → GoesOn b c → GoesOn a c
+goes_further : (a b c : List Event) → GoesOn a b → GoesOn b c → GoesOn a c
 goes_further a b c first second =
     record {
       more = first.more ++ second.more;
@@ -36,24 +37,31 @@ goes_further a b c first second =
       quiet = begun_in_both first.more second.more ∙ ap (λ (list : List Round). list ++ rounds_begun second.more) first.quiet ∙ second.quiet;
     }
 
--- by events that stand aside
-pub goes_on : (old new : List Event) → Grows old new → GoesOn old new
-goes_on old new grows =
-    record { more = grows.more; longer = grows.longer; quiet = none_begun grows.more grows.aside }
-
--- of two neither
-neither : (a b : Bool) → (a || b) ≡ false → (a ≡ false) × (b ≡ false)
-neither true b none = absurd (cc)
-neither false b none = (refl, none)
-
--- the round that begins, where a test says that none does
-none_begins : (round : Option Round) → is_some round ≡ false → round ≡ None
-none_begins None none = refl
-none_begins (Some round) none = cc
+-- a first event that begins no round
+none_first : (first : Option Round) (rest : Bool) (more : List Round) → (is_some first || rest) ≡ false →
+    (rest ≡ false → more ≡ []) → with_round first more ≡ []
+none_first None rest more none others = others none
+none_first (Some round) rest more none others = absurd (cc)
 
 -- events none of which begins a round
-pub begin_none : (more : List Event) → BeginsNoRound more → rounds_begun more ≡ []
+begin_none : (more : List Event) → BeginsNoRound more → rounds_begun more ≡ []
 begin_none [] none = refl
-begin_none (event ∷ more) none =
-    let parts = neither (is_some (round_of event)) (list_any (λ event. is_some (round_of event)) more) none in
-    ap (λ (round : Option Round). with_round round (rounds_begun more)) (none_begins (round_of event) parts.0) ∙ begin_none more parts.1
+begin_none (event ∷ more) none = none_first (round_of event) _ (rounds_begun more) none (begin_none more)
+
+-- it goes on by a company's turn
+by_turns : TurnOnlyAdds → OfTurns GoesOn
+by_turns adds file round company old new turn =
+    let only = adds file round company old new turn in
+    record { more = only.more; longer = ap (λ (game : Game). game.events) only.added; quiet = begin_none only.more only.no_round }
+
+-- a round adds its own ROUND event, and begins no other
+pub round_goes_on : TurnOnlyAdds → (file : List ℕ) (round : Round) (old new : Game) →
+    IsPlayed file round old new → GoesOn (old.events ++ event.Round round ∷ []) new.events
+round_goes_on adds file =
+    of_begun GoesOn
+    (record {
+      same = λ events. record { more = []; longer = sym (append-nil events); quiet = refl };
+      both = goes_further;
+      aside = λ events event says. record { more = event ∷ []; longer = refl; quiet = ap (λ (round : Option Round). with_round round []) says.round };
+    })
+    (by_turns adds) file

@@ -1,5 +1,5 @@
 -- Each round that comes stands within its set.
-use Rattle.std.proofs.Common.{◌≡◌, ℕ, zero, suc, ◌+◌, ◌<◌, ◌≤◌, Bool, true, false, nat_lt, if◌then◌else◌, List, [], length, refl, sym, ap, subst, ◌∙◌, arith}
+use Rattle.std.proofs.Common.{◌≡◌, ℕ, zero, suc, ◌+◌, ◌<◌, ◌≤◌, Bool, true, false, List, [], length, sym, ap, subst, ◌∙◌, arith}
 use Rattle.std.proofs.lemmas.Bool.{ltb-true}
 use Rattle.history.specs.LookBack.{Game}
 use Rattle.history.specs.Trains.{phase_of}
@@ -46,7 +46,9 @@ new_set set events =
     let few = new_set_few (phase_of events) in record { some = few.0; few = few.1; within = omega arith }
 
 -- so does what follows each round
-next_in_set : (round : Round) (in_set : ℕ) (all_sold broken : Bool) (events : List Event) → StandsInSet round in_set → OfNext (λ later. StandsInSet later (in_set_before later events in_set)) (following round in_set all_sold broken)
+next_in_set : (round : Round) (in_set : ℕ) (all_sold broken : Bool) (events : List Event) →
+    StandsInSet round in_set →
+    OfNext (λ later. StandsInSet later (in_set_before later events in_set)) (following round in_set all_sold broken)
 next_in_set (Opening number) in_set true broken events stands = new_set 1 events
 next_in_set (Opening number) in_set false broken events stands =
     record { some = stands.some; few = stands.few; within = stands.within }
@@ -58,9 +60,12 @@ next_in_set (Operating set number) in_set all_sold broken events stands =
     (λ past. new_set (set + 1) events)
 
 -- so does a round that comes
-pub coming_in_set : (round later : Round) (in_set : ℕ) (all_sold broken : Bool) (events : List Event) → StandsInSet round in_set → following round in_set all_sold broken ≡ next.Round later → StandsInSet later (in_set_before later events in_set)
+pub coming_in_set : (round later : Round) (in_set : ℕ) (all_sold broken : Bool) (events : List Event) →
+    StandsInSet round in_set → following round in_set all_sold broken ≡ next.Round later →
+    StandsInSet later (in_set_before later events in_set)
 coming_in_set round later in_set all_sold broken events stands comes =
-    of_coming (λ (later : Round). StandsInSet later (in_set_before later events in_set)) (following round in_set all_sold broken) later comes (next_in_set round in_set all_sold broken events stands)
+    of_coming (λ (later : Round). StandsInSet later (in_set_before later events in_set)) (following round in_set all_sold broken) later comes
+    (next_in_set round in_set all_sold broken events stands)
 
 -- so does what follows a round that was played
 pub round_in_set : (file : List ℕ) (old new : Between) → StandsInSet old.next old.in_set → IsRound file old new → StandsInSet new.next new.in_set
@@ -76,7 +81,10 @@ comes_in_set file (suc rounds) there played =
     round_in_set file played.0 there (comes_in_set file rounds played.0 played.1) played.2
 
 -- before the first round
-pub begins_so : (file : List ℕ) (history : Game) (seats in_set : ℕ) → history ≡ record { seats = seats; events = [] } → seats ≡ length (players_of file) → in_set ≡ rounds_of_new_set history.events → before_play file ≡ record { game = history; in_set = in_set; next = Opening 1 }
+pub begins_so : (file : List ℕ) (history : Game) (seats in_set : ℕ) →
+    history ≡ record { seats = seats; events = [] } → seats ≡ length (players_of file) →
+    in_set ≡ rounds_of_new_set history.events →
+    before_play file ≡ record { game = history; in_set = in_set; next = Opening 1 }
 begins_so file history seats in_set is_new players counted =
     let game : history ≡ record { seats = length (players_of file); events = [] } = is_new ∙ ap (λ (n : ℕ). record { seats = n; events = [] }) players in
     let count : in_set ≡ rounds_of_new_set [] = counted ∙ ap (λ (g : Game). rounds_of_new_set g.events) game in

@@ -9,11 +9,11 @@ pub mod Arrival
 pub mod Example
 pub mod StockExample
 mod Growing
-mod Aside
-mod GoingOn
 mod OpeningGrows
 mod StockGrows
 mod OperatingGrows
+mod RoundSteps
+mod GoingOn
 mod Ground
 mod Idle
 mod CompanyTurns

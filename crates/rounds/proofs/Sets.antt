@@ -1,5 +1,5 @@
 -- A set keeps the number of operating rounds with which it began, since only a stock round that comes sets it.
-use Rattle.std.proofs.Common.{◌≡◌, ℕ, zero, suc, ◌+◌, ◌≤◌, Bool, true, false, nat_lt, if◌then◌else◌, List, refl, sym, ap, subst, ◌∙◌, arith}
+use Rattle.std.proofs.Common.{◌≡◌, ℕ, zero, suc, ◌+◌, ◌≤◌, Bool, false, List, refl, sym, ap, subst, ◌∙◌, arith}
 use Rattle.std.proofs.lemmas.Bool.{ltb-false}
 use Rattle.history.specs.declared.event.Event.{Event}
 use Rattle.privates.specs.Turn.{all_sold}
@@ -23,7 +23,9 @@ record Keeps (set count : ℕ) (next : Round) (in_set : ℕ) : Type 0 where
   number : IsOfSet set next → in_set ≡ count
 
 -- after each round
-keeps_on : (set count : ℕ) (round : Round) (in_set : ℕ) (sold broken : Bool) (events : List Event) → Keeps set count round in_set → OfNext (λ later. Keeps set count later (in_set_before later events in_set)) (following round in_set sold broken)
+keeps_on : (set count : ℕ) (round : Round) (in_set : ℕ) (sold broken : Bool) (events : List Event) →
+    Keeps set count round in_set →
+    OfNext (λ later. Keeps set count later (in_set_before later events in_set)) (following round in_set sold broken)
 keeps_on set count (Opening number) in_set sold broken events keeps = absurd keeps.begun
 keeps_on set count (Stock its) in_set sold broken events keeps =
     record { begun = keeps.begun; number = keeps.number }
@@ -34,11 +36,14 @@ keeps_on set count (Operating its number) in_set sold broken events keeps =
     (λ past. record { begun = omega (arith, no_earlier); number = λ (same : its + 1 ≡ set). absurd (omega (arith, no_earlier, same)) })
 
 -- the set is left only after the last of its rounds
-left_after_last : (set : ℕ) (round : Round) (in_set : ℕ) (sold broken : Bool) → IsOfSet set round → StandsInSet round in_set → OfNext (λ later. ¬ (IsOfSet set later) → round ≡ Operating set in_set) (following round in_set sold broken)
+left_after_last : (set : ℕ) (round : Round) (in_set : ℕ) (sold broken : Bool) → IsOfSet set round →
+    StandsInSet round in_set →
+    OfNext (λ later. ¬ (IsOfSet set later) → round ≡ Operating set in_set) (following round in_set sold broken)
 left_after_last set (Opening number) in_set sold broken same stands = absurd same
 left_after_last set (Stock its) in_set sold broken same stands = λ other. absurd (other same)
 left_after_last set (Operating its number) in_set sold broken same stands =
-    after_operating (λ (later : Round). ¬ (IsOfSet set later) → ◌≡◌ {A = Round} (Operating its number) (Operating set in_set)) its number in_set sold broken
+    after_operating (λ (later : Round). ¬ (IsOfSet set later) → ◌≡◌ {A = Round} (Operating its number) (Operating set in_set))
+    its number in_set sold broken
     (λ more other. absurd (other same))
     (λ over other.
     let past : in_set ≤ number = ltb-false number in_set over in
@@ -48,7 +53,8 @@ left_after_last set (Operating its number) in_set sold broken same stands =
 
 module _ (file : List ℕ) where
   -- the number is fixed as the stock round comes
-  fixed : (set rounds : ℕ) (begun : Between) → AreRounds file rounds (before_play file) begun → begun.next ≡ Stock set → begun.in_set ≡ rounds_of_new_set begun.game.events
+  fixed : (set rounds : ℕ) (begun : Between) → AreRounds file rounds (before_play file) begun →
+      begun.next ≡ Stock set → begun.in_set ≡ rounds_of_new_set begun.game.events
   fixed set zero begun played comes =
       subst (λ (at : Between). at.in_set ≡ rounds_of_new_set at.game.events) played refl
   fixed set (suc rounds) begun played comes =
@@ -59,11 +65,13 @@ module _ (file : List ℕ) where
   round_keeps set count old new keeps round =
       let sold = all_sold new.game.events in
       subst (λ (number : ℕ). Keeps set count new.next number) (sym round.in_set_then)
-      (of_coming (λ (later : Round). Keeps set count later (in_set_before later new.game.events old.in_set)) (following old.next old.in_set sold false) new.next round.next_then
+      (of_coming (λ (later : Round). Keeps set count later (in_set_before later new.game.events old.in_set))
+      (following old.next old.in_set sold false) new.next round.next_then
       (keeps_on set count old.next old.in_set sold false new.game.events keeps))
 
   -- so do all that follow
-  all_keep : (set count later : ℕ) (begun there : Between) → Keeps set count begun.next begun.in_set → AreRounds file later begun there → Keeps set count there.next there.in_set
+  all_keep : (set count later : ℕ) (begun there : Between) → Keeps set count begun.next begun.in_set →
+      AreRounds file later begun there → Keeps set count there.next there.in_set
   all_keep set count zero begun there keeps played =
       subst (λ (at : Between). Keeps set count at.next at.in_set) played keeps
   all_keep set count (suc later) begun there keeps played =
@@ -92,7 +100,8 @@ keep_their_number file set rounds later begun there reached comes played of_set 
       whole =
           λ after round other.
           let sold = all_sold after.game.events in
-          of_coming (λ (later : Round). ¬ (IsOfSet set later) → there.next ≡ Operating set there.in_set) (following there.next there.in_set sold false) after.next round.next_then
+          of_coming (λ (later : Round). ¬ (IsOfSet set later) → there.next ≡ Operating set there.in_set)
+          (following there.next there.in_set sold false) after.next round.next_then
           (left_after_last set there.next there.in_set sold false of_set stands) other
           ∙ ap (λ (most : ℕ). Operating set most) number;
     }

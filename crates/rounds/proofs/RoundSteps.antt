@@ -1,0 +1,129 @@
+-- What holds between a list and itself, of one after the other, of each event that stands aside and of each company's
+-- turn, holds of a round from its ROUND event on. What these and a ROUND event keep, each round of a game keeps.
+use Rattle.std.proofs.Common.{◌≡◌, ℕ, zero, suc, Bool, true, ◌&&◌, List, [], ◌∷◌, ◌++◌, Option, Some, None, is_none, refl, sym, subst}
+use Rattle.std.proofs.lemmas.Bool.{and_parts}
+use Rattle.std.proofs.lemmas.List.{append_assoc, append-nil}
+use Rattle.std.specs.List.{list_all}
+use Rattle.history.specs.Event.{operated_by, phase_set, round_of, tile_laid, token_placed, train_moved}
+use Rattle.history.specs.LookBack.{Game}
+use Rattle.history.specs.declared.event.Event.{Event}
+use Rattle.history.specs.declared.event.Event.TheVariants as event
+use Rattle.operating.specs.Turn.{IsCompanyTurn}
+use Rattle.rounds.proofs.Growing.{Grows, is_aside}
+use Rattle.rounds.proofs.OpeningGrows.{opening_grows}
+use Rattle.rounds.proofs.OperatingGrows.{finished_grows, opened_grows}
+use Rattle.rounds.proofs.StockGrows.{stock_round_grows}
+use Rattle.rounds.specs.OperatingRound.{IsOperatingRound, TakeTurns, finished, opened}
+use Rattle.rounds.specs.Play.{AreRounds, Between, IsPlayed, before_play}
+use Rattle.tables.specs.declared.roster.Company.{Company}
+use Rattle.tables.specs.declared.round.Round.{Round}
+use Rattle.tables.specs.declared.round.Round.TheVariants.{Opening, Stock, Operating}
+
+-- what an event that stands aside says
+pub record SaysNothing (event : Event) : Type 0 where
+  pub round : round_of event ≡ None
+  pub tile : tile_laid event ≡ None
+  pub token : token_placed event ≡ None
+  pub turn : operated_by event ≡ None
+  pub phase : phase_set event ≡ None
+  pub train : train_moved event ≡ None
+
+-- there is nothing
+nothing : {X : Type 0} (found : Option X) → is_none found ≡ true → found ≡ None
+nothing None none = refl
+nothing (Some x) none = cc
+
+-- there is nothing, and more holds
+nothing_and : {X : Type 0} (found : Option X) (more : Bool) → (is_none found && more) ≡ true → (found ≡ None) × (more ≡ true)
+nothing_and None more both = (refl, both)
+nothing_and (Some x) more both = absurd (cc)
+
+-- an event that stands aside says nothing of these
+says_nothing : (event : Event) → is_aside event ≡ true → SaysNothing event
+says_nothing event aside =
+    let round = nothing_and (round_of event) _ aside in
+    let tile = nothing_and (tile_laid event) _ round.1 in
+    let token = nothing_and (token_placed event) _ tile.1 in
+    let turn = nothing_and (operated_by event) _ token.1 in
+    let phase = nothing_and (phase_set event) _ turn.1 in
+    record { round = round.0; tile = tile.0; token = token.0; turn = turn.0; phase = phase.0; train = nothing (train_moved event) phase.1 }
+
+-- it holds between a list and itself, of one after the other, and of each event that stands aside
+pub record IsPassedOn (R : List Event → List Event → Type 0) : Type 0 where
+  pub same : (events : List Event) → R events events
+  pub both : (a b c : List Event) → R a b → R b c → R a c
+  pub aside : (events : List Event) (event : Event) → SaysNothing event → R events (events ++ event ∷ [])
+
+-- it holds of each company's turn
+abbrev pub OfTurns : (List Event → List Event → Type 0) → Type 0
+OfTurns R = (file : List ℕ) (round : Round) (company : Company) (old new : Game) → IsCompanyTurn file round company old new → R old.events new.events
+
+-- it holds where a round begins
+abbrev pub OfBeginnings : (List Event → List Event → Type 0) → Type 0
+OfBeginnings R = (events : List Event) (round : Round) → R events (events ++ event.Round round ∷ [])
+
+module _ (R : List Event → List Event → Type 0) (on : IsPassedOn R) where
+  -- of events that stand aside
+  of_aside : (events more : List Event) → list_all is_aside more ≡ true → R events (events ++ more)
+  of_aside events [] aside = subst (R events) (sym (append-nil events)) (on.same events)
+  of_aside events (event ∷ more) aside =
+      let parts = and_parts (is_aside event) (list_all is_aside more) aside in
+      let next : List Event = events ++ event ∷ [] in
+      subst (R events) (append_assoc events (event ∷ []) more)
+      (on.both events next (next ++ more) (on.aside events event (says_nothing event parts.0)) (of_aside next more parts.1))
+
+  -- of a list that grows by those
+  pub of_growing : (old new : List Event) → Grows old new → R old new
+  of_growing old new grows = subst (R old) (sym grows.longer) (of_aside old grows.more grows.aside)
+
+  module _ (turns : OfTurns R) (file : List ℕ) where
+    -- of turns
+    of_turns : (round : Round) (companies : List Company) (old new : Game) → TakeTurns file round companies old new → R old.events new.events
+    of_turns round [] old new taken =
+        subst (λ (game : Game). R old.events game.events) taken (on.same old.events)
+    of_turns round (company ∷ others) old new taken =
+        on.both old.events taken.0.events new.events (turns file round company old taken.0 taken.1.turn) (of_turns round others taken.0 new taken.2)
+
+    -- of an operating round that has begun
+    of_operating : (round : Round) (old new : Game) → IsOperatingRound file round old new → R (old.events ++ event.Round round ∷ []) new.events
+    of_operating round old new played =
+        let begun : List Event = old.events ++ event.Round round ∷ [] in
+        let start : Game = opened file round old in
+        let turned : List Event = played.turned.events in
+        let end : List Event = finished file round old.seats turned in
+        subst (λ (game : Game). R begun game.events) (sym played.after)
+        (on.both begun start.events end (of_growing begun start.events (opened_grows file round old))
+        (on.both start.events turned end (of_turns round played.turns.companies start played.turned played.turns.turns)
+        (of_growing turned end (finished_grows file round old.seats turned))))
+
+    -- of each round that has begun
+    pub of_begun : (round : Round) (old new : Game) → IsPlayed file round old new → R (old.events ++ event.Round round ∷ []) new.events
+    of_begun (Opening number) old new played =
+        of_growing _ new.events (opening_grows file (Opening number) old new played)
+    of_begun (Stock set) old new played = of_growing _ new.events (stock_round_grows file (Stock set) old new played)
+    of_begun (Operating set number) old new played = of_operating (Operating set number) old new played
+
+    -- of each round, if it holds where one begins
+    pub of_round : OfBeginnings R → (round : Round) (old new : Game) → IsPlayed file round old new → R old.events new.events
+    of_round begins round old new played =
+        on.both old.events (old.events ++ event.Round round ∷ []) new.events (begins old.events round) (of_begun round old new played)
+
+-- what holds by a list holds by a longer one
+abbrev pub Keeps : (List Event → Type 0) → List Event → List Event → Type 0
+Keeps P before after = P before → P after
+
+-- it holds at first, and each of those keeps it
+pub record IsKept (P : List Event → Type 0) : Type 0 where
+  pub first : P []
+  pub aside : (events : List Event) (event : Event) → SaysNothing event → P events → P (events ++ event ∷ [])
+  pub begins : OfBeginnings (Keeps P)
+  pub turns : OfTurns (Keeps P)
+
+-- so it holds after each round of each game
+pub in_each_game : (P : List Event → Type 0) → IsKept P → (file : List ℕ) (rounds : ℕ) (there : Between) →
+    AreRounds file rounds (before_play file) there → P there.game.events
+in_each_game P kept file zero there played =
+    subst (λ (at : Between). P at.game.events) played kept.first
+in_each_game P kept file (suc rounds) there played =
+    let on : IsPassedOn (Keeps P) = record { same = λ events holds. holds; both = λ a b c one two holds. two (one holds); aside = kept.aside } in
+    of_round (Keeps P) on kept.turns file kept.begins played.0.next played.0.game there.game played.2.played (in_each_game P kept file rounds played.0 played.1)
