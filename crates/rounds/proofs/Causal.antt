@@ -1,6 +1,6 @@
 -- Later sheets change nothing, since the sequence goes forward and each round is played from its own
 -- sheets alone.
-use Rattle.std.proofs.Common.{◌≡◌, ℕ, zero, suc, ◌≤◌, ◌<◌, List, length, sym, subst, ap, ◌∙◌, arith}
+use Rattle.std.proofs.Common.{◌≡◌, ℕ, zero, suc, false, ◌≤◌, ◌<◌, List, length, sym, subst, ap, ◌∙◌, arith}
 use Rattle.privates.specs.Turn.{all_sold}
 use Rattle.rounds.proofs.Forward.{played_forward}
 use Rattle.rounds.proofs.InSet.{StandsInSet, comes_in_set}
@@ -16,8 +16,7 @@ module _ (numbered : SheetsAreNumbered) (last : Round) (first second : List ℕ)
   -- a round that was played is before the next
   forward : (old new : Between) → StandsInSet old.next old.in_set → IsRound first old new → rank_of old.next < rank_of new.next
   forward old new stands round =
-      subst (λ (next : Round). rank_of old.next < rank_of next) (sym round.next_then)
-      (played_forward numbered first old.next old.in_set (all_sold new.game.events) some stands round.posted)
+      played_forward numbered first old.next new.next old.in_set (all_sold new.game.events) false some stands round.posted round.next_then
 
   -- a round up to the last is played alike
   alike : (old new : Between) → rank_of old.next ≤ rank_of last → IsRound first old new → IsRound second old new

@@ -1,15 +1,15 @@
 -- Each round played leaves fewer places in the order of rounds, and a file that is not refused has
 -- players: so play comes to an end.
-use Rattle.std.proofs.Common.{◌≡◌, ℕ, zero, suc, ◌+◌, ◌<◌, true, List, length, refl, ap, inl, inr, arith}
+use Rattle.std.proofs.Common.{◌≡◌, ℕ, zero, suc, ◌+◌, ◌<◌, true, false, List, length, refl, ap, inl, inr, arith}
 use Rattle.std.proofs.lemmas.Bool.{cases_Bool}
 use Rattle.history.specs.LookBack.{Game}
 use Rattle.privates.specs.Opening as opening
 use Rattle.privates.specs.Turn.{all_sold}
+use Rattle.rounds.proofs.Coming.{some_comes}
 use Rattle.rounds.proofs.Forward.{fewer_places, places_left}
-use Rattle.rounds.proofs.InSet.{StandsInSet, first_in_set, next_in_set}
+use Rattle.rounds.proofs.InSet.{StandsInSet, coming_in_set, first_in_set}
 use Rattle.rounds.specs.OperatingRound as operating
 use Rattle.rounds.specs.Play.{AreRounds, Between, IsPlayed, IsRound, Plays, SomeGame, all_posted, before_play, in_set_before}
-use Rattle.rounds.specs.Sequence.{round_after}
 use Rattle.sheets.specs.File.{players_of}
 use Rattle.sheets.specs.Laws.{SheetsAreNumbered, ThreeToSixPlay}
 use Rattle.stock_round.specs.StockRound as stock
@@ -44,11 +44,13 @@ module _ (opening_ends : EachOpeningEnds) (stock_ends : EachStockRoundEnds) (ope
   -- what can be played is played one round further, and then fewer places are left
   one_more : SheetsAreNumbered → (old : Between) → 0 < length (players_of file) → StandsInSet old.next old.in_set → all_posted file old.next ≡ true → (new : Between) × IsRound file old new × StandsInSet new.next new.in_set × (places_left new.next < places_left old.next)
   one_more numbered old some stands posted =
-      let played = played_ends old.next old.game in (
-        record { game = played.0; in_set = in_set_before (round_after old.next old.in_set (all_sold played.0.events)) played.0.events old.in_set; next = round_after old.next old.in_set (all_sold played.0.events) },
-        record { posted = posted; played = played.1; next_then = refl; in_set_then = refl },
-        next_in_set old.next old.in_set (all_sold played.0.events) played.0.events stands,
-        fewer_places numbered file old.next old.in_set (all_sold played.0.events) some stands posted,
+      let played = played_ends old.next old.game in
+      let sold = all_sold played.0.events in
+      let later = some_comes old.next old.in_set sold in (
+        record { game = played.0; in_set = in_set_before later.0 played.0.events old.in_set; next = later.0 },
+        record { posted = posted; played = played.1; next_then = later.1; in_set_then = refl },
+        coming_in_set old.next later.0 old.in_set sold false played.0.events stands later.1,
+        fewer_places numbered file old.next later.0 old.in_set sold false some stands posted later.1,
       )
 
   -- after so many rounds, and with fewer places left than this, play comes to an end

@@ -1,6 +1,6 @@
 -- The rounds of a game follow one another in the order of all rounds, since each round tells its own
 -- beginning first, begins no other, and comes before the next.
-use Rattle.std.proofs.Common.{◌≡◌, ℕ, zero, suc, ◌<◌, List, [], ◌∷◌, ◌++◌, length, refl, sym, ap, subst, ◌∙◌, arith}
+use Rattle.std.proofs.Common.{◌≡◌, ℕ, zero, suc, false, ◌<◌, List, [], ◌∷◌, ◌++◌, length, refl, sym, ap, subst, ◌∙◌, arith}
 use Rattle.std.specs.Prelude.{⊤}
 use Rattle.std.proofs.lemmas.Bool.{lt-ltb}
 use Rattle.std.proofs.lemmas.List.{append-nil}
@@ -81,8 +81,7 @@ module _ (adds : TurnOnlyAdds) (file : List ℕ) where
     -- a round that was played is before the next
     forward : (old new : Between) → StandsInSet old.next old.in_set → IsRound file old new → rank_of old.next < rank_of new.next
     forward old new stands round =
-        subst (λ (next : Round). rank_of old.next < rank_of next) (sym round.next_then)
-        (played_forward numbered file old.next old.in_set (all_sold new.game.events) some stands round.posted)
+        played_forward numbered file old.next new.next old.in_set (all_sold new.game.events) false some stands round.posted round.next_then
 
     -- so the order goes on
     round_in_order : (old new : Between) → TellsInOrder old → StandsInSet old.next old.in_set → IsRound file old new → TellsInOrder new

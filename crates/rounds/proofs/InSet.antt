@@ -5,8 +5,10 @@ use Rattle.history.specs.LookBack.{Game}
 use Rattle.history.specs.Trains.{phase_of}
 use Rattle.history.specs.declared.event.Event.{Event}
 use Rattle.privates.specs.Turn.{all_sold}
+use Rattle.rounds.proofs.Coming.{OfNext, after_operating, of_coming}
 use Rattle.rounds.specs.Play.{AreRounds, Between, IsRound, before_play, in_set_before, rounds_of_new_set}
-use Rattle.rounds.specs.Sequence.{round_after, turn_in_set}
+use Rattle.rounds.specs.Sequence.{following, turn_in_set}
+use Rattle.rounds.specs.declared.following.Next.TheVariants as next
 use Rattle.sheets.specs.File.{players_of}
 use Rattle.tables.specs.Round.{operating_most}
 use Rattle.tables.specs.Train.{rounds_in_set_of}
@@ -43,30 +45,28 @@ new_set : (set : ℕ) (events : List Event) → StandsInSet (Stock set) (rounds_
 new_set set events =
     let few = new_set_few (phase_of events) in record { some = few.0; few = few.1; within = omega arith }
 
--- so does what follows an operating round
-after_operating : (set number in_set : ℕ) (events : List Event) (more : Bool) → nat_lt number in_set ≡ more → StandsInSet (Operating set number) in_set → StandsInSet (if more then Operating set (number + 1) else Stock (set + 1)) (in_set_before (if more then Operating set (number + 1) else Stock (set + 1)) events in_set)
-after_operating set number in_set events true less stands =
-    let before : number < in_set = ltb-true number in_set less in
-    record { some = stands.some; few = stands.few; within = omega (arith, before) }
-after_operating set number in_set events false less stands = new_set (set + 1) events
-
 -- so does what follows each round
-pub next_in_set : (round : Round) (in_set : ℕ) (all_sold : Bool) (events : List Event) → StandsInSet round in_set → StandsInSet (round_after round in_set all_sold) (in_set_before (round_after round in_set all_sold) events in_set)
-next_in_set (Opening number) in_set true events stands = new_set 1 events
-next_in_set (Opening number) in_set false events stands =
+next_in_set : (round : Round) (in_set : ℕ) (all_sold broken : Bool) (events : List Event) → StandsInSet round in_set → OfNext (λ later. StandsInSet later (in_set_before later events in_set)) (following round in_set all_sold broken)
+next_in_set (Opening number) in_set true broken events stands = new_set 1 events
+next_in_set (Opening number) in_set false broken events stands =
     record { some = stands.some; few = stands.few; within = stands.within }
-next_in_set (Stock set) in_set all_sold events stands =
+next_in_set (Stock set) in_set all_sold broken events stands =
     let some = stands.some in record { some = stands.some; few = stands.few; within = omega (arith, some) }
-next_in_set (Operating set number) in_set all_sold events stands =
-    after_operating set number in_set events (nat_lt number in_set) refl stands
+next_in_set (Operating set number) in_set all_sold broken events stands =
+    after_operating (λ (later : Round). StandsInSet later (in_set_before later events in_set)) set number in_set all_sold broken
+    (λ less. let before : number < in_set = ltb-true number in_set less in record { some = stands.some; few = stands.few; within = omega (arith, before) })
+    (λ past. new_set (set + 1) events)
+
+-- so does a round that comes
+pub coming_in_set : (round later : Round) (in_set : ℕ) (all_sold broken : Bool) (events : List Event) → StandsInSet round in_set → following round in_set all_sold broken ≡ next.Round later → StandsInSet later (in_set_before later events in_set)
+coming_in_set round later in_set all_sold broken events stands comes =
+    of_coming (λ (later : Round). StandsInSet later (in_set_before later events in_set)) (following round in_set all_sold broken) later comes (next_in_set round in_set all_sold broken events stands)
 
 -- so does what follows a round that was played
 pub round_in_set : (file : List ℕ) (old new : Between) → StandsInSet old.next old.in_set → IsRound file old new → StandsInSet new.next new.in_set
 round_in_set file old new stands round =
-    let next : Round = round_after old.next old.in_set (all_sold new.game.events) in
-    let in_set : new.in_set ≡ in_set_before next new.game.events old.in_set = round.in_set_then ∙ ap (λ (round : Round). in_set_before round new.game.events old.in_set) round.next_then in
-    subst (λ (after : Round). StandsInSet after new.in_set) (sym round.next_then)
-    (subst (λ (count : ℕ). StandsInSet next count) (sym in_set) (next_in_set old.next old.in_set (all_sold new.game.events) new.game.events stands))
+    subst (λ (count : ℕ). StandsInSet new.next count) (sym round.in_set_then)
+    (coming_in_set old.next new.next old.in_set (all_sold new.game.events) false new.game.events stands round.next_then)
 
 -- and each round to which a game comes
 pub comes_in_set : (file : List ℕ) (rounds : ℕ) (there : Between) → AreRounds file rounds (before_play file) there → StandsInSet there.next there.in_set

@@ -1,4 +1,5 @@
 pub mod Posted
+mod Coming
 pub mod Forward
 pub mod OneGame
 pub mod Ending

@@ -4,9 +4,10 @@ use Rattle.std.proofs.lemmas.Bool.{cases_order, true≢false}
 use Rattle.history.specs.LookBack.{Game}
 use Rattle.privates.specs.Opening.{IsOpeningRound}
 use Rattle.privates.specs.Turn.{all_sold}
+use Rattle.rounds.proofs.Coming.{comes_once}
 use Rattle.rounds.specs.OperatingRound.{OneOperatingRound}
 use Rattle.rounds.specs.Play.{AreRounds, Between, IsPlayed, IsRound, OneGame, all_posted, before_play, in_set_before}
-use Rattle.rounds.specs.Sequence.{round_after}
+use Rattle.rounds.specs.Sequence.{following}
 use Rattle.stock_round.specs.StockRound.{IsStockRound}
 use Rattle.tables.specs.declared.round.Round.{Round}
 use Rattle.tables.specs.declared.round.Round.TheVariants.{Opening, Stock, Operating}
@@ -34,7 +35,7 @@ module _ (one_opening : OneOpeningRound) (one_stock : OneStockRound) (one_operat
   round_once : (old a b : Between) → IsRound file old a → IsRound file old b → a ≡ b
   round_once old a b first second =
       let game : a.game ≡ b.game = played_once old.next old.game a.game b.game first.played second.played in
-      let next : a.next ≡ b.next = first.next_then ∙ ap (λ (g : Game). round_after old.next old.in_set (all_sold g.events)) game ∙ sym second.next_then in
+      let next : a.next ≡ b.next = comes_once a.next b.next (sym first.next_then ∙ ap (λ (g : Game). following old.next old.in_set (all_sold g.events) false) game ∙ second.next_then) in
       let in_set : a.in_set ≡ b.in_set = first.in_set_then ∙ ap (λ (r : Round). in_set_before r a.game.events old.in_set) next ∙ ap (λ (g : Game). in_set_before b.next g.events old.in_set) game ∙ sym second.in_set_then in
       between_same a b game in_set next
 

@@ -3,9 +3,10 @@ use Rattle.std.proofs.Common.{◌≡◌, ℕ, zero, suc, ◌+◌, ◌≤◌, Boo
 use Rattle.std.proofs.lemmas.Bool.{ltb-false}
 use Rattle.history.specs.declared.event.Event.{Event}
 use Rattle.privates.specs.Turn.{all_sold}
+use Rattle.rounds.proofs.Coming.{OfNext, after_operating, of_coming}
 use Rattle.rounds.proofs.InSet.{StandsInSet, comes_in_set, round_in_set}
 use Rattle.rounds.specs.Play.{AreRounds, Between, IsRound, before_play, in_set_before, rounds_of_new_set}
-use Rattle.rounds.specs.Sequence.{round_after, turn_in_set}
+use Rattle.rounds.specs.Sequence.{following, turn_in_set}
 use Rattle.rounds.specs.Sets.{IsOfSet, SetsKeepTheirNumber}
 use Rattle.tables.specs.declared.round.Round.{Round}
 use Rattle.tables.specs.declared.round.Round.TheVariants.{Opening, Stock, Operating}
@@ -21,36 +22,29 @@ record Keeps (set count : ℕ) (next : Round) (in_set : ℕ) : Type 0 where
   begun : IsNoEarlier set next
   number : IsOfSet set next → in_set ≡ count
 
--- after an operating round
-after_operating : (set count its number in_set : ℕ) (events : List Event) (more : Bool) → Keeps set count (Operating its number) in_set → Keeps set count (if more then Operating its (number + 1) else Stock (its + 1)) (in_set_before (if more then Operating its (number + 1) else Stock (its + 1)) events in_set)
-after_operating set count its number in_set events true keeps =
-    record { begun = keeps.begun; number = keeps.number }
-after_operating set count its number in_set events false keeps =
-    let no_earlier : set ≤ its = keeps.begun in
-    record { begun = omega (arith, no_earlier); number = λ (same : its + 1 ≡ set). absurd (omega (arith, no_earlier, same)) }
-
 -- after each round
-keeps_on : (set count : ℕ) (round : Round) (in_set : ℕ) (sold : Bool) (events : List Event) → Keeps set count round in_set → Keeps set count (round_after round in_set sold) (in_set_before (round_after round in_set sold) events in_set)
-keeps_on set count (Opening number) in_set sold events keeps = absurd keeps.begun
-keeps_on set count (Stock its) in_set sold events keeps =
+keeps_on : (set count : ℕ) (round : Round) (in_set : ℕ) (sold broken : Bool) (events : List Event) → Keeps set count round in_set → OfNext (λ later. Keeps set count later (in_set_before later events in_set)) (following round in_set sold broken)
+keeps_on set count (Opening number) in_set sold broken events keeps = absurd keeps.begun
+keeps_on set count (Stock its) in_set sold broken events keeps =
     record { begun = keeps.begun; number = keeps.number }
-keeps_on set count (Operating its number) in_set sold events keeps =
-    after_operating set count its number in_set events (nat_lt number in_set) keeps
+keeps_on set count (Operating its number) in_set sold broken events keeps =
+    let no_earlier : set ≤ its = keeps.begun in
+    after_operating (λ (later : Round). Keeps set count later (in_set_before later events in_set)) its number in_set sold broken
+    (λ more. record { begun = keeps.begun; number = keeps.number })
+    (λ past. record { begun = omega (arith, no_earlier); number = λ (same : its + 1 ≡ set). absurd (omega (arith, no_earlier, same)) })
 
 -- the set is left only after the last of its rounds
-last_of_set : (set its number in_set : ℕ) (more : Bool) → nat_lt number in_set ≡ more → its ≡ set → number ≤ in_set → ¬ (IsOfSet set (if more then Operating its (number + 1) else Stock (its + 1))) → ◌≡◌ {A = Round} (Operating its number) (Operating set in_set)
-last_of_set set its number in_set true less same within other = absurd (other same)
-last_of_set set its number in_set false less same within other =
-    let past : in_set ≤ number = ltb-false number in_set less in
+left_after_last : (set : ℕ) (round : Round) (in_set : ℕ) (sold broken : Bool) → IsOfSet set round → StandsInSet round in_set → OfNext (λ later. ¬ (IsOfSet set later) → round ≡ Operating set in_set) (following round in_set sold broken)
+left_after_last set (Opening number) in_set sold broken same stands = absurd same
+left_after_last set (Stock its) in_set sold broken same stands = λ other. absurd (other same)
+left_after_last set (Operating its number) in_set sold broken same stands =
+    after_operating (λ (later : Round). ¬ (IsOfSet set later) → ◌≡◌ {A = Round} (Operating its number) (Operating set in_set)) its number in_set sold broken
+    (λ more other. absurd (other same))
+    (λ over other.
+    let past : in_set ≤ number = ltb-false number in_set over in
+    let within : number ≤ in_set = stands.within in
     let last : number ≡ in_set = omega (arith, past, within) in
-    cc
-
--- so it is with each round of it
-left_after_last : (set : ℕ) (round : Round) (in_set : ℕ) (sold : Bool) → IsOfSet set round → StandsInSet round in_set → ¬ (IsOfSet set (round_after round in_set sold)) → round ≡ Operating set in_set
-left_after_last set (Opening number) in_set sold same stands other = absurd same
-left_after_last set (Stock its) in_set sold same stands other = absurd (other same)
-left_after_last set (Operating its number) in_set sold same stands other =
-    last_of_set set its number in_set (nat_lt number in_set) refl same stands.within other
+    cc (last, same))
 
 module _ (file : List ℕ) where
   -- the number is fixed as the stock round comes
@@ -63,10 +57,10 @@ module _ (file : List ℕ) where
   -- a round that was played keeps it
   round_keeps : (set count : ℕ) (old new : Between) → Keeps set count old.next old.in_set → IsRound file old new → Keeps set count new.next new.in_set
   round_keeps set count old new keeps round =
-      let next : Round = round_after old.next old.in_set (all_sold new.game.events) in
-      let in_set : new.in_set ≡ in_set_before next new.game.events old.in_set = round.in_set_then ∙ ap (λ (round : Round). in_set_before round new.game.events old.in_set) round.next_then in
-      subst (λ (after : Round). Keeps set count after new.in_set) (sym round.next_then)
-      (subst (λ (number : ℕ). Keeps set count next number) (sym in_set) (keeps_on set count old.next old.in_set (all_sold new.game.events) new.game.events keeps))
+      let sold = all_sold new.game.events in
+      subst (λ (number : ℕ). Keeps set count new.next number) (sym round.in_set_then)
+      (of_coming (λ (later : Round). Keeps set count later (in_set_before later new.game.events old.in_set)) (following old.next old.in_set sold false) new.next round.next_then
+      (keeps_on set count old.next old.in_set sold false new.game.events keeps))
 
   -- so do all that follow
   all_keep : (set count later : ℕ) (begun there : Between) → Keeps set count begun.next begun.in_set → AreRounds file later begun there → Keeps set count there.next there.in_set
@@ -97,7 +91,8 @@ keep_their_number file set rounds later begun there reached comes played of_set 
       within = subst (λ (most : ℕ). turn_in_set there.next ≤ most) number stands.within;
       whole =
           λ after round other.
-          left_after_last set there.next there.in_set (all_sold after.game.events) of_set stands
-          (λ same. other (subst (λ (next : Round). IsOfSet set next) (sym round.next_then) same))
+          let sold = all_sold after.game.events in
+          of_coming (λ (later : Round). ¬ (IsOfSet set later) → there.next ≡ Operating set there.in_set) (following there.next there.in_set sold false) after.next round.next_then
+          (left_after_last set there.next there.in_set sold false of_set stands) other
           ∙ ap (λ (most : ℕ). Operating set most) number;
     }

@@ -8,7 +8,8 @@ use Rattle.history.specs.declared.event.Event.{Event}
 use Rattle.privates.specs.Opening.{IsOpeningRound}
 use Rattle.privates.specs.Turn.{all_sold}
 use Rattle.rounds.specs.OperatingRound.{IsOperatingRound}
-use Rattle.rounds.specs.Sequence.{round_after}
+use Rattle.rounds.specs.Sequence.{following}
+use Rattle.rounds.specs.declared.following.Next.TheVariants as next
 use Rattle.rounds.specs.declared.game.End.{End}
 use Rattle.rounds.specs.declared.game.End.TheVariants.{Awaiting}
 use Rattle.sheets.specs.File.{IsAccepted, sheet_of, players_of}
@@ -52,11 +53,11 @@ IsPlayed file (Opening number) old new = IsOpeningRound file (Opening number) ol
 IsPlayed file (Stock set) old new = IsStockRound file (Stock set) old new
 IsPlayed file (Operating set number) old new = IsOperatingRound file (Operating set number) old new
 
--- one round was played between them
+-- one round was played between them; the bank is taken as unbroken, since it ends no game yet
 pub record IsRound (file : List ℕ) (old new : Between) : Type 0 where
   pub posted : all_posted file old.next ≡ true
   pub played : IsPlayed file old.next old.game new.game
-  pub next_then : new.next ≡ round_after old.next old.in_set (all_sold new.game.events)
+  pub next_then : following old.next old.in_set (all_sold new.game.events) false ≡ next.Round new.next
   pub in_set_then : new.in_set ≡ in_set_before new.next new.game.events old.in_set
 
 -- so many rounds were played between them

@@ -5,8 +5,9 @@ ghost use Rattle.operating.specs.Ground.{GroundFits};
 ghost use Rattle.rounds.specs.Play.{IsPlayed, IsTheGame, all_posted, in_set_before as set_before, rounds_of_new_set};
 ghost use Rattle.sheets.specs.File.{players_of};
 
+use crate::following::Next;
 use crate::operating_round::play_operating;
-use crate::sequence::round_after;
+use crate::sequence::next;
 use board::nothing_fits;
 use history::History;
 use privates::play_opening;
@@ -84,8 +85,11 @@ pub fn play<'a>(alloc: Global, sheets: &'a Sheets<'a>) -> Result<Game<'a>, Alloc
     while are_all_posted(sheets, upcoming) {
         history = play_round(alloc, history, sheets, upcoming)?;
         let all_sold = history.now().cheapest_unsold().is_none();
-        // The bank, broken or not, ends no game yet.
-        upcoming = round_after(upcoming, in_set, all_sold);
+        // Broken or not, the bank ends no game yet: it is given as unbroken, so a round comes next.
+        upcoming = match next(upcoming, in_set, all_sold, false) {
+            Next::Round(round) => round,
+            Next::Ended => unreachable!(),
+        };
         in_set = in_set_before(&history, upcoming, in_set);
     }
     Ok(Game {

@@ -1,13 +1,15 @@
-use Rattle.std.proofs.Common.{◌≡◌, zero, suc, ◌<◌, Bool, true, is_none, length, subst, sym, ap, ◌∙◌, arith, rules}
+use Rattle.std.proofs.Common.{◌≡◌, zero, suc, ◌<◌, Bool, true, false, is_none, length, subst, sym, ap, ◌∙◌, arith, rules}
 use Rattle.history.specs.LookBack.{cheapest_of}
 use Rattle.operating.specs.Ground.{GroundFits}
 use Rattle.privates.specs.Turn.{all_sold}
-use Rattle.rounds.proofs.Forward.{fewer_places, gifts_go_on, places_left, posted_small}
+use Rattle.rounds.proofs.Coming.{not_over}
+use Rattle.rounds.proofs.Forward.{fewer_places, gifts_go_on, posted_small}
 use Rattle.rounds.proofs.InSet.{StandsInSet, begins_so, first_in_set, round_in_set}
 use Rattle.rounds.proofs.Posted.{missing_from}
 use Rattle.rounds.specs.Gifts.{GiftsWait}
 use Rattle.rounds.specs.Play.{Between, IsRound, all_posted}
-use Rattle.rounds.specs.Sequence.{round_after}
+use Rattle.rounds.specs.Sequence.{following}
+use Rattle.rounds.specs.declared.following.Next.TheVariants as next
 use Rattle.sheets.specs.File.{players_of}
 use Rattle.tables.specs.declared.rolling_stock.Kind.TheVariants.{Two}
 use Rattle.tables.specs.declared.round.Round.{Round}
@@ -26,28 +28,39 @@ loop-alloc-init c =
       seats = search rules;
     }
 
-pub round_after-upcoming-requires : goal.round_after-upcoming-requires
-round_after-upcoming-requires c =
+pub next-requires : goal.next-requires
+next-requires c =
     let posted : all_posted c.args.sheets.now c.loop-alloc.upcoming ≡ true = sym c.are_all_posted.ensures ∙ c.loop-alloc-test.true in
     let some : 0 < length (players_of c.args.sheets.now) = omega (arith, c.seats.ensures.value, c.seats.ensures.least) in
-    record { number = posted_small c.sheets_are_numbered.ensures c.args.sheets.now c.loop-alloc.upcoming some posted }
+    let stands = c.loop-alloc.invariant.in_set in
+    record {
+      number = posted_small c.sheets_are_numbered.ensures c.args.sheets.now c.loop-alloc.upcoming some posted;
+      least = stands.some;
+      most = stands.few;
+      within = stands.within;
+    }
+
+pub unreachable-requires : goal.unreachable-requires
+unreachable-requires c =
+    not_over c.loop-alloc.upcoming c.loop-alloc.in_set c.is_none-all_sold.result (sym c.next.ensures ∙ c.in-Ended.is)
 
 pub loop-alloc-smaller : goal.loop-alloc-smaller
 loop-alloc-smaller c =
     let posted : all_posted c.args.sheets.now c.loop-alloc.upcoming ≡ true = sym c.are_all_posted.ensures ∙ c.loop-alloc-test.true in
     let some : 0 < length (players_of c.args.sheets.now) = omega (arith, c.seats.ensures.value, c.seats.ensures.least) in
-    subst (λ (next : Round). places_left next < places_left c.loop-alloc.upcoming) (sym c.round_after-upcoming.ensures)
-    (fewer_places c.sheets_are_numbered.ensures c.args.sheets.now c.loop-alloc.upcoming c.loop-alloc.in_set c.is_none-all_sold.result some c.loop-alloc.invariant.in_set posted)
+    fewer_places c.sheets_are_numbered.ensures c.args.sheets.now c.loop-alloc.upcoming c.in-Round.round c.loop-alloc.in_set c.is_none-all_sold.result false some c.loop-alloc.invariant.in_set posted
+    (sym c.next.ensures ∙ c.in-Round.is)
 
 pub loop-alloc-preserved : goal.loop-alloc-preserved
 loop-alloc-preserved c =
     let sold : c.is_none-all_sold.result ≡ all_sold c.in_ok-history.history.events =
     missing_from _ _ c.is_none-all_sold.ensures ∙ ap is_none (c.cheapest_unsold.ensures ∙ ap cheapest_of c.now.ensures.events) in
-    let round : IsRound c.args.sheets.now (record { game = c.loop-alloc.history; in_set = c.loop-alloc.in_set; next = c.loop-alloc.upcoming }) (record { game = c.in_ok-history.history; in_set = c.in_set_before-in_set.result; next = c.round_after-upcoming.result }) =
+    let comes : following c.loop-alloc.upcoming c.loop-alloc.in_set c.is_none-all_sold.result false ≡ next.Round c.in-Round.round = sym c.next.ensures ∙ c.in-Round.is in
+    let round : IsRound c.args.sheets.now (record { game = c.loop-alloc.history; in_set = c.loop-alloc.in_set; next = c.loop-alloc.upcoming }) (record { game = c.in_ok-history.history; in_set = c.in_set_before-in_set.result; next = c.in-Round.round }) =
     record {
       posted = sym c.are_all_posted.ensures ∙ c.loop-alloc-test.true;
       played = c.in_ok-history.ensures.round;
-      next_then = c.round_after-upcoming.ensures ∙ ap (λ (b : Bool). round_after c.loop-alloc.upcoming c.loop-alloc.in_set b) sold;
+      next_then = ap (λ (b : Bool). following c.loop-alloc.upcoming c.loop-alloc.in_set b false) (sym sold) ∙ comes;
       in_set_then = c.in_set_before-in_set.ensures;
     }
     in
@@ -57,8 +70,6 @@ loop-alloc-preserved c =
       in_set = round_in_set c.args.sheets.now _ _ c.loop-alloc.invariant.in_set round;
       sound = c.in_ok-history.ensures.sound;
       fits = c.in_ok-history.ensures.fits;
-      gifts =
-          subst (λ (next : Round). GiftsWait next c.in_ok-history.history.events) (sym c.round_after-upcoming.ensures)
-          (gifts_go_on c.loop-alloc.upcoming c.loop-alloc.in_set c.is_none-all_sold.result c.in_ok-history.history.events c.in_ok-history.ensures.gifts);
+      gifts = gifts_go_on c.loop-alloc.upcoming c.in-Round.round c.loop-alloc.in_set c.is_none-all_sold.result false c.in_ok-history.history.events c.in_ok-history.ensures.gifts comes;
       seats = c.in_ok-history.ensures.seats ∙ c.loop-alloc.invariant.seats;
     }

@@ -1,5 +1,5 @@
-use Rattle.rounds.proofs.Forward.{ends_by_bank}
+use Rattle.rounds.proofs.Coming.{some_comes}
 use Rattle.rounds.proofs.laws.bank_alone_ends_it.Goals as goal
 
 pub returns : goal.returns
-returns c = ends_by_bank
+returns c = some_comes
