@@ -1,6 +1,5 @@
 use crate::answers::ask;
 use crate::support::{FIRST, collected, ends_with};
-use board::nothing_fits;
 use history::History;
 use operating::play_company;
 use sheets::Sheets;
@@ -74,7 +73,6 @@ fn plays_an_operating_round(rt: HostRuntime) {
 /// The game after the turn of a company of which nobody is president.
 fn operated(alloc: Global, sheets: &Sheets) -> Result<History, AllocError> {
     let start = History::start(alloc, sheets.seats());
-    nothing_fits();
     let round = Round::Operating { set: 1, number: 1 };
     play_company(alloc, start, sheets, round, Company::Pennsylvania)
 }
