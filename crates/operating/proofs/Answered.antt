@@ -48,7 +48,7 @@ want_of_memory events lays tokens fault is_lays is_tokens fit is =
     is
     ∙ ap (λ (l : List Lay). unwrap_or (board_fault_of l tokens) board_fault.Memory) is_lays
     ∙ ap (λ (t : List (Place × Company)). unwrap_or (board_fault_of (lays_of events) t) board_fault.Memory) is_tokens
-    ∙ ap (λ (broken : Option BoardFault). unwrap_or broken board_fault.Memory) (fits_without_homes (ground_now events) fit)
+    ∙ ap (λ (broken : Option BoardFault). unwrap_or broken board_fault.Memory) (fits_without_homes (ground_now events) fit.fits)
 
 -- the answer to a lay, by what lies and by who asks
 pub lay_by : (board laid : Ground) (asker its : Asker) (lay : Lay) (answer : Result ℤ LayFault) → board ≡ laid → asker ≡ its → ¬ (answer ≡ Err lay_fault.Memory) → (answer ≡ Err lay_fault.Memory) ⊎ IsLayAnswer board asker lay answer → IsLayAnswer laid its lay answer
