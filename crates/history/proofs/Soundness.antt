@@ -132,7 +132,9 @@ within_kept seats events event none within = within_after seats events event (su
 -- without a tile or a token what lies fits as before
 pub fit_kept : (events : List Event) (event : Event) → tile_laid event ≡ None → token_placed event ≡ None → LiesFit events → LiesFit (events ++ event ∷ [])
 fit_kept events event no_tile no_token fit =
-    subst (λ (lays : List Lay). AreFitWithHomes lays (tokens_of (events ++ event ∷ []))) (sym (lays_before events event no_tile)) (subst (AreFitWithHomes (lays_of events)) (sym (tokens_before events event no_token)) fit)
+    record {
+      fits = subst (λ (lays : List Lay). AreFitWithHomes lays (tokens_of (events ++ event ∷ []))) (sym (lays_before events event no_tile)) (subst (AreFitWithHomes (lays_of events)) (sym (tokens_before events event no_token)) fit.fits);
+    }
 
 -- a quiet event keeps each fact
 pub quiet_sound : QuietKeepsSound
@@ -193,5 +195,5 @@ start_sound seats =
       floated = λ company floated. absurd (cc);
       within = tt;
       trains = no_trains;
-      fit = nothing_fits;
+      fit = record { fits = nothing_fits };
     }

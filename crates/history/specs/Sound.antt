@@ -98,9 +98,9 @@ AreLed events = (company : Company) (square : Square) → square_of events compa
 abbrev pub FloatedAreLed : List Event → Type 0
 FloatedAreLed events = (company : Company) → is_floated events company ≡ true → IsLed events company
 
--- what lies on the map fits
-abbrev pub LiesFit : List Event → Type 0
-LiesFit events = AreFitWithHomes (lays_of events) (tokens_of events)
+-- what lies on the map fits there, with the home tokens to come
+pub record LiesFit (events : List Event) : Type 0 where
+  pub fits : AreFitWithHomes (lays_of events) (tokens_of events)
 
 pub record IsSound (game : Game) : Type 0 where
   pub solvent : SeatsAreSolvent game

@@ -8,7 +8,8 @@ use Rattle.std.specs.Int.Signed.{lt_z}
 use mir.Syntax.{w128}
 use mir.Val.{of_z, to_z}
 use Rattle.board.proofs.RuleTables.{earlier, kept}
-use Rattle.board.specs.Ground.{Ground, by_tile, tile_on}
+use Rattle.board.specs.Ground.{Ground}
+use Rattle.map_tables.specs.Lying.{by_tile, tile_on}
 use Rattle.board.specs.LayRules.{IsLayAnswer, cost_or, ground_rules, lay_cost_of, reach_rules as lay_reach_rules}
 use Rattle.board.specs.TokenRules.{IsTokenAnswer, laid_by, reach_rules as token_reach_rules, slot_rules, token_cost_of}
 use Rattle.board.specs.declared.asker.Asker.{Asker}

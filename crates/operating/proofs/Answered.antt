@@ -1,10 +1,9 @@
 -- From the answer of the rules of the board to where a line leads.
-use Rattle.std.proofs.Common.{◌≡◌, ℕ, ◌⊎◌, inl, inr, List, Some, None, Result, Ok, Err, ℤ, pos, ◌≤ℤ◌, refl, sym, ap, subst, ◌∙◌}
+use Rattle.std.proofs.Common.{◌≡◌, ℕ, ◌⊎◌, inl, inr, List, Option, Some, None, unwrap_or, Result, Ok, Err, ℤ, pos, ◌≤ℤ◌, refl, sym, ap, subst, ◌∙◌}
 use Rattle.std.specs.Int.RustNames.{unsigned_abs}
 use Rattle.board.proofs.FitLaws.{fits_without_homes}
 use Rattle.board.specs.Fit.{board_fault_of}
-use Rattle.board.specs.Ground.{Ground, ground_of}
-use Rattle.board.specs.Homes.{Fits}
+use Rattle.board.specs.Ground.{Ground}
 use Rattle.board.specs.LayRules.{IsLayAnswer, ground_rules}
 use Rattle.board.specs.TokenRules.{IsTokenAnswer, slot_rules}
 use Rattle.board.specs.declared.asker.Asker.{Asker}
@@ -19,7 +18,7 @@ use Rattle.history.proofs.Payments.{lay_sound, token_sound}
 use Rattle.history.specs.Event.{party_of_company}
 use Rattle.history.specs.LookBack.{Game, cash_of, with_event}
 use Rattle.history.specs.Operating.{lays_of, tokens_of}
-use Rattle.history.specs.Trains.{phase_of}
+use Rattle.history.specs.Sound.{IsSound, LiesFit}
 use Rattle.history.specs.declared.event.Event.{Event}
 use Rattle.history.specs.declared.event.Event.TheVariants as event
 use Rattle.history.specs.declared.ruling.LayRule.{LayRule}
@@ -31,7 +30,7 @@ use Rattle.map_tables.specs.declared.lay.Lay.{Lay}
 use Rattle.map_tables.specs.declared.place.Place.{Place}
 use Rattle.operating.proofs.Allowed.{lay_allowed, token_allowed}
 use Rattle.operating.proofs.Fitting.{lay_fits, same_ground, token_fits}
-use Rattle.operating.specs.Ground.{IsPlayable, ground_now}
+use Rattle.operating.specs.Ground.{ground_now}
 use Rattle.operating.specs.Judgement.{asker_of, rule_of_lay, rule_of_token}
 use Rattle.operating.specs.InTurn.{InTurn, in_turn, lay_done, token_done}
 use Rattle.operating.specs.Turn.{lay_answered, lay_refused, token_answered, token_refused}
@@ -41,16 +40,15 @@ use Rattle.order_grammar.specs.declared.order.Order.{Order}
 use Rattle.order_grammar.specs.declared.order.Order.TheVariants as order
 use Rattle.tables.specs.Rules.{first_broken}
 use Rattle.tables.specs.declared.roster.Company.{Company}
-use Rattle.tables.specs.declared.rolling_stock.Kind.{Kind}
 use Rattle.tables.specs.declared.seat.Seat.{Seat}
 
 -- what fits is refused as a board only for want of memory
-pub want_of_memory : (events : List Event) (lays : List Lay) (tokens : List (Place × Company)) (phase : Kind) (fault : BoardFault) → lays ≡ lays_of events → tokens ≡ tokens_of events → phase ≡ phase_of events → Fits (ground_now events) → (fault ≡ board_fault.Memory) ⊎ (board_fault_of (ground_of lays tokens phase) ≡ Some fault) → fault ≡ board_fault.Memory
-want_of_memory events lays tokens phase fault is_lays is_tokens is_phase fits (inl memory) = memory
-want_of_memory events lays tokens phase fault is_lays is_tokens is_phase fits (inr broken) =
-    let same : ground_of lays tokens phase ≡ ground_now events = ap (λ (l : List Lay). ground_of l tokens phase) is_lays ∙ ap (λ (t : List (Place × Company)). ground_of (lays_of events) t phase) is_tokens ∙ ap (ground_of (lays_of events) (tokens_of events)) is_phase in
-    let wrong : Some fault ≡ None = sym broken ∙ ap board_fault_of same ∙ fits_without_homes (ground_now events) fits in
-    cc
+pub want_of_memory : (events : List Event) (lays : List Lay) (tokens : List (Place × Company)) (fault : BoardFault) → lays ≡ lays_of events → tokens ≡ tokens_of events → LiesFit events → fault ≡ unwrap_or (board_fault_of lays tokens) board_fault.Memory → fault ≡ board_fault.Memory
+want_of_memory events lays tokens fault is_lays is_tokens fit is =
+    is
+    ∙ ap (λ (l : List Lay). unwrap_or (board_fault_of l tokens) board_fault.Memory) is_lays
+    ∙ ap (λ (t : List (Place × Company)). unwrap_or (board_fault_of (lays_of events) t) board_fault.Memory) is_tokens
+    ∙ ap (λ (broken : Option BoardFault). unwrap_or broken board_fault.Memory) (fits_without_homes (ground_now events) fit.fits)
 
 -- the answer to a lay, by what lies and by who asks
 pub lay_by : (board laid : Ground) (asker its : Asker) (lay : Lay) (answer : Result ℤ LayFault) → board ≡ laid → asker ≡ its → ¬ (answer ≡ Err lay_fault.Memory) → (answer ≡ Err lay_fault.Memory) ⊎ IsLayAnswer board asker lay answer → IsLayAnswer laid its lay answer
@@ -135,21 +133,21 @@ same_cash game ruled seat number ruling company is =
     ap (λ (g : Game). cash_of g.seats g.events (party_of_company company)) is ∙ cash_of_before game.seats game.events (event.Ruled seat number ruling) (party_of_company company) refl
 
 -- a game goes on after a lay that is allowed
-pub laid_playable : (game ruled new : Game) (company : Company) (progress : Progress) (seat : Seat) (number : ℕ) (ruling : Ruling) (lay : Lay) (cost : ℤ) (amount : ℕ) → IsLayAnswer (ground_now game.events) (asker_of game company progress) lay (Ok cost) → ruled ≡ with_event game (event.Ruled seat number ruling) → new ≡ with_event ruled (event.Laid company lay amount) → amount ≡ unsigned_abs cost → IsPlayable ruled → IsPlayable new
-laid_playable game ruled new company progress seat number ruling lay cost amount answered is_ruled is_new is_amount playable =
+pub laid_sound : (game ruled new : Game) (company : Company) (progress : Progress) (seat : Seat) (number : ℕ) (ruling : Ruling) (lay : Lay) (cost : ℤ) (amount : ℕ) → IsLayAnswer (ground_now game.events) (asker_of game company progress) lay (Ok cost) → ruled ≡ with_event game (event.Ruled seat number ruling) → new ≡ with_event ruled (event.Laid company lay amount) → amount ≡ unsigned_abs cost → IsSound ruled → IsSound new
+laid_sound game ruled new company progress seat number ruling lay cost amount answered is_ruled is_new is_amount sound =
     let asker : Asker = asker_of game company progress in
     let may = lay_allowed (ground_now game.events) asker lay cost answered in
     let rules : first_broken (ground_rules (ground_now ruled.events) asker lay) ≡ None = subst (λ (g : Ground). first_broken (ground_rules g asker lay) ≡ None) (sym (same_after_ruling game ruled seat number ruling is_ruled)) may.allowed in
     let pays : pos amount ≤ℤ cash_of ruled.seats ruled.events (party_of_company company) = subst (λ (n : ℕ). pos n ≤ℤ cash_of ruled.seats ruled.events (party_of_company company)) (sym is_amount) (subst (λ (z : ℤ). pos (unsigned_abs cost) ≤ℤ z) (sym (same_cash game ruled seat number ruling company is_ruled)) may.pays) in
-    subst IsPlayable (sym is_new)
-    (record { sound = lay_sound ruled company lay amount pays playable.sound; ground = lay_fits ruled asker lay amount rules playable.ground })
+    subst IsSound (sym is_new)
+    (lay_sound ruled company lay amount pays (lay_fits ruled.events asker lay amount rules sound.fit) sound)
 
 -- and after a token
-pub placed_playable : (game ruled new : Game) (company : Company) (progress : Progress) (seat : Seat) (number : ℕ) (ruling : Ruling) (place : Place) (cost : ℤ) (amount : ℕ) → IsTokenAnswer (ground_now game.events) (asker_of game company progress) place (Ok cost) → ruled ≡ with_event game (event.Ruled seat number ruling) → new ≡ with_event ruled (event.Token company place amount) → amount ≡ unsigned_abs cost → IsPlayable ruled → IsPlayable new
-placed_playable game ruled new company progress seat number ruling place cost amount answered is_ruled is_new is_amount playable =
+pub placed_sound : (game ruled new : Game) (company : Company) (progress : Progress) (seat : Seat) (number : ℕ) (ruling : Ruling) (place : Place) (cost : ℤ) (amount : ℕ) → IsTokenAnswer (ground_now game.events) (asker_of game company progress) place (Ok cost) → ruled ≡ with_event game (event.Ruled seat number ruling) → new ≡ with_event ruled (event.Token company place amount) → amount ≡ unsigned_abs cost → IsSound ruled → IsSound new
+placed_sound game ruled new company progress seat number ruling place cost amount answered is_ruled is_new is_amount sound =
     let asker : Asker = asker_of game company progress in
     let may = token_allowed (ground_now game.events) asker place cost answered in
     let rules : first_broken (slot_rules (ground_now ruled.events) asker place) ≡ None = subst (λ (g : Ground). first_broken (slot_rules g asker place) ≡ None) (sym (same_after_ruling game ruled seat number ruling is_ruled)) may.allowed in
     let pays : pos amount ≤ℤ cash_of ruled.seats ruled.events (party_of_company company) = subst (λ (n : ℕ). pos n ≤ℤ cash_of ruled.seats ruled.events (party_of_company company)) (sym is_amount) (subst (λ (z : ℤ). pos (unsigned_abs cost) ≤ℤ z) (sym (same_cash game ruled seat number ruling company is_ruled)) may.pays) in
-    subst IsPlayable (sym is_new)
-    (record { sound = token_sound ruled company place amount pays playable.sound; ground = token_fits ruled asker place amount rules playable.ground })
+    subst IsSound (sym is_new)
+    (token_sound ruled company place amount pays (token_fits ruled.events asker place amount rules sound.fit) sound)

@@ -17,8 +17,6 @@ use Rattle.history.specs.declared.event.Party.{Party}
 use Rattle.history.specs.declared.event.TrainPlace.TheVariants as place
 use Rattle.history.specs.declared.event.TrainSeller.{TrainSeller}
 use Rattle.history.specs.declared.event.TrainSeller.TheVariants as seller
-use Rattle.operating.proofs.Fitting.{same_fits}
-use Rattle.operating.specs.Ground.{GroundFits, IsPlayable}
 use Rattle.operating.specs.Phases.{with_trade}
 use Rattle.operating.specs.Trains.{are_left, first_left_of, is_kind, is_left, is_on_sale, is_no_trade_in, may_be_traded, may_trade, numbered_kinds, price_of_train, purchase_rules, train_judgement}
 use Rattle.operating.specs.declared.purchase.Purchase.{Purchase}
@@ -111,11 +109,6 @@ traded_sound : (game : Game) (company : Company) (trade_in : Option Kind) → ((
 traded_sound game company None has sound = sound
 traded_sound game company (Some kind) has sound = trade_sound game company kind (has kind refl) sound
 
--- what lies fits then
-traded_fits : (game : Game) (company : Company) (trade_in : Option Kind) → GroundFits game → GroundFits (with_trade game company trade_in)
-traded_fits game company None fits = fits
-traded_fits game company (Some kind) fits = same_fits game (event.Traded company kind) refl refl fits
-
 -- no train leaves the pool where one is traded in
 pool_keeps : (company : Company) (old kind : Kind) → train_goes place.BankPool kind (train_moved (event.Traded company old)) ≡ false
 pool_keeps company old kind = grind arith
@@ -142,23 +135,10 @@ cash_traded game company None party = refl
 cash_traded game company (Some old) party = cash_of_before game.seats game.events (event.Traded company old) party refl
 
 -- so the list is sound once the train has come to the company
-train_sound : (game : Game) (company : Company) (purchase : Purchase) → train_judgement game company purchase ≡ None → IsSound game → IsSound (with_event (with_trade game company purchase.trade_in) (event.Train company purchase.kind purchase.from (price_of_train purchase.kind purchase.trade_in)))
+pub train_sound : (game : Game) (company : Company) (purchase : Purchase) → train_judgement game company purchase ≡ None → IsSound game → IsSound (with_event (with_trade game company purchase.trade_in) (event.Train company purchase.kind purchase.from (price_of_train purchase.kind purchase.trade_in)))
 train_sound game company purchase none sound =
     let may = may_buy game company purchase none in
     let traded = with_trade game company purchase.trade_in in
     let price = price_of_train purchase.kind purchase.trade_in in
     let enough : pos price ≤ℤ cash_of traded.seats traded.events (party_of_company company) = subst (λ cash. pos price ≤ℤ cash) (sym (cash_traded game company purchase.trade_in (party_of_company company))) may.pays in
     train_purchase_sound traded company purchase.kind purchase.from price (there_traded game company purchase.trade_in purchase.from purchase.kind may.there) enough (traded_sound game company purchase.trade_in may.trades sound)
-
--- and the game can be played on
-pub train_playable : (game : Game) (company : Company) (purchase : Purchase) → train_judgement game company purchase ≡ None → IsPlayable game → IsPlayable (with_event (with_trade game company purchase.trade_in) (event.Train company purchase.kind purchase.from (price_of_train purchase.kind purchase.trade_in)))
-train_playable game company purchase none playable =
-    record {
-      sound = train_sound game company purchase none playable.sound;
-      ground = same_fits (with_trade game company purchase.trade_in) (event.Train company purchase.kind purchase.from (price_of_train purchase.kind purchase.trade_in)) refl refl (traded_fits game company purchase.trade_in playable.ground);
-    }
-
--- a private that closes
-pub closed_playable : (game : Game) (private : Private) → IsPlayable game → IsPlayable (with_event game (event.Closed private))
-closed_playable game private playable =
-    record { sound = closing_sound game private playable.sound; ground = same_fits game (event.Closed private) refl refl playable.ground }

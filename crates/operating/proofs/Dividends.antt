@@ -1,4 +1,4 @@
--- What a company pays out: a game goes on after each dividend, no place has more than ten tenths, and what is paid to
+-- What a company pays out: each dividend keeps a list sound, no place has more than ten tenths, and what is paid to
 -- all is paid step by step.
 use Rattle.std.proofs.Common.{◌≡◌, ℕ, zero, suc, ◌+◌, ◌-◌, ◌<◌, ◌≤◌, ◌==◌, inl, inr, Bool, true, false, if◌then◌else◌, List, [], ◌∷◌, ◌++◌, map, Option, Some, None, pos, ◌≤ℤ◌, refl, sym, subst, ap, ◌∙◌, arith}
 use Rattle.std.proofs.lemmas.Bool.{cases_eq}
@@ -16,12 +16,10 @@ use Rattle.history.specs.declared.event.Holder.{Holder}
 use Rattle.history.specs.declared.event.Holder.TheVariants as holder
 use Rattle.history.specs.declared.event.Party.TheVariants as party
 use Rattle.history.specs.declared.event.Shareholder.TheVariants.{InitialOffering, BankPool, Seat as OfSeat}
-use Rattle.market.proofs.Tokens.{move_sound as token_moves}
 use Rattle.market.specs.Moves.{right_of}
 use Rattle.market.specs.Token.{moved_from, same_square, with_move}
-use Rattle.operating.proofs.Fitting.{broken_playable, same_fits}
+use Rattle.operating.proofs.Fitting.{broken_sound}
 use Rattle.operating.specs.Dividend.{all_paid, moved_right, paid_for, paid_out, paid_to, paid_to_seats}
-use Rattle.operating.specs.Ground.{GroundFits, IsPlayable}
 use Rattle.tables.specs.Seat.{all_seats, seat_at}
 use Rattle.tables.specs.declared.roster.Company.{Company}
 use Rattle.tables.specs.declared.seat.Seat.{Seat}
@@ -62,14 +60,11 @@ pool_most game company sound =
     let offered = sound.held company InitialOffering in
     omega (arith, ints, held_not_under game.events company (all_seats game.seats) sound.held)
 
--- a game goes on after a dividend
-pub dividend_playable : (game paid new : Game) (company : Company) (to : Holder) (amount : ℕ) → IsParty game.seats (party.Holder to) → paid ≡ with_event game (event.Dividend company to amount) → new ≡ broken_told paid → IsPlayable game → IsPlayable new
-dividend_playable game paid new company to amount of_game is_paid is_new playable =
-    subst IsPlayable (sym (is_new ∙ ap broken_told is_paid))
-    (broken_playable (with_event game (event.Dividend company to amount)) (record {
-      sound = dividend_sound game company to amount of_game playable.sound;
-      ground = same_fits game (event.Dividend company to amount) refl refl playable.ground;
-    }))
+-- a dividend keeps a list sound, with the word that the bank is broken
+pub dividend_told_sound : (game paid new : Game) (company : Company) (to : Holder) (amount : ℕ) → IsParty game.seats (party.Holder to) → paid ≡ with_event game (event.Dividend company to amount) → new ≡ broken_told paid → IsSound game → IsSound new
+dividend_told_sound game paid new company to amount of_game is_paid is_new sound =
+    subst IsSound (sym (is_new ∙ ap broken_told is_paid))
+    (broken_sound (with_event game (event.Dividend company to amount)) (dividend_sound game company to amount of_game sound))
 
 -- a table keeps its seats
 pub paid_seats : (game : Game) (company : Company) (to : Holder) (amount : ℕ) → (paid_to company to amount game).seats ≡ game.seats
@@ -94,18 +89,6 @@ all_are_paid company revenue old paid new i seats same over leads told =
     ∙ leads
     ∙ sym (ap (λ (k : ℕ). paid_to_seats company revenue old (all_seats k)) same))
 
--- what lies fits once a company's token has moved right on the chart
-right_fits : (game : Game) (company : Company) → GroundFits game → GroundFits (moved_right game company)
-right_fits game company fits =
-    elim (square_of game.events company) as (λ (found : Option Square). GroundFits (record { seats = game.seats; events = moved_from right_of game.events company found })) [
-      | None ↦ fits
-      | Some square ↦
-          elim (same_square (right_of square) square) as (λ (b : Bool). GroundFits (record { seats = game.seats; events = if b then game.events else game.events ++ event.Moves company (right_of square) ∷ [] })) [
-            | true ↦ fits
-            | false ↦ same_fits game (event.Moves company (right_of square)) refl refl fits
-          ]
-    ]
-
 -- what paying out brings, step by step
 pub paid_out_steps : (game paid new : Game) (company : Company) (revenue : ℕ) → paid ≡ all_paid company revenue game → new.seats ≡ paid.seats → new.events ≡ with_move right_of paid.events company → new ≡ paid_out game company revenue
 paid_out_steps game paid new company revenue is_paid seats events =
@@ -113,13 +96,3 @@ paid_out_steps game paid new company revenue is_paid seats events =
     ap (λ (n : ℕ). made n new.events) seats
     ∙ ap (made paid.seats) events
     ∙ ap (λ (game : Game). moved_right game company) is_paid
-
--- and a game goes on after it
-pub paid_out_playable : (paid new : Game) (company : Company) → new.seats ≡ paid.seats → new.events ≡ with_move right_of paid.events company → IsPlayable paid → IsPlayable new
-paid_out_playable paid new company seats events playable =
-    let made : ℕ → List Event → Game = λ seats events. record { seats = seats; events = events } in
-    let is : new ≡ moved_right paid company = ap (λ (n : ℕ). made n new.events) seats ∙ ap (made paid.seats) events in
-    record {
-      sound = token_moves right_of paid new company seats events playable.sound;
-      ground = subst GroundFits (sym is) (right_fits paid company playable.ground);
-    }

@@ -12,9 +12,8 @@ use Rattle.history.specs.LookBack.{Game, IsModerate, with_event}
 use Rattle.history.specs.Trains.{one_if, phase_of, so_many, stable_size, train_comes, train_goes, trains_held}
 use Rattle.history.specs.declared.event.Event.{Event}
 use Rattle.history.specs.declared.event.Event.TheVariants as event
-use Rattle.operating.proofs.Fitting.{same_fits}
 use Rattle.operating.specs.Discards.{first_held, has_train, next_discard}
-use Rattle.operating.specs.Ground.{IsPlayable}
+use Rattle.history.specs.Sound.{IsSound}
 use Rattle.operating.specs.Phases.{after_train, begins_phase, bought, excess_of, with_limits_kept, with_one_rusted, with_phase, with_privates_closed, with_rusted}
 use Rattle.operating.specs.Trains.{traded_count}
 use Rattle.operating.specs.declared.purchase.Purchase.{Purchase}
@@ -112,11 +111,11 @@ below_many (negsuc n) i below = absurd (omega arith)
 -- some have rusted, and the others are left
 pub record HaveRusted (owner : Option Company) (kind : Kind) (rusted : ℕ) (before now : Game) : Type 0 where
   pub left : pos rusted +ℤ trains_held now.events owner kind ≡ trains_held before.events owner kind
-  pub playable : IsPlayable now
+  pub sound : IsSound now
 
 -- none yet
-pub none_rusted : (owner : Option Company) (kind : Kind) (game : Game) → IsPlayable game → HaveRusted owner kind 0 game game
-none_rusted owner kind game playable = record { left = omega (arith, ints); playable = playable }
+pub none_rusted : (owner : Option Company) (kind : Kind) (game : Game) → IsSound game → HaveRusted owner kind 0 game game
+none_rusted owner kind game sound = record { left = omega (arith, ints); sound = sound }
 
 -- one more
 pub one_rusts : (owner : Option Company) (kind : Kind) (rusted : ℕ) (before now new : Game) → rusted < so_many (trains_held before.events owner kind) → new ≡ with_one_rusted owner kind now → HaveRusted owner kind rusted before now → HaveRusted owner kind (rusted + 1) before new
@@ -127,10 +126,7 @@ one_rusts owner kind rusted before now new below is so_far =
     let here : pos 1 ≤ℤ trains_held now.events owner kind = omega (arith, ints) in
     record {
       left = omega (arith, ints, one_less now.events owner kind);
-      playable = record {
-        sound = rusting_sound now owner kind here so_far.playable.sound;
-        ground = same_fits now (event.Rusted owner kind) refl refl so_far.playable.ground;
-      };
+      sound = rusting_sound now owner kind here so_far.sound;
     })
 
 -- the first of which there is a train is one of which there is a train
@@ -153,10 +149,7 @@ first_of_either events company some others kind first =
     refl first
 
 -- a train that is discarded is the company's
-pub discarded_playable : (game : Game) (company : Company) (kind : Kind) → next_discard game.events company ≡ Some kind → IsPlayable game → IsPlayable (with_event game (event.Discarded company kind))
-discarded_playable game company kind next playable =
+pub discarded_sound : (game : Game) (company : Company) (kind : Kind) → next_discard game.events company ≡ Some kind → IsSound game → IsSound (with_event game (event.Discarded company kind))
+discarded_sound game company kind next sound =
     let has = first_of_either game.events company _ kinds kind next in
-    record {
-      sound = discard_sound game company kind (grind (arith, ints, has)) playable.sound;
-      ground = same_fits game (event.Discarded company kind) refl refl playable.ground;
-    }
+    discard_sound game company kind (grind (arith, ints, has)) sound

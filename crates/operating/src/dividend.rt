@@ -3,7 +3,7 @@ ghost use Rattle.history.specs.Money.{IsParty};
 ghost use Rattle.history.specs.Shares.{shares_of};
 ghost use Rattle.history.specs.declared.event.Party.TheVariants as party;
 ghost use Rattle.operating.specs.Dividend.{after_pay, after_withhold, all_paid, dividend_of, paid_for, paid_out, paid_to, pay_judgement, withhold_judgement};
-ghost use Rattle.operating.specs.Ground.{IsPlayable};
+ghost use Rattle.history.specs.Sound.{IsSound};
 ghost use Rattle.operating.specs.InTurn.{in_turn};
 
 use crate::operator::Operator;
@@ -29,10 +29,10 @@ pub(crate) fn rule_pay(
     progress: Progress,
 ) -> Result<Progress, AllocError>
     requires few { history.old.seats ≤ 6 }
-    requires playable { IsPlayable history.old }
+    requires sound { IsSound history.old }
     ensures turn { IfOk result (λ now. in_turn history.new now
         ≡ after_pay by (in_turn history.old progress) line order.now) }
-    ensures playable { OnOk result (IsPlayable history.new) }
+    ensures sound { OnOk result (IsSound history.new) }
 {
     let kept = history.keep(order)?;
     if let Some(rule) = pay_rule(&progress) {
@@ -54,10 +54,10 @@ pub(crate) fn rule_withhold(
     order: &Order,
     progress: Progress,
 ) -> Result<Progress, AllocError>
-    requires playable { IsPlayable history.old }
+    requires sound { IsSound history.old }
     ensures turn { IfOk result (λ now. in_turn history.new now
         ≡ after_withhold by (in_turn history.old progress) line order.now) }
-    ensures playable { OnOk result (IsPlayable history.new) }
+    ensures sound { OnOk result (IsSound history.new) }
 {
     let kept = history.keep(order)?;
     if let Some(rule) = withhold_rule(&progress) {
@@ -96,9 +96,9 @@ fn withhold_rule(progress: &Progress) -> Option<PayRule>
 fn pay_out(history: &mut History, company: Company, revenue: Amount) -> Result<(), AllocError>
     requires few { history.old.seats ≤ 6 }
     requires small { revenue ≤ 100000 }
-    requires playable { IsPlayable history.old }
+    requires sound { IsSound history.old }
     ensures after { OnOk result (history.new ≡ paid_out history.old company revenue) }
-    ensures playable { OnOk result (IsPlayable history.new) }
+    ensures sound { OnOk result (IsSound history.new) }
 {
     pay_all(history, company, revenue)?;
     move_token_right(history, company)?;
@@ -110,9 +110,9 @@ fn pay_out(history: &mut History, company: Company, revenue: Amount) -> Result<(
 fn pay_all(history: &mut History, company: Company, revenue: Amount) -> Result<(), AllocError>
     requires few { history.old.seats ≤ 6 }
     requires small { revenue ≤ 100000 }
-    requires playable { IsPlayable history.old }
+    requires sound { IsSound history.old }
     ensures after { OnOk result (history.new ≡ all_paid company revenue history.old) }
-    ensures playable { OnOk result (IsPlayable history.new) }
+    ensures sound { OnOk result (IsSound history.new) }
 {
     for seat in 0..history.seats() {
         let seat = Seat::at(seat);
@@ -134,9 +134,9 @@ fn pay_for(
     requires party { IsParty history.old.seats (party.Holder holder) }
     requires most { shares_of history.old.events company place ≤ℤ pos 10 }
     requires small { revenue ≤ 100000 }
-    requires playable { IsPlayable history.old }
+    requires sound { IsSound history.old }
     ensures after { OnOk result (history.new ≡ paid_for company holder place revenue history.old) }
-    ensures playable { OnOk result (IsPlayable history.new) }
+    ensures sound { OnOk result (IsSound history.new) }
 {
     let amount = dividend(history, company, place, revenue);
     pay_to(history, company, holder, amount)
@@ -162,9 +162,9 @@ fn pay_to(
 ) -> Result<(), AllocError>
     requires party { IsParty history.old.seats (party.Holder holder) }
     requires small { amount ≤ 1000000 }
-    requires playable { IsPlayable history.old }
+    requires sound { IsSound history.old }
     ensures after { OnOk result (history.new ≡ paid_to company holder amount history.old) }
-    ensures playable { OnOk result (IsPlayable history.new) }
+    ensures sound { OnOk result (IsSound history.new) }
 {
     if amount == 0 {
         return Ok(());

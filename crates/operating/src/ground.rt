@@ -1,7 +1,8 @@
 ghost use Rattle.std.specs.Prelude.{◌≡◌, ◌++◌, ◌∷◌, [], IfOk, OnOk};
 ghost use Rattle.board.specs.declared.fault.BoardFault.TheVariants.{Memory};
 ghost use Rattle.history.specs.Operating.{lays_of, tokens_of};
-ghost use Rattle.operating.specs.Ground.{GroundFits, ground_now};
+ghost use Rattle.history.specs.Sound.{IsSound};
+ghost use Rattle.operating.specs.Ground.{ground_now};
 
 use board::{Board, BoardFault};
 use history::{Event, History};
@@ -11,7 +12,7 @@ use tables::Company;
 
 /// What lies on the map, which fits there. The only error is want of memory.
 pub(crate) fn board(alloc: Global, history: &History) -> Result<Board, AllocError>
-    requires { GroundFits history.now }
+    requires { IsSound history.now }
     ensures { IfOk result (λ board. board ≡ ground_now history.now.events) }
 {
     let lays = lays(alloc, history)?;

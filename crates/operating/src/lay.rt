@@ -1,5 +1,5 @@
-ghost use Rattle.std.specs.Prelude.{◌≡◌, IfOk, OnOk, Some};
-ghost use Rattle.operating.specs.Ground.{IsPlayable};
+ghost use Rattle.std.specs.Prelude.{◌≡◌, IfOk, IsErr, OnOk, Some};
+ghost use Rattle.history.specs.Sound.{IsSound};
 ghost use Rattle.operating.specs.Judgement.{rule_of_lay};
 ghost use Rattle.operating.specs.InTurn.{in_turn};
 ghost use Rattle.operating.specs.Turn.{LayLeads};
@@ -26,10 +26,10 @@ pub(crate) fn rule_lay(
     lay: Lay,
     progress: Progress,
 ) -> Result<Progress, AllocError>
-    requires { IsPlayable history.old }
+    requires { IsSound history.old }
     ensures turn { IfOk result (λ now. LayLeads by (in_turn history.old progress) line lay
         (in_turn history.new now)) }
-    ensures playable { OnOk result (IsPlayable history.new) }
+    ensures sound { OnOk result (IsSound history.new) }
 {
     let board = board(alloc, history)?;
     let order = history.keep(&Order::Lay(lay))?;
@@ -54,9 +54,11 @@ pub(crate) fn rule_lay(
     }
 }
 
-/// The rule that a refused lay broke. The error is want of memory, which is none.
+/// The rule that a refused lay broke. The error is want of memory, which is none, and comes for it
+/// alone.
 fn lay_rule(fault: LayFault) -> Result<LayRule, AllocError>
-    ensures { IfOk result (λ rule. rule_of_lay fault ≡ Some rule) }
+    ensures rule { IfOk result (λ rule. rule_of_lay fault ≡ Some rule) }
+    ensures memory { IsErr result → fault ≡ LayFault.Memory }
 {
     match fault {
         LayFault::StepUsed => Ok(LayRule::StepUsed),

@@ -1,7 +1,7 @@
 //! What the purchase of a train brings: the phase that it begins, and what follows from that.
 ghost use Rattle.std.specs.Prelude.{◌≡◌, OnOk, None};
 ghost use Rattle.history.specs.Trains.{so_many};
-ghost use Rattle.operating.specs.Ground.{IsPlayable};
+ghost use Rattle.history.specs.Sound.{IsSound};
 ghost use Rattle.operating.specs.Phases.{after_train, begins_phase as is_first_of_phase, bought, excess_of, rusts_at, with_all_closed, with_bop_closed, with_closed, with_company_rusted, with_kind_rusted, with_kind_rusted_at, with_limit_kept, with_limits_kept, with_next_discarded, with_phase, with_privates_closed, with_rusted, with_stable_rusted, with_trade};
 ghost use Rattle.operating.specs.Trains.{train_judgement};
 ghost use Rattle.std.specs.List.{fold};
@@ -22,9 +22,9 @@ pub(crate) fn buy_train(
     purchase: Purchase,
 ) -> Result<(), AllocError>
     requires may { train_judgement history.old company purchase ≡ None }
-    requires playable { IsPlayable history.old }
+    requires sound { IsSound history.old }
     ensures after { OnOk result (history.new ≡ after_train history.old company purchase) }
-    ensures playable { OnOk result (IsPlayable history.new) }
+    ensures sound { OnOk result (IsSound history.new) }
 {
     let begins = begins_phase(history, purchase.from, purchase.kind);
     take_train(history, company, purchase)?;
@@ -49,9 +49,9 @@ fn begins_phase(history: &History, from: TrainSeller, kind: Kind) -> bool
 /// A train comes to a company, for its price and the train that is traded in.
 fn take_train(history: &mut History, company: Company, purchase: Purchase) -> Result<(), AllocError>
     requires may { train_judgement history.old company purchase ≡ None }
-    requires playable { IsPlayable history.old }
+    requires sound { IsSound history.old }
     ensures after { OnOk result (history.new ≡ bought history.old company purchase) }
-    ensures playable { OnOk result (IsPlayable history.new) }
+    ensures sound { OnOk result (IsSound history.new) }
 {
     trade_in(history, company, purchase.trade_in)?;
     history.append(Event::Train {
@@ -75,9 +75,9 @@ fn trade_in(history: &mut History, company: Company, kind: Option<Kind>) -> Resu
 
 /// BOP closes where BO has bought a train, if it is open.
 fn close_bop(history: &mut History, buyer: Company) -> Result<(), AllocError>
-    requires { IsPlayable history.old }
+    requires { IsSound history.old }
     ensures after { OnOk result (history.new ≡ with_bop_closed history.old buyer) }
-    ensures playable { OnOk result (IsPlayable history.new) }
+    ensures sound { OnOk result (IsSound history.new) }
 {
     if buyer == Company::BaltimoreOhio {
         close(history, Private::BaltimoreOhio)?;
@@ -87,9 +87,9 @@ fn close_bop(history: &mut History, buyer: Company) -> Result<(), AllocError>
 
 /// A private closes, if it is open.
 fn close(history: &mut History, private: Private) -> Result<(), AllocError>
-    requires { IsPlayable history.old }
+    requires { IsSound history.old }
     ensures after { OnOk result (history.new ≡ with_closed history.old private) }
-    ensures playable { OnOk result (IsPlayable history.new) }
+    ensures sound { OnOk result (IsSound history.new) }
 {
     if history.owner(private).is_none() {
         return Ok(());
@@ -101,9 +101,9 @@ fn close(history: &mut History, private: Private) -> Result<(), AllocError>
 /// A phase begins, by the first train of its kind: trains rust, privates close, and companies keep
 /// the limit of trains.
 fn begin_phase(alloc: Global, history: &mut History, phase: Kind) -> Result<(), AllocError>
-    requires { IsPlayable history.old }
+    requires { IsSound history.old }
     ensures after { OnOk result (history.new ≡ with_phase history.old phase) }
-    ensures playable { OnOk result (IsPlayable history.new) }
+    ensures sound { OnOk result (IsSound history.new) }
 {
     history.tell(Event::Phase(phase))?;
     rust_kinds(history, phase)?;
@@ -114,9 +114,9 @@ fn begin_phase(alloc: Global, history: &mut History, phase: Kind) -> Result<(), 
 
 /// The trains rust that the first train of a kind rusts.
 fn rust_kinds(history: &mut History, new: Kind) -> Result<(), AllocError>
-    requires { IsPlayable history.old }
+    requires { IsSound history.old }
     ensures after { OnOk result (history.new ≡ with_rusted new history.old) }
-    ensures playable { OnOk result (IsPlayable history.new) }
+    ensures sound { OnOk result (IsSound history.new) }
 {
     for kind in Kind::ALL {
         rust_kind_at(history, kind, new)?;
@@ -126,9 +126,9 @@ fn rust_kinds(history: &mut History, new: Kind) -> Result<(), AllocError>
 
 /// All trains of a kind rust, if the first train of the new kind rusts them.
 fn rust_kind_at(history: &mut History, kind: Kind, new: Kind) -> Result<(), AllocError>
-    requires { IsPlayable history.old }
+    requires { IsSound history.old }
     ensures after { OnOk result (history.new ≡ with_kind_rusted_at new history.old kind) }
-    ensures playable { OnOk result (IsPlayable history.new) }
+    ensures sound { OnOk result (IsSound history.new) }
 {
     if is_rusted_by(kind, new) {
         rust_kind(history, kind)?;
@@ -145,9 +145,9 @@ fn is_rusted_by(kind: Kind, new: Kind) -> bool
 
 /// All trains of a kind rust: company by company, then those of the pool.
 fn rust_kind(history: &mut History, kind: Kind) -> Result<(), AllocError>
-    requires { IsPlayable history.old }
+    requires { IsSound history.old }
     ensures after { OnOk result (history.new ≡ with_kind_rusted history.old kind) }
-    ensures playable { OnOk result (IsPlayable history.new) }
+    ensures sound { OnOk result (IsSound history.new) }
 {
     rust_of_companies(history, kind)?;
     rust_stable(history, None, kind)
@@ -155,10 +155,10 @@ fn rust_kind(history: &mut History, kind: Kind) -> Result<(), AllocError>
 
 /// The trains of a kind rust that the companies have.
 fn rust_of_companies(history: &mut History, kind: Kind) -> Result<(), AllocError>
-    requires { IsPlayable history.old }
+    requires { IsSound history.old }
     ensures after { OnOk result (history.new
         ≡ fold (with_company_rusted kind) history.old companies) }
-    ensures playable { OnOk result (IsPlayable history.new) }
+    ensures sound { OnOk result (IsSound history.new) }
 {
     for company in Company::ALL {
         rust_stable(history, Some(company), kind)?;
@@ -168,9 +168,9 @@ fn rust_of_companies(history: &mut History, kind: Kind) -> Result<(), AllocError
 
 /// The trains of a kind rust that a company has, or the pool where there is none.
 fn rust_stable(history: &mut History, owner: Option<Company>, kind: Kind) -> Result<(), AllocError>
-    requires { IsPlayable history.old }
+    requires { IsSound history.old }
     ensures after { OnOk result (history.new ≡ with_stable_rusted owner kind history.old) }
-    ensures playable { OnOk result (IsPlayable history.new) }
+    ensures sound { OnOk result (IsSound history.new) }
 {
     for _ in 0..so_many(Money::from(history.trains(owner, kind))) {
         history.append(Event::Rusted { owner, kind })?;
@@ -180,9 +180,9 @@ fn rust_stable(history: &mut History, owner: Option<Company>, kind: Kind) -> Res
 
 /// The privates close, where a phase closes them.
 fn close_privates(history: &mut History, phase: Kind) -> Result<(), AllocError>
-    requires { IsPlayable history.old }
+    requires { IsSound history.old }
     ensures after { OnOk result (history.new ≡ with_privates_closed phase history.old) }
-    ensures playable { OnOk result (IsPlayable history.new) }
+    ensures sound { OnOk result (IsSound history.new) }
 {
     if phase == Kind::Five {
         close_all(history)?;
@@ -192,9 +192,9 @@ fn close_privates(history: &mut History, phase: Kind) -> Result<(), AllocError>
 
 /// Each private that is open closes.
 fn close_all(history: &mut History) -> Result<(), AllocError>
-    requires { IsPlayable history.old }
+    requires { IsSound history.old }
     ensures after { OnOk result (history.new ≡ with_all_closed history.old) }
-    ensures playable { OnOk result (IsPlayable history.new) }
+    ensures sound { OnOk result (IsSound history.new) }
 {
     for private in Private::ALL {
         close(history, private)?;
@@ -204,9 +204,9 @@ fn close_all(history: &mut History) -> Result<(), AllocError>
 
 /// Each company discards the trains that it has over the limit of the phase.
 fn keep_limits(alloc: Global, history: &mut History) -> Result<(), AllocError>
-    requires { IsPlayable history.old }
+    requires { IsSound history.old }
     ensures after { OnOk result (history.new ≡ with_limits_kept history.old) }
-    ensures playable { OnOk result (IsPlayable history.new) }
+    ensures sound { OnOk result (IsSound history.new) }
 {
     for company in Company::ALL {
         keep_limit(alloc, history, company)?;
@@ -216,9 +216,9 @@ fn keep_limits(alloc: Global, history: &mut History) -> Result<(), AllocError>
 
 /// A company discards the trains that it has over the limit of the phase.
 fn keep_limit(alloc: Global, history: &mut History, company: Company) -> Result<(), AllocError>
-    requires { IsPlayable history.old }
+    requires { IsSound history.old }
     ensures after { OnOk result (history.new ≡ with_limit_kept history.old company) }
-    ensures playable { OnOk result (IsPlayable history.new) }
+    ensures sound { OnOk result (IsSound history.new) }
 {
     for _ in 0..so_many(excess(history, company)) {
         discard(alloc, history, company)?;
@@ -235,9 +235,9 @@ fn excess(history: &History, company: Company) -> Money
 
 /// A company discards a train, if it has one.
 fn discard(alloc: Global, history: &mut History, company: Company) -> Result<(), AllocError>
-    requires { IsPlayable history.old }
+    requires { IsSound history.old }
     ensures after { OnOk result (history.new ≡ with_next_discarded company history.old) }
-    ensures playable { OnOk result (IsPlayable history.new) }
+    ensures sound { OnOk result (IsSound history.new) }
 {
     let Some(kind) = next_discard(alloc, history, company)? else {
         return Ok(());

@@ -1,6 +1,5 @@
 ghost use Rattle.std.specs.Prelude.{◌≡◌, ◌≤◌, IfOk, OnOk, length};
 ghost use Rattle.history.specs.Sound.{IsSound};
-ghost use Rattle.operating.specs.Ground.{GroundFits, IsPlayable};
 ghost use Rattle.operating.specs.InTurn.{at_start, in_turn};
 ghost use Rattle.operating.specs.Turn.{BlockLeads, IsCompanyTurn};
 ghost use Rattle.sheets.specs.File.{players_of};
@@ -16,9 +15,9 @@ use std::alloc::{AllocError, Global};
 use tables::{Company, Round, Seat};
 
 /// Plays the turn of a company in an operating round, with the sheets for it. The list of events
-/// must be sound, its seats those of the sheets' players, and what lies on the map by it must fit
-/// there. It is meant for a company that has floated and has not operated in this round. An `Err`
-/// comes from want of memory alone, and the game is dropped.
+/// must be sound, and its seats those of the sheets' players. It is meant for a company that has
+/// floated and has not operated in this round. An `Err` comes from want of memory alone, and the
+/// game is dropped.
 pub fn play_company(
     alloc: Global,
     mut history: History,
@@ -27,12 +26,10 @@ pub fn play_company(
     company: Company,
 ) -> Result<History, AllocError>
     requires sound { IsSound history }
-    requires ground { GroundFits history }
     requires seats { history.seats ≡ length (players_of sheets.now) }
     ensures turn { IfOk result (IsCompanyTurn sheets.now round company history) }
     ensures seats { IfOk result (λ new. new.seats ≡ history.seats) }
     ensures sound { IfOk result IsSound }
-    ensures ground { IfOk result GroundFits }
 {
     let president = history.president(company);
     let _few = sheets.seats();
@@ -53,10 +50,10 @@ fn rule_block(
     president: Option<Seat>,
 ) -> Result<Progress, AllocError>
     requires few { history.old.seats ≤ 6 }
-    requires playable { IsPlayable history.old }
+    requires sound { IsSound history.old }
     ensures turn { IfOk result (λ now. BlockLeads sheets.now round company
         (in_turn history.old at_start) president (in_turn history.new now)) }
-    ensures playable { OnOk result (IsPlayable history.new) }
+    ensures sound { OnOk result (IsSound history.new) }
 {
     let Some(president) = president else {
         return Ok(Progress::start());

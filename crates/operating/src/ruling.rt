@@ -2,7 +2,7 @@
 ghost use Rattle.std.specs.Prelude.{◌≡◌, OnOk};
 ghost use Rattle.history.specs.LookBack.{with_event};
 ghost use Rattle.history.specs.declared.event.Event.TheVariants as event;
-ghost use Rattle.operating.specs.Ground.{IsPlayable};
+ghost use Rattle.history.specs.Sound.{IsSound};
 
 use history::{Event, History, KeptRuling};
 use std::alloc::AllocError;
@@ -15,10 +15,10 @@ pub(crate) fn tell_ruling(
     line: u32,
     ruling: KeptRuling,
 ) -> Result<(), AllocError>
-    requires { IsPlayable history.old }
+    requires { IsSound history.old }
     ensures event { OnOk result (history.new
         ≡ with_event history.old (event.Ruled seat line ruling)) }
-    ensures playable { OnOk result (IsPlayable history.new) }
+    ensures sound { OnOk result (IsSound history.new) }
 {
     history.tell(Event::Ruled { seat, line, ruling })?;
     Ok(())

@@ -2,7 +2,7 @@ ghost use Rattle.std.specs.Prelude.{◌≡◌, ◌≤◌, ◌≤ℤ◌, IfOk, No
 ghost use Rattle.board.specs.Ground.{position_of};
 ghost use Rattle.history.specs.LookBack.{with_event};
 ghost use Rattle.history.specs.declared.event.Event.TheVariants as event;
-ghost use Rattle.operating.specs.Ground.{GroundFits, IsPlayable};
+ghost use Rattle.history.specs.Sound.{IsSound};
 ghost use Rattle.operating.specs.Runs.{IsCounted, has_run, judged_run, ran_unless_fault, rule_of_run, rules_of_turn, run_ruled, runs_most};
 ghost use Rattle.operating.specs.InTurn.{in_turn};
 ghost use Rattle.tables.specs.Rules.{first_broken};
@@ -31,7 +31,7 @@ pub(crate) fn judge_run(
     run: &Run,
     progress: Progress,
 ) -> Result<Result<Ran, RunRule>, AllocError>
-    requires { GroundFits history.now }
+    requires { IsSound history.now }
     ensures judged { let turn = in_turn history.now progress in
         IfOk result (λ judged. judged ≡ judged_run turn company kind run.now) }
     ensures counted { IfOk result (λ judged. IfOk judged (λ ran. IsCounted progress.runs ran)) }
@@ -114,11 +114,11 @@ pub(crate) fn rule_run(
     judged: Result<Ran, RunRule>,
     progress: Progress,
 ) -> Result<Progress, AllocError>
-    requires playable { IsPlayable history.old }
+    requires sound { IsSound history.old }
     requires counted { IfOk judged (λ ran. IsCounted progress.runs ran) }
     ensures turn { IfOk result (λ now. in_turn history.new now
         ≡ run_ruled by (in_turn history.old progress) line order.now judged) }
-    ensures playable { OnOk result (IsPlayable history.new) }
+    ensures sound { OnOk result (IsSound history.new) }
 {
     let kept = history.keep(order)?;
     match judged {
@@ -142,11 +142,11 @@ pub(crate) fn rule_run(
 
 /// Tells what a run of a company earned.
 fn tell_runs(history: &mut History, company: Company, revenue: Amount) -> Result<(), AllocError>
-    requires playable { IsPlayable history.old }
+    requires sound { IsSound history.old }
     requires sum { revenue ≤ 1000000 }
     ensures event { OnOk result (history.new
         ≡ with_event history.old (event.Runs company revenue)) }
-    ensures playable { OnOk result (IsPlayable history.new) }
+    ensures sound { OnOk result (IsSound history.new) }
 {
     history.tell(Event::Runs { company, revenue })?;
     Ok(())

@@ -1,5 +1,5 @@
-ghost use Rattle.std.specs.Prelude.{◌≡◌, IfOk, OnOk, Some};
-ghost use Rattle.operating.specs.Ground.{IsPlayable};
+ghost use Rattle.std.specs.Prelude.{◌≡◌, IfOk, IsErr, OnOk, Some};
+ghost use Rattle.history.specs.Sound.{IsSound};
 ghost use Rattle.operating.specs.Judgement.{rule_of_token};
 ghost use Rattle.operating.specs.InTurn.{in_turn};
 ghost use Rattle.operating.specs.Turn.{TokenLeads};
@@ -26,10 +26,10 @@ pub(crate) fn rule_token(
     place: Place,
     progress: Progress,
 ) -> Result<Progress, AllocError>
-    requires { IsPlayable history.old }
+    requires { IsSound history.old }
     ensures turn { IfOk result (λ now. TokenLeads by (in_turn history.old progress) line place
         (in_turn history.new now)) }
-    ensures playable { OnOk result (IsPlayable history.new) }
+    ensures sound { OnOk result (IsSound history.new) }
 {
     let board = board(alloc, history)?;
     let order = history.keep(&Order::Token(place))?;
@@ -58,9 +58,11 @@ pub(crate) fn rule_token(
     }
 }
 
-/// The rule that a refused token broke. The error is want of memory, which is none.
+/// The rule that a refused token broke. The error is want of memory, which is none, and comes for
+/// it alone.
 fn token_rule(fault: TokenFault) -> Result<TokenRule, AllocError>
-    ensures { IfOk result (λ rule. rule_of_token fault ≡ Some rule) }
+    ensures rule { IfOk result (λ rule. rule_of_token fault ≡ Some rule) }
+    ensures memory { IsErr result → fault ≡ TokenFault.Memory }
 {
     match fault {
         TokenFault::StepUsed => Ok(TokenRule::StepUsed),

@@ -1,5 +1,5 @@
 ghost use Rattle.std.specs.Prelude.{◌≡◌, IfOk, OnOk};
-ghost use Rattle.operating.specs.Ground.{IsPlayable};
+ghost use Rattle.history.specs.Sound.{IsSound};
 ghost use Rattle.operating.specs.InTurn.{in_turn};
 ghost use Rattle.operating.specs.Turn.{after_buying, purchase_of as the_purchase_of};
 
@@ -24,10 +24,10 @@ pub(crate) fn rule_train(
     from: TrainSource,
     progress: Progress,
 ) -> Result<Progress, AllocError>
-    requires { IsPlayable history.old }
+    requires { IsSound history.old }
     ensures turn { IfOk result (λ now. in_turn history.new now
         ≡ after_buying by (in_turn history.old progress) line kind from) }
-    ensures playable { OnOk result (IsPlayable history.new) }
+    ensures sound { OnOk result (IsSound history.new) }
 {
     let purchase = purchase_of(kind, from);
     let broken = judge_purchase(history, by.company, purchase);

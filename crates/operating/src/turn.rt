@@ -1,5 +1,5 @@
 ghost use Rattle.std.specs.Prelude.{◌≡◌, ◌≤◌, IfOk, OnOk};
-ghost use Rattle.operating.specs.Ground.{IsPlayable};
+ghost use Rattle.history.specs.Sound.{IsSound};
 ghost use Rattle.operating.specs.InTurn.{at_start, in_turn};
 ghost use Rattle.operating.specs.Runs.{after_run};
 ghost use Rattle.operating.specs.Turn.{LineLeads, LinesLead, OrderLeads};
@@ -29,10 +29,10 @@ pub(crate) fn rule_lines(
     block: &mut PartsLeft,
 ) -> Result<Progress, AllocError>
     requires few { history.old.seats ≤ 6 }
-    requires playable { IsPlayable history.old }
+    requires sound { IsSound history.old }
     ensures turn { IfOk result (λ now. LinesLead by (in_turn history.old at_start)
         block.old.before (in_turn history.new now)) }
-    ensures playable { OnOk result (IsPlayable history.new) }
+    ensures sound { OnOk result (IsSound history.new) }
 {
     let mut progress = Progress::start();
     while let Some(line) = block.take_line() {
@@ -51,10 +51,10 @@ fn rule_line(
     progress: Progress,
 ) -> Result<Progress, AllocError>
     requires few { history.old.seats ≤ 6 }
-    requires playable { IsPlayable history.old }
+    requires sound { IsSound history.old }
     ensures turn { IfOk result (λ now. LineLeads by (in_turn history.old progress)
         (line_read line.now) (in_turn history.new now)) }
-    ensures playable { OnOk result (IsPlayable history.new) }
+    ensures sound { OnOk result (IsSound history.new) }
 {
     match line.order() {
         Ok(order) => rule_order(alloc, history, by, line.number, order, progress),
@@ -81,10 +81,10 @@ fn rule_order(
     progress: Progress,
 ) -> Result<Progress, AllocError>
     requires few { history.old.seats ≤ 6 }
-    requires playable { IsPlayable history.old }
+    requires sound { IsSound history.old }
     ensures turn { IfOk result (λ now. OrderLeads by (in_turn history.old progress) line
         order.now (in_turn history.new now)) }
-    ensures playable { OnOk result (IsPlayable history.new) }
+    ensures sound { OnOk result (IsSound history.new) }
 {
     match order {
         Order::Lay(lay) => rule_lay(alloc, history, by, line, *lay, progress),
@@ -118,10 +118,10 @@ fn rule_run_order(
     run: &Run,
     progress: &Progress,
 ) -> Result<Progress, AllocError>
-    requires { IsPlayable history.old }
+    requires { IsSound history.old }
     ensures turn { IfOk result (λ now. in_turn history.new now
         ≡ after_run by (in_turn history.old progress.now) line order.now kind run.now) }
-    ensures playable { OnOk result (IsPlayable history.new) }
+    ensures sound { OnOk result (IsSound history.new) }
 {
     let judged = judge_run(alloc, history, by.company, kind, run, *progress)?;
     rule_run(history, by, line, order, judged, *progress)

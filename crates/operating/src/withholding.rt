@@ -1,6 +1,6 @@
 ghost use Rattle.std.specs.Prelude.{◌≡◌, ◌≤◌, IfOk, OnOk};
 ghost use Rattle.operating.specs.Act.{withheld};
-ghost use Rattle.operating.specs.Ground.{IsPlayable};
+ghost use Rattle.history.specs.Sound.{IsSound};
 ghost use Rattle.operating.specs.InTurn.{in_turn};
 ghost use Rattle.operating.specs.Turn.{settled};
 
@@ -17,10 +17,10 @@ pub(crate) fn settle(
     company: Company,
     progress: Progress,
 ) -> Result<Progress, AllocError>
-    requires { IsPlayable history.old }
+    requires { IsSound history.old }
     ensures turn { IfOk result (λ now. in_turn history.new now
         ≡ settled company (in_turn history.old progress)) }
-    ensures playable { OnOk result (IsPlayable history.new) }
+    ensures sound { OnOk result (IsSound history.new) }
 {
     if !progress.is_unpaid() {
         return Ok(progress);
@@ -35,10 +35,10 @@ pub(crate) fn withhold(
     company: Company,
     amount: Amount,
 ) -> Result<(), AllocError>
-    requires playable { IsPlayable history.old }
+    requires sound { IsSound history.old }
     requires sum { amount ≤ 1000000 }
     ensures after { OnOk result (history.new ≡ withheld history.old company amount) }
-    ensures playable { OnOk result (IsPlayable history.new) }
+    ensures sound { OnOk result (IsSound history.new) }
 {
     history.append(Event::Withheld { company, amount })?;
     history.tell_broken()?;

@@ -1,7 +1,7 @@
 use Rattle.std.proofs.Common.{◌≡◌, ◌-◌, map}
 use Rattle.std.specs.List.{range_with_len}
 use Rattle.operating.specs.Dividend.{paid_to_seats}
-use Rattle.operating.specs.Ground.{IsPlayable}
+use Rattle.history.specs.Sound.{IsSound}
 use Rattle.tables.specs.Seat.{all_seats, seat_at}
 use Rattle.operating.proofs.dividend.pay_all.Given as goal
 
@@ -10,5 +10,5 @@ abbrev pub invariant-loop-seat : goal.invariant-loop-seat
 invariant-loop-seat l = record {
   seats : l.history.seats ≡ l.fn.history.seats;
   paid : paid_to_seats l.company l.revenue l.history (map seat_at (range_with_len l.seat (l.fn.history.seats - l.seat))) ≡ paid_to_seats l.company l.revenue l.fn.history (all_seats l.fn.history.seats);
-  playable : IsPlayable l.history;
+  sound : IsSound l.history;
 }

@@ -1,8 +1,8 @@
 use Rattle.std.proofs.Common.{sym, subst}
-use Rattle.operating.proofs.Buying.{closed_playable}
-use Rattle.operating.specs.Ground.{IsPlayable}
+use Rattle.history.proofs.TrainActs.{closing_sound}
+use Rattle.history.specs.Sound.{IsSound}
 use Rattle.operating.proofs.phases.close.Goals as goal
 
-pub returns-clause-playable : goal.returns-clause-playable
-returns-clause-playable c =
-    subst IsPlayable (sym c.in_ok-append.ensures.ok) (closed_playable c.args.history.now c.args.private c.requires)
+pub returns-clause-sound : goal.returns-clause-sound
+returns-clause-sound c =
+    subst IsSound (sym c.in_ok-append.ensures.ok) (closing_sound c.args.history.now c.args.private c.requires)

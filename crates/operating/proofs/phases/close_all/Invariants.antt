@@ -1,6 +1,6 @@
 use Rattle.std.proofs.Common.{◌≡◌, take}
 use Rattle.std.specs.List.{fold}
-use Rattle.operating.specs.Ground.{IsPlayable}
+use Rattle.history.specs.Sound.{IsSound}
 use Rattle.operating.specs.Phases.{with_closed}
 use Rattle.operating.proofs.phases.close_all.Given as goal
 use Rattle.tables.specs.Roster.{privates}
@@ -9,5 +9,5 @@ use Rattle.tables.specs.Roster.{privates}
 abbrev pub invariant-loop-private : goal.invariant-loop-private
 invariant-loop-private l = record {
   so_far : l.history ≡ fold with_closed l.fn.history (take l.private-index privates);
-  playable : IsPlayable l.history;
+  sound : IsSound l.history;
 }

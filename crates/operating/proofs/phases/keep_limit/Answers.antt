@@ -6,5 +6,5 @@ pub loop-preserved : goal.loop-preserved
 loop-preserved c =
     record {
       so_far = iterate_goes_on (with_next_discarded c.args.company) c.args.history.now c.loop.history c.discard.new.history c.loop.counter c.loop.invariant.so_far c.in_ok-discard.ensures.after;
-      playable = c.in_ok-discard.ensures.playable;
+      sound = c.in_ok-discard.ensures.sound;
     }

@@ -1,5 +1,5 @@
 use Rattle.std.proofs.Common.{◌≡◌}
-use Rattle.operating.specs.Ground.{IsPlayable}
+use Rattle.history.specs.Sound.{IsSound}
 use Rattle.operating.specs.Phases.{with_next_discarded}
 use Rattle.operating.proofs.phases.keep_limit.Given as goal
 use Rattle.tables.specs.Steps.{iterate}
@@ -8,5 +8,5 @@ use Rattle.tables.specs.Steps.{iterate}
 abbrev pub invariant-loop : goal.invariant-loop
 invariant-loop l = record {
   so_far : l.history ≡ iterate (with_next_discarded l.company) l.counter l.fn.history;
-  playable : IsPlayable l.history;
+  sound : IsSound l.history;
 }

@@ -1,6 +1,6 @@
 use Rattle.std.proofs.Common.{◌≡◌, take}
 use Rattle.std.specs.List.{fold}
-use Rattle.operating.specs.Ground.{IsPlayable}
+use Rattle.history.specs.Sound.{IsSound}
 use Rattle.operating.specs.Phases.{with_limit_kept}
 use Rattle.operating.proofs.phases.keep_limits.Given as goal
 use Rattle.tables.specs.Roster.{companies}
@@ -9,5 +9,5 @@ use Rattle.tables.specs.Roster.{companies}
 abbrev pub invariant-loop-company : goal.invariant-loop-company
 invariant-loop-company l = record {
   so_far : l.history ≡ fold with_limit_kept l.fn.history (take l.company-index companies);
-  playable : IsPlayable l.history;
+  sound : IsSound l.history;
 }

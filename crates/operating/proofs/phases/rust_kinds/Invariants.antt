@@ -1,6 +1,6 @@
 use Rattle.std.proofs.Common.{◌≡◌, take}
 use Rattle.std.specs.List.{fold}
-use Rattle.operating.specs.Ground.{IsPlayable}
+use Rattle.history.specs.Sound.{IsSound}
 use Rattle.operating.specs.Phases.{with_kind_rusted_at}
 use Rattle.operating.proofs.phases.rust_kinds.Given as goal
 use Rattle.tables.specs.Train.{kinds}
@@ -9,5 +9,5 @@ use Rattle.tables.specs.Train.{kinds}
 abbrev pub invariant-loop-kind : goal.invariant-loop-kind
 invariant-loop-kind l = record {
   so_far : l.history ≡ fold (with_kind_rusted_at l.new) l.fn.history (take l.kind-index kinds);
-  playable : IsPlayable l.history;
+  sound : IsSound l.history;
 }

@@ -1,8 +1,8 @@
 use Rattle.std.proofs.Common.{ℕ, sym, ap, subst, ◌∙◌}
 use Rattle.history.specs.LookBack.{Game, with_event}
 use Rattle.history.specs.declared.event.Event.TheVariants as event
-use Rattle.operating.proofs.Buying.{train_playable}
-use Rattle.operating.specs.Ground.{IsPlayable}
+use Rattle.operating.proofs.Buying.{train_sound}
+use Rattle.history.specs.Sound.{IsSound}
 use Rattle.operating.specs.Phases.{with_trade}
 use Rattle.operating.proofs.phases.take_train.Goals as goal
 
@@ -10,8 +10,8 @@ pub close_bop-requires : goal.close_bop-requires
 close_bop-requires c =
     let purchase = c.args.purchase in
     let company = c.args.company in
-    subst IsPlayable
+    subst IsSound
     (sym (c.in_ok-append.ensures.ok
     ∙ ap (λ (game : Game). with_event game (event.Train company purchase.kind purchase.from c.price.result)) c.in_ok-trade_in.ensures
     ∙ ap (λ (price : ℕ). with_event (with_trade c.args.history.now company purchase.trade_in) (event.Train company purchase.kind purchase.from price)) c.price.ensures.price))
-    (train_playable c.args.history.now company purchase c.requires.may c.requires.playable)
+    (train_sound c.args.history.now company purchase c.requires.may c.requires.sound)

@@ -1,7 +1,7 @@
 use Rattle.std.proofs.Common.{Ok, Err, ap, refl, ◌∙◌}
 use Rattle.std.specs.Int.RustNames.{unsigned_abs}
 use Rattle.operating.proofs.Allowed.{amount_small, cost_kept, token_allowed}
-use Rattle.operating.proofs.Answered.{token_breaks, token_by, token_costs, token_refused_steps, placed_playable, placed_steps}
+use Rattle.operating.proofs.Answered.{token_breaks, token_by, token_costs, token_refused_steps, placed_sound, placed_steps}
 use Rattle.operating.proofs.Told.{told_as}
 use Rattle.operating.specs.Ground.{ground_now}
 use Rattle.operating.specs.Judgement.{asker_of}
@@ -36,13 +36,13 @@ returns-in-Ok-clause-turn c =
       after = placed_steps c.args.by (in_turn game c.args.progress) c.args.line c.args.place cost c.tell_ruling.new.history c.append.new.self _ c.amount_of-cost.result c.with_token.result (told_as game _ c.args.by.president c.args.line c.obeyed.result _ c.in_ok-tell_ruling-in-Ok.ensures.event c.obeyed.ensures) c.in_ok-order.ensures c.in_ok-append-in-Ok.ensures.ok (c.amount_of-cost.ensures ∙ ap unsigned_abs may.kept) c.with_token.ensures;
     }
 
-pub returns-in-Ok-clause-playable : goal.returns-in-Ok-clause-playable
-returns-in-Ok-clause-playable c =
+pub returns-in-Ok-clause-sound : goal.returns-in-Ok-clause-sound
+returns-in-Ok-clause-sound c =
     let game = c.args.history.now in
     let cost = c.in-Ok.cost in
     let answered = token_by _ (ground_now game.events) _ (asker_of game c.args.by.company c.args.progress) c.args.place (Ok cost) c.in_ok-board.ensures c.asker.ensures (token_costs cost (Ok cost) refl) c.in-Ok.ensures.answer in
     let may = token_allowed (ground_now game.events) (asker_of game c.args.by.company c.args.progress) c.args.place cost answered in
-    placed_playable game c.tell_ruling.new.history c.append.new.self c.args.by.company c.args.progress c.args.by.president c.args.line _ c.args.place cost c.amount_of-cost.result answered c.in_ok-tell_ruling-in-Ok.ensures.event c.in_ok-append-in-Ok.ensures.ok (c.amount_of-cost.ensures ∙ ap unsigned_abs may.kept) c.in_ok-tell_ruling-in-Ok.ensures.playable
+    placed_sound game c.tell_ruling.new.history c.append.new.self c.args.by.company c.args.progress c.args.by.president c.args.line _ c.args.place cost c.amount_of-cost.result answered c.in_ok-tell_ruling-in-Ok.ensures.event c.in_ok-append-in-Ok.ensures.ok (c.amount_of-cost.ensures ∙ ap unsigned_abs may.kept) c.in_ok-tell_ruling-in-Ok.ensures.sound
 
 pub returns-clause-turn : goal.returns-clause-turn
 returns-clause-turn c =
@@ -51,6 +51,6 @@ returns-clause-turn c =
     let rule = c.in_ok-token_rule-in-Err.field-0 in
     record {
       answer = Err fault;
-      answered = token_by _ _ _ _ c.args.place (Err fault) c.in_ok-board.ensures c.asker.ensures (token_breaks fault rule c.in_ok-token_rule-in-Err.ensures) c.in-Err.ensures.answer;
-      after = token_refused_steps c.args.by (in_turn game c.args.progress) c.args.line c.args.place fault rule c.tell_ruling-in-Err.new.history _ (told_as game _ c.args.by.president c.args.line c.refused.result _ c.in_ok-tell_ruling-in-Err.ensures.event c.refused.ensures) c.in_ok-order.ensures c.in_ok-token_rule-in-Err.ensures;
+      answered = token_by _ _ _ _ c.args.place (Err fault) c.in_ok-board.ensures c.asker.ensures (token_breaks fault rule c.in_ok-token_rule-in-Err.ensures.rule) c.in-Err.ensures.answer;
+      after = token_refused_steps c.args.by (in_turn game c.args.progress) c.args.line c.args.place fault rule c.tell_ruling-in-Err.new.history _ (told_as game _ c.args.by.president c.args.line c.refused.result _ c.in_ok-tell_ruling-in-Err.ensures.event c.refused.ensures) c.in_ok-order.ensures c.in_ok-token_rule-in-Err.ensures.rule;
     }

@@ -12,5 +12,5 @@ loop-line-preserved c =
     record {
       seats = line_seats by turn (line_read c.in-Some.line).number (line_read c.in-Some.line).reading _ c.in_ok-progress.ensures.turn ∙ c.loop-line.invariant.seats;
       turn = λ new rest. c.loop-line.invariant.turn new (subst (λ (lines : List Numbered). LinesLead by turn lines new) (sym (ap (λ (parts : Parts). parts.before) c.in-Some.ensures)) (_, c.in_ok-progress.ensures.turn, rest));
-      playable = c.in_ok-progress.ensures.playable;
+      sound = c.in_ok-progress.ensures.sound;
     }

@@ -1,5 +1,5 @@
 use Rattle.std.proofs.Common.{◌≡◌, length}
-use Rattle.operating.specs.Ground.{IsPlayable}
+use Rattle.history.specs.Sound.{IsSound}
 use Rattle.operating.specs.InTurn.{InTurn, at_start, in_turn}
 use Rattle.operating.specs.Turn.{LinesLead}
 use Rattle.operating.proofs.turn.rule_lines.Given as goal
@@ -9,7 +9,7 @@ abbrev pub invariant-loop-line : goal.invariant-loop-line
 invariant-loop-line l = record {
   seats : l.history.seats ≡ l.fn.history.seats;
   turn : (new : InTurn) → LinesLead l.by (in_turn l.history l.progress) l.block.before new → LinesLead l.by (in_turn l.fn.history at_start) l.fn.block.before new;
-  playable : IsPlayable l.history;
+  sound : IsSound l.history;
 }
 
 abbrev pub decreases-loop-line : goal.decreases-loop-line

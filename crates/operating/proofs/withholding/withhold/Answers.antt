@@ -1,9 +1,9 @@
-use Rattle.operating.proofs.Fitting.{withheld_playable, withheld_steps}
+use Rattle.operating.proofs.Fitting.{withheld_sound, withheld_steps}
 use Rattle.operating.proofs.withholding.withhold.Goals as goal
 
-pub returns-clause-playable : goal.returns-clause-playable
-returns-clause-playable c =
+pub returns-clause-sound : goal.returns-clause-sound
+returns-clause-sound c =
     let game = c.args.history.now in
     let new = c.move_token_left.new.history in
-    withheld_playable game new c.args.company c.args.amount
-    (withheld_steps game c.append.new.self c.tell_broken.new.self new c.args.company c.args.amount c.in_ok-append.ensures.ok c.in_ok-tell_broken.ensures.ok c.in_ok-move_token_left.ensures.seats c.in_ok-move_token_left.ensures.events) c.requires.playable
+    withheld_sound game new c.args.company c.args.amount
+    (withheld_steps game c.append.new.self c.tell_broken.new.self new c.args.company c.args.amount c.in_ok-append.ensures.ok c.in_ok-tell_broken.ensures.ok c.in_ok-move_token_left.ensures.seats c.in_ok-move_token_left.ensures.events) c.requires.sound
