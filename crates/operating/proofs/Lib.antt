@@ -1,10 +1,9 @@
 pub mod Told
 pub mod Fitting
 pub mod Allowed
-pub mod Once
 pub mod Found
 pub mod Decided
-pub mod Ends
+pub mod Outcome
 pub mod Answered
 pub mod Played
 pub mod Dividends
@@ -22,7 +21,9 @@ pub mod Sales
 pub mod Held
 pub mod Fleet
 pub mod Still
-pub mod TurnSteps
 pub mod TurnEvents
+pub mod TurnSteps
+pub mod TurnGames
 pub mod TurnLaws
+pub mod Tiles
 pub mod Operated

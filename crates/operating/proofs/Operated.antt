@@ -1,5 +1,6 @@
 -- Which companies have operated after a company's turn: those that had before, and the company.
-use Rattle.std.proofs.Common.{◌≡◌, ℕ, ◌==◌, Bool, true, false, not, ◌||◌, if◌then◌else◌, List, [], ◌∷◌, ◌++◌, Option, Some, None, is_some, refl, sym, ap, subst, ◌∙◌}
+use Rattle.std.proofs.Common.{◌≡◌, ℕ, ◌==◌, Bool, true, false, not, ◌||◌, if◌then◌else◌, List, [], ◌∷◌, ◌++◌, Option, Some, None, is_some, refl, sym}
+use Rattle.std.proofs.Common.{ap, subst, ◌∙◌}
 use Rattle.std.specs.Option.{option_flatten, option_map, option_or}
 use Rattle.history.proofs.EventAtEnd.{last_said_at_end}
 use Rattle.history.specs.Event.{operated_by, round_of}
@@ -9,13 +10,14 @@ use Rattle.history.specs.declared.event.Event.{Event}
 use Rattle.history.specs.declared.event.Event.TheVariants as event
 use Rattle.history.specs.declared.ruling.PayRule.{PayRule}
 use Rattle.history.specs.declared.ruling.PayRule.TheVariants.{NothingToPay}
-use Rattle.operating.proofs.TurnEvents.{IsOfTurn, OfEvents, after_withheld, begins_none, by_each, of_game_turn, of_steps, own_alone}
+use Rattle.operating.proofs.TurnEvents.{begins_none, own_alone}
+use Rattle.operating.proofs.TurnGames.{OfEvents, after_withheld, by_each, of_game_turn, of_steps}
 use Rattle.operating.proofs.TurnSteps.{OfSteps, of_turn}
 use Rattle.operating.specs.Act.{withheld}
 use Rattle.operating.specs.Dividend.{is_past_pay}
 use Rattle.operating.specs.InTurn.{InTurn, in_turn, is_unpaid, pay_done}
 use Rattle.operating.specs.Laws.{CompanyOperates}
-use Rattle.operating.specs.Turn.{IsCompanyTurn, begun, settled}
+use Rattle.operating.specs.Turn.{IsCompanyTurn, settled}
 use Rattle.operating.specs.declared.progress.Progress.{Progress}
 use Rattle.tables.proofs.Companies.{company_is, company_is_same}
 use Rattle.tables.specs.Roster.{same_company}
@@ -34,13 +36,15 @@ or_true true = refl
 or_true false = refl
 
 -- what was said before and by the event at the end, which begins no round
-word_more : (begins : Bool) (word : Option Company) (before : Option (Option Company)) → begins ≡ false → is_some (option_flatten (option_or (if begins then Some None else option_map Some word) before)) ≡ (is_some (option_flatten before) || is_some word)
+word_more : (begins : Bool) (word : Option Company) (before : Option (Option Company)) → begins ≡ false →
+    is_some (option_flatten (option_or (if begins then Some None else option_map Some word) before)) ≡ (is_some (option_flatten before) || is_some word)
 word_more true word before none = absurd (cc)
 word_more false None before none = sym (or_false (is_some (option_flatten before)))
 word_more false (Some company) before none = sym (or_true (is_some (option_flatten before)))
 
 -- a company has operated once one more event stands at the end
-one_more : (company : Company) (events : List Event) (its : Event) → is_some (round_of its) ≡ false → has_operated (events ++ its ∷ []) company ≡ (has_operated events company || is_some (turn_said company (operated_by its)))
+one_more : (company : Company) (events : List Event) (its : Event) → is_some (round_of its) ≡ false →
+    has_operated (events ++ its ∷ []) company ≡ (has_operated events company || is_some (turn_said company (operated_by its)))
 one_more company events its none =
     let says : Event → Option (Option Company) = in_round (λ its. turn_said company (operated_by its)) in
     ap (λ (said : Option (Option Company)). is_some (option_flatten said)) (last_said_at_end says events its)
@@ -57,15 +61,22 @@ by_events company =
     by_each company (Operates company)
     (record {
       same = λ game. record { others = λ other apart. refl; still = λ other has. has };
-      both = λ a b c one two. record { others = λ other apart. two.others other apart ∙ one.others other apart; still = λ other has. two.still other (one.still other has) };
+      both = λ a b c one two. record {
+        others = λ other apart. two.others other apart
+            ∙ one.others other apart;
+        still = λ other has. two.still other (one.still other has);
+      };
     })
     (λ game its is. record {
-      others = λ other apart. one_more other game.events its (begins_none company its is) ∙ ap (λ (b : Bool). has_operated game.events other || b) (own_alone company other its is apart) ∙ or_false (has_operated game.events other);
-      still = λ other has. one_more other game.events its (begins_none company its is) ∙ ap (λ (b : Bool). b || is_some (turn_said other (operated_by its))) has;
+      others = λ other apart. one_more other game.events its (begins_none company its is)
+          ∙ ap (λ (b : Bool). has_operated game.events other || b) (own_alone company other its is apart) ∙ or_false (has_operated game.events other);
+      still = λ other has. one_more other game.events its (begins_none company its is)
+          ∙ ap (λ (b : Bool). b || is_some (turn_said other (operated_by its))) has;
     })
 
 -- a company has operated by an event that says so
-now_has : (company : Company) (game : Game) (its : Event) → is_some (round_of its) ≡ false → operated_by its ≡ Some company → has_operated (with_event game its).events company ≡ true
+now_has : (company : Company) (game : Game) (its : Event) → is_some (round_of its) ≡ false → operated_by its ≡ Some company →
+    has_operated (with_event game its).events company ≡ true
 now_has company game its none says =
     one_more company game.events its none
     ∙ ap (λ (word : Option Company). has_operated game.events company || is_some (turn_said company word)) says
@@ -93,26 +104,32 @@ has_steps company =
     record {
       same = λ turn has. has;
       both = λ a b c one two has. two (one has);
-      told = λ turn seat number ruling has done. (on.told turn seat number ruling).still company (has done);
+      more = λ turn its is no_tile no_train no_phase has done. (on.more turn its is no_tile no_train no_phase).still company (has done);
       laid = λ turn asker lay cost rules has done. (on.laid turn asker lay cost rules).still company (has done);
-      placed = λ turn asker at cost is rules has earned. (on.placed turn asker at cost is rules).still company (has (ap (λ (b : Bool). not (is_unpaid turn.progress) || b) earned ∙ or_true (not (is_unpaid turn.progress))));
+      placed = λ turn asker at cost is rules has earned. (on.placed turn asker at cost is rules).still company
+          (has (ap (λ (b : Bool). not (is_unpaid turn.progress) || b) earned ∙ or_true (not (is_unpaid turn.progress))));
       ran = λ turn ran has done. now_has company turn.game (event.Runs company ran.earned) refl refl;
-      paid = λ turn rules has done. (on.paid turn rules).still company (has (ap (λ (b : Bool). not (is_unpaid turn.progress) || not b) (some_revenue (is_past_pay turn.progress) (turn.progress.runs.revenue == 0) rules) ∙ or_true (not (is_unpaid turn.progress))));
-      kept = λ turn has done. (after_withheld company (Operates company) (by_events company) turn.game turn.progress.runs.revenue).still company (now_has company turn.game (event.Withheld company turn.progress.runs.revenue) refl refl);
+      paid = λ turn rules has done. (on.paid turn rules).still company
+          (has (ap (λ (b : Bool). not (is_unpaid turn.progress) || not b)
+          (some_revenue (is_past_pay turn.progress) (turn.progress.runs.revenue == 0) rules) ∙ or_true (not (is_unpaid turn.progress))));
+      kept = λ turn has done. (after_withheld company (Operates company) (by_events company) turn.game turn.progress.runs.revenue).still company
+          (now_has company turn.game (event.Withheld company turn.progress.runs.revenue) refl refl);
       bought = λ turn purchase rules has done. (on.bought turn purchase rules).still company (has done);
     }
 
 -- what the company has withheld by itself, where it was unpaid, is past its pay
 settled_past : (company : Company) (turn : InTurn) → is_unpaid (settled company turn).progress ≡ false
 settled_past company turn =
-    elim (is_unpaid turn.progress) as (λ (b : Bool). is_unpaid turn.progress ≡ b → is_unpaid (if b then in_turn (withheld turn.game company turn.progress.runs.revenue) (pay_done turn.progress) else turn).progress ≡ false) [
+    elim (is_unpaid turn.progress) as (λ (b : Bool). is_unpaid turn.progress ≡ b →
+    is_unpaid (if b then in_turn (withheld turn.game company turn.progress.runs.revenue) (pay_done turn.progress) else turn).progress ≡ false) [
       | true ↦ λ unpaid. refl
       | false ↦ λ past. past
     ]
     refl
 
 -- after its turn the company has operated
-has_at_end : (company : Company) (file : List ℕ) (round : Round) (old new : Game) → IsCompanyTurn file round company old new → has_operated new.events company ≡ true
+has_at_end : (company : Company) (file : List ℕ) (round : Round) (old new : Game) → IsCompanyTurn file round company old new →
+    has_operated new.events company ≡ true
 has_at_end company file round old new turn =
     let last = settled company turn.last in
     ap (λ (game : Game). has_operated game.events company) turn.after
@@ -123,8 +140,10 @@ has_at_end company file round old new turn =
 pub company_operates : CompanyOperates
 company_operates file round company old new turn other =
     let by = of_game_turn company (Operates company) (by_events company) file round old new turn in
-    elim (same_company company other) as (λ (b : Bool). same_company company other ≡ b → has_operated new.events other ≡ (has_operated old.events other || b)) [
-      | true ↦ λ same. subst (λ (c : Company). has_operated new.events c ≡ true) (company_is company other same) (has_at_end company file round old new turn) ∙ sym (or_true (has_operated old.events other))
+    elim (same_company company other) as (λ (b : Bool). same_company company other ≡ b →
+    has_operated new.events other ≡ (has_operated old.events other || b)) [
+      | true ↦ λ same. subst (λ (c : Company). has_operated new.events c ≡ true) (company_is company other same)
+          (has_at_end company file round old new turn) ∙ sym (or_true (has_operated old.events other))
       | false ↦ λ apart. by.others other apart ∙ sym (or_false (has_operated old.events other))
     ]
     refl

@@ -1,17 +1,18 @@
 -- Laws of a company's turn: it only adds events and begins no round, trains stand as they did, phases go on, and no
 -- tile is lost.
-use Rattle.std.proofs.Common.{◌≡◌, ℕ, ◌≤◌, ◌||◌, Bool, false, List, [], ◌∷◌, ◌++◌, Result, is_some, refl, sym, ap, subst, ◌∙◌, arith}
+use Rattle.std.proofs.Common.{◌≡◌, ℕ, ◌≤◌, ◌||◌, Bool, false, List, [], ◌∷◌, ◌++◌, Result, is_some, refl, sym, ap, ◌∙◌, arith}
 use Rattle.std.proofs.lemmas.List.{append_assoc, append-nil}
 use Rattle.std.proofs.lemmas.List.Folds.{list_any-append}
 use Rattle.history.specs.Event.{round_of}
-use Rattle.history.specs.LookBack.{Game, with_event}
+use Rattle.history.specs.LookBack.{Game}
 use Rattle.history.specs.Trains.{phase_of}
 use Rattle.history.specs.declared.event.Event.{Event}
 use Rattle.history.specs.declared.event.Event.TheVariants as event
 use Rattle.operating.proofs.Complete.{others_keep_standing, phase_kept}
 use Rattle.operating.proofs.Fleet.{purchases_keep_all}
 use Rattle.operating.proofs.TrainSteps.{IsPassedOn, phases_go_on}
-use Rattle.operating.proofs.TurnEvents.{OfEvents, begins_none, by_each, of_game_turn, of_steps}
+use Rattle.operating.proofs.TurnEvents.{begins_none}
+use Rattle.operating.proofs.TurnGames.{OfEvents, by_each, of_game_turn, of_steps}
 use Rattle.operating.proofs.TurnSteps.{of_line}
 use Rattle.operating.specs.InTurn.{InTurn}
 use Rattle.operating.specs.Laws.{OnlyAdds, TurnOnlyAdds}
@@ -31,10 +32,16 @@ neither a b first second = ap (λ (x : Bool). x || b) first ∙ second
 adds_on : IsPassedOn OnlyAdds
 adds_on =
     record {
-      same = λ game. record { more = []; added = ap (λ (events : List Event). record { seats = game.seats; events = events }) (sym (append-nil game.events)); no_round = refl };
+      same = λ game. record {
+        more = [];
+        added = ap (λ (events : List Event). record { seats = game.seats; events = events })
+            (sym (append-nil game.events));
+        no_round = refl;
+      };
       both = λ a b c one two. record {
         more = one.more ++ two.more;
-        added = two.added ∙ ap (λ (game : Game). record { seats = game.seats; events = game.events ++ two.more }) one.added ∙ ap (λ (events : List Event). record { seats = a.seats; events = events }) (append_assoc a.events one.more two.more);
+        added = two.added ∙ ap (λ (game : Game). record { seats = game.seats; events = game.events ++ two.more }) one.added
+            ∙ ap (λ (events : List Event). record { seats = a.seats; events = events }) (append_assoc a.events one.more two.more);
         no_round = list_any-append (λ its. is_some (round_of its)) one.more two.more ∙ neither _ _ one.no_round two.no_round;
       };
     }
@@ -50,7 +57,8 @@ pub only_adds : TurnOnlyAdds
 only_adds file round company old new turn = of_game_turn company OnlyAdds (adds_by company) file round old new turn
 
 -- a line leaves the seats as they are
-pub line_seats : (by : Operator) (turn : InTurn) (number : ℕ) (reading : Result Order Fault) (new : InTurn) → ReadingLeads by turn number reading new → new.game.seats ≡ turn.game.seats
+pub line_seats : (by : Operator) (turn : InTurn) (number : ℕ) (reading : Result Order Fault) (new : InTurn) →
+    ReadingLeads by turn number reading new → new.game.seats ≡ turn.game.seats
 line_seats by turn number reading new leads =
     ap (λ (game : Game). game.seats) (of_line by _ (of_steps by.company OnlyAdds (adds_by by.company)) turn number reading new leads).added
 

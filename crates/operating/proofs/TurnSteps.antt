@@ -8,8 +8,10 @@ use Rattle.board.specs.TokenRules.{IsTokenAnswer, slot_rules}
 use Rattle.board.specs.declared.asker.Asker.{Asker}
 use Rattle.board.specs.declared.fault.LayFault.{LayFault}
 use Rattle.board.specs.declared.fault.TokenFault.{TokenFault}
+use Rattle.history.specs.Event.{phase_set, tile_laid, train_moved}
 use Rattle.history.specs.LookBack.{Game, with_event}
 use Rattle.history.specs.Shares.{president_of}
+use Rattle.history.specs.declared.event.Event.{Event}
 use Rattle.history.specs.declared.event.Event.TheVariants as event
 use Rattle.history.specs.declared.ruling.LayRule.{LayRule}
 use Rattle.history.specs.declared.ruling.PayRule.{PayRule}
@@ -23,6 +25,7 @@ use Rattle.map_tables.specs.declared.place.Place.{Place}
 use Rattle.operating.proofs.Allowed.{lay_allowed, token_allowed}
 use Rattle.operating.proofs.Answered.{same_after_ruling}
 use Rattle.operating.proofs.Still.{same_judgement}
+use Rattle.operating.proofs.TurnEvents.{IsOfTurn}
 use Rattle.operating.specs.Act.{after_lay, after_token, withheld}
 use Rattle.operating.specs.Dividend.{paid_out, pay_judgement, pay_ruled, withhold_judgement}
 use Rattle.operating.specs.Ground.{ground_now}
@@ -31,7 +34,8 @@ use Rattle.operating.specs.Judgement.{asker_of, rule_of_lay, rule_of_token}
 use Rattle.operating.specs.Phases.{after_train}
 use Rattle.operating.specs.Runs.{judged_run, run_done, run_ruled}
 use Rattle.operating.specs.Trains.{train_judgement}
-use Rattle.operating.specs.Turn.{BlockLeads, IsCompanyTurn, LinesLead, OrderLeads, ReadingLeads, begun, lay_answered, lay_refused, purchase_of, settled, token_answered, token_refused, train_ruled}
+use Rattle.operating.specs.Turn.{BlockLeads, IsCompanyTurn, LinesLead, OrderLeads, ReadingLeads, begun, lay_answered, lay_refused, purchase_of}
+use Rattle.operating.specs.Turn.{settled, token_answered, token_refused, train_ruled}
 use Rattle.operating.specs.declared.operator.Operator.{Operator}
 use Rattle.operating.specs.declared.purchase.Purchase.{Purchase}
 use Rattle.operating.specs.declared.runs.Ran.{Ran}
@@ -45,78 +49,98 @@ use Rattle.tables.specs.declared.roster.Company.{Company}
 use Rattle.tables.specs.declared.round.Round.{Round}
 use Rattle.tables.specs.declared.seat.Seat.{Seat}
 
--- what is to be shown of the steps of a company's turn: it holds of none and of one after the other; of a ruling; and
--- of what an obeyed line brings after its ruling, by what the rules ask: a lay, a token, a run, what is paid out, what
--- is withheld, and a purchase
+-- what is to be shown of the steps of a company's turn: it holds of none and of one after the other; of an event of the
+-- turn that by itself changes nothing in how far the turn has come, as a ruling is; and of what an obeyed line brings
+-- after its ruling, by what the rules ask: a lay, a token, a run, what is paid out, what is withheld, and a purchase
 pub record OfSteps (company : Company) (R : InTurn → InTurn → Type 0) : Type 0 where
   pub same : (turn : InTurn) → R turn turn
   pub both : (a b c : InTurn) → R a b → R b c → R a c
-  pub told : (turn : InTurn) (seat : Seat) (number : ℕ) (ruling : Ruling) → R turn (in_turn (with_event turn.game (event.Ruled seat number ruling)) turn.progress)
-  pub laid : (turn : InTurn) (asker : Asker) (lay : Lay) (cost : ℕ) → first_broken (ground_rules (ground_now turn.game.events) asker lay) ≡ None → R turn (in_turn (after_lay turn.game company lay cost) (lay_done turn.progress))
-  pub placed : (turn : InTurn) (asker : Asker) (at : Place) (cost : ℕ) → asker.pointer ≡ turn.progress.pointer → first_broken (slot_rules (ground_now turn.game.events) asker at) ≡ None → R turn (in_turn (after_token turn.game company at cost) (token_done turn.progress))
+  pub more : (turn : InTurn) (its : Event) → IsOfTurn company its → tile_laid its ≡ None → train_moved its ≡ None → phase_set its ≡ None →
+      R turn (in_turn (with_event turn.game its) turn.progress)
+  pub laid : (turn : InTurn) (asker : Asker) (lay : Lay) (cost : ℕ) → first_broken (ground_rules (ground_now turn.game.events) asker lay) ≡ None →
+      R turn (in_turn (after_lay turn.game company lay cost) (lay_done turn.progress))
+  pub placed : (turn : InTurn) (asker : Asker) (at : Place) (cost : ℕ) → asker.pointer ≡ turn.progress.pointer →
+      first_broken (slot_rules (ground_now turn.game.events) asker at) ≡ None →
+      R turn (in_turn (after_token turn.game company at cost) (token_done turn.progress))
   pub ran : (turn : InTurn) (ran : Ran) → R turn (in_turn (with_event turn.game (event.Runs company ran.earned)) (run_done turn.progress ran))
-  pub paid : (turn : InTurn) → pay_judgement turn.progress ≡ None → R turn (in_turn (paid_out turn.game company turn.progress.runs.revenue) (pay_done turn.progress))
+  pub paid : (turn : InTurn) → pay_judgement turn.progress ≡ None →
+      R turn (in_turn (paid_out turn.game company turn.progress.runs.revenue) (pay_done turn.progress))
   pub kept : (turn : InTurn) → R turn (in_turn (withheld turn.game company turn.progress.runs.revenue) (pay_done turn.progress))
-  pub bought : (turn : InTurn) (purchase : Purchase) → train_judgement turn.game company purchase ≡ None → R turn (in_turn (after_train turn.game company purchase) turn.progress)
+  pub bought : (turn : InTurn) (purchase : Purchase) → train_judgement turn.game company purchase ≡ None →
+      R turn (in_turn (after_train turn.game company purchase) turn.progress)
 
 module _ (company : Company) (R : InTurn → InTurn → Type 0) (steps : OfSteps company R) where
   -- of what the company withholds by itself
   of_settled : (turn : InTurn) → R turn (settled company turn)
   of_settled turn =
-      elim (is_unpaid turn.progress) as (λ (b : Bool). R turn (if b then in_turn (withheld turn.game company turn.progress.runs.revenue) (pay_done turn.progress) else turn)) [
+      elim (is_unpaid turn.progress) as (λ (b : Bool). R turn
+      (if b then in_turn (withheld turn.game company turn.progress.runs.revenue) (pay_done turn.progress) else turn)) [
         | true ↦ steps.kept turn
         | false ↦ steps.same turn
       ]
 
 module _ (by : Operator) (R : InTurn → InTurn → Type 0) (steps : OfSteps by.company R) where
+  -- of a ruling
+  of_ruling : (turn : InTurn) (number : ℕ) (ruling : Ruling) → R turn (told by turn number ruling)
+  of_ruling turn number ruling = steps.more turn (event.Ruled by.president number ruling) tt refl refl refl
+
   -- of an obeyed line and what it brings
   after_ruling : (turn : InTurn) (number : ℕ) (its : Order) (new : InTurn) → R (told by turn number (Obeyed its)) new → R turn new
   after_ruling turn number its new brings =
-      steps.both turn (told by turn number (Obeyed its)) new (steps.told turn by.president number (Obeyed its)) brings
+      steps.both turn (told by turn number (Obeyed its)) new (of_ruling turn number (Obeyed its)) brings
 
   -- of LAY
   of_refused_lay : (turn : InTurn) (number : ℕ) (lay : Lay) (rule : Option LayRule) → R turn (lay_refused by turn number lay rule)
   of_refused_lay turn number lay None = steps.same turn
-  of_refused_lay turn number lay (Some rule) = steps.told turn by.president number _
+  of_refused_lay turn number lay (Some rule) = of_ruling turn number _
 
-  of_lay : (turn : InTurn) (number : ℕ) (lay : Lay) (answer : Result ℤ LayFault) → IsLayAnswer (ground_now turn.game.events) (asker_of turn.game by.company turn.progress) lay answer → R turn (lay_answered by turn number lay answer)
+  of_lay : (turn : InTurn) (number : ℕ) (lay : Lay) (answer : Result ℤ LayFault) →
+      IsLayAnswer (ground_now turn.game.events) (asker_of turn.game by.company turn.progress) lay answer → R turn (lay_answered by turn number lay answer)
   of_lay turn number lay (Err fault) answered = of_refused_lay turn number lay (rule_of_lay fault)
   of_lay turn number lay (Ok cost) answered =
       let asker : Asker = asker_of turn.game by.company turn.progress in
       let ruled = told by turn number (Obeyed (order.Lay lay)) in
       let same = same_after_ruling turn.game ruled.game by.president number (Obeyed (order.Lay lay)) refl in
       after_ruling turn number (order.Lay lay) (lay_answered by turn number lay (Ok cost))
-      (steps.laid ruled asker lay (unsigned_abs cost) (subst (λ (g : Ground). first_broken (ground_rules g asker lay) ≡ None) (sym same) (lay_allowed (ground_now turn.game.events) asker lay cost answered).allowed))
+      (steps.laid ruled asker lay (unsigned_abs cost)
+      (subst (λ (g : Ground). first_broken (ground_rules g asker lay) ≡ None) (sym same)
+      (lay_allowed (ground_now turn.game.events) asker lay cost answered).allowed))
 
   -- of TOKEN
   of_refused_token : (turn : InTurn) (number : ℕ) (at : Place) (rule : Option TokenRule) → R turn (token_refused by turn number at rule)
   of_refused_token turn number at None = steps.same turn
-  of_refused_token turn number at (Some rule) = steps.told turn by.president number _
+  of_refused_token turn number at (Some rule) = of_ruling turn number _
 
-  of_token : (turn : InTurn) (number : ℕ) (at : Place) (answer : Result ℤ TokenFault) → IsTokenAnswer (ground_now turn.game.events) (asker_of turn.game by.company turn.progress) at answer → R turn (token_answered by turn number at answer)
+  of_token : (turn : InTurn) (number : ℕ) (at : Place) (answer : Result ℤ TokenFault) →
+      IsTokenAnswer (ground_now turn.game.events) (asker_of turn.game by.company turn.progress) at answer → R turn (token_answered by turn number at answer)
   of_token turn number at (Err fault) answered = of_refused_token turn number at (rule_of_token fault)
   of_token turn number at (Ok cost) answered =
       let asker : Asker = asker_of turn.game by.company turn.progress in
       let ruled = told by turn number (Obeyed (order.Token at)) in
       let same = same_after_ruling turn.game ruled.game by.president number (Obeyed (order.Token at)) refl in
       after_ruling turn number (order.Token at) (token_answered by turn number at (Ok cost))
-      (steps.placed ruled asker at (unsigned_abs cost) refl (subst (λ (g : Ground). first_broken (slot_rules g asker at) ≡ None) (sym same) (token_allowed (ground_now turn.game.events) asker at cost answered).allowed))
+      (steps.placed ruled asker at (unsigned_abs cost) refl
+      (subst (λ (g : Ground). first_broken (slot_rules g asker at) ≡ None) (sym same)
+      (token_allowed (ground_now turn.game.events) asker at cost answered).allowed))
 
   -- of RUN
   of_run : (turn : InTurn) (number : ℕ) (its : Order) (judged : Result Ran RunRule) → R turn (run_ruled by turn number its judged)
-  of_run turn number its (Err rule) = steps.told turn by.president number _
+  of_run turn number its (Err rule) = of_ruling turn number _
   of_run turn number its (Ok ran) =
       after_ruling turn number its (run_ruled by turn number its (Ok ran)) (steps.ran (told by turn number (Obeyed its)) ran)
 
   -- of PAY or WITHHOLD
-  of_pay : (turn : InTurn) (number : ℕ) (its : Order) (rule : Option PayRule) (after : Game → Game) → (rule ≡ None → R (told by turn number (Obeyed its)) (in_turn (after (told by turn number (Obeyed its)).game) (pay_done turn.progress))) → R turn (pay_ruled by turn number its rule after)
-  of_pay turn number its (Some rule) after brings = steps.told turn by.president number _
+  of_pay : (turn : InTurn) (number : ℕ) (its : Order) (rule : Option PayRule) (after : Game → Game) →
+      (rule ≡ None → R (told by turn number (Obeyed its)) (in_turn (after (told by turn number (Obeyed its)).game) (pay_done turn.progress))) →
+      R turn (pay_ruled by turn number its rule after)
+  of_pay turn number its (Some rule) after brings = of_ruling turn number _
   of_pay turn number its None after brings =
       after_ruling turn number its (pay_ruled by turn number its None after) (brings refl)
 
   -- of TRAIN
-  of_train : (turn : InTurn) (number : ℕ) (its : Order) (purchase : Purchase) (rule : Option TrainRule) → train_judgement turn.game by.company purchase ≡ rule → R turn (train_ruled by turn number its purchase rule)
-  of_train turn number its purchase (Some rule) broken = steps.told turn by.president number _
+  of_train : (turn : InTurn) (number : ℕ) (its : Order) (purchase : Purchase) (rule : Option TrainRule) →
+      train_judgement turn.game by.company purchase ≡ rule → R turn (train_ruled by turn number its purchase rule)
+  of_train turn number its purchase (Some rule) broken = of_ruling turn number _
   of_train turn number its purchase None none =
       let ruled = told by turn number (Obeyed its) in
       after_ruling turn number its (train_ruled by turn number its purchase None)
@@ -132,21 +156,24 @@ module _ (by : Operator) (R : InTurn → InTurn → Type 0) (steps : OfSteps by.
       subst (R turn) (sym leads) (of_run turn number (order.Run kind run) (judged_run turn by.company kind run))
   of_order turn number order.Pay new leads =
       subst (R turn) (sym leads)
-      (of_pay turn number order.Pay (pay_judgement turn.progress) (λ game. paid_out game by.company turn.progress.runs.revenue) (steps.paid (told by turn number (Obeyed order.Pay))))
+      (of_pay turn number order.Pay (pay_judgement turn.progress) (λ game. paid_out game by.company turn.progress.runs.revenue)
+      (steps.paid (told by turn number (Obeyed order.Pay))))
   of_order turn number order.Withhold new leads =
       subst (R turn) (sym leads)
-      (of_pay turn number order.Withhold (withhold_judgement turn.progress) (λ game. withheld game by.company turn.progress.runs.revenue) (λ rules. steps.kept (told by turn number (Obeyed order.Withhold))))
+      (of_pay turn number order.Withhold (withhold_judgement turn.progress) (λ game. withheld game by.company turn.progress.runs.revenue)
+      (λ rules. steps.kept (told by turn number (Obeyed order.Withhold))))
   of_order turn number (order.BuyTrain kind from) new leads =
       let paid = settled by.company turn in
       let purchase = purchase_of kind from in
       let rule = train_judgement paid.game by.company purchase in
       subst (R turn) (sym leads)
-      (steps.both turn paid (train_ruled by paid number (order.BuyTrain kind from) purchase rule) (of_settled by.company R steps turn) (of_train paid number (order.BuyTrain kind from) purchase rule refl))
-  of_order turn number other new leads = subst (R turn) (sym leads) (steps.told turn by.president number _)
+      (steps.both turn paid (train_ruled by paid number (order.BuyTrain kind from) purchase rule) (of_settled by.company R steps turn)
+      (of_train paid number (order.BuyTrain kind from) purchase rule refl))
+  of_order turn number other new leads = subst (R turn) (sym leads) (of_ruling turn number _)
 
   -- of a line
   pub of_line : (turn : InTurn) (number : ℕ) (reading : Result Order Fault) (new : InTurn) → ReadingLeads by turn number reading new → R turn new
-  of_line turn number (Err fault) new leads = subst (R turn) (sym leads) (steps.told turn by.president number _)
+  of_line turn number (Err fault) new leads = subst (R turn) (sym leads) (of_ruling turn number _)
   of_line turn number (Ok its) new leads = of_order turn number its new leads
 
   -- of lines
@@ -157,12 +184,15 @@ module _ (by : Operator) (R : InTurn → InTurn → Type 0) (steps : OfSteps by.
 
 module _ (company : Company) (R : InTurn → InTurn → Type 0) (steps : OfSteps company R) where
   -- of a block
-  of_block : (file : List ℕ) (round : Round) (turn : InTurn) (president : Option Seat) (new : InTurn) → BlockLeads file round company turn president new → R turn new
+  of_block : (file : List ℕ) (round : Round) (turn : InTurn) (president : Option Seat) (new : InTurn) →
+      BlockLeads file round company turn president new → R turn new
   of_block file round turn None new leads = subst (R turn) (sym leads) (steps.same turn)
   of_block file round turn (Some seat) new leads =
       of_lines (record { company = company; president = seat }) R steps turn (block_for file round seat.0 company) new leads
 
   -- of a whole turn, from its home token on
-  pub of_turn : (file : List ℕ) (round : Round) (old new : Game) (turn : IsCompanyTurn file round company old new) → R (begun old company) (settled company turn.last)
+  pub of_turn : (file : List ℕ) (round : Round) (old new : Game) (turn : IsCompanyTurn file round company old new) →
+      R (begun old company) (settled company turn.last)
   of_turn file round old new turn =
-      steps.both (begun old company) turn.last (settled company turn.last) (of_block file round (begun old company) (president_of old.events company) turn.last turn.block) (of_settled company R steps turn.last)
+      steps.both (begun old company) turn.last (settled company turn.last)
+      (of_block file round (begun old company) (president_of old.events company) turn.last turn.block) (of_settled company R steps turn.last)

@@ -13,3 +13,4 @@ pub mod Turn
 pub mod LegalRuns
 pub mod Laws
 pub mod TrainLaws
+pub mod TileLaws
