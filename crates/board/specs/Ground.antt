@@ -4,7 +4,7 @@ use Rattle.std.specs.Prelude.{ℕ, zero, suc, Bool, true, false, nat_lt, if◌th
 use Rattle.map_tables.specs.Hex.{hexes, same_hex}
 use Rattle.map_tables.specs.Lying.{by_tile, links_on, slots_on, tile_on, tokens_at}
 use Rattle.map_tables.specs.Place.{joined_hex, stop_at}
-use Rattle.map_tables.specs.Print.{print_of}
+use Rattle.map_tables.specs.Print.{print_of, printed_links_of}
 use Rattle.map_tables.specs.Tile.{entry_of}
 use Rattle.map_tables.specs.declared.hex.Hex.{Hex}
 use Rattle.map_tables.specs.declared.lay.Lay.{Lay}
@@ -15,6 +15,7 @@ use Rattle.map_tables.specs.declared.place.StopNumber.TheVariants.{First, Second
 use Rattle.map_tables.specs.declared.print.HexKind.{HexKind}
 use Rattle.map_tables.specs.declared.print.HexKind.TheVariants.{Open, Grey, Red}
 use Rattle.map_tables.specs.declared.print.PrintedValue.{PrintedValue}
+use Rattle.map_tables.specs.declared.track.Link.{Link}
 use Rattle.reach.specs.Position.{AtStop, InHex, Position}
 use Rattle.tables.specs.Train.{place_of_kind}
 use Rattle.tables.specs.declared.roster.Company.{Company}
