@@ -8,7 +8,7 @@ use Rattle.std.proofs.lemmas.List.Sums.{sum_by-cons, sum_by_push}
 use Rattle.std.specs.List.{cons_option, count_by}
 use Rattle.board.proofs.Stocked.{lay_keeps_stock}
 use Rattle.board.proofs.Tiles.{last_lies}
-use Rattle.board.specs.Ground.{tile_on}
+use Rattle.map_tables.specs.Lying.{tile_on}
 use Rattle.board.specs.LayRules.{is_tile, lying_of}
 use Rattle.history.proofs.InOrder.{lays_grow}
 use Rattle.history.specs.LookBack.{Game, with_event}

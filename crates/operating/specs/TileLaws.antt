@@ -2,7 +2,7 @@
 -- tiles on the map and those in the stock are as many as the manifest has, and the stock never owes one.
 use Rattle.std.specs.Prelude.{◌≡◌, ℕ, ◌+◌, cond, List, [], ◌∷◌, ◌++◌, Some, None, reverse, ℤ, pos, ◌+ℤ◌, ◌-ℤ◌, ◌≤ℤ◌}
 use Rattle.std.specs.List.{count_by}
-use Rattle.board.specs.Ground.{tile_on}
+use Rattle.map_tables.specs.Lying.{tile_on}
 use Rattle.board.specs.LayRules.{ground_rules, is_tile, lying_of}
 use Rattle.board.specs.declared.asker.Asker.{Asker}
 use Rattle.history.specs.Event.{tile_laid}
