@@ -24,6 +24,7 @@ mod sale;
 
 pub use deal::{Purchase, Sale};
 pub use holdings::Holdings;
-pub use laws::{counted_by_the_game, first_with_most_presides};
+pub use laws::{counted_by_the_game, first_with_most_presides, presides_by_the_game};
+pub use president::successor;
 pub use purchase::{is_over_six, market_price, may_buy, tenth_price};
 pub use sale::may_sell;

@@ -24,5 +24,8 @@ mod turn;
 
 pub use bidding::auction;
 pub use judgement::judge;
-pub use laws::{auction_is_won, nothing_is_left_to_settle, one_opening_round, opening_round_ends};
+pub use laws::{
+    auction_is_won, nothing_is_left_to_settle, one_opening_round, opening_round_ends,
+    opening_turns_tell_who_acted,
+};
 pub use opening::play_opening;

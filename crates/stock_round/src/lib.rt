@@ -27,5 +27,5 @@ mod ruling;
 mod standing;
 mod turn;
 
-pub use laws::{one_stock_round, stock_round_ends};
+pub use laws::{one_stock_round, stock_round_ends, stock_turns_tell_who_acted};
 pub use playing::play_stock;
