@@ -8,8 +8,8 @@
 //!
 //! Reading order: `holdings`, `notes` (the tables that they are made of), `rows` (the tenths of one
 //! company), `president`, `counted` (the certificates that count), `deal` (what is bought and
-//! sold), `purchase`, `sale`, `laws` (what the presidency goes by, and what counts by the events of
-//! a game).
+//! sold), `purchase`, `sale`, `laws` (what the presidency goes by, and that it and what counts are
+//! the same by the events of a game).
 #![tactic(auto)]
 
 mod counted;

@@ -1,5 +1,5 @@
 -- The new events of a line of an opening turn tell who acted in it.
-use Rattle.std.proofs.Common.{◌≡◌, ℕ, Bool, true, false, ◌||◌, List, [], ◌∷◌, ◌++◌, Option, Some, None, Result, Ok, Err, refl}
+use Rattle.std.proofs.Common.{◌≡◌, ℕ, true, false, List, [], ◌∷◌, ◌++◌, Option, Some, None, Result, Ok, Err, refl}
 use Rattle.history.specs.Bids.{bids_on}
 use Rattle.history.specs.LookBack.{actor_of, cheapest_of, last_said}
 use Rattle.history.specs.declared.event.Bid.{Bid}
@@ -11,7 +11,7 @@ use Rattle.order_grammar.specs.declared.order.Order.{Order}
 use Rattle.order_grammar.specs.declared.order.Order.TheVariants as order
 use Rattle.privates.specs.Judgement.{has_place_in_group, judged, judgement_of, placed_ruling, price_of}
 use Rattle.privates.specs.Sale.{after_sale, gifts, settle, settled, settled_by, settled_of}
-use Rattle.privates.specs.Turn.{InTurn, after_line, after_ruling, opening_rules}
+use Rattle.privates.specs.Turn.{InTurn, after_ruling, opening_rules}
 use Rattle.sheets.specs.Part.{Numbered}
 use Rattle.sheets.specs.Place.{placed}
 use Rattle.tables.specs.declared.roster.Private.{Private}

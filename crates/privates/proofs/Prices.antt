@@ -1,8 +1,7 @@
 -- What the winner of an auction pays: the greatest sums among those of the bidders.
-use Rattle.std.proofs.Common.{◌≡◌, ◌≢◌, ◌⊎◌, ℤ, ◌≤ℤ◌, Bool, true, false, ◌≤◌, List, [], ◌∷◌, length, map, Option, Some, None, unwrap_or, if◌then◌else◌, inl, inr, refl, sym, subst, ap, ◌∙◌, arith}
+use Rattle.std.proofs.Common.{◌≡◌, ◌≢◌, ◌⊎◌, ℤ, ◌≤ℤ◌, ◌≤◌, List, [], ◌∷◌, length, map, Option, Some, None, unwrap_or, inl, inr, refl, sym, subst, ap, ◌∙◌, arith}
 use Rattle.std.specs.Prelude.{pos}
 use Rattle.std.specs.Int.{int_max}
-use Rattle.std.specs.Ordering.{int_eq}
 use Rattle.std.proofs.lemmas.Int.{ints, clamps}
 use Rattle.privates.specs.Auction.{AreOthers, Bidder, BidsDiffer, EachBidder, IsAmong, IsGreatest, IsOneOf, NoneIsOver, bid_by, greatest_from, greater_of, limit_by, with_limit, with_limits}
 

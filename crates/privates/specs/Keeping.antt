@@ -1,7 +1,7 @@
 -- What keeps an opening round under way, as a round of turns asks: the ROUND event, a pass, a count of lines
 -- that were not taken up.
 use Rattle.std.proofs.Common.{refl}
-use Rattle.std.specs.Prelude.{ℕ, ◌∷◌, ◌++◌, []}
+use Rattle.std.specs.Prelude.{ℕ}
 use Rattle.history.specs.LookBack.{Game, with_event}
 use Rattle.history.specs.Sound.{IsSound}
 use Rattle.history.specs.Tell.{left_told}

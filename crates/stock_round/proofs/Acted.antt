@@ -9,7 +9,7 @@ use Rattle.history.specs.declared.event.Event.{Event}
 use Rattle.history.specs.declared.event.Event.TheVariants as event
 use Rattle.history.specs.declared.ruling.StockRule.{StockRule}
 use Rattle.market.specs.Moves.{fallen}
-use Rattle.market.specs.Token.{moved_from, same_square, with_move}
+use Rattle.market.specs.Token.{moved_from, same_square}
 use Rattle.order_grammar.specs.declared.fault.Fault.{Fault}
 use Rattle.order_grammar.specs.declared.order.Order.{Order}
 use Rattle.order_grammar.specs.declared.order.Order.TheVariants as order

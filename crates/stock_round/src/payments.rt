@@ -2,7 +2,7 @@
 ghost use Rattle.std.specs.Prelude.{◌≡◌, ◌≤◌, ◌<◌, OnOk};
 ghost use Rattle.history.specs.Sound.{IsSound};
 ghost use Rattle.stock_round.specs.Act.{bought, exchanged, sold};
-ghost use Rattle.stock_round.specs.Allowed.{MayBuy, MayExchange, MaySell};
+ghost use Rattle.stock_round.specs.Allowed.{MayBuy, MayExchange};
 
 use crate::judgement::exchange_source;
 use crate::prices::tenth_price;

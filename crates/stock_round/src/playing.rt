@@ -1,4 +1,4 @@
-ghost use Rattle.std.specs.Prelude.{◌≡◌, IfOk, length, List, refl};
+ghost use Rattle.std.specs.Prelude.{◌≡◌, IfOk, length, refl};
 ghost use Rattle.history.specs.Sound.{IsSound};
 ghost use Rattle.sheets.specs.File.{players_of};
 ghost use Rattle.stock_round.specs.StockRound.{IsStockRound};

@@ -19,6 +19,7 @@ ghost use Rattle.treasury.specs.Accounts.{
 
 use history::{History, Holder, Party, Past};
 use tables::{Company, Money, PLAYERS_MOST, Seat};
+use thiserror::Error;
 
 /// What each party of a game has.
 #[derive(Clone, Copy, Debug)]
@@ -29,7 +30,8 @@ pub struct Accounts {
 }
 
 /// A payment was refused: a player or a company has less than the sum.
-#[derive(Clone, Copy, Debug, PartialEq, Eq)]
+#[derive(Clone, Copy, Debug, PartialEq, Eq, Drop, Error)]
+#[error("less is there than the sum")]
 pub struct Short;
 
 impl Accounts {

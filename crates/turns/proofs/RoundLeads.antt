@@ -1,16 +1,15 @@
 -- What leads from each list to the next within a round of turns leads from its ROUND event to its end.
-use Rattle.std.proofs.Common.{◌≡◌, ℕ, zero, suc, ◌+◌, ◌==◌, Bool, true, false, if◌then◌else◌, List, [], ◌∷◌, ◌++◌, refl, sym, subst, ap, append-nil}
+use Rattle.std.proofs.Common.{ℕ, zero, suc, ◌+◌, ◌==◌, Bool, true, false, if◌then◌else◌, List, [], ◌∷◌, ◌++◌, sym, subst, append-nil}
 use Rattle.std.specs.List.{range_with_len}
 use Rattle.std.proofs.lemmas.List.{append_assoc}
 use Rattle.history.specs.LookBack.{Game}
-use Rattle.history.specs.Tell.{with_left}
 use Rattle.history.specs.declared.event.Event.{Event}
 use Rattle.history.specs.declared.event.Event.TheVariants as event
 use Rattle.sheets.specs.Part.{Numbered, lines_in_groups, parts_for}
 use Rattle.sheets.specs.Taken.{after_each, after_lines_before}
 use Rattle.tables.specs.Seat.{seat_at}
 use Rattle.tables.specs.Steps.{iterate}
-use Rattle.tables.specs.Turns.{InPlay, Turned, after_turn, groups_at, next_group}
+use Rattle.tables.specs.Turns.{InPlay, after_turn, groups_at, next_group}
 use Rattle.tables.specs.declared.round.Round.{Round}
 use Rattle.tables.specs.declared.seat.Seat.{Seat}
 use Rattle.turns.specs.RoundOfTurns.{InTurn, IsRoundOfTurns, RoundRules, after_group, after_lines, after_standing, finished, in_turn, left_from, opened, turned, turns_of}

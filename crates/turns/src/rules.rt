@@ -90,11 +90,13 @@ pub trait TurnRules {
 
     /// The ROUND event begins it.
     ghost begins: { (game : Game) (round : Round) → may_begin game.events
-        → IsSound (with_event game (event.Round round)) → holds (with_event game (event.Round round)) };
+        → IsSound (with_event game (event.Round round))
+        → holds (with_event game (event.Round round)) };
 
     /// A pass keeps what holds.
     ghost passes: { (game : Game) (seat : Seat) → holds game
-        → IsSound (with_event game (event.Passes seat)) → holds (with_event game (event.Passes seat)) };
+        → IsSound (with_event game (event.Passes seat))
+        → holds (with_event game (event.Passes seat)) };
 
     /// So does a count of lines that were not taken up.
     ghost leaves: { (game : Game) (seat : Seat) (lines : ℕ) → holds game
