@@ -6,3 +6,4 @@ mod Counts
 mod NoteLemmas
 pub mod ByGame
 mod Deals
+pub mod PresidesByGame

@@ -1,9 +1,12 @@
 -- Who presides over a company. The president stays unless some seat has strictly more tenths; then it is
 -- the seat with most, among equals the first to the president's left.
-use Rattle.std.specs.Prelude.{◌≡◌, ◌⊎◌, ℕ, ◌-◌, if◌then◌else◌, List, [], ◌∷◌, Option, ℤ, ◌≤ℤ◌, ◌<ℤ◌, option_map}
+use Rattle.std.specs.Prelude.{◌≡◌, ◌⊎◌, ℕ, ◌-◌, ◌<◌, ◌≤◌, if◌then◌else◌, List, [], ◌∷◌, Option, Some, ℤ, ◌≤ℤ◌, ◌<ℤ◌, option_map}
 use lib.Signed.{lt_z}
-use Rattle.certs.specs.Holdings.{president_in, tenths_in}
+use Rattle.certs.specs.Holdings.{AreHoldingsOf, president_in, tenths_in}
 use Rattle.certs.specs.declared.holdings.Holdings.{Holdings}
+use Rattle.history.specs.LookBack.{Game}
+use Rattle.history.specs.Shares.{president_of, shares_of}
+use Rattle.history.specs.declared.event.Event.{Event}
 use Rattle.history.specs.declared.event.Shareholder.TheVariants.{Seat as OfSeat}
 use Rattle.tables.specs.Seat.{left_of, seats_from}
 use Rattle.tables.specs.declared.roster.Company.{Company}
@@ -22,14 +25,30 @@ with_most tenths best (seat ∷ others) = with_most tenths (better_of tenths bes
 abbrev pub others_from : ℕ → Seat → List Seat
 others_from seats seat = seats_from seats (seats - 1) (left_of seats seat)
 
--- the tenths of a company that a seat has
+-- who presides now by these tenths, at a table of so many seats, where this seat presided
+abbrev pub successor : (Seat → ℤ) → ℕ → Seat → Seat
+successor tenths seats old = with_most tenths old (others_from seats old)
+
+-- the tenths of a company that a seat has, by the holdings
 abbrev pub seat_tenths : Holdings → Company → Seat → ℤ
 seat_tenths holdings company seat = tenths_in holdings company (OfSeat seat)
 
--- who presides over a company now, if somebody did: by the tenths that the seats have
+-- who presides over a company now, if somebody did, by the holdings
 abbrev pub presiding_in : Holdings → Company → Option Seat
 presiding_in holdings company =
-    option_map (λ old. with_most (seat_tenths holdings company) old (others_from holdings.seats old)) (president_in holdings company)
+    option_map (successor (seat_tenths holdings company) holdings.seats) (president_in holdings company)
+
+-- the tenths of a company that a seat has, by the events of a game
+abbrev pub seat_tenths_of : List Event → Company → Seat → ℤ
+seat_tenths_of events company seat = shares_of events company (OfSeat seat)
+
+-- who presides over a company now, by the events of a game, where this seat presided
+abbrev pub successor_of : ℕ → List Event → Company → Seat → Seat
+successor_of seats events company old = successor (seat_tenths_of events company) seats old
+
+-- who presides over a company now, if somebody did, by the events of a game
+abbrev pub presiding_of : ℕ → List Event → Company → Option Seat
+presiding_of seats events company = option_map (successor_of seats events company) (president_of events company)
 
 -- each of these seats has at most so many tenths
 abbrev pub HaveAtMost : (Seat → ℤ) → ℤ → List Seat → Type 0
@@ -46,3 +65,13 @@ IsFirstWithMost tenths first (seat ∷ others) =
 abbrev pub FirstWithMostPresides : Type 0
 FirstWithMostPresides =
     (tenths : Seat → ℤ) (old : Seat) (others : List Seat) → IsFirstWithMost tenths (with_most tenths old others) (old ∷ others)
+
+-- the president as it was said last, if there is one, is at the table
+abbrev pub PresidentIsSeated : Game → Company → Type 0
+PresidentIsSeated game company = (seat : Seat) → president_of game.events company ≡ Some seat → seat.0 < game.seats
+
+-- the same seat presides by the holdings of a game as by its events
+abbrev pub PresidesByGame : Type 0
+PresidesByGame =
+    (game :
+    Game) (holdings : Holdings) (company : Company) → AreHoldingsOf game holdings → game.seats ≤ 6 → PresidentIsSeated game company → presiding_in holdings company ≡ presiding_of game.seats game.events company

@@ -8,8 +8,8 @@
 //!
 //! Reading order: `holdings`, `notes` (the tables that they are made of), `rows` (the tenths of one
 //! company), `president`, `counted` (the certificates that count), `deal` (what is bought and
-//! sold), `purchase`, `sale`, `laws` (what the presidency goes by, and what counts by the events of
-//! a game).
+//! sold), `purchase`, `sale`, `laws` (what the presidency goes by, and that it and what counts are
+//! the same by the events of a game).
 #![tactic(auto)]
 
 mod counted;
@@ -24,6 +24,7 @@ mod sale;
 
 pub use deal::{Purchase, Sale};
 pub use holdings::Holdings;
-pub use laws::{counted_by_the_game, first_with_most_presides};
+pub use laws::{counted_by_the_game, first_with_most_presides, presides_by_the_game};
+pub use president::successor;
 pub use purchase::{is_over_six, market_price, may_buy, tenth_price};
 pub use sale::may_sell;

@@ -131,7 +131,8 @@ pub fn tenth_price(now: &Past, company: Company, from: ShareSource) -> Money
 
 /// The market price of a company, which is that of its square; 0 where it has none.
 pub fn market_price(now: &Past, company: Company) -> Amount
-    ensures { result ≡ market_price_of now.now.events.now company }
+    ensures price { result ≡ market_price_of now.now.events.now company }
+    ensures small { result ≤ 350 }
 {
     match now.square(company) {
         Some(square) => price(square),

@@ -1,8 +1,10 @@
 -- The winner of an auction is ahead of all, and pays no more than his limit and no less than each bid.
-use Rattle.std.proofs.Common.{◌≡◌, ℤ, pos, ◌+ℤ◌, ◌≤ℤ◌, Bool, true, false, ◌≤◌, List, [], ◌∷◌, length, map, if◌then◌else◌, inl, inr, refl, arith}
+use Rattle.std.proofs.Common.{◌≡◌, ℤ, pos, ◌+ℤ◌, ◌≤ℤ◌, Bool, true, false, ◌≤◌, List, [], ◌∷◌, length, map, Option, None, unwrap_or, if◌then◌else◌, inl, inr, refl, sym, subst, arith}
 use Rattle.std.specs.Int.{int_max, int_min}
 use Rattle.std.proofs.lemmas.Int.{ints, clamps}
-use Rattle.privates.specs.Auction.{Bidder, EachBidder, IsAhead, IsAmong, IsWon, LimitsHold, ahead, auction_of, beats, bid_by, greatest_from, highest_bid, limit_by, second_limit, winner_among}
+use Rattle.privates.proofs.Prices.{greatest_of_others, is_greatest, others_apart, others_than, some_other, without_winner}
+use Rattle.tables.specs.declared.seat.Seat.{Seat}
+use Rattle.privates.specs.Auction.{Bidder, BidsDiffer, EachBidder, IsAhead, IsAmong, IsGreatest, IsWon, LimitsHold, ahead, auction_of, beats, bid_by, greatest_from, highest_bid, limit_by, second_limit, winner_among}
 
 -- a bidder is ahead of himself
 ahead_of_himself : (one : Bidder) → IsAhead one one
@@ -95,8 +97,17 @@ price_within highest limit second within = omega (arith, ints, clamps)
 price_from_highest : (highest limit second bid : ℤ) → bid ≤ℤ highest → bid ≤ℤ int_max highest (int_min limit (second +ℤ pos 5))
 price_from_highest highest limit second bid within = omega (arith, ints, clamps)
 
--- an auction is won
-pub auction_won : (bidders : List Bidder) → 1 ≤ length bidders → LimitsHold bidders → IsWon bidders (auction_of bidders)
+-- one of some bidders wins, who is ahead of all, at a price within his limit and under no bid
+pub record WinsWithin (bidders : List Bidder) (won : Seat × ℤ) : Type 0 where
+  pub winner : Bidder
+  pub bids : IsAmong bidders winner
+  pub buys : won.0 ≡ winner.0
+  pub ahead_of_all : EachBidder (λ other. IsAhead winner other) bidders
+  pub within_limit : won.1 ≤ℤ limit_by winner
+  pub at_least_each_bid : EachBidder (λ other. bid_by other ≤ℤ won.1) bidders
+
+-- so an auction is won
+pub auction_won : (bidders : List Bidder) → 1 ≤ length bidders → LimitsHold bidders → WinsWithin bidders (auction_of bidders)
 auction_won [] some hold = absurd (omega arith)
 auction_won (first ∷ others) some hold =
     let winner : Bidder = winner_among first others in
@@ -113,4 +124,33 @@ auction_won (first ∷ others) some hold =
       at_least_each_bid =
           each_bidder (λ (other : Bidder). price_from_highest highest (limit_by winner) second (bid_by other)) (first ∷ others)
           (highest_from_first (bid_by first) others, highest_from_each (bid_by first) others);
+    }
+
+-- an auction is won at its price
+pub won_at_price : (bidders : List Bidder) → 2 ≤ length bidders → BidsDiffer bidders → LimitsHold bidders → IsWon bidders (auction_of bidders)
+unfolding auction_won
+won_at_price [] two differ hold = absurd (omega arith)
+won_at_price (first ∷ rest) two differ hold =
+    let bidders : List Bidder = first ∷ rest in
+    let winner : Bidder = winner_among first rest in
+    let some : 1 ≤ length bidders = omega arith in
+    let within = auction_won bidders some hold in
+    let others = others_than bidders winner within.bids in
+    let apart = others_apart bidders winner others.0 differ others.1 in
+    record {
+      winner = winner;
+      bids = within.bids;
+      buys = refl;
+      ahead_of_all = within.ahead_of_all;
+      others = others.0;
+      are_others = others.1;
+      highest = highest_bid first rest;
+      is_highest = is_greatest (bid_by first) (map bid_by rest);
+      second = second_limit winner bidders;
+      is_second =
+          subst (λ (s : Option ℤ). IsGreatest (map limit_by others.0) (unwrap_or s (pos 0))) (sym (without_winner winner None bidders others.0 others.1))
+          (greatest_of_others winner others.0 (some_other bidders winner others.0 two others.1) apart);
+      price = refl;
+      within_limit = within.within_limit;
+      at_least_each_bid = within.at_least_each_bid;
     }

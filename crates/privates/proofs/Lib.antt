@@ -1,13 +1,9 @@
+pub mod Acted
 pub mod Auctions
 pub mod Bidders
 pub mod Judged
-pub mod Limits
 pub mod Pars
-pub mod RoundEnds
+pub mod Prices
 pub mod Sales
 pub mod Settling
-pub mod Small
 pub mod StandingBids
-pub mod Turns
-pub mod Underway
-pub mod WholeRound

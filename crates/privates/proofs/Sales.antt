@@ -14,10 +14,10 @@ use Rattle.history.specs.Sound.{IsSound, IsSvPrice}
 use Rattle.history.specs.declared.event.Bid.{Bid}
 use Rattle.history.specs.declared.event.Event.{Event}
 use Rattle.history.specs.declared.event.Event.TheVariants as event
-use Rattle.privates.proofs.Limits.{limits_kept}
+use Rattle.privates.specs.LimitsKept.{limits_kept}
 use Rattle.privates.proofs.Pars.{par_set_is_par}
 use Rattle.privates.proofs.StandingBids.{EachBid, bids_from}
-use Rattle.privates.proofs.Underway.{event_underway, unsold_before, waiting_silent}
+use Rattle.privates.specs.UnderwayKept.{event_underway, unsold_before, waiting_silent}
 use Rattle.privates.specs.Act.{MayBid, MayPay}
 use Rattle.privates.specs.Judgement.{is_near}
 use Rattle.privates.specs.Sale.{par_set_by}

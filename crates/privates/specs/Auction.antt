@@ -1,7 +1,7 @@
 -- An auction among those who bid on a private. The greatest limit wins, and among equal limits the
 -- higher bid. The price is the larger of the highest bid and of the lesser of the winner's limit and the
 -- second limit plus 5.
-use Rattle.std.specs.Prelude.{◌≡◌, ◌≢◌, ◌⊎◌, ℤ, pos, ◌+ℤ◌, ◌≤ℤ◌, Bool, ◌||◌, ◌&&◌, if◌then◌else◌, List, [], ◌∷◌, map, Option, Some, None, unwrap_or}
+use Rattle.std.specs.Prelude.{◌≡◌, ◌≢◌, ◌⊎◌, ℤ, pos, ◌+ℤ◌, ◌≤ℤ◌, ◌≤◌, length, Bool, ◌||◌, ◌&&◌, if◌then◌else◌, List, [], ◌∷◌, map, Option, Some, None, unwrap_or}
 use Rattle.std.specs.Int.{int_max, int_min}
 use Rattle.std.specs.Ordering.{int_eq}
 use Rattle.std.specs.Int.Signed.{lt_z}
@@ -100,11 +100,45 @@ pub record IsAhead (winner other : Bidder) : Type 0 where
   pub limit : limit_by other ≤ℤ limit_by winner
   pub bid : limit_by other ≡ limit_by winner → bid_by other ≤ℤ bid_by winner
 
--- An auction is won by a bidder who is ahead of all, at a price within his limit and over no bid.
+-- others are these bidders without one of them
+abbrev pub AreOthers : List Bidder → Bidder → List Bidder → Type 0
+AreOthers [] one others = ⊥
+AreOthers (bidder ∷ bidders) one others =
+    ((bidder ≡ one) × (others ≡ bidders)) ⊎ ((rest : List Bidder) × (others ≡ bidder ∷ rest) × AreOthers bidders one rest)
+
+-- a sum is one of these
+abbrev pub IsOneOf : List ℤ → ℤ → Type 0
+IsOneOf [] one = ⊥
+IsOneOf (sum ∷ sums) one = (sum ≡ one) ⊎ IsOneOf sums one
+
+-- none of these sums is over one
+abbrev pub NoneIsOver : List ℤ → ℤ → Type 0
+NoneIsOver [] one = Unit {0}
+NoneIsOver (sum ∷ sums) one = (sum ≤ℤ one) × NoneIsOver sums one
+
+-- a sum is the greatest of these
+pub record IsGreatest (sums : List ℤ) (greatest : ℤ) : Type 0 where
+  pub is_one : IsOneOf sums greatest
+  pub none_over : NoneIsOver sums greatest
+
+-- An auction is won by a bidder who is ahead of all. The price is the larger of the highest bid and of the
+-- lesser of his limit and the greatest limit of the others plus 5; so it is within his limit, and under no bid.
 pub record IsWon (bidders : List Bidder) (won : Seat × ℤ) : Type 0 where
   pub winner : Bidder
   pub bids : IsAmong bidders winner
   pub buys : won.0 ≡ winner.0
   pub ahead_of_all : EachBidder (λ other. IsAhead winner other) bidders
+  pub others : List Bidder
+  pub are_others : AreOthers bidders winner others
+  pub highest : ℤ
+  pub is_highest : IsGreatest (map bid_by bidders) highest
+  pub second : ℤ
+  pub is_second : IsGreatest (map limit_by others) second
+  pub price : won.1 ≡ int_max highest (int_min (limit_by winner) (second +ℤ pos 5))
   pub within_limit : won.1 ≤ℤ limit_by winner
   pub at_least_each_bid : EachBidder (λ other. bid_by other ≤ℤ won.1) bidders
+
+-- an auction of two bidders or more, whose bids differ and of whom no limit is under its bid, is won
+abbrev pub AuctionIsWon : Type 0
+AuctionIsWon =
+    (bidders : List Bidder) → 2 ≤ length bidders → BidsDiffer bidders → LimitsHold bidders → IsWon bidders (auction_of bidders)

@@ -3,7 +3,10 @@ pub mod Standing
 pub mod Auction
 pub mod Sale
 pub mod Act
-pub mod Small
+pub mod Closing
 pub mod Turn
 pub mod Opening
 pub mod Underway
+pub mod LimitsKept
+pub mod UnderwayKept
+pub mod Keeping

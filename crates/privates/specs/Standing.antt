@@ -15,12 +15,10 @@ use Rattle.order_grammar.specs.declared.order.Order.TheVariants.{Limit, Par}
 use Rattle.privates.specs.Judgement.{judged}
 use Rattle.sheets.specs.Part.{Numbered}
 use Rattle.sheets.specs.Place.{placed}
-use Rattle.sheets.specs.Taken.{after_all_before, after_each, after_lines_before}
 use Rattle.tables.specs.Roster.{same_company}
 use Rattle.history.specs.Shares.{is_par_value}
 use Rattle.tables.specs.declared.roster.Company.{Company}
 use Rattle.tables.specs.declared.roster.Company.TheVariants.{BaltimoreOhio}
-use Rattle.tables.specs.declared.round.Round.{Round}
 use Rattle.tables.specs.declared.seat.Seat.{Seat}
 
 -- the orders that may stand before the first group
@@ -51,15 +49,3 @@ standing_ruling events reading = placed_standing events (placed has_place_before
 -- after a standing line of a seat
 abbrev pub after_standing_line : Seat → List Event → Numbered → List Event
 after_standing_line seat events line = events ++ Ruled seat line.number (standing_ruling events line.reading) ∷ []
-
--- after standing lines of a seat, in order
-abbrev pub after_standing_lines : Seat → List Event → List Numbered → List Event
-after_standing_lines seat events lines = after_each (after_standing_line seat) events lines
-
--- after the standing lines of a seat's sheet for a round
-abbrev pub after_standing_of : List ℕ → Round → List Event → ℕ → List Event
-after_standing_of file round events seat = after_lines_before after_standing_line file round events seat
-
--- after the standing lines of seats, in order
-abbrev pub after_standing : List ℕ → Round → List Event → List ℕ → List Event
-after_standing file round events seats = after_all_before after_standing_line file round events seats

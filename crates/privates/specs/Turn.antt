@@ -1,27 +1,27 @@
 -- A seat's turn: the lines of its group are ruled in order, each on the list that the one before left. An
 -- obeyed purchase is a sale at the price that the bank asks, with the sales that follow from it; an obeyed
 -- bid stands. A seat that neither bought nor bid passes.
-use Rattle.std.specs.Prelude.{ℕ, Bool, true, false, ◌||◌, List, [], ◌∷◌, ◌++◌, is_none}
-use Rattle.history.specs.LookBack.{cheapest_of}
+use Rattle.std.specs.Prelude.{ℕ, Bool, true, false, ◌||◌, List, [], ◌∷◌, ◌++◌}
 use Rattle.history.specs.declared.event.Event.{Event}
-use Rattle.history.specs.declared.event.Event.TheVariants.{Bids, Passes, Ruled}
+use Rattle.history.specs.declared.event.Event.TheVariants.{Bids, Ruled}
 use Rattle.history.specs.declared.ruling.Ruling.{Ruling}
 use Rattle.history.specs.declared.ruling.Ruling.TheVariants.{Obeyed}
 use Rattle.order_grammar.specs.declared.order.Order.{Order}
 use Rattle.order_grammar.specs.declared.order.Order.TheVariants.{BuyPrivate, Bid}
+pub use Rattle.privates.specs.Closing.{all_sold}
+use Rattle.privates.specs.Closing.{closed}
 use Rattle.privates.specs.Judgement.{price_of, ruling_of}
 use Rattle.privates.specs.Sale.{after_sale, settled}
+use Rattle.privates.specs.Standing.{after_standing_line}
 use Rattle.sheets.specs.Part.{Numbered}
-use Rattle.tables.specs.Turns.{Play, Turned}
+use Rattle.tables.specs.Turns.{Play}
 use Rattle.tables.specs.declared.seat.Seat.{Seat}
+use Rattle.turns.specs.RoundOfTurns.{RoundRules, turns_of}
+use Rattle.turns.specs.RoundOfTurns as turns
 
 -- in a turn: the list so far, and whether the seat has bought or bid
 abbrev pub InTurn : Type 0
-InTurn = Turned (List Event)
-
--- in a turn with this list, in which the seat has acted or not
-abbrev pub in_turn : List Event → Bool → InTurn
-in_turn events acted = record { state = events; acted = acted }
+InTurn = turns.InTurn Bool
 
 -- after what an order brings that was obeyed in a turn
 abbrev pub after_act : ℕ → Seat → List Event → Order → List Event
@@ -43,30 +43,27 @@ is_obeyed other = false
 abbrev pub after_ruling : ℕ → Seat → InTurn → ℕ → Ruling → InTurn
 after_ruling seats seat turn number ruling =
     record {
-      state = after_obeyed seats seat (turn.state ++ Ruled seat number ruling ∷ []) ruling;
-      acted = turn.acted || is_obeyed ruling;
+      events = after_obeyed seats seat (turn.events ++ Ruled seat number ruling ∷ []) ruling;
+      deeds = turn.deeds || is_obeyed ruling;
     }
 
 -- after a line of a group
 abbrev pub after_line : ℕ → Seat → InTurn → Numbered → InTurn
-after_line seats seat turn line = after_ruling seats seat turn line.number (ruling_of seats turn.state seat turn.acted line.reading)
+after_line seats seat turn line = after_ruling seats seat turn line.number (ruling_of seats turn.events seat turn.deeds line.reading)
 
--- after lines of a group, in order
-abbrev pub after_lines : ℕ → Seat → InTurn → List Numbered → InTurn
-after_lines seats seat turn [] = turn
-after_lines seats seat turn (line ∷ lines) = after_lines seats seat (after_line seats seat turn line) lines
-
--- all privates are sold
-abbrev pub all_sold : List Event → Bool
-all_sold events = is_none (cheapest_of events)
-
--- the turns of an opening round, which are over once all privates are sold, or all seats have passed in
--- succession
-abbrev pub opening_turns : ℕ → Play (List Event) Numbered
-opening_turns seats =
+-- the rules of an opening round: a seat that bought or bid has acted, and the turns are over once all privates
+-- are sold, also where not all seats have passed in succession
+abbrev pub opening_rules : RoundRules Bool
+opening_rules =
     record {
-      seats = seats;
-      turn = λ seat lines events. after_lines seats seat (in_turn events false) lines;
-      pass = λ seat events. events ++ Passes seat ∷ [];
+      standing = after_standing_line;
+      nothing = false;
+      line = after_line;
+      has_acted = λ acted. acted;
       over = all_sold;
+      closed = closed;
     }
+
+-- the turns of an opening round
+abbrev pub opening_turns : ℕ → Play (List Event) Numbered
+opening_turns seats = turns_of opening_rules seats

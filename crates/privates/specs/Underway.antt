@@ -29,6 +29,11 @@ pub record IsWaiting (events : List Event) : Type 0 where
   pub baltimore : BaltimoreWaits events
   pub limits : LimitsAreSmall events
 
+-- an opening round may begin
+pub record MayBegin (events : List Event) : Type 0 where
+  pub pennsylvania : PennsylvaniaWaits events
+  pub baltimore : BaltimoreWaits events
+
 -- the game is in an opening round
 pub record IsUnderway (game : Game) : Type 0 where
   pub sound : IsSound game

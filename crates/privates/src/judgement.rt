@@ -1,4 +1,4 @@
-ghost use Rattle.std.specs.Prelude.{◌≡◌, ◌≤◌, ◌||◌, pos};
+ghost use Rattle.std.specs.Prelude.{◌≡◌, ◌≤◌, pos};
 ghost use Rattle.std.specs.Int.Signed.{lt_z};
 ghost use Rattle.history.specs.Bids.{free_for};
 ghost use Rattle.history.specs.LookBack.{cheapest_in};

@@ -1,17 +1,19 @@
 //! Laws of the definitions, each the contract of a function that does nothing.
-ghost use Rattle.std.specs.Prelude.{◌≡◌, ◌≤◌, ℕ, List, length};
-ghost use Rattle.privates.specs.Auction.{Bidder, IsWon, LimitsHold, auction_of};
+ghost use Rattle.std.specs.Prelude.{◌≡◌, ℕ, List};
+ghost use Rattle.privates.specs.Auction.{AuctionIsWon};
 ghost use Rattle.history.specs.LookBack.{Game};
 ghost use Rattle.privates.specs.Opening.{EndsSoon, IsOpeningRound};
 ghost use Rattle.history.specs.declared.event.Event.{Event};
 ghost use Rattle.privates.specs.Sale.{settle, settled};
+ghost use Rattle.privates.specs.Turn.{opening_rules};
 ghost use Rattle.tables.specs.declared.round.Round.{Round};
+ghost use Rattle.turns.specs.Acted.{TurnsTellWhoActed};
 
-/// An auction is won by a bidder who is ahead of all, by his limit and then by his bid, at a price
-/// within his limit and over no bid.
+/// An auction is won by the bidder who is ahead of all, by his limit and then by his bid. The price
+/// is the larger of the highest bid and of the lesser of his limit and the greatest limit of the
+/// others plus 5: it is within his limit and under no bid.
 pub fn auction_is_won()
-    ensures { (bidders : List Bidder) → 1 ≤ length bidders → LimitsHold bidders
-        → IsWon bidders (auction_of bidders) }
+    ensures { AuctionIsWon }
 {}
 
 /// The sales that follow from a sale come to an end: after them no bids are left on the cheapest
@@ -32,4 +34,10 @@ pub fn one_opening_round()
 /// most 513 for each seat.
 pub fn opening_round_ends()
     ensures { (file : List ℕ) (round : Round) (old : Game) → EndsSoon file round old }
+{}
+
+/// A seat acted in its turn exactly where the list of events says so: the new events of the turn
+/// name it as the seat that acted last, and where it did not act they name nobody.
+pub fn opening_turns_tell_who_acted()
+    ensures { TurnsTellWhoActed opening_rules }
 {}

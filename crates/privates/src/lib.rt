@@ -9,7 +9,9 @@
 //!
 //! Reading order: `judgement` (the rules that an order may break), `ruling`, `standing` (the lines
 //! before the first group), `bidding` (the auction), `sale` (what it brings, and what follows from
-//! it), `turn`, `closing`, `opening`, `laws` (what holds of every opening round and auction).
+//! it), `turn` (the lines of a turn), `closing`, `opening` (what makes it a round of `turns`),
+//! `laws` (what holds of every opening round and auction). In `specs/`, `LimitsKept`,
+//! `UnderwayKept` and `Keeping` are no rules: they prove what a round of turns asks to be kept.
 #![tactic(auto)]
 
 mod bidding;
@@ -24,5 +26,8 @@ mod turn;
 
 pub use bidding::auction;
 pub use judgement::judge;
-pub use laws::{auction_is_won, nothing_is_left_to_settle, one_opening_round, opening_round_ends};
+pub use laws::{
+    auction_is_won, nothing_is_left_to_settle, one_opening_round, opening_round_ends,
+    opening_turns_tell_who_acted,
+};
 pub use opening::play_opening;

@@ -1,39 +1,81 @@
-ghost use Rattle.std.specs.Prelude.{◌≡◌, ◌<◌, ◌≤◌, ◌++◌, [], ◌∷◌, All, IfOk, OnOk, length, map, true};
-ghost use Rattle.std.specs.List.{range_with_len};
-ghost use Rattle.history.specs.LookBack.{with_event};
+ghost use Rattle.std.specs.Prelude.{◌≡◌, IfOk, false, length, refl};
 ghost use Rattle.history.specs.Sound.{IsSound};
-ghost use Rattle.history.specs.Tell.{with_left};
-ghost use Rattle.history.specs.declared.event.Event.TheVariants as event;
-ghost use Rattle.privates.specs.Opening.{IsOpeningRound, groups_for, TurnsLead, in_play, left_from};
-ghost use Rattle.privates.specs.Small.{IsReady};
-ghost use Rattle.privates.specs.Standing.{after_standing};
-ghost use Rattle.privates.specs.Turn.{opening_turns};
-ghost use Rattle.privates.specs.Underway.{BaltimoreWaits, IsUnderway, PennsylvaniaWaits};
+ghost use Rattle.privates.specs.Keeping.{begins as begins_underway, leaves as leaves_underway, passes as passes_underway};
+ghost use Rattle.privates.specs.Opening.{IsOpeningRound};
+ghost use Rattle.privates.specs.Turn.{opening_rules};
+ghost use Rattle.privates.specs.Underway.{BaltimoreWaits, IsUnderway, MayBegin, PennsylvaniaWaits};
 ghost use Rattle.sheets.specs.File.{players_of};
-ghost use Rattle.sheets.specs.Part.{groups_of};
-ghost use Rattle.tables.specs.Seat.{left_of, seat_at};
-ghost use Rattle.tables.specs.Turns.{TurnsEnd, after_turn};
 
-use crate::closing::close;
-use crate::standing::rule_standing;
-use crate::turn::take_turn;
-use arrayvec::ArrayVec;
-use history::{Event, History};
-use sheets::{PartsLeft, Sheets};
+use crate::{closing, standing, turn};
+use history::History;
+use sheets::{NumberedLine, Sheets};
 use std::alloc::AllocError;
-use tables::{PLAYERS_MOST, Round, Seat};
+use tables::{Round, Seat};
+use turns::{TurnRules, play_round};
 
-/// What is still to come of each seat's sheet, by seat.
-type Unruled<'a> = ArrayVec<PartsLeft<'a>, PLAYERS_MOST>;
+/// What an opening round says for itself. In a turn a seat has bought or bid, or it has not.
+struct OpeningTurns;
+
+impl TurnRules for OpeningTurns {
+    type Deeds = bool;
+
+    ghost rules = { opening_rules };
+
+    ghost may_begin = { MayBegin };
+
+    ghost holds = { IsUnderway };
+
+    fn rule_standing_line(
+        &self,
+        history: &mut History,
+        seat: Seat,
+        line: &NumberedLine,
+    ) -> Result<(), AllocError> {
+        standing::rule_standing_line(history, seat, line)
+    }
+
+    fn nothing(&self) -> bool {
+        false
+    }
+
+    fn rule_line(
+        &self,
+        history: &mut History,
+        seat: Seat,
+        line: &NumberedLine,
+        deeds: bool,
+    ) -> Result<bool, AllocError> {
+        let obeyed = turn::rule_line(history, seat, line, deeds)?;
+        Ok(deeds || obeyed)
+    }
+
+    fn has_acted(&self, deeds: bool) -> bool {
+        deeds
+    }
+
+    fn is_over(&self, history: &History) -> bool {
+        history.cheapest_unsold().is_none()
+    }
+
+    fn close(&self, history: &mut History) -> Result<(), AllocError> {
+        closing::close(history)
+    }
+
+    ghost stays_sound = { λ game underway. underway.sound };
+
+    ghost begins = { begins_underway };
+
+    ghost passes = { passes_underway };
+
+    ghost leaves = { leaves_underway };
+
+    ghost idle = { refl };
+}
 
 /// Plays an opening round with the sheets for it. PRR has no square while CA is unsold, nor has BO
 /// while BOP is: they wait for the gifts. An `Err` comes from want of memory alone, and the game is
 /// dropped.
-pub fn play_opening(
-    mut history: History,
-    sheets: &Sheets,
-    round: Round,
-) -> Result<History, AllocError>
+pub fn play_opening(history: History, sheets: &Sheets, round: Round) -> Result<History, AllocError>
     requires sound { IsSound history }
     requires seats { history.seats ≡ length (players_of sheets.now) }
     requires pennsylvania { PennsylvaniaWaits history.events }
@@ -43,150 +85,6 @@ pub fn play_opening(
     ensures pennsylvania { IfOk result (λ new. PennsylvaniaWaits new.events) }
     ensures baltimore { IfOk result (λ new. BaltimoreWaits new.events) }
 {
-    let first = history.priority();
-    begin(&mut history, round)?;
-    let mut unruled = rule_all_standing(&mut history, sheets, round)?;
-    let unruled = unruled.as_mut_slice();
-    take_turns(&mut history, first.number(), unruled)?;
-    close(&mut history)?;
-    tell_all_left(&mut history, unruled)?;
+    let history = play_round(&OpeningTurns, history, sheets, round)?;
     Ok(history)
-}
-
-/// Tells that the round begins.
-fn begin(history: &mut History, round: Round) -> Result<(), AllocError>
-    requires sound { IsSound history.old }
-    requires pennsylvania { PennsylvaniaWaits history.old.events }
-    requires baltimore { BaltimoreWaits history.old.events }
-    ensures event { OnOk result (history.new ≡ with_event history.old (event.Round round)) }
-    ensures underway { OnOk result (IsUnderway history.new) }
-{
-    history.tell(Event::Round(round))?;
-    Ok(())
-}
-
-/// Rules the standing lines of each sheet, seat by seat. Answers what is left.
-fn rule_all_standing<'a>(
-    history: &mut History,
-    sheets: &Sheets<'a>,
-    round: Round,
-) -> Result<Unruled<'a>, AllocError>
-    requires { IsUnderway history.old }
-    ensures seats { OnOk result (history.new.seats ≡ history.old.seats) }
-    ensures events { OnOk result (history.new.events
-        ≡ after_standing sheets.now round history.old.events
-        (range_with_len 0 (length (players_of sheets.now)))) }
-    ensures left { IfOk result (λ unruled. map groups_of unruled.items
-        ≡ groups_for (length (players_of sheets.now)) sheets.now round) }
-    ensures each { IfOk result (λ unruled. length unruled.items ≡ length (players_of sheets.now)) }
-    ensures some { IfOk result (λ unruled. 0 < length unruled.items) }
-    ensures ready { IfOk result (λ unruled. All IsReady unruled.items) }
-    ensures underway { OnOk result (IsUnderway history.new) }
-{
-    let mut unruled = Unruled::new();
-    for seat in 0..sheets.seats() {
-        let seat = Seat::at(seat);
-        let mut sheet = sheets.parts(seat, round);
-        rule_standing(history, seat, &mut sheet)?;
-        unruled.push(sheet);
-    }
-    Ok(unruled)
-}
-
-/// Takes turns to the left of a seat until all privates are sold or all have passed in succession.
-fn take_turns(
-    history: &mut History,
-    first: usize,
-    unruled: &mut [PartsLeft],
-) -> Result<(), AllocError>
-    requires first { first < length unruled.old }
-    requires few { length unruled.old ≤ 6 }
-    requires seats { history.old.seats ≡ length unruled.old }
-    requires ready { All IsReady unruled.old }
-    requires underway { IsUnderway history.old }
-    ensures seats { OnOk result (history.new.seats ≡ history.old.seats) }
-    ensures turns { OnOk result (TurnsLead history.old.seats
-        (in_play history.old.events first 0 (map groups_of unruled.old))
-        history.new.events (map groups_of unruled.new)) }
-    ensures ready { OnOk result (All IsReady unruled.new) }
-    ensures underway { OnOk result (IsUnderway history.new) }
-{
-    let seats = unruled.len();
-    let mut seat = first;
-    let mut passes = 0;
-    while passes < seats && history.cheapest_unsold().is_some() {
-        passes = play_turn(history, unruled, seat, passes)?;
-        seat = Seat::at(seat).left(seats).number();
-    }
-    Ok(())
-}
-
-/// The turn of a seat, which passes where it neither buys nor bids. Answers how many have passed in
-/// succession.
-fn play_turn(
-    history: &mut History,
-    unruled: &mut [PartsLeft],
-    seat: usize,
-    passes: usize,
-) -> Result<usize, AllocError>
-    requires seat { seat < length unruled.old }
-    requires few { length unruled.old ≤ 6 }
-    requires seats { history.old.seats ≡ length unruled.old }
-    requires passes { passes < length unruled.old }
-    requires ready { All IsReady unruled.old }
-    requires underway { IsUnderway history.old }
-    ensures seats { OnOk result (history.new.seats ≡ history.old.seats) }
-    ensures each { OnOk result (length unruled.new ≡ length unruled.old) }
-    ensures turn { IfOk result (λ after.
-        in_play history.new.events (left_of history.old.seats (seat_at seat)).0 after
-        (map groups_of unruled.new)
-        ≡ after_turn (opening_turns history.old.seats)
-        (in_play history.old.events seat passes (map groups_of unruled.old))) }
-    ensures passes { IfOk result (λ after. after ≤ length unruled.old) }
-    ensures ready { OnOk result (All IsReady unruled.new) }
-    ensures underway { OnOk result (IsUnderway history.new) }
-{
-    if take_turn(history, Seat::at(seat), &mut unruled[seat])? {
-        return Ok(0);
-    }
-    pass(history, Seat::at(seat))?;
-    Ok(passes + 1)
-}
-
-/// A seat passes.
-fn pass(history: &mut History, seat: Seat) -> Result<(), AllocError>
-    requires { IsUnderway history.old }
-    ensures event { OnOk result (history.new ≡ with_event history.old (event.Passes seat)) }
-    ensures underway { OnOk result (IsUnderway history.new) }
-{
-    history.tell(Event::Passes(seat))?;
-    Ok(())
-}
-
-/// Tells how many lines of each sheet were not taken up, heads of groups not counted.
-fn tell_all_left(history: &mut History, unruled: &[PartsLeft]) -> Result<(), AllocError>
-    requires few { length unruled.now ≤ 6 }
-    requires ready { All IsReady unruled.now }
-    requires underway { IsUnderway history.old }
-    ensures seats { OnOk result (history.new.seats ≡ history.old.seats) }
-    ensures events { OnOk result (history.new.events
-        ≡ history.old.events ++ left_from 0 (map groups_of unruled.now)) }
-    ensures underway { OnOk result (IsUnderway history.new) }
-{
-    for (seat, sheet) in unruled.iter().enumerate() {
-        tell_seat_left(history, Seat::at(seat), sheet.count())?;
-    }
-    Ok(())
-}
-
-/// Tells how many lines of a seat's sheet were not taken up.
-fn tell_seat_left(history: &mut History, seat: Seat, lines: u32) -> Result<(), AllocError>
-    requires { IsUnderway history.old }
-    ensures seats { OnOk result (history.new.seats ≡ history.old.seats) }
-    ensures events { OnOk result (history.new.events
-        ≡ history.old.events ++ with_left seat lines []) }
-    ensures underway { OnOk result (IsUnderway history.new) }
-{
-    history.tell_left(seat, lines)?;
-    Ok(())
 }

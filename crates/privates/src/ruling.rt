@@ -2,7 +2,7 @@
 ghost use Rattle.std.specs.Prelude.{◌≡◌, OnOk, IfOk};
 ghost use Rattle.history.specs.LookBack.{with_event};
 ghost use Rattle.history.specs.declared.event.Event.TheVariants as event;
-ghost use Rattle.privates.specs.Small.{IsSmallOrder, IsSmallRuling};
+ghost use Rattle.turns.specs.Small.{IsSmallOrder, IsSmallRuling};
 ghost use Rattle.privates.specs.Judgement.{judged};
 ghost use Rattle.privates.specs.Underway.{IsUnderway};
 

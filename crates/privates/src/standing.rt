@@ -1,6 +1,6 @@
-ghost use Rattle.std.specs.Prelude.{◌≡◌, [], OnOk, IfOk, MatchResult, Ok, Err};
-ghost use Rattle.privates.specs.Small.{IsSmallOrder, IsSmallReading, IsSmallRuling, PartsAreSmall};
-ghost use Rattle.privates.specs.Standing.{after_standing_lines, has_place_before as may_stand_before, standing_judgement, standing_ruling as ruling_standing};
+ghost use Rattle.std.specs.Prelude.{◌≡◌, OnOk, IfOk, MatchResult, Ok, Err};
+ghost use Rattle.turns.specs.Small.{IsSmallOrder, IsSmallReading, IsSmallRuling};
+ghost use Rattle.privates.specs.Standing.{after_standing_line, has_place_before as may_stand_before, standing_judgement, standing_ruling as ruling_standing};
 ghost use Rattle.privates.specs.Underway.{IsUnderway};
 ghost use Rattle.sheets.specs.Part.{line_read};
 ghost use Rattle.sheets.specs.Place.{placed};
@@ -8,29 +8,25 @@ ghost use Rattle.sheets.specs.Place.{placed};
 use crate::ruling::{ruling_of, tell_ruling};
 use history::{History, KeptRuling, OpeningRule};
 use order_grammar::{Fault, Order};
-use sheets::{NumberedLine, PartsLeft};
+use sheets::NumberedLine;
 use std::alloc::AllocError;
 use tables::{Company, Seat, par_square};
 
-/// Rules the standing lines of a seat's sheet, those before its first group.
-pub(crate) fn rule_standing(
+/// Rules a standing line of a seat, one before the first group of its sheet.
+pub(crate) fn rule_standing_line(
     history: &mut History,
     seat: Seat,
-    sheet: &mut PartsLeft,
+    line: &NumberedLine,
 ) -> Result<(), AllocError>
-    requires small { PartsAreSmall sheet.old }
+    requires small { IsSmallReading (line_read line.now).reading }
     requires underway { IsUnderway history.old }
     ensures seats { OnOk result (history.new.seats ≡ history.old.seats) }
     ensures events { OnOk result (history.new.events
-        ≡ after_standing_lines seat history.old.events sheet.old.before) }
-    ensures left { OnOk result (sheet.new ≡ record { before = []; opened = sheet.old.opened }) }
+        ≡ after_standing_line seat history.old.events (line_read line.now)) }
     ensures underway { OnOk result (IsUnderway history.new) }
 {
-    while let Some(line) = sheet.take_line() {
-        let ruling = standing_ruling(history, &line)?;
-        tell_ruling(history, seat, &line, ruling)?;
-    }
-    Ok(())
+    let ruling = standing_ruling(history, line)?;
+    tell_ruling(history, seat, line, ruling)
 }
 
 /// What becomes of a standing line.

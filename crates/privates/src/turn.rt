@@ -1,58 +1,27 @@
-ghost use Rattle.std.specs.Prelude.{◌≡◌, ◌≤◌, ◌<◌, ◌||◌, OnOk, IfOk, MatchResult, Ok, Err, drop, false};
+ghost use Rattle.std.specs.Prelude.{◌≡◌, ◌≤◌, ◌<◌, ◌||◌, OnOk, IfOk, MatchResult, Ok, Err};
 ghost use Rattle.history.specs.LookBack.{with_event};
 ghost use Rattle.history.specs.declared.event.Event.TheVariants as event;
 ghost use Rattle.privates.specs.Act.{MayAct, MayBid, MayPay};
 ghost use Rattle.privates.specs.Judgement.{has_place_in_group, judged, judgement_of, price_of as price_asked};
 ghost use Rattle.privates.specs.Sale.{after_sale, settled};
-ghost use Rattle.privates.specs.Small.{IsReady, IsSmallOrder, IsSmallReading};
-ghost use Rattle.privates.specs.Turn.{after_act, after_line, after_lines, after_ruling, in_turn};
+ghost use Rattle.privates.specs.Turn.{after_act, after_line, after_ruling};
 ghost use Rattle.privates.specs.Underway.{IsUnderway};
-ghost use Rattle.sheets.specs.Part.{groups_of, line_read};
+ghost use Rattle.sheets.specs.Part.{line_read};
 ghost use Rattle.sheets.specs.Place.{placed};
-ghost use Rattle.tables.specs.Turns.{next_group};
+ghost use Rattle.turns.specs.RoundOfTurns.{in_turn};
+ghost use Rattle.turns.specs.Small.{IsSmallOrder, IsSmallReading};
 
 use crate::judgement::{judge, price_of};
 use crate::ruling::{ruling_of, tell_ruling};
 use crate::sale::{sell, settle_all};
 use history::{Event, History, KeptRuling};
 use order_grammar::{Fault, Order};
-use sheets::{NumberedLine, PartsLeft, is_of_file};
+use sheets::{NumberedLine, is_of_file};
 use std::alloc::AllocError;
 use tables::{Amount, Private, Seat};
 
-/// A seat's turn: it takes up the next group of its sheet, if there is one. Answers whether the
-/// seat bought or bid.
-pub(crate) fn take_turn(
-    history: &mut History,
-    seat: Seat,
-    sheet: &mut PartsLeft,
-) -> Result<bool, AllocError>
-    requires few { history.old.seats ≤ 6 }
-    requires at_table { seat.0 < history.old.seats }
-    requires ready { IsReady sheet.old }
-    requires underway { IsUnderway history.old }
-    ensures seats { OnOk result (history.new.seats ≡ history.old.seats) }
-    ensures turn { IfOk result (λ acted.
-        in_turn history.new.events acted
-        ≡ after_lines history.old.seats seat (in_turn history.old.events false)
-        (next_group (groups_of sheet.old))) }
-    ensures left { OnOk result (groups_of sheet.new ≡ drop 1 (groups_of sheet.old)) }
-    ensures ready { OnOk result (IsReady sheet.new) }
-    ensures underway { OnOk result (IsUnderway history.new) }
-{
-    let Some(_head) = sheet.take_head() else {
-        return Ok(false);
-    };
-    let mut acted = false;
-    while let Some(line) = sheet.take_line() {
-        let obeyed = rule_line(history, seat, &line, acted)?;
-        acted |= obeyed;
-    }
-    Ok(acted)
-}
-
 /// Rules a line of a group, and does what it orders if it is obeyed. Answers whether it is.
-fn rule_line(
+pub(crate) fn rule_line(
     history: &mut History,
     seat: Seat,
     line: &NumberedLine,

@@ -1,6 +1,6 @@
 -- Within an opening round the list of events grows, and its new events stand aside.
-use Rattle.std.proofs.Common.{◌≡◌, ℕ, ◌+◌, ◌-◌, ◌==◌, true, false, List, [], ◌∷◌, ◌++◌, Option, Some, None, refl, sym, subst}
-use Rattle.std.specs.List.{list_all, range_with_len}
+use Rattle.std.proofs.Common.{◌≡◌, ℕ, ◌-◌, ◌==◌, true, List, [], ◌∷◌, ◌++◌, Option, Some, None, refl}
+use Rattle.std.specs.List.{list_all}
 use Rattle.std.proofs.lemmas.List.{append_assoc}
 use Rattle.history.specs.Bids.{bids_on}
 use Rattle.history.specs.LookBack.{Game, cheapest_of, is_sold, priority_of, sv_price_of}
@@ -12,36 +12,20 @@ use Rattle.history.specs.declared.ruling.Ruling.{Ruling}
 use Rattle.history.specs.declared.ruling.Ruling.TheVariants as ruling
 use Rattle.order_grammar.specs.declared.order.Order.{Order}
 use Rattle.order_grammar.specs.declared.order.Order.TheVariants as order
+use Rattle.privates.specs.Closing.{after_fall, after_passing, all_sold, closed, given_away}
 use Rattle.privates.specs.Judgement.{price_of, ruling_of}
-use Rattle.privates.specs.Opening.{IsOpeningRound, after_fall, after_passing, closed, finished, given_away, left_from, opened}
+use Rattle.privates.specs.Opening.{IsOpeningRound}
 use Rattle.privates.specs.Sale.{after_sale, gifts, settle, settled, settled_by, settled_of}
-use Rattle.privates.specs.Standing.{after_standing, after_standing_line, after_standing_lines, after_standing_of}
-use Rattle.privates.specs.Turn.{InTurn, after_act, after_line, after_lines, after_obeyed, all_sold, opening_turns}
-use Rattle.rounds.proofs.Growing.{Grows, by_steps, by_turns, count_aside, further, in_either, is_aside, revenues_grow, stays, told}
-use Rattle.sheets.specs.Part.{Numbered, lines_in_groups, parts_for}
+use Rattle.privates.specs.Standing.{standing_ruling}
+use Rattle.privates.specs.Turn.{InTurn, after_act, after_line, after_obeyed, opening_rules}
+use Rattle.rounds.proofs.Growing.{Grows, by_steps, further, in_either, is_aside, revenues_grow, stays, told}
+use Rattle.sheets.specs.Part.{Numbered}
 use Rattle.tables.specs.Roster.{privates}
-use Rattle.tables.specs.Seat.{seat_at}
-use Rattle.tables.specs.Steps.{iterate}
-use Rattle.tables.specs.Turns.{InPlay, after_turn}
 use Rattle.tables.specs.declared.roster.Private.{Private}
 use Rattle.tables.specs.declared.roster.Private.TheVariants as private
 use Rattle.tables.specs.declared.round.Round.{Round}
 use Rattle.tables.specs.declared.seat.Seat.{Seat}
-
--- by standing lines
-standing_lines_grow : (seat : Seat) (events : List Event) (lines : List Numbered) → Grows events (after_standing_lines seat events lines)
-standing_lines_grow seat events [] = stays events
-standing_lines_grow seat events (line ∷ lines) =
-    further events (after_standing_line seat events line) _ (record { more = _; longer = refl; aside = refl })
-    (standing_lines_grow seat (after_standing_line seat events line) lines)
-
--- by those of each seat
-standing_grows : (file : List ℕ) (round : Round) (events : List Event) (seats : List ℕ) → Grows events (after_standing file round events seats)
-standing_grows file round events [] = stays events
-standing_grows file round events (seat ∷ seats) =
-    further events (after_standing_of file round events seat) _
-    (standing_lines_grow (seat_at seat) events (parts_for file round seat).before)
-    (standing_grows file round (after_standing_of file round events seat) seats)
+use Rattle.turns.proofs.RoundLeads.{round_leads}
 
 -- what comes with a sale stands aside
 gifts_aside : (events : List Event) (private : Private) (buyer : Seat) → list_all is_aside (gifts events private buyer) ≡ true
@@ -87,21 +71,13 @@ ruling_grows : (seats : ℕ) (seat : Seat) (events : List Event) (ruled : Ruling
 ruling_grows seats seat events (ruling.Obeyed done) = act_grows seats seat events done
 ruling_grows seats seat events other = stays events
 
--- by the lines of a turn
-lines_grow : (seats : ℕ) (seat : Seat) (turn : InTurn) (lines : List Numbered) → Grows turn.state (after_lines seats seat turn lines).state
-lines_grow seats seat turn [] = stays turn.state
-lines_grow seats seat turn (line ∷ lines) =
-    let ruled : Ruling = ruling_of seats turn.state seat turn.acted line.reading in
-    let told : List Event = turn.state ++ event.Ruled seat line.number ruled ∷ [] in
-    let next : InTurn = after_line seats seat turn line in
-    further turn.state next.state (after_lines seats seat next lines).state
-    (further turn.state told next.state (record { more = _; longer = refl; aside = refl }) (ruling_grows seats seat told ruled))
-    (lines_grow seats seat next lines)
-
--- by the lines of a turn and by passes
-turns_grow : (seats n : ℕ) (start : InPlay (List Event) Numbered) → Grows start.now (iterate (after_turn (opening_turns seats)) n start).now
-turns_grow seats n start =
-    by_turns (opening_turns seats) (λ seat lines events. lines_grow seats seat (record { state = events; acted = false }) lines) (λ seat events. told events (event.Passes seat) refl) n start
+-- by a line of a turn
+line_grows : (seats : ℕ) (seat : Seat) (turn : InTurn) (line : Numbered) → Grows turn.events (after_line seats seat turn line).events
+line_grows seats seat turn line =
+    let ruled : Ruling = ruling_of seats turn.events seat turn.deeds line.reading in
+    let told_so : List Event = turn.events ++ event.Ruled seat line.number ruled ∷ [] in
+    further turn.events told_so (after_line seats seat turn line).events
+    (told turn.events (event.Ruled seat line.number ruled) refl) (ruling_grows seats seat told_so ruled)
 
 -- by the fall of SV's price
 fall_grows : (seats : ℕ) (events : List Event) (price : ℕ) (holder : Seat) → Grows events (after_fall seats events price holder)
@@ -117,24 +93,16 @@ close_grows seats events =
     in_either events events (after_passing seats events) (all_sold events) (stays events)
     (in_either events (after_revenues seats events privates) (after_fall seats events (sv_price_of events - 5) (priority_of seats events)) (is_sold events private.SchuylkillValley) (revenues_grow seats events privates) (fall_grows seats events (sv_price_of events - 5) (priority_of seats events)))
 
--- so do the counts of lines that were left, seat by seat
-left_aside : (seat : ℕ) (groups : List (List (List Numbered))) → list_all is_aside (left_from seat groups) ≡ true
-left_aside seat [] = refl
-left_aside seat (group ∷ groups) =
-    count_aside (seat_at seat) (lines_in_groups group) (lines_in_groups group == 0) (left_from (seat + 1) groups) (left_aside (seat + 1) groups)
-
 -- an opening round adds its own ROUND event, and then events that stand aside
 pub opening_grows : (file : List ℕ) (round : Round) (old new : Game) → IsOpeningRound file round old new → Grows (old.events ++ event.Round round ∷ []) new.events
-opening_grows file round old new played =
-    let begun : List Event = old.events ++ event.Round round ∷ [] in
-    let start : InPlay (List Event) Numbered = opened old.seats file round old.events in
-    let turned : Grows start.now played.last.now =
-    subst (λ (last : InPlay (List Event) Numbered). Grows start.now last.now) played.turns.reached (turns_grow old.seats played.turns.steps start)
-    in
-    let shut : List Event = closed old.seats played.last.now in
-    let whole : Grows begun (finished old.seats played.last) =
-    further begun start.now _ (standing_grows file round begun (range_with_len 0 old.seats))
-    (further start.now played.last.now _ turned
-    (further played.last.now shut _ (close_grows old.seats played.last.now) (record { more = _; longer = refl; aside = left_aside 0 played.last.groups })))
-    in
-    subst (λ (game : Game). Grows begun game.events) (sym played.after) whole
+opening_grows =
+    round_leads opening_rules Grows
+    (record {
+      stays = stays;
+      further = further;
+      standing = λ seat events line. told events (event.Ruled seat line.number (standing_ruling events line.reading)) refl;
+      line = line_grows;
+      passes = λ events seat. told events (event.Passes seat) refl;
+      closed = close_grows;
+      leaves = λ events seat lines. told events (event.Left seat lines) refl;
+    })

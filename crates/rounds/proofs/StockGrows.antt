@@ -1,7 +1,7 @@
 -- Within a stock round the list of events grows, and its new events stand aside.
-use Rattle.std.proofs.Common.{◌≡◌, ℕ, ◌+◌, ◌*◌, ◌==◌, true, List, [], ◌∷◌, ◌++◌, Option, Some, None, refl, sym, subst}
+use Rattle.std.proofs.Common.{ℕ, ◌*◌, ◌==◌, List, [], ◌∷◌, ◌++◌, Option, Some, None, refl}
 use Rattle.std.specs.Prelude.{unwrap_or}
-use Rattle.std.specs.List.{list_all, range_with_len}
+use Rattle.certs.specs.President.{successor_of}
 use Rattle.certs.specs.Purchase.{market_price_of}
 use Rattle.history.specs.LookBack.{Game}
 use Rattle.history.specs.Shares.{par_of, president_of, square_of}
@@ -15,35 +15,21 @@ use Rattle.market.specs.Token.{moved_from, same_square}
 use Rattle.order_grammar.specs.declared.order.Order.{Order}
 use Rattle.order_grammar.specs.declared.order.Order.TheVariants as order
 use Rattle.order_grammar.specs.declared.order.ShareSource.{ShareSource}
-use Rattle.rounds.proofs.Growing.{Grows, broken_grows, by_turns, count_aside, further, in_either, is_aside, stays, told}
-use Rattle.sheets.specs.Part.{Numbered, lines_in_groups, parts_for}
-use Rattle.stock_round.specs.Act.{after_act, after_exchange, after_purchase, after_sale, bought, exchanged, floated_at, is_to_float, sold, successor_of, with_float, with_president, with_successor}
+use Rattle.rounds.proofs.Growing.{Grows, broken_grows, further, in_either, stays, told}
+use Rattle.sheets.specs.Part.{Numbered}
+use Rattle.stock_round.specs.Act.{after_act, after_exchange, after_purchase, after_sale, bought, exchanged, floated_at, is_to_float, sold, with_float, with_president, with_successor}
+use Rattle.stock_round.specs.Closing.{all_risen, is_sold_out, risen}
 use Rattle.stock_round.specs.Judgement.{exchange_source, ruling_of}
-use Rattle.stock_round.specs.StockRound.{IsStockRound, after_standing, after_standing_line, after_standing_lines, after_standing_of, all_risen, closed, finished, is_sold_out, left_from, opened, risen}
-use Rattle.stock_round.specs.Turn.{InTurn, after_line, after_lines, after_obeyed, in_turn, no_deals, stock_turns}
-use Rattle.tables.specs.Seat.{seat_at}
-use Rattle.tables.specs.Steps.{iterate}
-use Rattle.tables.specs.Turns.{InPlay, after_turn}
+use Rattle.stock_round.specs.Standing.{fault_of_standing}
+use Rattle.stock_round.specs.StockRound.{IsStockRound}
+use Rattle.stock_round.specs.Turn.{InTurn, after_line, after_obeyed, stock_rules}
 use Rattle.tables.specs.declared.roster.Company.{Company}
 use Rattle.tables.specs.declared.roster.Company.TheVariants.{NewYorkCentral}
 use Rattle.tables.specs.declared.round.Round.{Round}
 use Rattle.tables.specs.declared.seat.Seat.{Seat}
 use Rattle.tables.specs.declared.squares.Square.{Square}
-
--- by standing lines
-standing_lines_grow : (seat : Seat) (events : List Event) (lines : List Numbered) → Grows events (after_standing_lines seat events lines)
-standing_lines_grow seat events [] = stays events
-standing_lines_grow seat events (line ∷ lines) =
-    further events (after_standing_line seat events line) _ (record { more = _; longer = refl; aside = refl })
-    (standing_lines_grow seat (after_standing_line seat events line) lines)
-
--- by those of each seat
-standing_grows : (file : List ℕ) (round : Round) (events : List Event) (seats : List ℕ) → Grows events (after_standing file round events seats)
-standing_grows file round events [] = stays events
-standing_grows file round events (seat ∷ seats) =
-    further events (after_standing_of file round events seat) _
-    (standing_lines_grow (seat_at seat) events (parts_for file round seat).before)
-    (standing_grows file round (after_standing_of file round events seat) seats)
+use Rattle.turns.proofs.RoundLeads.{round_leads}
+use Rattle.turns.specs.RoundOfTurns.{in_turn}
 
 -- by the presidency of a company, where it moves from this seat, if any has it
 successor_grows : (seats : ℕ) (events : List Event) (company : Company) (old : Option Seat) → Grows events (with_successor seats events company old)
@@ -115,21 +101,13 @@ ruling_grows : (seats : ℕ) (seat : Seat) (turn : InTurn) (ruled : Ruling) → 
 ruling_grows seats seat turn (ruling.Obeyed done) = act_grows seats seat turn.events done
 ruling_grows seats seat turn other = stays turn.events
 
--- by the lines of a turn
-lines_grow : (seats : ℕ) (seat : Seat) (turn : InTurn) (lines : List Numbered) → Grows turn.events (after_lines seats seat turn lines).events
-lines_grow seats seat turn [] = stays turn.events
-lines_grow seats seat turn (line ∷ lines) =
-    let ruled : Ruling = ruling_of seats turn.events seat turn.deals.bought line.reading in
-    let told_so : InTurn = in_turn (turn.events ++ event.Ruled seat line.number ruled ∷ []) turn.deals in
-    let next : InTurn = after_line seats seat turn line in
-    further turn.events next.events (after_lines seats seat next lines).events
-    (further turn.events told_so.events next.events (record { more = _; longer = refl; aside = refl }) (ruling_grows seats seat told_so ruled))
-    (lines_grow seats seat next lines)
-
--- by the lines of a turn and by passes
-turns_grow : (seats n : ℕ) (start : InPlay (List Event) Numbered) → Grows start.now (iterate (after_turn (stock_turns seats)) n start).now
-turns_grow seats n start =
-    by_turns (stock_turns seats) (λ seat lines events. lines_grow seats seat (in_turn events no_deals) lines) (λ seat events. told events (event.Passes seat) refl) n start
+-- by a line of a turn
+line_grows : (seats : ℕ) (seat : Seat) (turn : InTurn) (line : Numbered) → Grows turn.events (after_line seats seat turn line).events
+line_grows seats seat turn line =
+    let ruled : Ruling = ruling_of seats turn.events seat turn.deeds.bought line.reading in
+    let told_so : InTurn = in_turn (turn.events ++ event.Ruled seat line.number ruled ∷ []) turn.deeds in
+    further turn.events told_so.events (after_line seats seat turn line).events
+    (told turn.events (event.Ruled seat line.number ruled) refl) (ruling_grows seats seat told_so ruled)
 
 -- by the rise of a company that is sold out
 rise_grows : (events : List Event) (company : Company) → Grows events (risen events company)
@@ -143,24 +121,16 @@ rises_grow events [] = stays events
 rises_grow events (company ∷ others) =
     further events (risen events company) _ (rise_grows events company) (rises_grow (risen events company) others)
 
--- the counts of lines that were left stand aside
-left_aside : (seat : ℕ) (groups : List (List (List Numbered))) → list_all is_aside (left_from seat groups) ≡ true
-left_aside seat [] = refl
-left_aside seat (group ∷ groups) =
-    count_aside (seat_at seat) (lines_in_groups group) (lines_in_groups group == 0) (left_from (seat + 1) groups) (left_aside (seat + 1) groups)
-
 -- a stock round adds its own ROUND event, and then events that stand aside
 pub stock_round_grows : (file : List ℕ) (round : Round) (old new : Game) → IsStockRound file round old new → Grows (old.events ++ event.Round round ∷ []) new.events
-stock_round_grows file round old new played =
-    let begun : List Event = old.events ++ event.Round round ∷ [] in
-    let start : InPlay (List Event) Numbered = opened old.seats file round old.events in
-    let turned : Grows start.now played.last.now =
-    subst (λ (last : InPlay (List Event) Numbered). Grows start.now last.now) played.turns.reached (turns_grow old.seats played.turns.steps start)
-    in
-    let shut : List Event = closed played.last.now in
-    let whole : Grows begun (finished played.last) =
-    further begun start.now _ (standing_grows file round begun (range_with_len 0 old.seats))
-    (further start.now played.last.now _ turned
-    (further played.last.now shut _ (rises_grow played.last.now (operating_order_of played.last.now)) (record { more = _; longer = refl; aside = left_aside 0 played.last.groups })))
-    in
-    subst (λ (game : Game). Grows begun game.events) (sym played.after) whole
+stock_round_grows =
+    round_leads stock_rules Grows
+    (record {
+      stays = stays;
+      further = further;
+      standing = λ seat events line. told events (event.Ruled seat line.number (ruling.Faulty (fault_of_standing line.reading))) refl;
+      line = line_grows;
+      passes = λ events seat. told events (event.Passes seat) refl;
+      closed = λ seats events. rises_grow events (operating_order_of events);
+      leaves = λ events seat lines. told events (event.Left seat lines) refl;
+    })

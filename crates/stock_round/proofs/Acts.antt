@@ -1,10 +1,10 @@
 -- What an obeyed order brings keeps a list sound.
-use Rattle.std.proofs.Common.{◌≡◌, ℕ, ◌*◌, ◌≤◌, ◌<◌, ◌==◌, Bool, true, false, not, ◌&&◌, ◌||◌, if◌then◌else◌, List, [], ◌∷◌, ◌++◌, Option, Some, None, is_some, ℤ, pos, ◌≤ℤ◌, ◌+ℤ◌, refl, sym, subst, ap, ◌∙◌, arith}
+use Rattle.std.proofs.Common.{◌≡◌, ℕ, ◌*◌, ◌≤◌, ◌<◌, ◌==◌, Bool, true, false, not, ◌&&◌, ◌||◌, if◌then◌else◌, List, [], ◌∷◌, ◌++◌, Option, Some, None, is_some, ℤ, pos, ◌≤ℤ◌, ◌+ℤ◌, refl, sym, subst, ap, arith}
 use Rattle.std.proofs.lemmas.Bool.Decides.{nat_tests}
 use Rattle.std.proofs.lemmas.Int.{ints}
 use Rattle.std.specs.Int.Signed.{lt_z}
 use Rattle.certs.proofs.Presidents.{most_le}
-use Rattle.certs.specs.President.{others_from}
+use Rattle.certs.specs.President.{others_from, seat_tenths_of, successor_of}
 use Rattle.certs.specs.Purchase.{is_none_there, is_short, tenth_price_of}
 use Rattle.certs.specs.Sale.{is_over_five}
 use Rattle.certs.specs.declared.deal.Sale.{Sale}
@@ -24,7 +24,7 @@ use Rattle.market.proofs.Tokens.{same_game}
 use Rattle.order_grammar.specs.declared.order.ShareSource.{ShareSource}
 use Rattle.order_grammar.specs.declared.order.ShareSource.TheVariants as source
 use Rattle.stock_round.proofs.Judged.{holds, is_nothing}
-use Rattle.stock_round.specs.Act.{float_most, is_to_float, president_tenths, seat_tenths_of, succeeded, successor_of, with_president, with_successor}
+use Rattle.stock_round.specs.Act.{float_most, is_to_float, president_tenths, succeeded, with_president, with_successor}
 use Rattle.stock_round.specs.Allowed.{MayBuy, MayExchange, MaySell, MayStart}
 use Rattle.stock_round.specs.Judgement.{exchange_source, is_offered, is_owner, is_pooled}
 use Rattle.tables.specs.Seat.{seat_at}

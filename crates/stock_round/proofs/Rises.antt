@@ -2,7 +2,7 @@
 use Rattle.std.proofs.Common.{◌≡◌, ℕ, ◌+◌, ◌<◌, List, ◌∷◌, length, drop, get_or, sym, ap, ◌∙◌, add-one}
 use Rattle.std.proofs.Math.Seq.{drop-cons}
 use Rattle.history.specs.declared.event.Event.{Event}
-use Rattle.stock_round.specs.StockRound.{all_risen, risen}
+use Rattle.stock_round.specs.Closing.{all_risen, risen}
 use Rattle.tables.specs.declared.roster.Company.{Company}
 
 -- where the companies that are left lead after the next, they lead before it

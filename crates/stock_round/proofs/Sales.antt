@@ -5,7 +5,7 @@ use Rattle.std.proofs.lemmas.Int.{ints}
 use Rattle.std.specs.Int.Signed.{lt_z}
 use Rattle.certs.proofs.Presidents.{most_le}
 use Rattle.certs.specs.Counted.{presides}
-use Rattle.certs.specs.President.{others_from}
+use Rattle.certs.specs.President.{others_from, seat_tenths_of, successor_of}
 use Rattle.certs.specs.Purchase.{market_price_of}
 use Rattle.certs.specs.Sale.{is_not_held, kept_after, leaves_none, must_stay, one_has}
 use Rattle.certs.specs.declared.deal.Sale.{Sale}
@@ -21,7 +21,7 @@ use Rattle.history.specs.declared.event.Event.TheVariants as event
 use Rattle.history.specs.declared.event.Shareholder.TheVariants.{Seat as OfSeat}
 use Rattle.market.proofs.Tokens.{same_game}
 use Rattle.stock_round.proofs.Others.{another_leads}
-use Rattle.stock_round.specs.Act.{seat_tenths_of, sold, succeeded, successor_of, with_president, with_successor}
+use Rattle.stock_round.specs.Act.{sold, succeeded, with_president, with_successor}
 use Rattle.stock_round.specs.Allowed.{MaySell}
 use Rattle.tables.specs.Roster.{same_company}
 use Rattle.tables.specs.Seat.{seat_at}

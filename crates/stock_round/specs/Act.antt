@@ -4,15 +4,15 @@
 -- market price, and the token then moves down as many squares. The presidency passes to a seat that has
 -- strictly more tenths than the president. A company floats once at most four tenths are left in its initial
 -- offering, and has ten times its par value then.
-use Rattle.std.specs.Prelude.{ℕ, ◌*◌, ◌==◌, Bool, not, ◌&&◌, if◌then◌else◌, List, [], ◌∷◌, ◌++◌, Option, Some, None, unwrap_or, ℤ, pos}
+use Rattle.std.specs.Prelude.{ℕ, ◌*◌, ◌==◌, Bool, not, ◌&&◌, if◌then◌else◌, List, [], ◌∷◌, ◌++◌, Option, Some, None, unwrap_or, pos}
 use Rattle.std.specs.Int.Signed.{lt_z}
-use Rattle.certs.specs.President.{others_from, with_most}
+use Rattle.certs.specs.President.{successor_of}
 use Rattle.certs.specs.Purchase.{market_price_of, tenth_price_of}
 use Rattle.history.specs.Shares.{is_floated, par_of, president_of, shares_of}
 use Rattle.history.specs.Tell.{with_broken}
 use Rattle.history.specs.declared.event.Event.{Event}
 use Rattle.history.specs.declared.event.Event.TheVariants as event
-use Rattle.history.specs.declared.event.Shareholder.TheVariants.{InitialOffering as AtOffering, Seat as OfSeat}
+use Rattle.history.specs.declared.event.Shareholder.TheVariants.{InitialOffering as AtOffering}
 use Rattle.market.specs.Moves.{fallen}
 use Rattle.market.specs.Token.{with_move}
 use Rattle.order_grammar.specs.declared.order.Order.{Order}
@@ -27,14 +27,6 @@ use Rattle.tables.specs.declared.seat.Seat.{Seat}
 -- the tenths of a president's certificate
 abbrev pub president_tenths : ℕ
 president_tenths = 2
-
--- the tenths of a company that a seat has
-abbrev pub seat_tenths_of : List Event → Company → Seat → ℤ
-seat_tenths_of events company seat = shares_of events company (OfSeat seat)
-
--- who presides over a company now, where this seat presided
-abbrev pub successor_of : ℕ → List Event → Company → Seat → Seat
-successor_of seats events company old = with_most (seat_tenths_of events company) old (others_from seats old)
 
 -- with PRESIDENT where this seat now presides in place of another
 abbrev pub succeeded : List Event → Company → Seat → Seat → List Event

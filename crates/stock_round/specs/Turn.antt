@@ -3,17 +3,21 @@
 -- likes, before and after. A seat that neither bought nor sold passes, also where it gave up MH.
 use Rattle.std.specs.Prelude.{ℕ, Bool, true, false, ◌||◌, List, [], ◌∷◌, ◌++◌, Some, None, is_some}
 use Rattle.history.specs.declared.event.Event.{Event}
-use Rattle.history.specs.declared.event.Event.TheVariants.{Passes, Ruled}
+use Rattle.history.specs.declared.event.Event.TheVariants.{Ruled}
 use Rattle.history.specs.declared.ruling.Ruling.{Ruling}
 use Rattle.history.specs.declared.ruling.Ruling.TheVariants.{Obeyed}
 use Rattle.order_grammar.specs.declared.order.Order.{Order}
 use Rattle.order_grammar.specs.declared.order.Order.TheVariants.{Par, BuyShare, Sell}
 use Rattle.sheets.specs.Part.{Numbered}
 use Rattle.stock_round.specs.Act.{after_act}
+use Rattle.stock_round.specs.Closing.{closed}
 use Rattle.stock_round.specs.Judgement.{ruling_of}
+use Rattle.stock_round.specs.Standing.{after_standing_line}
 use Rattle.stock_round.specs.declared.deals.Deals.{Deals}
-use Rattle.tables.specs.Turns.{Play, Turned}
+use Rattle.tables.specs.Turns.{Play}
 use Rattle.tables.specs.declared.seat.Seat.{Seat}
+use Rattle.turns.specs.RoundOfTurns.{RoundRules, in_turn, turns_of}
+use Rattle.turns.specs.RoundOfTurns as turns
 
 -- nothing yet
 abbrev pub no_deals : Deals
@@ -31,44 +35,37 @@ with_deal deals (Sell company tenths) = record { bought = deals.bought; sold = t
 with_deal deals other = deals
 
 -- in a turn: the list so far, and what the seat has done
-pub record InTurn : Type 0 where
-  pub events : List Event
-  pub deals : Deals
-
--- in a turn with this list, in which the seat has done this
-abbrev pub in_turn : List Event → Deals → InTurn
-in_turn events deals = record { events = events; deals = deals }
+abbrev pub InTurn : Type 0
+InTurn = turns.InTurn Deals
 
 -- after what a ruling brings
 abbrev pub after_obeyed : ℕ → Seat → InTurn → Ruling → InTurn
-after_obeyed seats seat turn (Obeyed order) = in_turn (after_act seats seat turn.events order) (with_deal turn.deals order)
+after_obeyed seats seat turn (Obeyed order) = in_turn (after_act seats seat turn.events order) (with_deal turn.deeds order)
 after_obeyed seats seat turn other = turn
 
 -- after a line of a group with this number and this ruling
 abbrev pub after_ruling : ℕ → Seat → InTurn → ℕ → Ruling → InTurn
 after_ruling seats seat turn number ruling =
-    after_obeyed seats seat (in_turn (turn.events ++ Ruled seat number ruling ∷ []) turn.deals) ruling
+    after_obeyed seats seat (in_turn (turn.events ++ Ruled seat number ruling ∷ []) turn.deeds) ruling
 
 -- after a line of a group
 abbrev pub after_line : ℕ → Seat → InTurn → Numbered → InTurn
 after_line seats seat turn line =
-    after_ruling seats seat turn line.number (ruling_of seats turn.events seat turn.deals.bought line.reading)
+    after_ruling seats seat turn line.number (ruling_of seats turn.events seat turn.deeds.bought line.reading)
 
--- after lines of a group, in order
-abbrev pub after_lines : ℕ → Seat → InTurn → List Numbered → InTurn
-after_lines seats seat turn [] = turn
-after_lines seats seat turn (line ∷ lines) = after_lines seats seat (after_line seats seat turn line) lines
-
--- where a turn has led, and whether the seat acted in it
-abbrev pub turned : InTurn → Turned (List Event)
-turned turn = record { state = turn.events; acted = has_acted turn.deals }
-
--- the turns of a stock round, which are over once all seats have passed in succession
-abbrev pub stock_turns : ℕ → Play (List Event) Numbered
-stock_turns seats =
+-- the rules of a stock round: a seat that bought or sold has acted, and the turns are over once all seats have
+-- passed in succession
+abbrev pub stock_rules : RoundRules Deals
+stock_rules =
     record {
-      seats = seats;
-      turn = λ seat lines events. turned (after_lines seats seat (in_turn events no_deals) lines);
-      pass = λ seat events. events ++ Passes seat ∷ [];
+      standing = after_standing_line;
+      nothing = no_deals;
+      line = after_line;
+      has_acted = has_acted;
       over = λ events. false;
+      closed = λ seats events. closed events;
     }
+
+-- the turns of a stock round
+abbrev pub stock_turns : ℕ → Play (List Event) Numbered
+stock_turns seats = turns_of stock_rules seats

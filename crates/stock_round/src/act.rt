@@ -1,5 +1,4 @@
 ghost use Rattle.std.specs.Prelude.{◌≡◌, ◌≤◌, ◌<◌, ◌*◌, OnOk};
-ghost use Rattle.history.specs.LookBack.{with_event};
 ghost use Rattle.history.specs.Sound.{IsSound};
 ghost use Rattle.history.specs.declared.event.Event.TheVariants as event;
 ghost use Rattle.stock_round.specs.Act.{after_act, after_exchange, after_purchase, after_sale, after_start};

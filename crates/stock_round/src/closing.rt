@@ -1,6 +1,6 @@
 ghost use Rattle.std.specs.Prelude.{◌≡◌, OnOk};
 ghost use Rattle.history.specs.Sound.{IsSound};
-ghost use Rattle.stock_round.specs.StockRound.{all_risen, closed, is_sold_out as has_sold_out, risen};
+ghost use Rattle.stock_round.specs.Closing.{all_risen, closed, is_sold_out as has_sold_out, risen};
 
 use history::{History, Shareholder};
 use market::{move_token_up, operating_order};

@@ -2,7 +2,9 @@
 ghost use Rattle.std.specs.Prelude.{◌≡◌, ℕ, List};
 ghost use Rattle.history.specs.LookBack.{Game};
 ghost use Rattle.stock_round.specs.StockRound.{EndsSoon, IsStockRound};
+ghost use Rattle.stock_round.specs.Turn.{stock_rules};
 ghost use Rattle.tables.specs.declared.round.Round.{Round};
+ghost use Rattle.turns.specs.Acted.{TurnsTellWhoActed};
 
 /// A stock round has at most one outcome: the sheets and the game before it say what the game after
 /// it is.
@@ -15,4 +17,10 @@ pub fn one_stock_round()
 /// 513 for each seat.
 pub fn stock_round_ends()
     ensures { (file : List ℕ) (round : Round) (old : Game) → EndsSoon file round old }
+{}
+
+/// A seat acted in its turn exactly where the list of events says so: the new events of the turn
+/// name it as the seat that acted last, and where it did not act they name nobody.
+pub fn stock_turns_tell_who_acted()
+    ensures { TurnsTellWhoActed stock_rules }
 {}

@@ -8,9 +8,10 @@
 //! succession; then the companies that are all in players' hands move up.
 //!
 //! Reading order: `judgement` (the rules that an order may break), `ruling`, `act` (what an obeyed
-//! order brings) with `payments`, `prices`, `president` and `float`, `deals` (what a seat
-//! has done in a turn), `turn`, `standing` (the lines before the first group), `closing`,
-//! `playing`, `laws` (what holds of every stock round).
+//! order brings) with `payments`, `prices`, `president` and `float`, `deals` (what a seat has done
+//! in a turn), `turn` (the lines of a turn), `standing` (the lines before the first group),
+//! `closing`, `playing` (what makes it a round of `turns`), `laws` (what holds of every stock
+//! round).
 #![tactic(auto)]
 
 mod act;
@@ -27,5 +28,5 @@ mod ruling;
 mod standing;
 mod turn;
 
-pub use laws::{one_stock_round, stock_round_ends};
+pub use laws::{one_stock_round, stock_round_ends, stock_turns_tell_who_acted};
 pub use playing::play_stock;

@@ -2,10 +2,11 @@
 ghost use Rattle.std.specs.Prelude.{◌≡◌, ◌≤◌, ◌<◌, OnOk};
 ghost use Rattle.history.specs.Sound.{IsSound};
 ghost use Rattle.stock_round.specs.Act.{bought, exchanged, sold};
-ghost use Rattle.stock_round.specs.Allowed.{MayBuy, MayExchange, MaySell};
+ghost use Rattle.stock_round.specs.Allowed.{MayBuy, MayExchange};
 
 use crate::judgement::exchange_source;
-use crate::prices::{market_price, tenth_price};
+use crate::prices::tenth_price;
+use certs::market_price;
 use history::{Event, History};
 use order_grammar::ShareSource;
 use std::alloc::AllocError;
@@ -49,7 +50,7 @@ pub(crate) fn pay_for_block(
     ensures events { OnOk result (history.new.events
         ≡ sold history.old.seats history.old.events seat company tenths) }
 {
-    let price = Amount::from(tenths) * market_price(history, company);
+    let price = Amount::from(tenths) * market_price(&history.now(), company);
     history.append(Event::Sells {
         company,
         seat,

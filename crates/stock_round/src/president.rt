@@ -1,8 +1,8 @@
 ghost use Rattle.std.specs.Prelude.{◌≡◌, OnOk};
-ghost use Rattle.certs.specs.President.{better_of};
-ghost use Rattle.stock_round.specs.Act.{seat_tenths_of, succeeded, successor_of, with_president};
+ghost use Rattle.stock_round.specs.Act.{succeeded, with_president};
 
-use history::{Event, History, Past, Shareholder, Tenths};
+use certs::successor;
+use history::{Event, History};
 use std::alloc::AllocError;
 use tables::{Company, Seat};
 
@@ -35,36 +35,4 @@ fn tell_successor(
     }
     history.append(Event::President { company, seat: new })?;
     Ok(())
-}
-
-/// Who presides over a company now, where this seat presided: it stays unless some seat has
-/// strictly more tenths; then it is the seat with most, among equals the first to the left.
-fn successor(past: &Past, company: Company, old: Seat) -> Seat
-    ensures { result ≡ successor_of past.now.seats past.now.events.now company old }
-{
-    let mut best = old;
-    let mut seat = old;
-    for _ in 1..past.seats {
-        seat = seat.left(past.seats);
-        best = better(past, company, best, seat);
-    }
-    best
-}
-
-/// The better of two seats: the second where it has strictly more tenths of a company.
-fn better(past: &Past, company: Company, best: Seat, seat: Seat) -> Seat
-    ensures { result ≡ better_of (seat_tenths_of past.now.events.now company) best seat }
-{
-    if tenths_of(past, company, seat) > tenths_of(past, company, best) {
-        seat
-    } else {
-        best
-    }
-}
-
-/// The tenths of a company that a seat has.
-fn tenths_of(past: &Past, company: Company, seat: Seat) -> Tenths
-    ensures { result ≡ seat_tenths_of past.now.events.now company seat }
-{
-    past.shares(company, Shareholder::Seat(seat))
 }

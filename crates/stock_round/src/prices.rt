@@ -1,12 +1,13 @@
 ghost use Rattle.std.specs.Prelude.{◌≡◌, ◌≤◌, pos, unwrap_or};
 ghost use Rattle.std.specs.Int.RustNames.{unsigned_abs};
+ghost use Rattle.certs.specs.Purchase.{tenth_price_of};
 ghost use Rattle.history.specs.Shares.{par_of};
 ghost use Rattle.history.specs.Sound.{IsLed};
-ghost use Rattle.certs.specs.Purchase.{market_price_of, tenth_price_of};
 
+use certs::market_price;
 use history::History;
 use order_grammar::ShareSource;
-use tables::{Amount, Company, Money, price};
+use tables::{Amount, Company, Money};
 
 /// What a tenth of a company that is started costs, in dollars: its par value in the initial
 /// offering, the market price in the pool.
@@ -17,18 +18,7 @@ pub(crate) fn tenth_price(history: &History, company: Company, from: ShareSource
 {
     match from {
         ShareSource::InitialOffering => par_value(history, company),
-        ShareSource::BankPool => market_price(history, company),
-    }
-}
-
-/// The market price of a company, in dollars; 0 where its token has no square.
-pub(crate) fn market_price(history: &History, company: Company) -> Amount
-    ensures price { result ≡ market_price_of history.now.events company }
-    ensures small { result ≤ 350 }
-{
-    match history.square(company) {
-        Some(square) => price(square),
-        None => 0,
+        ShareSource::BankPool => market_price(&history.now(), company),
     }
 }
 

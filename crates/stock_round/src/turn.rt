@@ -1,10 +1,10 @@
-ghost use Rattle.std.specs.Prelude.{◌≡◌, ◌≤◌, ◌<◌, OnOk, IfOk, MatchResult, Ok, Err, None, drop};
+ghost use Rattle.std.specs.Prelude.{◌≡◌, ◌≤◌, ◌<◌, OnOk, IfOk, MatchResult, Ok, Err};
 ghost use Rattle.history.specs.Sound.{IsSound};
-ghost use Rattle.sheets.specs.Part.{StandsAtHead, groups_of, line_read};
+ghost use Rattle.sheets.specs.Part.{line_read};
 ghost use Rattle.sheets.specs.Place.{placed};
 ghost use Rattle.stock_round.specs.Judgement.{has_place_in_group, judged, judgement_of};
-ghost use Rattle.stock_round.specs.Turn.{after_line, after_lines, after_ruling, in_turn, no_deals, turned};
-ghost use Rattle.tables.specs.Turns.{next_group};
+ghost use Rattle.stock_round.specs.Turn.{after_line, after_ruling};
+ghost use Rattle.turns.specs.RoundOfTurns.{in_turn};
 
 use crate::act::act;
 use crate::deals::Deals;
@@ -12,63 +12,13 @@ use crate::judgement::judge;
 use crate::ruling::{ruling_of, tell_ruling};
 use history::{History, KeptRuling};
 use order_grammar::{Fault, Order};
-use sheets::{NumberedLine, PartsLeft, is_of_file};
+use sheets::{NumberedLine, is_of_file};
 use std::alloc::AllocError;
 use tables::Seat;
 
-/// A seat's turn: it takes up the next group of its sheet, if there is one. Answers whether the
-/// seat bought or sold.
-pub(crate) fn take_turn(
-    history: &mut History,
-    seat: Seat,
-    sheet: &mut PartsLeft,
-) -> Result<bool, AllocError>
-    requires few { history.old.seats ≤ 6 }
-    requires at_table { seat.0 < history.old.seats }
-    requires head { StandsAtHead sheet.old }
-    requires sound { IsSound history.old }
-    ensures seats { OnOk result (history.new.seats ≡ history.old.seats) }
-    ensures turn { IfOk result (λ acted.
-        record { state = history.new.events; acted = acted }
-        ≡ turned (after_lines history.old.seats seat (in_turn history.old.events no_deals)
-        (next_group (groups_of sheet.old)))) }
-    ensures left { OnOk result (groups_of sheet.new ≡ drop 1 (groups_of sheet.old)) }
-    ensures head { OnOk result (StandsAtHead sheet.new) }
-    ensures sound { OnOk result (IsSound history.new) }
-{
-    let Some(_head) = sheet.take_head() else {
-        return Ok(false);
-    };
-    let deals = rule_lines(history, seat, sheet)?;
-    Ok(deals.has_acted())
-}
-
-/// Rules the lines of a group. Answers what the seat has done by them.
-fn rule_lines(history: &mut History, seat: Seat, sheet: &mut PartsLeft) -> Result<Deals, AllocError>
-    requires few { history.old.seats ≤ 6 }
-    requires at_table { seat.0 < history.old.seats }
-    requires sound { IsSound history.old }
-    ensures seats { OnOk result (history.new.seats ≡ history.old.seats) }
-    ensures turn { IfOk result (λ deals. in_turn history.new.events deals
-        ≡ after_lines history.old.seats seat (in_turn history.old.events no_deals)
-        sheet.old.before) }
-    ensures left { OnOk result (groups_of sheet.new ≡ groups_of sheet.old) }
-    ensures head { OnOk result (StandsAtHead sheet.new) }
-    ensures sound { OnOk result (IsSound history.new) }
-{
-    let mut deals = Deals {
-        bought: None,
-        sold: false,
-    };
-    while let Some(line) = sheet.take_line() {
-        deals = rule_line(history, seat, &line, deals)?;
-    }
-    Ok(deals)
-}
-
 /// Rules a line of a group, and does what it orders if it is obeyed. Answers what the seat has done
 /// by then.
-fn rule_line(
+pub(crate) fn rule_line(
     history: &mut History,
     seat: Seat,
     line: &NumberedLine,

@@ -1,5 +1,5 @@
 use Rattle.std.proofs.Common.{◌<◌, sym, subst}
-use Rattle.privates.proofs.Turns.{priority_within}
+use Rattle.turns.proofs.Turns.{priority_within}
 use Rattle.tables.specs.declared.seat.Seat.{Seat}
 use Rattle.privates.proofs.closing.lower_price.Goals as goal
 

@@ -1,4 +1,4 @@
-use Rattle.privates.proofs.Underway.{revenues_underway}
+use Rattle.privates.specs.UnderwayKept.{revenues_underway}
 use Rattle.privates.proofs.closing.pay_revenues.Goals as goal
 
 pub returns-clause-underway : goal.returns-clause-underway

@@ -1,16 +1,6 @@
-use Rattle.std.proofs.Common.{List, ap, sym, ◌∙◌}
-use Rattle.history.specs.LookBack.{Game}
-use Rattle.history.specs.declared.event.Event.{Event}
-use Rattle.privates.specs.Opening.{finished, opened}
-use Rattle.privates.specs.Turn.{opening_turns}
-use Rattle.sheets.specs.Part.{Numbered}
-use Rattle.tables.proofs.Turns.{turns_end_once}
-use Rattle.tables.specs.Turns.{InPlay}
+use Rattle.privates.specs.Turn.{opening_rules}
+use Rattle.turns.proofs.RoundEnds.{ends_once}
 use Rattle.privates.proofs.laws.one_opening_round.Goals as goal
 
 pub returns : goal.returns
-returns c = λ file round old a b first second.
-    let game : InPlay (List Event) Numbered → Game = λ last. record { seats = old.seats; events = finished old.seats last } in
-    first.after
-    ∙ ap game (turns_end_once (opening_turns old.seats) (opened old.seats file round old.events) first.last second.last first.turns second.turns)
-    ∙ sym second.after
+returns c = ends_once opening_rules

@@ -1,4 +1,4 @@
-use Rattle.privates.proofs.Underway.{ruling_underway}
+use Rattle.privates.specs.UnderwayKept.{ruling_underway}
 use Rattle.privates.proofs.ruling.tell_ruling.Goals as goal
 
 pub returns-clause-underway : goal.returns-clause-underway

@@ -1,6 +1,6 @@
 use Rattle.std.proofs.Common.{◌≡◌, drop}
 use Rattle.history.specs.Sound.{IsSound}
-use Rattle.stock_round.specs.StockRound.{all_risen}
+use Rattle.stock_round.specs.Closing.{all_risen}
 use Rattle.stock_round.proofs.closing.raise_all.Given as goal
 
 -- the companies that are left lead from here where all lead from the start

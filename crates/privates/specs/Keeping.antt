@@ -1,0 +1,27 @@
+-- What keeps an opening round under way, as a round of turns asks: the ROUND event, a pass, a count of lines
+-- that were not taken up.
+use Rattle.std.proofs.Common.{refl}
+use Rattle.std.specs.Prelude.{ℕ}
+use Rattle.history.specs.LookBack.{Game, with_event}
+use Rattle.history.specs.Sound.{IsSound}
+use Rattle.history.specs.Tell.{left_told}
+use Rattle.history.specs.declared.event.Event.TheVariants as event
+use Rattle.privates.specs.UnderwayKept.{begun_underway, event_underway, left_underway}
+use Rattle.privates.specs.Underway.{IsUnderway, MayBegin}
+use Rattle.tables.specs.declared.round.Round.{Round}
+use Rattle.tables.specs.declared.seat.Seat.{Seat}
+
+-- the ROUND event begins it
+pub begins : (game : Game) (round : Round) → MayBegin game.events → IsSound (with_event game (event.Round round)) →
+    IsUnderway (with_event game (event.Round round))
+begins game round may sound =
+    begun_underway game (with_event game (event.Round round)) round refl may.pennsylvania may.baltimore sound
+
+-- a pass keeps it
+pub passes : (game : Game) (seat : Seat) → IsUnderway game → IsSound (with_event game (event.Passes seat)) → IsUnderway (with_event game (event.Passes seat))
+passes game seat underway sound =
+    event_underway game (with_event game (event.Passes seat)) (event.Passes seat) refl (λ its other. refl) refl sound underway
+
+-- so does a count of lines
+pub leaves : (game : Game) (seat : Seat) (lines : ℕ) → IsUnderway game → IsSound (left_told seat lines game) → IsUnderway (left_told seat lines game)
+leaves game seat lines underway sound = left_underway game (left_told seat lines game) seat lines refl sound underway

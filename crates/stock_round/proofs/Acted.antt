@@ -1,0 +1,167 @@
+-- The new events of a line of a stock turn tell who acted in it.
+use Rattle.std.proofs.Common.{◌≡◌, ℕ, ◌*◌, ◌==◌, Bool, true, false, ◌||◌, List, [], ◌∷◌, ◌++◌, Option, Some, None, Result, Ok, Err, refl}
+use Rattle.std.specs.Prelude.{is_some, unwrap_or}
+use Rattle.certs.specs.President.{successor_of}
+use Rattle.certs.specs.Purchase.{market_price_of, tenth_price_of}
+use Rattle.history.specs.Shares.{par_of, president_of, square_of}
+use Rattle.history.specs.Tell.{breaks, with_broken}
+use Rattle.history.specs.declared.event.Event.{Event}
+use Rattle.history.specs.declared.event.Event.TheVariants as event
+use Rattle.history.specs.declared.ruling.StockRule.{StockRule}
+use Rattle.market.specs.Moves.{fallen}
+use Rattle.market.specs.Token.{moved_from, same_square}
+use Rattle.order_grammar.specs.declared.fault.Fault.{Fault}
+use Rattle.order_grammar.specs.declared.order.Order.{Order}
+use Rattle.order_grammar.specs.declared.order.Order.TheVariants as order
+use Rattle.order_grammar.specs.declared.order.ShareSource.{ShareSource}
+use Rattle.sheets.specs.Part.{Numbered}
+use Rattle.sheets.specs.Place.{placed}
+use Rattle.stock_round.specs.Act.{after_exchange, after_purchase, after_sale, after_start, bought, exchanged, floated_at, is_to_float, sold, with_float, with_president, with_successor}
+use Rattle.stock_round.specs.Judgement.{exchange_source, has_place_in_group, judged, judgement_of, placed_ruling}
+use Rattle.stock_round.specs.Turn.{InTurn, after_ruling, stock_rules}
+use Rattle.tables.specs.declared.roster.Company.{Company}
+use Rattle.tables.specs.declared.roster.Company.TheVariants.{NewYorkCentral}
+use Rattle.tables.specs.declared.seat.Seat.{Seat}
+use Rattle.tables.specs.declared.squares.Square.{Square}
+use Rattle.turns.proofs.Acted.{LineTells, in_both, in_either, nobody, one_more, turns_tell}
+use Rattle.turns.specs.Acted.{TellsWhoActed, TurnsTellWhoActed}
+
+module _ (seat : Seat) (seats : ℕ) where
+  -- nobody acts where the bank breaks
+  in_break : (events : List Event) → TellsWhoActed seat false events (with_broken seats events)
+  in_break events =
+      in_either seat false events (events ++ event.Broken ∷ []) events (breaks seats events) (one_more seat false events event.Broken refl) (nobody seat events)
+
+  -- nor where a presidency moves from this seat, if any has it
+  in_succession : (events : List Event) (company : Company) (old : Option Seat) → TellsWhoActed seat false events (with_successor seats events company old)
+  in_succession events company None = nobody seat events
+  in_succession events company (Some old) =
+      let new : Seat = successor_of seats events company old in
+      in_either seat false events events (events ++ event.President company new ∷ []) (new.0 == old.0) (nobody seat events)
+      (one_more seat false events (event.President company new) refl)
+
+  -- nor where a company floats
+  in_float : (events : List Event) (company : Company) → TellsWhoActed seat false events (with_float seats events company)
+  in_float events company =
+      let par : ℕ = unwrap_or (par_of events company) 0 in
+      let told : List Event = events ++ event.Floats company (10 * par) ∷ [] in
+      in_either seat false events (floated_at seats events company par) events (is_to_float events company)
+      (in_both seat false false events told (with_broken seats told) (one_more seat false events (event.Floats company (10 * par)) refl) (in_break told))
+      (nobody seat events)
+
+  -- nor where a token moves from this square, if it is on one
+  in_move : (move : Square → Square) (events : List Event) (company : Company) (square : Option Square) →
+      TellsWhoActed seat false events (moved_from move events company square)
+  in_move move events company None = nobody seat events
+  in_move move events company (Some square) =
+      in_either seat false events events (events ++ event.Moves company (move square) ∷ []) (same_square (move square) square) (nobody seat events)
+      (one_more seat false events (event.Moves company (move square)) refl)
+
+  -- nor by what follows from tenths that have moved
+  in_what_follows : (events : List Event) (company : Company) → TellsWhoActed seat false events (with_float seats (with_president seats events company) company)
+  in_what_follows events company =
+      let presided : List Event = with_president seats events company in
+      in_both seat false false events presided (with_float seats presided company) (in_succession events company (president_of events company)) (in_float presided company)
+
+  -- by a purchase the seat acts
+  in_purchase : (events : List Event) (company : Company) (from : ShareSource) → TellsWhoActed seat true events (after_purchase seats events seat company from)
+  in_purchase events company from =
+      let paid : List Event = bought events seat company from in
+      in_both seat true false events paid (after_purchase seats events seat company from)
+      (one_more seat true events (event.Bought company seat 1 from (tenth_price_of events company from)) refl) (in_what_follows paid company)
+
+  -- nobody acts by the events of a sale, since its line has told of it
+  in_sale : (events : List Event) (company : Company) (tenths : ℕ) → TellsWhoActed seat false events (after_sale seats events seat company tenths)
+  in_sale events company tenths =
+      let price : ℕ = tenths * market_price_of events company in
+      let told : List Event = events ++ event.Sells company seat tenths price ∷ [] in
+      let paid : List Event = sold seats events seat company tenths in
+      let presided : List Event = with_president seats paid company in
+      in_both seat false false events paid (after_sale seats events seat company tenths)
+      (in_both seat false false events told paid (one_more seat false events (event.Sells company seat tenths price) refl) (in_break told))
+      (in_both seat false false paid presided (after_sale seats events seat company tenths) (in_succession paid company (president_of paid company)) (in_move (fallen tenths) presided company (square_of presided company)))
+
+  -- nor by an exchange
+  in_exchange : (events : List Event) → TellsWhoActed seat false events (after_exchange seats events seat)
+  in_exchange events =
+      let done : List Event = exchanged events seat in
+      in_both seat false false events done (after_exchange seats events seat)
+      (one_more seat false events (event.Exchanged seat (exchange_source events)) refl) (in_what_follows done NewYorkCentral)
+
+-- who has bought has acted
+has_bought : (before : Bool) → true ≡ (before || true)
+has_bought true = refl
+has_bought false = refl
+
+-- who has sold has acted
+has_sold : (before sold : Bool) → (before || true) ≡ ((before || sold) || true)
+has_sold true sold = refl
+has_sold false true = refl
+has_sold false false = refl
+
+-- who has done nothing more has acted as before
+as_before : (before : Bool) → before ≡ (before || false)
+as_before true = refl
+as_before false = refl
+
+-- by a line with the ruling of an order that breaks this rule, or none
+order_tells : (seats : ℕ) (seat : Seat) (turn : InTurn) (number : ℕ) (done : Order) (broken : Option StockRule) →
+    judgement_of seats turn.events seat turn.deeds.bought done ≡ broken →
+    LineTells stock_rules seat turn (after_ruling seats seat turn number (judged done broken))
+order_tells seats seat turn number done (Some rule) is =
+    record {
+      acts = false;
+      told = one_more seat false turn.events (event.Ruled seat number (judged done (Some rule))) refl;
+      acted = as_before (is_some turn.deeds.bought || turn.deeds.sold);
+    }
+order_tells seats seat turn number (order.Par company price) None is =
+    let line : Event = event.Ruled seat number (judged (order.Par company price) None) in
+    let ruled : List Event = turn.events ++ line ∷ [] in
+    record {
+      acts = true;
+      told = in_both seat false true turn.events ruled (after_start ruled seat company price) (one_more seat false turn.events line refl) (record { more = _; longer = refl; last = refl });
+      acted = has_bought (is_some turn.deeds.bought || turn.deeds.sold);
+    }
+order_tells seats seat turn number (order.BuyShare company from) None is =
+    let line : Event = event.Ruled seat number (judged (order.BuyShare company from) None) in
+    let ruled : List Event = turn.events ++ line ∷ [] in
+    record {
+      acts = true;
+      told = in_both seat false true turn.events ruled (after_purchase seats ruled seat company from) (one_more seat false turn.events line refl) (in_purchase seat seats ruled company from);
+      acted = has_bought (is_some turn.deeds.bought || turn.deeds.sold);
+    }
+order_tells seats seat turn number (order.Sell company tenths) None is =
+    let line : Event = event.Ruled seat number (judged (order.Sell company tenths) None) in
+    let ruled : List Event = turn.events ++ line ∷ [] in
+    record {
+      acts = true;
+      told = in_both seat true false turn.events ruled (after_sale seats ruled seat company tenths) (one_more seat true turn.events line refl) (in_sale seat seats ruled company tenths);
+      acted = has_sold (is_some turn.deeds.bought) turn.deeds.sold;
+    }
+order_tells seats seat turn number order.ExchangeMohawk None is =
+    let line : Event = event.Ruled seat number (judged order.ExchangeMohawk None) in
+    let ruled : List Event = turn.events ++ line ∷ [] in
+    record {
+      acts = false;
+      told = in_both seat false false turn.events ruled (after_exchange seats ruled seat) (one_more seat false turn.events line refl) (in_exchange seat seats ruled);
+      acted = as_before (is_some turn.deeds.bought || turn.deeds.sold);
+    }
+order_tells seats seat turn number other None is = absurd (cc)
+
+-- by a line of which this is placed
+placed_tells : (seats : ℕ) (seat : Seat) (turn : InTurn) (number : ℕ) (reading : Result Order Fault) →
+    LineTells stock_rules seat turn (after_ruling seats seat turn number (placed_ruling seats turn.events seat turn.deeds.bought reading))
+placed_tells seats seat turn number (Err fault) =
+    record {
+      acts = false;
+      told = one_more seat false turn.events (event.Ruled seat number (placed_ruling seats turn.events seat turn.deeds.bought (Err fault))) refl;
+      acted = as_before (is_some turn.deeds.bought || turn.deeds.sold);
+    }
+placed_tells seats seat turn number (Ok done) =
+    order_tells seats seat turn number done (judgement_of seats turn.events seat turn.deeds.bought done) refl
+
+-- so each turn of a stock round tells who acted in it
+pub stock_turns_tell : TurnsTellWhoActed stock_rules
+stock_turns_tell =
+    turns_tell stock_rules refl
+    (λ (seats : ℕ) (seat : Seat) (turn : InTurn) (line : Numbered). placed_tells seats seat turn line.number (placed has_place_in_group line.reading))

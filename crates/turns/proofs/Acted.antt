@@ -1,0 +1,120 @@
+-- The new events of a turn tell who acted in it, where those of each line do.
+use Rattle.std.proofs.Common.{◌≡◌, ℕ, zero, suc, Bool, true, false, ◌||◌, if◌then◌else◌, List, [], ◌∷◌, ◌++◌, Option, Some, None, append-nil, refl, sym, subst, ap, ◌∙◌}
+use Rattle.std.specs.Option.{option_or}
+use Rattle.std.proofs.lemmas.List.{append_assoc}
+use Rattle.history.specs.LookBack.{actor_of, last_said}
+use Rattle.history.specs.declared.event.Event.{Event}
+use Rattle.sheets.specs.Part.{Numbered}
+use Rattle.tables.specs.Steps.{iterate}
+use Rattle.tables.specs.declared.seat.Seat.{Seat}
+use Rattle.turns.specs.Acted.{TellsWhoActed, TurnsTellWhoActed}
+use Rattle.turns.specs.RoundOfTurns.{InTurn, RoundRules, after_lines, in_turn}
+
+-- the first of three that says something says it
+in_order : {A : Type 0} (a b c : Option A) → option_or (option_or a b) c ≡ option_or a (option_or b c)
+in_order None b c = refl
+in_order (Some x) b c = refl
+
+-- nothing more is said
+nothing_more : {A : Type 0} (a : Option A) → option_or a None ≡ a
+nothing_more None = refl
+nothing_more (Some x) = refl
+
+-- what two lists say last, one after the other
+said_in_both : {A : Type 0} (says : Event → Option A) (front back : List Event) →
+    last_said says (front ++ back) ≡ option_or (last_said says back) (last_said says front)
+said_in_both says [] back = sym (nothing_more (last_said says back))
+said_in_both {A} says (event ∷ front) back =
+    ap (λ (later : Option A). option_or later (says event)) (said_in_both says front back)
+    ∙ in_order (last_said says back) (last_said says front) (says event)
+
+-- the seat acted in the one or the other
+in_one_of_both : (seat : Seat) (first second : Bool) →
+    option_or (if second then Some seat else None) (if first then Some seat else None) ≡ (if first || second then Some seat else None)
+in_one_of_both seat true true = refl
+in_one_of_both seat true false = refl
+in_one_of_both seat false true = refl
+in_one_of_both seat false false = refl
+
+-- a list that stays as it is tells that nobody acted
+pub nobody : (seat : Seat) (events : List Event) → TellsWhoActed seat false events events
+nobody seat events = record { more = []; longer = sym (append-nil events); last = refl }
+
+-- by one more event
+pub one_more : (seat : Seat) (acted : Bool) (events : List Event) (event : Event) → actor_of event ≡ (if acted then Some seat else None) →
+    TellsWhoActed seat acted events (events ++ event ∷ [])
+one_more seat acted events event says = record { more = event ∷ []; longer = refl; last = says }
+
+-- a list that goes on, and then on
+pub in_both : (seat : Seat) (first second : Bool) (a b c : List Event) → TellsWhoActed seat first a b → TellsWhoActed seat second b c →
+    TellsWhoActed seat (first || second) a c
+in_both seat first second a b c before after =
+    record {
+      more = before.more ++ after.more;
+      longer = after.longer ∙ ap (λ (list : List Event). list ++ after.more) before.longer ∙ append_assoc a before.more after.more;
+      last =
+          said_in_both actor_of before.more after.more
+          ∙ ap (λ (later : Option Seat). option_or later (last_said actor_of before.more)) after.last
+          ∙ ap (λ (earlier : Option Seat). option_or (if second then Some seat else None) earlier) before.last
+          ∙ in_one_of_both seat first second;
+    }
+
+-- nor do steps in none of which anybody acted
+pub nobody_in_steps : (seat : Seat) (step : List Event → List Event) → ((events : List Event) → TellsWhoActed seat false events (step events)) →
+    (n : ℕ) (events : List Event) → TellsWhoActed seat false events (iterate step n events)
+nobody_in_steps seat step each zero events = nobody seat events
+nobody_in_steps seat step each (suc n) events =
+    in_both seat false false events (iterate step n events) (step (iterate step n events)) (nobody_in_steps seat step each n events) (each (iterate step n events))
+
+-- either of two lists
+pub in_either : (seat : Seat) (acted : Bool) (old one other : List Event) (b : Bool) → TellsWhoActed seat acted old one →
+    TellsWhoActed seat acted old other → TellsWhoActed seat acted old (if b then one else other)
+in_either seat acted old one other true first second = first
+in_either seat acted old one other false first second = second
+
+-- a line of a turn tells who acted in it, and the turn has it too
+pub record LineTells {Deeds : Type 0} (rules : RoundRules Deeds) (seat : Seat) (old new : InTurn Deeds) : Type 0 where
+  pub acts : Bool
+  pub told : TellsWhoActed seat acts old.events new.events
+  pub acted : rules.has_acted new.deeds ≡ (rules.has_acted old.deeds || acts)
+
+-- of three the first two or the last two first
+either_order : (a b c : Bool) → ((a || b) || c) ≡ (a || (b || c))
+either_order true b c = refl
+either_order false b c = refl
+
+-- one or nothing
+or_nothing : (a : Bool) → a ≡ (a || false)
+or_nothing true = refl
+or_nothing false = refl
+
+module _ {Deeds : Type 0} (rules : RoundRules Deeds) (seats : ℕ) (seat : Seat) (line_tells : (turn : InTurn Deeds) (line : Numbered) → LineTells rules seat turn (rules.line seats seat turn line)) where
+  -- so do some lines
+  lines_tell : (turn : InTurn Deeds) (lines : List Numbered) → LineTells rules seat turn (after_lines rules seats seat turn lines)
+  lines_tell turn [] = record { acts = false; told = nobody seat turn.events; acted = or_nothing (rules.has_acted turn.deeds) }
+  lines_tell turn (line ∷ lines) =
+      let next : InTurn Deeds = rules.line seats seat turn line in
+      let last : InTurn Deeds = after_lines rules seats seat next lines in
+      let here = line_tells turn line in
+      let rest = lines_tell next lines in
+      record {
+        acts = here.acts || rest.acts;
+        told = in_both seat here.acts rest.acts turn.events next.events last.events here.told rest.told;
+        acted = rest.acted ∙ ap (λ (b : Bool). b || rest.acts) here.acted ∙ either_order (rules.has_acted turn.deeds) here.acts rest.acts;
+      }
+
+  -- so does a turn, at the start of which the seat has not acted
+  group_tells : rules.has_acted rules.nothing ≡ false → (events : List Event) (lines : List Numbered) →
+      TellsWhoActed seat (rules.has_acted (after_lines rules seats seat (in_turn events rules.nothing) lines).deeds) events (after_lines rules seats seat (in_turn events rules.nothing) lines).events
+  group_tells idle events lines =
+      let all = lines_tell (in_turn events rules.nothing) lines in
+      let acted : all.acts ≡ rules.has_acted (after_lines rules seats seat (in_turn events rules.nothing) lines).deeds =
+      sym (all.acted ∙ ap (λ (b : Bool). b || all.acts) idle)
+      in
+      subst (λ (b : Bool). TellsWhoActed seat b events (after_lines rules seats seat (in_turn events rules.nothing) lines).events) acted all.told
+
+-- so each turn of a round tells it
+pub turns_tell : {Deeds : Type 0} (rules : RoundRules Deeds) → rules.has_acted rules.nothing ≡ false →
+    ((seats : ℕ) (seat : Seat) (turn : InTurn Deeds) (line : Numbered) → LineTells rules seat turn (rules.line seats seat turn line)) →
+    TurnsTellWhoActed rules
+turns_tell rules idle line_tells seats seat events lines = group_tells rules seats seat (line_tells seats seat) idle events lines

@@ -1,0 +1,6 @@
+pub mod Acted
+pub mod RoundEnds
+pub mod RoundLeads
+pub mod Small
+pub mod Turns
+pub mod WholeRound

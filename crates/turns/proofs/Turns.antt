@@ -1,0 +1,94 @@
+-- The turns of a round, one after another, until they are over.
+use Rattle.std.proofs.Common.{◌≡◌, ℕ, ◌+◌, ◌<◌, ◌≤◌, min, Bool, true, false, ◌||◌, nat_le, if◌then◌else◌, List, [], ◌∷◌, ◌++◌, length, map, drop, get_or, set, Option, Some, None, unwrap_or, option_map, sym, ap, ◌∙◌, arith}
+use Rattle.std.proofs.lemmas.Bool.Decides.{nat_tests}
+use Rattle.std.proofs.lemmas.List.{map-set}
+use Rattle.std.proofs.lemmas.Option.{slice_get-get_or, slice_get-map}
+use Rattle.history.specs.LookBack.{actor_of, last_said, left_of_actor, priority_of}
+use Rattle.history.specs.declared.event.Event.{Event}
+use Rattle.history.specs.declared.event.Event.TheVariants.{Passes}
+use Rattle.sheets.specs.Part.{Numbered, Parts, groups_of}
+use Rattle.tables.specs.Seat.{left_of, seat_at}
+use Rattle.tables.specs.Turns.{InPlay, IsIdleWithoutLines, Turned, after_turn, groups_at, next_group, turn_over}
+use Rattle.tables.specs.declared.seat.Seat.{Seat}
+use Rattle.turns.specs.RoundOfTurns.{RoundRules, after_group, in_play, turned, turns_of}
+
+-- no seat acts without lines
+pub no_lines : {Deeds : Type 0} (rules : RoundRules Deeds) (seats : ℕ) → rules.has_acted rules.nothing ≡ false → IsIdleWithoutLines (turns_of rules seats)
+no_lines rules seats idle = λ seat events. idle
+
+-- the turns are not over while nothing ends them and not all have passed
+pub going_on : (ended : Bool) (seats passes : ℕ) → ended ≡ false → passes < seats → (ended || nat_le seats passes) ≡ false
+going_on ended seats passes unended fewer = grind (arith, nat_tests)
+
+-- they are over where something ends them
+pub something_ends_them : (ended : Bool) (seats passes : ℕ) → ended ≡ true → (ended || nat_le seats passes) ≡ true
+something_ends_them ended seats passes done = grind (arith, nat_tests)
+
+-- they are over where all have passed
+pub all_have_passed : (ended : Bool) (seats passes : ℕ) → seats ≤ passes → (ended || nat_le seats passes) ≡ true
+all_have_passed ended seats passes all = grind (arith, nat_tests)
+
+-- a seat's groups are those of what is left of its sheet
+groups_here : (unruled : List Parts) (seat : ℕ) (d : Parts) → seat < length unruled → groups_at (map groups_of unruled) seat ≡ groups_of (get_or unruled seat d)
+groups_here unruled seat d within =
+    ap (λ groups. unwrap_or groups []) (slice_get-map groups_of unruled seat ∙ ap (λ found. option_map groups_of found) (slice_get-get_or unruled seat d within))
+
+-- a round in play after a turn, where the groups have come to these
+abbrev played : ℕ → ℕ → ℕ → Turned (List Event) → List (List (List Numbered)) → InPlay (List Event) Numbered
+played seats seat passes turn groups =
+    record {
+      now = if turn.acted then turn.state else turn.state ++ Passes (seat_at seat) ∷ [];
+      seat = (left_of seats (seat_at seat)).0;
+      passes = if turn.acted then 0 else passes + 1;
+      groups = groups;
+    }
+
+module _ {Deeds : Type 0} (rules : RoundRules Deeds) (seats : ℕ) (events : List Event) (seat passes : ℕ) (unruled : List Parts) (d new : Parts) (taker : Seat) (within : seat < length unruled) (is_seat : taker ≡ seat_at seat) (dropped : groups_of new ≡ drop 1 (groups_of (get_or unruled seat d))) where
+  -- a turn that took the next group of a seat's sheet is one turn of the round
+  turn_taken : (turn : Turned (List Event)) →
+      turn ≡ turned rules (after_group rules seats taker events (next_group (groups_of (get_or unruled seat d)))) →
+      played seats seat passes turn (map groups_of (set unruled seat new)) ≡ after_turn (turns_of rules seats) (in_play events seat passes (map groups_of unruled))
+  turn_taken turn taken =
+      let here = groups_here unruled seat d within in
+      let same_turn : turn ≡ turned rules (after_group rules seats (seat_at seat) events (next_group (groups_at (map groups_of unruled) seat))) =
+      taken
+      ∙ ap (λ (s : Seat). turned rules (after_group rules seats s events (next_group (groups_of (get_or unruled seat d))))) is_seat
+      ∙ ap (λ (groups : List (List Numbered)). turned rules (after_group rules seats (seat_at seat) events (next_group groups))) (sym here)
+      in
+      let same_groups : map groups_of (set unruled seat new) ≡ set (map groups_of unruled) seat (drop 1 (groups_at (map groups_of unruled) seat)) =
+      map-set groups_of unruled seat new
+      ∙ ap (λ (groups : List (List Numbered)). set (map groups_of unruled) seat groups) (dropped ∙ ap (λ (groups : List (List Numbered)). drop 1 groups) (sym here))
+      in
+      ap (λ (groups : List (List (List Numbered))). played seats seat passes turn groups) same_groups
+      ∙ ap (λ (turn : Turned (List Event)). turn_over (turns_of rules seats) (in_play events seat passes (map groups_of unruled)) turn) same_turn
+
+  -- a turn in which the seat acted
+  pub turn_acted : (after : List Event) (acted : Bool) → acted ≡ true → record { state = after; acted = acted } ≡ turned rules (after_group rules seats taker events (next_group (groups_of (get_or unruled seat d)))) → in_play after (left_of seats (seat_at seat)).0 0 (map groups_of (set unruled seat new)) ≡ after_turn (turns_of rules seats) (in_play events seat passes (map groups_of unruled))
+  turn_acted after acted has_acted taken =
+      ap (λ (b : Bool). played seats seat passes (record { state = after; acted = b }) (map groups_of (set unruled seat new))) (sym has_acted)
+      ∙ turn_taken (record { state = after; acted = acted }) taken
+
+  -- a turn in which it passed
+  pub turn_passed : (mid after : List Event) (acted : Bool) → acted ≡ false → record { state = mid; acted = acted } ≡ turned rules (after_group rules seats taker events (next_group (groups_of (get_or unruled seat d)))) → after ≡ mid ++ Passes (seat_at seat) ∷ [] → in_play after (left_of seats (seat_at seat)).0 (passes + 1) (map groups_of (set unruled seat new)) ≡ after_turn (turns_of rules seats) (in_play events seat passes (map groups_of unruled))
+  turn_passed mid after acted not_acted taken told =
+      ap (λ (events : List Event). in_play events (left_of seats (seat_at seat)).0 (passes + 1) (map groups_of (set unruled seat new))) told
+      ∙ ap (λ (b : Bool). played seats seat passes (record { state = mid; acted = b }) (map groups_of (set unruled seat new))) (sym not_acted)
+      ∙ turn_taken (record { state = mid; acted = acted }) taken
+
+-- the seat at the left of a seat, or the first, is at the table
+pub left_within : (seats : ℕ) (actor : Option Seat) → 0 < seats → (left_of_actor seats actor).0 < seats
+left_within seats None some = some
+left_within seats (Some actor) some = grind (arith, nat_tests)
+
+-- the holder of priority is at the table
+pub priority_within : (seats : ℕ) (events : List Event) → 0 < seats → (priority_of seats events).0 < seats
+priority_within seats events some = left_within seats (last_said actor_of events) some
+
+-- the seat at the left of a seat, or the first, has one of the 256 numbers
+left_at_table : (seats : ℕ) (actor : Option Seat) → 0 < seats → (left_of_actor seats actor).0 < min seats 256
+left_at_table seats None some = omega arith
+left_at_table seats (Some actor) some = grind (arith, nat_tests)
+
+-- so has the holder of priority
+pub priority_at_table : (seats : ℕ) (events : List Event) → 0 < seats → (priority_of seats events).0 < min seats 256
+priority_at_table seats events some = left_at_table seats (last_said actor_of events) some

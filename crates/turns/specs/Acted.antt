@@ -1,0 +1,25 @@
+-- Whether a seat acted is said twice: by its turn, where it passes if it did not, and by the list of events,
+-- where the holder of priority sits at the left of the seat that acted last. Both say the same of a turn where
+-- its new events name its seat, and no other, as one that acted where it acted, and else nobody.
+use Rattle.std.specs.Prelude.{◌≡◌, ℕ, Bool, if◌then◌else◌, List, ◌++◌, Some, None}
+use Rattle.history.specs.LookBack.{actor_of, last_said}
+use Rattle.history.specs.declared.event.Event.{Event}
+use Rattle.sheets.specs.Part.{Numbered}
+use Rattle.tables.specs.Turns.{Turned}
+use Rattle.tables.specs.declared.seat.Seat.{Seat}
+use Rattle.turns.specs.RoundOfTurns.{RoundRules, turns_of}
+
+-- the list goes on, and by what is new the seat acted last, or nobody acted
+pub record TellsWhoActed (seat : Seat) (acted : Bool) (old new : List Event) : Type 0 where
+  pub more : List Event
+  pub longer : new ≡ old ++ more
+  pub last : last_said actor_of more ≡ (if acted then Some seat else None)
+
+-- a turn that has led from a list to this tells who acted in it
+abbrev pub TurnTells : Seat → List Event → Turned (List Event) → Type 0
+TurnTells seat old turn = TellsWhoActed seat turn.acted old turn.state
+
+-- each turn of a round does, whatever its lines are
+abbrev pub TurnsTellWhoActed : {Deeds : Type 0} → RoundRules Deeds → Type 0
+TurnsTellWhoActed rules =
+    (seats : ℕ) (seat : Seat) (events : List Event) (lines : List Numbered) → TurnTells seat events ((turns_of rules seats).turn seat lines events)

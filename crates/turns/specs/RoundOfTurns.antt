@@ -1,0 +1,96 @@
+-- A round of turns, from a list to a list: the ROUND event; the standing lines, seat by seat; turns to the
+-- left, the first by the holder of priority, in each of which a seat takes up the next group of its sheet, and
+-- passes where it does not act in it; then what follows the turns, and what was left. The turns are over once
+-- all seats have passed in succession, or where something else ends them. What a line does, what acting is,
+-- what else ends the turns and what follows them is each kind of round's own.
+use Rattle.std.specs.Prelude.{◌≡◌, ℕ, ◌*◌, ◌≤◌, Bool, List, [], ◌∷◌, ◌++◌}
+use Rattle.std.specs.List.{range_with_len}
+use Rattle.history.specs.LookBack.{Game, priority_of}
+use Rattle.history.specs.Tell.{with_left}
+use Rattle.history.specs.declared.event.Event.{Event}
+use Rattle.history.specs.declared.event.Event.TheVariants as event
+use Rattle.sheets.specs.Part.{Numbered}
+pub use Rattle.sheets.specs.Taken.{groups_for, in_play}
+use Rattle.sheets.specs.Taken.{after_all_before, after_each, told_of_left}
+use Rattle.tables.specs.Turns.{InPlay, Play, Turned, TurnsEnd}
+use Rattle.tables.specs.declared.round.Round.{Round}
+use Rattle.tables.specs.declared.seat.Seat.{Seat}
+
+-- in a turn: the list so far, and what the seat has done
+pub record InTurn (Deeds : Type 0) : Type 0 where
+  pub events : List Event
+  pub deeds : Deeds
+
+-- in a turn with this list, in which the seat has done this
+abbrev pub in_turn : {Deeds : Type 0} → List Event → Deeds → InTurn Deeds
+in_turn events deeds = record { events = events; deeds = deeds }
+
+-- what a kind of round says for itself: the list after a standing line of a seat; what a seat has done before
+-- the first line of its turn, and where a line of it leads at a table of so many seats; whether a seat that has
+-- done this has acted; what ends the turns before all have passed; and the list after what follows the turns
+pub record RoundRules (Deeds : Type 0) : Type 0 where
+  pub standing : Seat → List Event → Numbered → List Event
+  pub nothing : Deeds
+  pub line : ℕ → Seat → InTurn Deeds → Numbered → InTurn Deeds
+  pub has_acted : Deeds → Bool
+  pub over : List Event → Bool
+  pub closed : ℕ → List Event → List Event
+
+-- after the standing lines of seats, in order
+abbrev pub after_standing : {Deeds : Type 0} → RoundRules Deeds → List ℕ → Round → List Event → List ℕ → List Event
+after_standing rules file round events seats = after_all_before rules.standing file round events seats
+
+-- after lines of a group, in order
+abbrev pub after_lines : {Deeds : Type 0} → RoundRules Deeds → ℕ → Seat → InTurn Deeds → List Numbered → InTurn Deeds
+after_lines rules seats seat turn lines = after_each (rules.line seats seat) turn lines
+
+-- after a group of lines, at the start of which a seat has done nothing
+abbrev pub after_group : {Deeds : Type 0} → RoundRules Deeds → ℕ → Seat → List Event → List Numbered → InTurn Deeds
+after_group rules seats seat events lines = after_lines rules seats seat (in_turn events rules.nothing) lines
+
+-- where a turn has led, and whether the seat acted in it
+abbrev pub turned : {Deeds : Type 0} → RoundRules Deeds → InTurn Deeds → Turned (List Event)
+turned rules turn = record { state = turn.events; acted = rules.has_acted turn.deeds }
+
+-- the turns of a round at a table of so many seats
+abbrev pub turns_of : {Deeds : Type 0} → RoundRules Deeds → ℕ → Play (List Event) Numbered
+turns_of rules seats =
+    record {
+      seats = seats;
+      turn = λ seat lines events. turned rules (after_group rules seats seat events lines);
+      pass = λ seat events. events ++ event.Passes seat ∷ [];
+      over = rules.over;
+    }
+
+-- the round before its first turn: that is of the holder of priority
+abbrev pub opened : {Deeds : Type 0} → RoundRules Deeds → ℕ → List ℕ → Round → List Event → InPlay (List Event) Numbered
+opened rules seats file round events =
+    in_play
+    (after_standing rules file round (events ++ event.Round round ∷ []) (range_with_len 0 seats)) (priority_of seats events).0 0 (groups_for seats file round)
+
+-- the lines that were not taken up, seat by seat
+abbrev pub left_from : ℕ → List (List (List Numbered)) → List Event
+left_from seat groups = told_of_left with_left seat groups
+
+-- the list at the end of the round
+abbrev pub finished : {Deeds : Type 0} → RoundRules Deeds → ℕ → InPlay (List Event) Numbered → List Event
+finished rules seats last = rules.closed seats last.now ++ left_from 0 last.groups
+
+-- the turns lead from a round in play to these events and these groups that are left
+pub record TurnsLead {Deeds : Type 0} (rules : RoundRules Deeds) (seats : ℕ) (from : InPlay (List Event) Numbered) (events : List Event) (groups : List (List (List Numbered))) : Type 0 where
+  pub last : InPlay (List Event) Numbered
+  pub turns : TurnsEnd (turns_of rules seats) from last
+  pub events_then : last.now ≡ events
+  pub groups_then : last.groups ≡ groups
+
+-- new is old after a round of turns with the sheets of the file
+pub record IsRoundOfTurns {Deeds : Type 0} (rules : RoundRules Deeds) (file : List ℕ) (round : Round) (old new : Game) : Type 0 where
+  pub last : InPlay (List Event) Numbered
+  pub turns : TurnsEnd (turns_of rules old.seats) (opened rules old.seats file round old.events) last
+  pub after : new ≡ record { seats = old.seats; events = finished rules old.seats last }
+
+-- a round of turns with the sheets of the file has an outcome, after at most 513 turns for each seat
+pub record EndsSoon {Deeds : Type 0} (rules : RoundRules Deeds) (file : List ℕ) (round : Round) (old : Game) : Type 0 where
+  pub new : Game
+  pub played : IsRoundOfTurns rules file round old new
+  pub few_turns : played.turns.steps ≤ 513 * old.seats

@@ -1,0 +1,217 @@
+ghost use Rattle.std.specs.Prelude.{◌≡◌, ◌<◌, ◌≤◌, ◌++◌, [], All, IfOk, OnOk, length, map};
+ghost use Rattle.std.specs.List.{range_with_len};
+ghost use Rattle.history.specs.LookBack.{with_event};
+ghost use Rattle.history.specs.Sound.{IsSound};
+ghost use Rattle.history.specs.Tell.{left_told};
+ghost use Rattle.history.specs.declared.event.Event.TheVariants as event;
+ghost use Rattle.sheets.specs.File.{players_of};
+ghost use Rattle.sheets.specs.Part.{groups_of};
+ghost use Rattle.sheets.specs.Taken.{after_each};
+ghost use Rattle.tables.specs.Seat.{left_of, seat_at};
+ghost use Rattle.tables.specs.Turns.{after_turn};
+ghost use Rattle.turns.specs.RoundOfTurns.{IsRoundOfTurns, TurnsLead, after_standing, groups_for, in_play, left_from, turns_of};
+ghost use Rattle.turns.specs.Small.{IsReady, PartsAreSmall};
+
+use crate::rules::TurnRules;
+use crate::turn::take_turn;
+use arrayvec::ArrayVec;
+use history::{Event, History};
+use sheets::{PartsLeft, Sheets};
+use std::alloc::AllocError;
+use tables::{PLAYERS_MOST, Round, Seat};
+
+/// What is still to come of each seat's sheet, by seat.
+type Unruled<'a> = ArrayVec<PartsLeft<'a>, PLAYERS_MOST>;
+
+/// Plays a round of turns with the sheets for it; a seat without a sheet passes. The list of events
+/// must be sound, its seats those of the sheets' players, and the round may begin. An `Err` comes
+/// from want of memory alone, and the game is dropped.
+pub fn play_round<T: TurnRules>(
+    rules: &T,
+    mut history: History,
+    sheets: &Sheets,
+    round: Round,
+) -> Result<History, AllocError>
+    requires sound { IsSound history }
+    requires seats { history.seats ≡ length (players_of sheets.now) }
+    requires may_begin { T.may_begin history.events }
+    ensures round { IfOk result (λ new. IsRoundOfTurns T.rules sheets.now round history new) }
+    ensures underway { IfOk result T.holds }
+{
+    let first = history.priority();
+    begin(rules, &mut history, round)?;
+    let mut unruled = rule_all_standing(rules, &mut history, sheets, round)?;
+    let unruled = unruled.as_mut_slice();
+    take_turns(rules, &mut history, first.number(), unruled)?;
+    rules.close(&mut history)?;
+    tell_all_left(rules, &mut history, unruled)?;
+    Ok(history)
+}
+
+/// Tells that the round begins.
+fn begin<T: TurnRules>(_rules: &T, history: &mut History, round: Round) -> Result<(), AllocError>
+    requires sound { IsSound history.old }
+    requires may_begin { T.may_begin history.old.events }
+    ensures event { OnOk result (history.new ≡ with_event history.old (event.Round round)) }
+    ensures underway { OnOk result (T.holds history.new) }
+{
+    history.tell(Event::Round(round))?;
+    Ok(())
+}
+
+/// Rules the standing lines of each sheet, seat by seat. Answers what is left.
+fn rule_all_standing<'a, T: TurnRules>(
+    rules: &T,
+    history: &mut History,
+    sheets: &Sheets<'a>,
+    round: Round,
+) -> Result<Unruled<'a>, AllocError>
+    requires { T.holds history.old }
+    ensures seats { OnOk result (history.new.seats ≡ history.old.seats) }
+    ensures events { OnOk result (history.new.events
+        ≡ after_standing T.rules sheets.now round history.old.events
+        (range_with_len 0 (length (players_of sheets.now)))) }
+    ensures left { IfOk result (λ unruled. map groups_of unruled.items
+        ≡ groups_for (length (players_of sheets.now)) sheets.now round) }
+    ensures each { IfOk result (λ unruled. length unruled.items ≡ length (players_of sheets.now)) }
+    ensures some { IfOk result (λ unruled. 0 < length unruled.items) }
+    ensures ready { IfOk result (λ unruled. All IsReady unruled.items) }
+    ensures underway { OnOk result (T.holds history.new) }
+{
+    let mut unruled = Unruled::new();
+    for seat in 0..sheets.seats() {
+        let seat = Seat::at(seat);
+        let mut sheet = sheets.parts(seat, round);
+        rule_standing(rules, history, seat, &mut sheet)?;
+        unruled.push(sheet);
+    }
+    Ok(unruled)
+}
+
+/// Rules the standing lines of a seat's sheet, those before its first group.
+fn rule_standing<T: TurnRules>(
+    rules: &T,
+    history: &mut History,
+    seat: Seat,
+    sheet: &mut PartsLeft,
+) -> Result<(), AllocError>
+    requires small { PartsAreSmall sheet.old }
+    requires underway { T.holds history.old }
+    ensures seats { OnOk result (history.new.seats ≡ history.old.seats) }
+    ensures events { OnOk result (history.new.events
+        ≡ after_each (T.rules.standing seat) history.old.events sheet.old.before) }
+    ensures left { OnOk result (sheet.new ≡ record { before = []; opened = sheet.old.opened }) }
+    ensures underway { OnOk result (T.holds history.new) }
+{
+    while let Some(line) = sheet.take_line() {
+        rules.rule_standing_line(history, seat, &line)?;
+    }
+    Ok(())
+}
+
+/// Takes turns to the left of a seat until they are over.
+fn take_turns<T: TurnRules>(
+    rules: &T,
+    history: &mut History,
+    first: usize,
+    unruled: &mut [PartsLeft],
+) -> Result<(), AllocError>
+    requires first { first < length unruled.old }
+    requires few { length unruled.old ≤ 6 }
+    requires seats { history.old.seats ≡ length unruled.old }
+    requires ready { All IsReady unruled.old }
+    requires underway { T.holds history.old }
+    ensures seats { OnOk result (history.new.seats ≡ history.old.seats) }
+    ensures turns { OnOk result (TurnsLead T.rules history.old.seats
+        (in_play history.old.events first 0 (map groups_of unruled.old))
+        history.new.events (map groups_of unruled.new)) }
+    ensures ready { OnOk result (All IsReady unruled.new) }
+    ensures underway { OnOk result (T.holds history.new) }
+{
+    let seats = unruled.len();
+    let mut seat = first;
+    let mut passes = 0;
+    while passes < seats && !rules.is_over(history) {
+        passes = play_turn(rules, history, unruled, seat, passes)?;
+        seat = Seat::at(seat).left(seats).number();
+    }
+    Ok(())
+}
+
+/// The turn of a seat, which passes where it does not act. Answers how many have passed in
+/// succession.
+fn play_turn<T: TurnRules>(
+    rules: &T,
+    history: &mut History,
+    unruled: &mut [PartsLeft],
+    seat: usize,
+    passes: usize,
+) -> Result<usize, AllocError>
+    requires seat { seat < length unruled.old }
+    requires few { length unruled.old ≤ 6 }
+    requires seats { history.old.seats ≡ length unruled.old }
+    requires passes { passes < length unruled.old }
+    requires ready { All IsReady unruled.old }
+    requires underway { T.holds history.old }
+    ensures seats { OnOk result (history.new.seats ≡ history.old.seats) }
+    ensures each { OnOk result (length unruled.new ≡ length unruled.old) }
+    ensures turn { IfOk result (λ after.
+        in_play history.new.events (left_of history.old.seats (seat_at seat)).0 after
+        (map groups_of unruled.new)
+        ≡ after_turn (turns_of T.rules history.old.seats)
+        (in_play history.old.events seat passes (map groups_of unruled.old))) }
+    ensures passes { IfOk result (λ after. after ≤ length unruled.old) }
+    ensures ready { OnOk result (All IsReady unruled.new) }
+    ensures underway { OnOk result (T.holds history.new) }
+{
+    if take_turn(rules, history, Seat::at(seat), &mut unruled[seat])? {
+        return Ok(0);
+    }
+    pass(rules, history, Seat::at(seat))?;
+    Ok(passes + 1)
+}
+
+/// A seat passes.
+fn pass<T: TurnRules>(_rules: &T, history: &mut History, seat: Seat) -> Result<(), AllocError>
+    requires { T.holds history.old }
+    ensures event { OnOk result (history.new ≡ with_event history.old (event.Passes seat)) }
+    ensures underway { OnOk result (T.holds history.new) }
+{
+    history.tell(Event::Passes(seat))?;
+    Ok(())
+}
+
+/// Tells how many lines of each sheet were not taken up, heads of groups not counted.
+fn tell_all_left<T: TurnRules>(
+    rules: &T,
+    history: &mut History,
+    unruled: &[PartsLeft],
+) -> Result<(), AllocError>
+    requires few { length unruled.now ≤ 6 }
+    requires ready { All IsReady unruled.now }
+    requires underway { T.holds history.old }
+    ensures seats { OnOk result (history.new.seats ≡ history.old.seats) }
+    ensures events { OnOk result (history.new.events
+        ≡ history.old.events ++ left_from 0 (map groups_of unruled.now)) }
+    ensures underway { OnOk result (T.holds history.new) }
+{
+    for (seat, sheet) in unruled.iter().enumerate() {
+        tell_seat_left(rules, history, Seat::at(seat), sheet.count())?;
+    }
+    Ok(())
+}
+
+/// Tells how many lines of a seat's sheet were not taken up.
+fn tell_seat_left<T: TurnRules>(
+    _rules: &T,
+    history: &mut History,
+    seat: Seat,
+    lines: u32,
+) -> Result<(), AllocError>
+    requires { T.holds history.old }
+    ensures told { OnOk result (history.new ≡ left_told seat lines history.old) }
+    ensures underway { OnOk result (T.holds history.new) }
+{
+    history.tell_left(seat, lines)?;
+    Ok(())
+}

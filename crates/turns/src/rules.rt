@@ -1,0 +1,107 @@
+ghost use Rattle.std.specs.Prelude.{◌≡◌, ◌≤◌, ◌<◌, ℕ, List, OnOk, IfOk, false};
+ghost use Rattle.history.specs.LookBack.{Game, with_event};
+ghost use Rattle.history.specs.Sound.{IsSound};
+ghost use Rattle.history.specs.Tell.{left_told};
+ghost use Rattle.history.specs.declared.event.Event.{Event};
+ghost use Rattle.history.specs.declared.event.Event.TheVariants as event;
+ghost use Rattle.sheets.specs.Part.{line_read};
+ghost use Rattle.tables.specs.declared.round.Round.{Round};
+ghost use Rattle.tables.specs.declared.seat.Seat.{Seat};
+ghost use Rattle.turns.specs.RoundOfTurns.{RoundRules, in_turn};
+ghost use Rattle.turns.specs.Small.{IsSmallReading};
+
+use history::History;
+use sheets::NumberedLine;
+use std::alloc::AllocError;
+use tables::Seat;
+
+/// What a kind of round of turns says for itself. Each call that changes the game errs only for
+/// want of memory, and the game is dropped then.
+pub trait TurnRules {
+    /// What a seat has done in a turn.
+    type Deeds: Copy;
+
+    /// The rules of such a round.
+    ghost rules: { RoundRules Self.Deeds };
+
+    /// What such a round needs of the list before it, beside soundness.
+    ghost may_begin: { List Event → Type 0 };
+
+    /// What holds of the game from the ROUND event on.
+    ghost holds: { Game → Type 0 };
+
+    /// Rules a standing line of a seat.
+    fn rule_standing_line(
+        &self,
+        history: &mut History,
+        seat: Seat,
+        line: &NumberedLine,
+    ) -> Result<(), AllocError>
+        requires small { IsSmallReading (line_read line.now).reading }
+        requires underway { holds history.old }
+        ensures seats { OnOk result (history.new.seats ≡ history.old.seats) }
+        ensures events { OnOk result (history.new.events
+            ≡ rules.standing seat history.old.events (line_read line.now)) }
+        ensures underway { OnOk result (holds history.new) };
+
+    /// What a seat has done before the first line of its turn.
+    fn nothing(&self) -> Self::Deeds
+        ensures { result ≡ rules.nothing };
+
+    /// Rules a line of a group, and does what it orders if it is obeyed. Answers what the seat has
+    /// done in its turn by then.
+    fn rule_line(
+        &self,
+        history: &mut History,
+        seat: Seat,
+        line: &NumberedLine,
+        deeds: Self::Deeds,
+    ) -> Result<Self::Deeds, AllocError>
+        requires few { history.old.seats ≤ 6 }
+        requires at_table { seat.0 < history.old.seats }
+        requires small { IsSmallReading (line_read line.now).reading }
+        requires underway { holds history.old }
+        ensures seats { OnOk result (history.new.seats ≡ history.old.seats) }
+        ensures turn { IfOk result (λ now. in_turn history.new.events now
+            ≡ rules.line history.old.seats seat (in_turn history.old.events deeds)
+            (line_read line.now)) }
+        ensures underway { OnOk result (holds history.new) };
+
+    /// Whether a seat that has done this has acted: else it passes.
+    fn has_acted(&self, deeds: Self::Deeds) -> bool
+        ensures { result ≡ rules.has_acted deeds };
+
+    /// Whether the turns are over though not all seats have passed in succession.
+    fn is_over(&self, history: &History) -> bool
+        ensures { result ≡ rules.over history.now.events };
+
+    /// Does what follows the turns.
+    fn close(&self, history: &mut History) -> Result<(), AllocError>
+        requires few { history.old.seats ≤ 6 }
+        requires some { 0 < history.old.seats }
+        requires underway { holds history.old }
+        ensures seats { OnOk result (history.new.seats ≡ history.old.seats) }
+        ensures events { OnOk result (history.new.events
+            ≡ rules.closed history.old.seats history.old.events) }
+        ensures underway { OnOk result (holds history.new) };
+
+    /// The list is sound all through the round.
+    ghost stays_sound: { (game : Game) → holds game → IsSound game };
+
+    /// The ROUND event begins it.
+    ghost begins: { (game : Game) (round : Round) → may_begin game.events
+        → IsSound (with_event game (event.Round round))
+        → holds (with_event game (event.Round round)) };
+
+    /// A pass keeps what holds.
+    ghost passes: { (game : Game) (seat : Seat) → holds game
+        → IsSound (with_event game (event.Passes seat))
+        → holds (with_event game (event.Passes seat)) };
+
+    /// So does a count of lines that were not taken up.
+    ghost leaves: { (game : Game) (seat : Seat) (lines : ℕ) → holds game
+        → IsSound (left_told seat lines game) → holds (left_told seat lines game) };
+
+    /// A seat that has done nothing has not acted.
+    ghost idle: { rules.has_acted rules.nothing ≡ false };
+}

@@ -1,0 +1,64 @@
+ghost use Rattle.std.specs.Prelude.{◌≡◌, ◌≤◌, ◌<◌, OnOk, IfOk, drop};
+ghost use Rattle.sheets.specs.Part.{groups_of};
+ghost use Rattle.tables.specs.Turns.{next_group};
+ghost use Rattle.turns.specs.RoundOfTurns.{after_group, in_turn, turned};
+ghost use Rattle.turns.specs.Small.{IsReady, PartsAreSmall};
+
+use crate::rules::TurnRules;
+use history::History;
+use sheets::PartsLeft;
+use std::alloc::AllocError;
+use tables::Seat;
+
+/// A seat's turn: it takes up the next group of its sheet, if there is one. Answers whether the
+/// seat acted.
+pub(crate) fn take_turn<T: TurnRules>(
+    rules: &T,
+    history: &mut History,
+    seat: Seat,
+    sheet: &mut PartsLeft,
+) -> Result<bool, AllocError>
+    requires few { history.old.seats ≤ 6 }
+    requires at_table { seat.0 < history.old.seats }
+    requires ready { IsReady sheet.old }
+    requires underway { T.holds history.old }
+    ensures seats { OnOk result (history.new.seats ≡ history.old.seats) }
+    ensures turn { IfOk result (λ acted.
+        record { state = history.new.events; acted = acted }
+        ≡ turned T.rules (after_group T.rules history.old.seats seat history.old.events
+        (next_group (groups_of sheet.old)))) }
+    ensures left { OnOk result (groups_of sheet.new ≡ drop 1 (groups_of sheet.old)) }
+    ensures ready { OnOk result (IsReady sheet.new) }
+    ensures underway { OnOk result (T.holds history.new) }
+{
+    let Some(_head) = sheet.take_head() else {
+        return Ok(rules.has_acted(rules.nothing()));
+    };
+    let deeds = rule_lines(rules, history, seat, sheet)?;
+    Ok(rules.has_acted(deeds))
+}
+
+/// Rules the lines of a group. Answers what the seat has done by them.
+fn rule_lines<T: TurnRules>(
+    rules: &T,
+    history: &mut History,
+    seat: Seat,
+    sheet: &mut PartsLeft,
+) -> Result<T::Deeds, AllocError>
+    requires few { history.old.seats ≤ 6 }
+    requires at_table { seat.0 < history.old.seats }
+    requires small { PartsAreSmall sheet.old }
+    requires underway { T.holds history.old }
+    ensures seats { OnOk result (history.new.seats ≡ history.old.seats) }
+    ensures turn { IfOk result (λ deeds. in_turn history.new.events deeds
+        ≡ after_group T.rules history.old.seats seat history.old.events sheet.old.before) }
+    ensures left { OnOk result (groups_of sheet.new ≡ groups_of sheet.old) }
+    ensures ready { OnOk result (IsReady sheet.new) }
+    ensures underway { OnOk result (T.holds history.new) }
+{
+    let mut deeds = rules.nothing();
+    while let Some(line) = sheet.take_line() {
+        deeds = rules.rule_line(history, seat, &line, deeds)?;
+    }
+    Ok(deeds)
+}
