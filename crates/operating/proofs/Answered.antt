@@ -126,7 +126,7 @@ token_refused_steps by turn number place fault rule ruled kept is_ruled is_kept 
     ∙ sym (ap (token_refused by turn number place) is_rule)
 
 -- the same lies after a ruling, and the company has as much
-same_after_ruling : (game ruled : Game) (seat : Seat) (number : ℕ) (ruling : Ruling) → ruled ≡ with_event game (event.Ruled seat number ruling) → ground_now ruled.events ≡ ground_now game.events
+pub same_after_ruling : (game ruled : Game) (seat : Seat) (number : ℕ) (ruling : Ruling) → ruled ≡ with_event game (event.Ruled seat number ruling) → ground_now ruled.events ≡ ground_now game.events
 same_after_ruling game ruled seat number ruling is =
     ap (λ (g : Game). ground_now g.events) is ∙ same_ground game.events (event.Ruled seat number ruling) refl refl refl
 

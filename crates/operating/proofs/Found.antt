@@ -1,42 +1,55 @@
--- What a company reaches in a lawful position can be found out: links are followed from its tokens until
--- nothing is added.
-use Rattle.std.proofs.Common.{◌≡◌, ℕ, zero, suc, ◌+◌, ◌*◌, ◌<◌, ◌≤◌, Bool, true, false, not, ◌||◌, ◌⊎◌, inl, inr, Option, Some, None, List, [], ◌∷◌, length, get_or, set, replicate, nat_le, refl, sym, ap, subst, ◌∙◌, arith}
+-- What a company reaches in a lawful position can be found out: links are followed from its tokens until nothing is
+-- added.
+use Rattle.std.proofs.Common.{◌≡◌, ℕ, zero, suc, ◌+◌, ◌<◌, ◌≤◌, Bool, true, false, not, cond, ◌⊎◌, inl, inr, Option, Some, None, List, [], ◌∷◌}
+use Rattle.std.proofs.Common.{length, get_or, set, replicate, nat_le, refl, sym, ap, subst, ◌∙◌, arith}
+use Rattle.std.proofs.lemmas.Bool.{cases_eq}
 use Rattle.std.proofs.lemmas.Bool.Decides.{nat_tests}
 use Rattle.std.proofs.lemmas.List.{length-replicate, length-set}
-use Rattle.std.proofs.lemmas.List.Sums.{count_by-le-length}
+use Rattle.std.proofs.lemmas.List.Sums.{count_by-le-length, sum_by-set}
 use Rattle.std.specs.List.{list_any}
-use Rattle.tables.proofs.Companies.{company_is}
 use Rattle.map_tables.specs.Hex.{hexes, index_of}
 use Rattle.map_tables.specs.Place.{joined_stop_of, stop_at}
 use Rattle.map_tables.specs.declared.hex.Hex.{Hex}
 use Rattle.map_tables.specs.declared.hex.Hex.TheVariants.{A9}
 use Rattle.map_tables.specs.declared.place.Stop.{Stop}
+use Rattle.map_tables.specs.declared.place.StopNumber.{StopNumber}
 use Rattle.map_tables.specs.declared.place.StopNumber.TheVariants.{First, Second}
 use Rattle.map_tables.specs.declared.track.End.{End}
 use Rattle.map_tables.specs.declared.track.End.TheVariants.{Side as AtSide, Stop as AtStop}
 use Rattle.map_tables.specs.declared.track.Link.{Link}
-use Rattle.reach.proofs.Collected.{TokensBefore, all_tokens, hexes_more, none_marked, own_hex, spot_of, token_arrives, token_marked, token_passed}
-use Rattle.reach.proofs.Hexes.{hexes_at, index_low, side_low, stop_index_low}
+use Rattle.reach.proofs.Collected.{all_tokens, none_marked, own_hex, spot_of, token_arrives}
+use Rattle.reach.proofs.Hexes.{hexes_at, index_low, same_index, side_low, stop_index_low}
 use Rattle.reach.proofs.Lists.{among_found, found_among}
-use Rattle.reach.proofs.Marking.{follows_fewer, follows_marked, follows_on, follows_step}
+use Rattle.reach.proofs.Marking.{follows_step}
 use Rattle.reach.specs.Lawful.{IsLawful}
 use Rattle.reach.specs.Position.{HasToken, IsAmong, IsFull, Position, at_stop, links_of}
 use Rattle.reach.specs.Reached.{stop_order}
-use Rattle.reach.specs.Search.{AllArrive, CanEnter, CanEnterAt, Follows, HasAllTokens, IsClosed, IsMarked, marked, number_at, spot_number}
+use Rattle.reach.specs.Search.{AllArrive, CanEnter, CanEnterAt, HasAllTokens, IsClosed, IsMarked, marked, number_at, spot_number}
 use Rattle.reach.specs.Walk.{IsTrack, across_end, entered_at, left_at, spot_at}
 use Rattle.reach.specs.declared.walk.Spot.{Spot}
 use Rattle.reach.specs.declared.walk.Step.{Step}
-use Rattle.tables.specs.Roster.{place_of_company, same_company}
+use Rattle.tables.proofs.Companies.{company_is, company_is_same}
+use Rattle.tables.specs.Roster.{same_company}
 use Rattle.tables.specs.declared.roster.Company.{Company}
 
 -- something is so, or is not
 abbrev pub Decided : Type 0 → Type 0
 Decided P = P ⊎ ¬ P
 
+-- what is the same as something decided is decided
+pub decided_by : (P Q : Type 0) → (P → Q) → (Q → P) → Decided P → Decided Q
+decided_by P Q there back (inl is) = inl (there is)
+decided_by P Q there back (inr off) = inr (λ is. off (back is))
+
 -- a test is passed or is not
-pub test_decided : (b : Bool) → Decided (b ≡ true)
+test_decided : (b : Bool) → Decided (b ≡ true)
 test_decided true = inl refl
 test_decided false = inr (λ (is : false ≡ true). let no : ⊥ = cc in no)
+
+-- what is not so
+not_decided : (P : Type 0) → Decided P → Decided (¬ P)
+not_decided P (inl is) = inr (λ off. off is)
+not_decided P (inr off) = inl off
 
 -- both of two
 pub both_decided : (P Q : Type 0) → Decided P → Decided Q → Decided (P × Q)
@@ -50,52 +63,90 @@ either_decided P Q (inl first) second = inl (inl first)
 either_decided P Q (inr first) (inl second) = inl (inr second)
 either_decided P Q (inr first) (inr second) = inr (λ either. elim either [ inl one ↦ first one | inr other ↦ second other ])
 
+-- one of a list is so
+pub any_among : {A : Type 0} (P : A → Type 0) → ((a : A) → Decided (P a)) → (things : List A) → Decided ((a : A) × IsAmong a things × P a)
+any_among P each [] = inr (λ any. absurd any.1)
+any_among P each (thing ∷ things) =
+    elim (each thing) [
+      | inl is ↦ inl (thing, inl refl, is)
+      | inr off ↦ elim (any_among P each things) [
+        | inl later ↦ inl (later.0, inr later.1, later.2)
+        | inr none ↦ inr (λ any. elim any.1 [
+          | inl here ↦ off (subst P (sym here) any.2)
+          | inr there ↦ none (any.0, there, any.2)
+        ])
+      ]
+    ]
+
+-- one of the numbers under another
+any_under : (P : ℕ → Type 0) → ((n : ℕ) → Decided (P n)) → (count : ℕ) → Decided ((n : ℕ) × (n < count) × P n)
+any_under P each zero = inr (λ any. let low = any.1 in omega arith)
+any_under P each (suc count) =
+    elim (each count) [
+      | inl is ↦ inl (count, omega arith, is)
+      | inr off ↦ elim (any_under P each count) [
+        | inl before ↦ inl (before.0, (let low = before.1 in omega arith), before.2)
+        | inr none ↦ inr (λ any. elim (cases_eq any.0 count) [
+          | inl same ↦ off (subst P same any.2)
+          | inr other ↦ none (any.0, (let low = any.1 in omega arith), any.2)
+        ])
+      ]
+    ]
+
+-- a hex of the map
+any_hex : (P : Hex → Type 0) → ((hex : Hex) → Decided (P hex)) → Decided ((hex : Hex) × P hex)
+any_hex P each =
+    let here : ℕ → Type 0 = λ n. P (get_or hexes n A9) in
+    elim (any_under here (λ n. each (get_or hexes n A9)) 93) [
+      | inl found ↦ inl (get_or hexes found.0 A9, found.2)
+      | inr none ↦ inr (λ any. none (
+        index_of any.0,
+        index_low any.0,
+        subst P
+            (sym (same_index (get_or hexes (index_of any.0) A9) any.0 (hexes_at (index_of any.0) A9 (index_low any.0)))) any.1,
+      ))
+    ]
+
+-- a stop of a hex
+pub any_number : (P : StopNumber → Type 0) → ((number : StopNumber) → Decided (P number)) → Decided ((number : StopNumber) × P number)
+any_number P each =
+    elim (each First) [
+      | inl is ↦ inl (First, is)
+      | inr off ↦ elim (each Second) [
+        | inl is ↦ inl (Second, is)
+        | inr neither ↦ inr (λ any. (elim any.0 as (λ (number : StopNumber). P number → ⊥) [ First ↦ off | Second ↦ neither ]) any.1)
+      ]
+    ]
+
 -- a thing is among some
-pub among_decided : {A : Type 0} (same : A → A → Bool) → ((a b : A) → same a b ≡ true → a ≡ b) → ((a b : A) → a ≡ b → same a b ≡ true) → (thing : A) (things : List A) → Decided (IsAmong thing things)
+pub among_decided : {A : Type 0} (same : A → A → Bool) → ((a b : A) → same a b ≡ true → a ≡ b) → ((a b : A) → a ≡ b → same a b ≡ true) →
+    (thing : A) (things : List A) → Decided (IsAmong thing things)
 among_decided same exact alike thing things =
-    elim (test_decided (list_any (λ other. same other thing) things)) [
-      | inl found ↦ inl (among_found same exact things thing found)
-      | inr none ↦ inr (λ among. none (found_among same alike things thing among))
-    ]
-
--- a company compares alike with itself
-company_alike : (a b : Company) → a ≡ b → same_company a b ≡ true
-company_alike a b is = let number : place_of_company a ≡ place_of_company b = ap place_of_company is in grind (arith, nat_tests, number)
-
--- a company has a token at a stop
-token_decided : (position : Position) (stop : Stop) (company : Company) → Decided (HasToken position stop company)
-token_decided position stop company = among_decided same_company company_is company_alike company (at_stop position stop).tokens
-
--- one number is under another
-under_decided : (a b : ℕ) → Decided (a < b)
-under_decided a b =
-    elim (test_decided (nat_le (suc a) b)) [
-      | inl is ↦ inl (grind (arith, nat_tests, is))
-      | inr over ↦ inr (λ is. over (grind (arith, nat_tests, is)))
-    ]
+    let test = list_any (λ other. same other thing) things in
+    decided_by (test ≡ true) (IsAmong thing things) (among_found same exact things thing) (found_among same alike things thing) (test_decided test)
 
 -- one number is at most another
 most_decided : (a b : ℕ) → Decided (a ≤ b)
 most_decided a b =
-    elim (test_decided (nat_le a b)) [
-      | inl is ↦ inl (grind (arith, nat_tests, is))
-      | inr over ↦ inr (λ is. over (grind (arith, nat_tests, is)))
-    ]
+    decided_by (nat_le a b ≡ true) (a ≤ b) (λ is. grind (arith, nat_tests, is)) (λ is. grind (arith, nat_tests, is)) (test_decided (nat_le a b))
 
--- a city is not full for a company
-not_full_decided : (position : Position) (stop : Stop) (company : Company) → Decided (¬ IsFull position stop company)
-not_full_decided position stop company =
+-- a company has a token at a stop
+token_decided : (position : Position) (stop : Stop) (company : Company) → Decided (HasToken position stop company)
+token_decided position stop company = among_decided same_company company_is company_is_same company (at_stop position stop).tokens
+
+-- a city is full for a company
+full_decided : (position : Position) (stop : Stop) (company : Company) → Decided (IsFull position stop company)
+full_decided position stop company =
     let there = at_stop position stop in
-    elim (under_decided 0 there.slots) [
-      | inl city ↦ elim (most_decided there.slots (length there.tokens)) [
-        | inl taken ↦ elim (token_decided position stop company) [
-          | inl own ↦ inl (λ full. full.by_others own)
-          | inr others ↦ inr (λ free. free (record { is_city = city; all_taken = taken; by_others = others }))
-        ]
-        | inr free ↦ inl (λ full. free full.all_taken)
-      ]
-      | inr none ↦ inl (λ full. none full.is_city)
-    ]
+    let slots : Type 0 = 1 ≤ there.slots in
+    let taken : Type 0 = there.slots ≤ length there.tokens in
+    let others : Type 0 = ¬ HasToken position stop company in
+    decided_by (slots × (taken × others)) (IsFull position stop company)
+    (λ all. record { is_city = (let some = all.0 in omega arith); all_taken = all.1.0; by_others = all.1.1 })
+    (λ full. ((let some = full.is_city in omega arith), (full.all_taken, full.by_others)))
+    (both_decided slots (taken × others) (most_decided 1 there.slots)
+    (both_decided taken others (most_decided there.slots (length there.tokens))
+    (not_decided (HasToken position stop company) (token_decided position stop company))))
 
 -- a spot is marked
 pub mark_decided : (marks : List Bool) (spot : Spot) → Decided (IsMarked marks spot)
@@ -105,16 +156,16 @@ mark_decided marks spot = test_decided (get_or marks (spot_number spot) false)
 across_decided : (marks : List Bool) (found : Option Spot) → Decided ((from : Spot) × (found ≡ Some from) × IsMarked marks from)
 across_decided marks None = inr (λ any. let wrong : None ≡ Some any.0 = any.1 in let no : ⊥ = cc in no)
 across_decided marks (Some spot) =
-    elim (mark_decided marks spot) [
-      | inl is ↦ inl (spot, refl, is)
-      | inr off ↦ inr (λ any. let same : spot ≡ any.0 = (let both : Some spot ≡ Some any.0 = any.1 in cc) in off (subst (IsMarked marks) (sym same) any.2))
-    ]
+    decided_by (IsMarked marks spot) ((from : Spot) × (Some spot ≡ Some from) × IsMarked marks from) (λ is. (spot, refl, is))
+    (λ any. let same : spot ≡ any.0 = (let both : Some spot ≡ Some any.0 = any.1 in cc) in subst (IsMarked marks) (sym same) any.2) (mark_decided marks spot)
 
 -- a link may be entered at an end
 enter_decided : (position : Position) (company : Company) (marks : List Bool) (hex : Hex) (end : End) → Decided (CanEnterAt position company marks hex end)
 enter_decided position company marks hex (AtSide side) = across_decided marks (across_end hex (AtSide side))
 enter_decided position company marks hex (AtStop number) =
-    both_decided (IsMarked marks (spot_at hex (AtStop number))) (¬ IsFull position (joined_stop_of (stop_at hex number)) company) (mark_decided marks (spot_at hex (AtStop number))) (not_full_decided position (joined_stop_of (stop_at hex number)) company)
+    let stop = joined_stop_of (stop_at hex number) in
+    both_decided (IsMarked marks (spot_at hex (AtStop number))) (¬ IsFull position stop company) (mark_decided marks (spot_at hex (AtStop number)))
+    (not_decided (IsFull position stop company) (full_decided position stop company))
 
 -- at a spot
 pub can_enter_decided : (position : Position) (company : Company) (marks : List Bool) (spot : Spot) → Decided (CanEnter position company marks spot)
@@ -126,27 +177,16 @@ number_low hex (AtSide side) = omega (arith, index_low hex, side_low side)
 number_low hex (AtStop number) =
     let joined = joined_stop_of (stop_at hex number) in omega (arith, index_low joined.hex, stop_index_low joined.number)
 
--- what comes of following some steps
-pub record Followed (position : Position) (company : Company) (P : Step → Type 0) (old : List Bool) : Type 0 where
-  pub new : List Bool
-  pub added : Bool
-  pub follows : Follows position company P old new added
+-- what is not marked
+unmarked : (mark : Bool) → ¬ (mark ≡ true) → mark ≡ false
+unmarked true off = absurd (off refl)
+unmarked false off = refl
 
--- following steps that lead nowhere new
-idle : (position : Position) (company : Company) (P : Step → Type 0) (old : List Bool) → ((step : Step) → P step → CanEnter position company old (entered_at step) → IsMarked old (left_at step)) → Followed position company P old
-idle position company P old nowhere =
-    record {
-      new = old;
-      added = false;
-      follows = record {
-        length_kept = refl;
-        kept = λ spot is. is;
-        arrive = λ arrive. arrive;
-        more = λ more. cc;
-        same = λ same. refl;
-        closed = λ same. nowhere;
-      };
-    }
+-- one more mark
+one_more : (marks : List Bool) (n : ℕ) → n < length marks → get_or marks n false ≡ false → marked marks < marked (set marks n true)
+one_more marks n low was =
+    let count : Bool → ℕ = λ mark. cond mark 1 0 in
+    omega (arith, sum_by-set count marks n true false low, ap count was)
 
 -- marks of all that walks of the company come to
 pub record Search (position : Position) (company : Company) : Type 0 where
@@ -155,173 +195,113 @@ pub record Search (position : Position) (company : Company) : Type 0 where
   pub tokens : HasAllTokens position company marks
   pub closed : IsClosed position company (IsTrack position) marks
 
--- marks that have the tokens of the stops before a place in the order of the map
-record Begun (position : Position) (company : Company) (place : ℕ) : Type 0 where
-  pub marks : List Bool
-  pub long : length marks ≡ 744
-  pub arrive : AllArrive position company marks
-  pub tokens : TokensBefore position company marks place
+-- more marks than these, and walks arrive at all of them
+record Further (position : Position) (company : Company) (old : List Bool) : Type 0 where
+  new : List Bool
+  long : length new ≡ 744
+  arrive : AllArrive position company new
+  more : marked old < marked new
 
 module _ (position : Position) (company : Company) (lawful : IsLawful position) where
-  -- a step that is not known yet
-  new_step : (old : List Bool) → length old ≡ 744 → (step : Step) → IsTrack position step → Decided (CanEnter position company old (entered_at step)) → get_or old (spot_number (left_at step)) false ≡ false → Followed position company (λ taken. taken ≡ step) old
-  new_step old long step track (inl can) unmarked =
+  -- a stop with a token that is not marked
+  abbrev IsNewToken : List Bool → Stop → Type 0
+  IsNewToken marks stop = HasToken position (joined_stop_of stop) company × ¬ IsMarked marks (spot_of stop)
+
+  new_token : (marks : List Bool) → Decided ((hex : Hex) × ((number : StopNumber) × IsNewToken marks (stop_at hex number)))
+  new_token marks =
+      any_hex (λ hex. (number : StopNumber) × IsNewToken marks (stop_at hex number))
+      (λ hex. any_number (λ number. IsNewToken marks (stop_at hex number))
+      (λ number. let stop = stop_at hex number in both_decided (HasToken position (joined_stop_of stop) company) (¬ IsMarked marks (spot_of stop))
+      (token_decided position (joined_stop_of stop) company) (not_decided (IsMarked marks (spot_of stop)) (mark_decided marks (spot_of stop)))))
+
+  -- a step from what is marked to what is not
+  abbrev IsNewStep : List Bool → Step → Type 0
+  IsNewStep marks step = CanEnter position company marks (entered_at step) × ¬ IsMarked marks (left_at step)
+
+  step_decided : (marks : List Bool) (step : Step) → Decided (IsNewStep marks step)
+  step_decided marks step =
+      both_decided (CanEnter position company marks (entered_at step)) (¬ IsMarked marks (left_at step))
+      (can_enter_decided position company marks (entered_at step)) (not_decided (IsMarked marks (left_at step)) (mark_decided marks (left_at step)))
+
+  -- along a link, one way or the other
+  abbrev IsNewLink : List Bool → Link → Type 0
+  IsNewLink marks link = IsNewStep marks (record { link = link; turned = false }) ⊎ IsNewStep marks (record { link = link; turned = true })
+
+  new_link : (marks : List Bool) → Decided ((hex : Hex) × ((link : Link) × IsAmong link (links_of position hex) × IsNewLink marks link))
+  new_link marks =
+      any_hex (λ hex. (link : Link) × IsAmong link (links_of position hex) × IsNewLink marks link)
+      (λ hex. any_among (IsNewLink marks)
+      (λ link. either_decided (IsNewStep marks (record { link = link; turned = false })) (IsNewStep marks (record { link = link; turned = true }))
+      (step_decided marks (record { link = link; turned = false })) (step_decided marks (record { link = link; turned = true }))) (links_of position hex))
+
+  -- a step of the one or the other way is one along its link
+  either_way : (marks : List Bool) (link : Link) (turned : Bool) → IsNewStep marks (record { link = link; turned = turned }) → IsNewLink marks link
+  either_way marks link true new = inr new
+  either_way marks link false new = inl new
+
+  -- a token is marked
+  by_token : (old : List Bool) → length old ≡ 744 → AllArrive position company old → (stop : Stop) → IsNewToken old stop → Further position company old
+  by_token old long arrive stop is =
+      let number : ℕ = spot_number (spot_of stop) in
       record {
-        new = set old (spot_number (left_at step)) true;
-        added = true;
-        follows = follows_step position company lawful step track old (set old (spot_number (left_at step)) true) true (omega (arith, long, number_low (left_at step).hex (left_at step).end)) can refl (sym (ap not unmarked));
-      }
-  new_step old long step track (inr cannot) unmarked =
-      idle position company (λ taken. taken ≡ step) old
-      (λ taken is can. absurd (cannot (subst (λ (s : Step). CanEnter position company old (entered_at s)) is can)))
-
-  -- one step
-  one_step : (old : List Bool) → length old ≡ 744 → (step : Step) → IsTrack position step → Followed position company (λ taken. taken ≡ step) old
-  one_step old long step track =
-      elim (get_or old (spot_number (left_at step)) false) as (λ (b : Bool). get_or old (spot_number (left_at step)) false ≡ b → Followed position company (λ taken. taken ≡ step) old) [
-        | true ↦ λ is. record { new = old; added = false; follows = follows_marked position company step old is }
-        | false ↦ λ is. new_step old long step track (can_enter_decided position company old (entered_at step)) is
-      ]
-      refl
-
-  -- steps after others
-  then_steps : (P Q R : Step → Type 0) (old : List Bool) (first : Followed position company P old) → Followed position company Q first.new → ((step : Step) → R step → P step ⊎ Q step) → Followed position company R old
-  then_steps P Q R old first next either =
-      record {
-        new = next.new;
-        added = first.added || next.added;
-        follows = follows_on position company P Q R old first.new next.new first.added next.added first.follows next.follows either;
-      }
-
-  -- marks stay as many
-  long_still : (P : Step → Type 0) (old : List Bool) → length old ≡ 744 → (first : Followed position company P old) → length first.new ≡ 744
-  long_still P old long first = first.follows.length_kept ∙ long
-
-  -- a step along a link goes one way or the other
-  one_way : (link : Link) (taken : Step) → taken.link ≡ link → (taken ≡ record { link = link; turned = false }) ⊎ (taken ≡ record { link = link; turned = true })
-  one_way link taken is =
-      elim taken.turned as (λ (b : Bool). taken.turned ≡ b → (taken ≡ record { link = link; turned = false }) ⊎ (taken ≡ record { link = link; turned = true })) [
-        | true ↦ λ turned. inr (ap (λ (l : Link). let s : Step = record { link = l; turned = taken.turned } in s) is ∙ ap (λ (b : Bool). let s : Step = record { link = link; turned = b } in s) turned)
-        | false ↦ λ turned. inl (ap (λ (l : Link). let s : Step = record { link = l; turned = taken.turned } in s) is ∙ ap (λ (b : Bool). let s : Step = record { link = link; turned = b } in s) turned)
-      ]
-      refl
-
-  -- a link, both ways
-  both_ways : (old : List Bool) → length old ≡ 744 → (link : Link) → IsAmong link (links_of position link.hex) → Followed position company (λ taken. taken.link ≡ link) old
-  both_ways old long link track =
-      let forward : Step = record { link = link; turned = false } in
-      let back : Step = record { link = link; turned = true } in
-      let first = one_step old long forward track in
-      let next = one_step first.new (long_still (λ taken. taken ≡ forward) old long first) back track in
-      then_steps (λ taken. taken ≡ forward) (λ taken. taken ≡ back) (λ taken. taken.link ≡ link) old first next (one_way link)
-
-  -- a link in front of others, or one of them
-  front_or_later : (link : Link) (links : List Link) (taken : Step) → IsAmong taken.link (link ∷ links) → (taken.link ≡ link) ⊎ IsAmong taken.link links
-  front_or_later link links taken (inl here) = inl (sym here)
-  front_or_later link links taken (inr later) = inr later
-
-  -- links of the position
-  some_links : (old : List Bool) → length old ≡ 744 → (links : List Link) → ((link : Link) → IsAmong link links → IsAmong link (links_of position link.hex)) → Followed position company (λ taken. IsAmong taken.link links) old
-  some_links old long [] tracks = idle position company (λ taken. IsAmong taken.link []) old (λ taken none can. absurd none)
-  some_links old long (link ∷ links) tracks =
-      let first = both_ways old long link (tracks link (inl refl)) in
-      let next = some_links first.new (long_still (λ taken. taken.link ≡ link) old long first) links (λ other among. tracks other (inr among)) in
-      then_steps (λ taken. taken.link ≡ link) (λ taken. IsAmong taken.link links) (λ taken. IsAmong taken.link (link ∷ links)) old first next (front_or_later link links)
-
-  -- those of the first hexes
-  first_hexes : (count : ℕ) → count ≤ 93 → (old : List Bool) → length old ≡ 744 → Followed position company (λ taken. (index_of taken.link.hex < count) × IsTrack position taken) old
-  first_hexes zero few old long =
-      idle position company (λ taken. (index_of taken.link.hex < zero) × IsTrack position taken) old (λ taken none can. absurd (omega (arith, none.0)))
-  first_hexes (suc count) few old long =
-      let hex : Hex = get_or hexes count A9 in
-      let is : index_of hex ≡ count = hexes_at count A9 (omega arith) in
-      let first = first_hexes count (omega arith) old long in
-      let next = some_links first.new (long_still (λ taken. (index_of taken.link.hex < count) × IsTrack position taken) old long first) (links_of position hex) (own_hex position lawful hex) in
-      then_steps (λ taken. (index_of taken.link.hex < count) × IsTrack position taken) (λ taken. IsAmong taken.link (links_of position hex)) (λ taken. (index_of taken.link.hex < suc count) × IsTrack position taken) old first next
-      (λ taken here. elim (hexes_more position hex count is taken.link (omega (arith, here.0)) here.1) [ inl before ↦ inl (before, here.1) | inr there ↦ inr there ])
-
-  -- those of all hexes
-  narrowed : (old : List Bool) → Followed position company (λ taken. (index_of taken.link.hex < 93) × IsTrack position taken) old → Followed position company (IsTrack position) old
-  narrowed old all =
-      record {
-        new = all.new;
-        added = all.added;
-        follows = follows_fewer position company (λ taken. (index_of taken.link.hex < 93) × IsTrack position taken) (IsTrack position) old all.new all.added all.follows (λ taken track. (index_low taken.link.hex, track));
+        new = set old number true;
+        long = length-set old number true ∙ long;
+        arrive = token_arrives position company old stop (stop_order stop) refl is.0 arrive (set old number true) refl;
+        more = one_more old number (omega (arith, long, number_low stop.hex (AtStop stop.number))) (unmarked (get_or old number false) is.1);
       }
 
-  all_hexes : (old : List Bool) → length old ≡ 744 → Followed position company (IsTrack position) old
-  all_hexes old long = narrowed old (first_hexes 93 (omega arith) old long)
+  -- the end of a step is
+  by_step : (old : List Bool) → length old ≡ 744 → AllArrive position company old → (step : Step) → IsTrack position step → IsNewStep old step →
+      Further position company old
+  by_step old long arrive step track is =
+      let number : ℕ = spot_number (left_at step) in
+      let low : number < length old = omega (arith, long, number_low (left_at step).hex (left_at step).end) in
+      let off = unmarked (get_or old number false) is.1 in
+      let follows = follows_step position company lawful step track old (set old number true) true low is.0 refl (sym (ap not off)) in
+      record { new = set old number true; long = follows.length_kept ∙ long; arrive = follows.arrive arrive; more = follows.more refl }
 
-  -- no more are marked than there are
-  few_marked : (old : List Bool) → length old ≡ 744 → (all : Followed position company (IsTrack position) old) → marked all.new ≤ 744
-  few_marked old long all =
-      omega (arith, count_by-le-length (λ mark. mark) all.new, long_still (IsTrack position) old long all)
+  by_link : (old : List Bool) → length old ≡ 744 → AllArrive position company old → (link : Link) → IsAmong link (links_of position link.hex) →
+      IsNewLink old link → Further position company old
+  by_link old long arrive link track (inl forward) = by_step old long arrive (record { link = link; turned = false }) track forward
+  by_link old long arrive link track (inr back) = by_step old long arrive (record { link = link; turned = true }) track back
 
-  -- where nothing is added all is found; else it goes on
-  done_or_on : (old : List Bool) → AllArrive position company old → HasAllTokens position company old → (all : Followed position company (IsTrack position) old) → (all.added ≡ true → Search position company) → Search position company
-  done_or_on old arrive tokens all on =
-      elim all.added as (λ (b : Bool). all.added ≡ b → Search position company) [
-        | true ↦ λ some. on some
-        | false ↦ λ none. record { marks = old; arrive = arrive; tokens = tokens; closed = all.follows.closed none }
+  -- what is not new is marked
+  known : (marks : List Bool) (spot : Spot) → ¬ (¬ IsMarked marks spot) → IsMarked marks spot
+  known marks spot is = elim (mark_decided marks spot) [ inl here ↦ here | inr off ↦ absurd (is off) ]
+
+  -- there are more marks, or all is found
+  next : (old : List Bool) → length old ≡ 744 → AllArrive position company old → Further position company old ⊎ Search position company
+  next old long arrive =
+      elim (new_token old) [
+        | inl token ↦ inl (by_token old long arrive (stop_at token.0 token.1.0) token.1.1)
+        | inr no_token ↦ elim (new_link old) [
+          | inl new ↦ inl (let link = new.1.0 in by_link old long arrive link (own_hex position lawful new.0 link new.1.1) new.1.2)
+          | inr no_link ↦ inr (record {
+            marks = old;
+            arrive = arrive;
+            tokens = all_tokens position company old 186 (omega arith)
+                (λ stop low token. known old (spot_of stop) (λ off. no_token (stop.hex, (stop.number, (token, off)))));
+            closed = λ step track can. known old (left_at step)
+                (λ off. no_link (step.link.hex, (step.link, track, either_way old step.link step.turned (can, off))));
+          })
+        ]
       ]
-      refl
 
   -- the search ends: each time there is more, and there are no more marks than spots
-  until_nothing : (left : ℕ) (old : List Bool) → length old ≡ 744 → 744 ≤ marked old + left → AllArrive position company old → HasAllTokens position company old → Search position company
-  until_nothing zero old long few arrive tokens =
-      let all : Followed position company (IsTrack position) old = all_hexes old long in
-      done_or_on old arrive tokens all (λ some. absurd (omega (arith, all.follows.more some, few_marked old long all, few)))
-  until_nothing (suc left) old long few arrive tokens =
-      let all : Followed position company (IsTrack position) old = all_hexes old long in
-      done_or_on old arrive tokens all
-      (λ some. until_nothing left all.new (long_still (IsTrack position) old long all) (omega (arith, all.follows.more some, few)) (all.follows.arrive arrive) (λ spot stop is token. all.follows.kept spot (tokens spot stop is token)))
-
-  -- one stop more
-  next_stop : (place : ℕ) (begun : Begun position company place) (stop : Stop) → stop_order stop ≡ place → Begun position company (place + 1)
-  next_stop place begun stop here =
-      elim (token_decided position (joined_stop_of stop) company) [
-        | inl token ↦
-            let number : ℕ = spot_number (spot_of stop) in
-            let low : number < length begun.marks = omega (arith, begun.long, number_low stop.hex (AtStop stop.number)) in
-            let new : List Bool = set begun.marks number true in
-            record {
-              marks = new;
-              long = length-set begun.marks number true ∙ begun.long;
-              arrive = token_arrives position company begun.marks stop place here token begun.arrive new refl;
-              tokens = token_marked position company begun.marks stop place here low begun.tokens new refl;
-            }
-        | inr none ↦
-            record {
-              marks = begun.marks;
-              long = begun.long;
-              arrive = begun.arrive;
-              tokens = token_passed position company begun.marks stop place here none begun.tokens;
-            }
+  until_nothing : (left : ℕ) (old : List Bool) → length old ≡ 744 → 744 ≤ marked old + left → AllArrive position company old → Search position company
+  until_nothing zero old long few arrive =
+      elim (next old long arrive) [
+        | inl further ↦ absurd (omega (arith, further.more, further.long, count_by-le-length (λ mark. mark) further.new, few))
+        | inr all ↦ all
       ]
-
-  -- both stops of the first hexes
-  begun_hexes : (count : ℕ) → count ≤ 93 → Begun position company (2 * count)
-  begun_hexes zero few =
-      record {
-        marks = replicate 744 false;
-        long = length-replicate 744 false;
-        arrive = λ spot is. let wrong : true ≡ false = sym is ∙ none_marked 744 (spot_number spot) in cc;
-        tokens = λ stop low token. absurd (omega (arith, low));
-      }
-  begun_hexes (suc count) few =
-      let hex : Hex = get_or hexes count A9 in
-      let is : index_of hex ≡ count = hexes_at count A9 (omega arith) in
-      let before : Begun position company (2 * count) = begun_hexes count (omega arith) in
-      let first : Begun position company (2 * count + 1) = next_stop (2 * count) before (stop_at hex First) (omega (arith, is)) in
-      let second : Begun position company (2 * count + 1 + 1) = next_stop (2 * count + 1) first (stop_at hex Second) (omega (arith, is)) in
-      let same : 2 * count + 1 + 1 ≡ 2 * suc count = omega arith in
-      subst (Begun position company) same second
-
-  -- from all tokens on
-  from_tokens : Begun position company 186 → Search position company
-  from_tokens begun =
-      until_nothing 744 begun.marks begun.long (omega arith) begun.arrive (all_tokens position company begun.marks 186 (omega arith) begun.tokens)
+  until_nothing (suc left) old long few arrive =
+      elim (next old long arrive) [
+        | inl further ↦ until_nothing left further.new further.long (omega (arith, further.more, few)) further.arrive
+        | inr all ↦ all
+      ]
 
   -- what the company reaches is found
   pub found : Search position company
-  found = from_tokens (begun_hexes 93 (omega arith))
+  found =
+      until_nothing 744 (replicate 744 false) (length-replicate 744 false) (omega arith)
+      (λ spot is. let wrong : true ≡ false = sym is ∙ none_marked 744 (spot_number spot) in cc)

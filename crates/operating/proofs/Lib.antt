@@ -1,15 +1,9 @@
 pub mod Told
 pub mod Fitting
 pub mod Allowed
-pub mod Once
-pub mod Adds
-pub mod TrainsAdd
-pub mod Adding
-pub mod Seats
-pub mod Operated
 pub mod Found
 pub mod Decided
-pub mod Ends
+pub mod Outcome
 pub mod Answered
 pub mod Played
 pub mod Dividends
@@ -26,5 +20,9 @@ pub mod Sales
 pub mod Held
 pub mod Fleet
 pub mod Still
+pub mod TurnEvents
 pub mod TurnSteps
-pub mod TurnTrains
+pub mod TurnGames
+pub mod TurnLaws
+pub mod Tiles
+pub mod Operated

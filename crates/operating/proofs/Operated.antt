@@ -1,26 +1,32 @@
--- Which companies have operated once more events stand at the end of a list, none of which begins a round.
-use Rattle.std.proofs.Common.{◌≡◌, Bool, true, false, ◌||◌, if◌then◌else◌, List, [], ◌∷◌, ◌++◌, Option, Some, None, is_some, refl, sym, ap, ◌∙◌}
-use Rattle.std.proofs.lemmas.List.{append_assoc, append-nil}
-use Rattle.std.specs.List.{list_any}
+-- Which companies have operated after a company's turn: those that had before, and the company.
+use Rattle.std.proofs.Common.{◌≡◌, ℕ, ◌==◌, Bool, true, false, not, ◌||◌, if◌then◌else◌, List, [], ◌∷◌, ◌++◌, Option, Some, None, is_some, refl, sym}
+use Rattle.std.proofs.Common.{ap, subst, ◌∙◌}
 use Rattle.std.specs.Option.{option_flatten, option_map, option_or}
 use Rattle.history.proofs.EventAtEnd.{last_said_at_end}
 use Rattle.history.specs.Event.{operated_by, round_of}
-use Rattle.history.specs.LookBack.{in_round, last_said}
+use Rattle.history.specs.LookBack.{Game, in_round, last_said, with_event}
 use Rattle.history.specs.Operating.{has_operated, turn_said}
 use Rattle.history.specs.declared.event.Event.{Event}
-use Rattle.operating.specs.Laws.{BeginsNoRound}
+use Rattle.history.specs.declared.event.Event.TheVariants as event
+use Rattle.history.specs.declared.ruling.PayRule.{PayRule}
+use Rattle.history.specs.declared.ruling.PayRule.TheVariants.{NothingToPay}
+use Rattle.operating.proofs.TurnEvents.{begins_none, own_alone}
+use Rattle.operating.proofs.TurnGames.{OfEvents, after_withheld, by_each, of_game_turn, of_steps}
+use Rattle.operating.proofs.TurnSteps.{OfSteps, of_turn}
+use Rattle.operating.specs.Act.{withheld}
+use Rattle.operating.specs.Dividend.{is_past_pay}
+use Rattle.operating.specs.InTurn.{InTurn, in_turn, is_unpaid, pay_done}
+use Rattle.operating.specs.Laws.{CompanyOperates}
+use Rattle.operating.specs.Turn.{IsCompanyTurn, settled}
+use Rattle.operating.specs.declared.progress.Progress.{Progress}
+use Rattle.tables.proofs.Companies.{company_is, company_is_same}
+use Rattle.tables.specs.Roster.{same_company}
+use Rattle.tables.specs.Rules.{first_broken}
 use Rattle.tables.specs.declared.roster.Company.{Company}
-
--- a company operates by an event
-abbrev pub operates_by : Company → Event → Bool
-operates_by company event = is_some (turn_said company (operated_by event))
-
--- or by one of some
-abbrev pub operates_in : Company → List Event → Bool
-operates_in company events = list_any (operates_by company) events
+use Rattle.tables.specs.declared.round.Round.{Round}
 
 -- something or nothing is that
-pub or_false : (b : Bool) → (b || false) ≡ b
+or_false : (b : Bool) → (b || false) ≡ b
 or_false true = refl
 or_false false = refl
 
@@ -29,36 +35,115 @@ or_true : (b : Bool) → (b || true) ≡ true
 or_true true = refl
 or_true false = refl
 
--- something or something else or a third
-pub or_assoc : (a b c : Bool) → ((a || b) || c) ≡ (a || (b || c))
-or_assoc true b c = refl
-or_assoc false b c = refl
-
--- neither of two holds
-neither : (a b : Bool) → (a || b) ≡ false → (a ≡ false) × (b ≡ false)
-neither true b none = absurd (cc)
-neither false b none = (refl, none)
-
 -- what was said before and by the event at the end, which begins no round
-word_more : (begins : Bool) (word : Option Company) (before : Option (Option Company)) → begins ≡ false → is_some (option_flatten (option_or (if begins then Some None else option_map Some word) before)) ≡ (is_some (option_flatten before) || is_some word)
+word_more : (begins : Bool) (word : Option Company) (before : Option (Option Company)) → begins ≡ false →
+    is_some (option_flatten (option_or (if begins then Some None else option_map Some word) before)) ≡ (is_some (option_flatten before) || is_some word)
 word_more true word before none = absurd (cc)
 word_more false None before none = sym (or_false (is_some (option_flatten before)))
 word_more false (Some company) before none = sym (or_true (is_some (option_flatten before)))
 
 -- a company has operated once one more event stands at the end
-one_more : (company : Company) (events : List Event) (event : Event) → is_some (round_of event) ≡ false → has_operated (events ++ event ∷ []) company ≡ (has_operated events company || operates_by company event)
-one_more company events event none =
-    let says : Event → Option (Option Company) = in_round (λ event. turn_said company (operated_by event)) in
-    ap (λ (said : Option (Option Company)). is_some (option_flatten said)) (last_said_at_end says events event)
-    ∙ word_more (is_some (round_of event)) (turn_said company (operated_by event)) (last_said says events) none
+one_more : (company : Company) (events : List Event) (its : Event) → is_some (round_of its) ≡ false →
+    has_operated (events ++ its ∷ []) company ≡ (has_operated events company || is_some (turn_said company (operated_by its)))
+one_more company events its none =
+    let says : Event → Option (Option Company) = in_round (λ its. turn_said company (operated_by its)) in
+    ap (λ (said : Option (Option Company)). is_some (option_flatten said)) (last_said_at_end says events its)
+    ∙ word_more (is_some (round_of its)) (turn_said company (operated_by its)) (last_said says events) none
 
--- and once more events do
-pub operated_more : (company : Company) (events more : List Event) → BeginsNoRound more → has_operated (events ++ more) company ≡ (has_operated events company || operates_in company more)
-operated_more company events [] none =
-    ap (λ (all : List Event). has_operated all company) (append-nil events) ∙ sym (or_false (has_operated events company))
-operated_more company events (event ∷ more) none =
-    let both = neither (is_some (round_of event)) (list_any (λ event. is_some (round_of event)) more) none in
-    ap (λ (all : List Event). has_operated all company) (sym (append_assoc events (event ∷ []) more))
-    ∙ operated_more company (events ++ event ∷ []) more both.1
-    ∙ ap (λ (b : Bool). b || operates_in company more) (one_more company events event both.0)
-    ∙ or_assoc (has_operated events company) (operates_by company event) (operates_in company more)
+-- between a game and a later one none but the company has operated, and each that had has
+record Operates (company : Company) (before after : Game) : Type 0 where
+  others : (other : Company) → same_company company other ≡ false → has_operated after.events other ≡ has_operated before.events other
+  still : (other : Company) → has_operated before.events other ≡ true → has_operated after.events other ≡ true
+
+-- so it is by each event of the company's turn
+by_events : (company : Company) → OfEvents company (Operates company)
+by_events company =
+    by_each company (Operates company)
+    (record {
+      same = λ game. record { others = λ other apart. refl; still = λ other has. has };
+      both = λ a b c one two. record {
+        others = λ other apart. two.others other apart
+            ∙ one.others other apart;
+        still = λ other has. two.still other (one.still other has);
+      };
+    })
+    (λ game its is. record {
+      others = λ other apart. one_more other game.events its (begins_none company its is)
+          ∙ ap (λ (b : Bool). has_operated game.events other || b) (own_alone company other its is apart) ∙ or_false (has_operated game.events other);
+      still = λ other has. one_more other game.events its (begins_none company its is)
+          ∙ ap (λ (b : Bool). b || is_some (turn_said other (operated_by its))) has;
+    })
+
+-- a company has operated by an event that says so
+now_has : (company : Company) (game : Game) (its : Event) → is_some (round_of its) ≡ false → operated_by its ≡ Some company →
+    has_operated (with_event game its).events company ≡ true
+now_has company game its none says =
+    one_more company game.events its none
+    ∙ ap (λ (word : Option Company). has_operated game.events company || is_some (turn_said company word)) says
+    ∙ ap (λ (b : Bool). has_operated game.events company || is_some (if b then Some company else None)) (company_is_same company company refl)
+    ∙ or_true (has_operated game.events company)
+
+-- the turn is past its pay, or the trains of the company have earned something
+abbrev has_done : Progress → Bool
+has_done progress = not (is_unpaid progress) || not (progress.runs.revenue == 0)
+
+-- then the company has operated
+abbrev Has : Company → InTurn → Type 0
+Has company turn = has_done turn.progress ≡ true → has_operated turn.game.events company ≡ true
+
+-- PAY that is obeyed finds a revenue
+some_revenue : (past none : Bool) → first_broken {Code = PayRule} (record { code = NothingToPay; broken = past || none } ∷ []) ≡ None → none ≡ false
+some_revenue true none kept = cc
+some_revenue false true kept = cc
+some_revenue false false kept = refl
+
+-- each step of a turn keeps it so
+has_steps : (company : Company) → OfSteps company (λ (old new : InTurn). Has company old → Has company new)
+has_steps company =
+    let on = of_steps company (Operates company) (by_events company) in
+    record {
+      same = λ turn has. has;
+      both = λ a b c one two has. two (one has);
+      more = λ turn its is no_tile no_train no_phase has done. (on.more turn its is no_tile no_train no_phase).still company (has done);
+      laid = λ turn asker lay cost rules has done. (on.laid turn asker lay cost rules).still company (has done);
+      placed = λ turn asker at cost is rules has earned. (on.placed turn asker at cost is rules).still company
+          (has (ap (λ (b : Bool). not (is_unpaid turn.progress) || b) earned ∙ or_true (not (is_unpaid turn.progress))));
+      ran = λ turn ran has done. now_has company turn.game (event.Runs company ran.earned) refl refl;
+      paid = λ turn rules has done. (on.paid turn rules).still company
+          (has (ap (λ (b : Bool). not (is_unpaid turn.progress) || not b)
+          (some_revenue (is_past_pay turn.progress) (turn.progress.runs.revenue == 0) rules) ∙ or_true (not (is_unpaid turn.progress))));
+      kept = λ turn has done. (after_withheld company (Operates company) (by_events company) turn.game turn.progress.runs.revenue).still company
+          (now_has company turn.game (event.Withheld company turn.progress.runs.revenue) refl refl);
+      bought = λ turn purchase rules has done. (on.bought turn purchase rules).still company (has done);
+    }
+
+-- what the company has withheld by itself, where it was unpaid, is past its pay
+settled_past : (company : Company) (turn : InTurn) → is_unpaid (settled company turn).progress ≡ false
+settled_past company turn =
+    elim (is_unpaid turn.progress) as (λ (b : Bool). is_unpaid turn.progress ≡ b →
+    is_unpaid (if b then in_turn (withheld turn.game company turn.progress.runs.revenue) (pay_done turn.progress) else turn).progress ≡ false) [
+      | true ↦ λ unpaid. refl
+      | false ↦ λ past. past
+    ]
+    refl
+
+-- after its turn the company has operated
+has_at_end : (company : Company) (file : List ℕ) (round : Round) (old new : Game) → IsCompanyTurn file round company old new →
+    has_operated new.events company ≡ true
+has_at_end company file round old new turn =
+    let last = settled company turn.last in
+    ap (λ (game : Game). has_operated game.events company) turn.after
+    ∙ of_turn company _ (has_steps company) file round old new turn (λ none. cc)
+    (ap (λ (b : Bool). not b || not (last.progress.runs.revenue == 0)) (settled_past company turn.last))
+
+-- and no other that had not before
+pub company_operates : CompanyOperates
+company_operates file round company old new turn other =
+    let by = of_game_turn company (Operates company) (by_events company) file round old new turn in
+    elim (same_company company other) as (λ (b : Bool). same_company company other ≡ b →
+    has_operated new.events other ≡ (has_operated old.events other || b)) [
+      | true ↦ λ same. subst (λ (c : Company). has_operated new.events c ≡ true) (company_is company other same)
+          (has_at_end company file round old new turn) ∙ sym (or_true (has_operated old.events other))
+      | false ↦ λ apart. by.others other apart ∙ sym (or_false (has_operated old.events other))
+    ]
+    refl

@@ -2,7 +2,7 @@
 use Rattle.std.proofs.Common.{◌≡◌, ℕ, IfOk, List, Option, Result, ap, subst, sym}
 use Rattle.history.specs.LookBack.{Game}
 use Rattle.history.specs.Shares.{president_of}
-use Rattle.operating.proofs.Adding.{only_adds}
+use Rattle.operating.proofs.TurnLaws.{only_adds}
 use Rattle.operating.specs.Act.{with_home}
 use Rattle.operating.specs.InTurn.{InTurn, at_start, in_turn}
 use Rattle.operating.specs.Turn.{BlockLeads, IsCompanyTurn, OrderLeads, after_buying, settled}

@@ -12,3 +12,4 @@ pub mod Standing
 pub mod Turn
 pub mod Laws
 pub mod TrainLaws
+pub mod TileLaws

@@ -20,7 +20,12 @@ pub fn turn_only_adds()
 /// A company's turn has at most one outcome.
 pub fn one_company_turn()
     ensures { OneCompanyTurn }
-{}
+{
+    neighbours_pair();
+    printed_links_are_in_order();
+    laid_links_are_in_order();
+    values_are_at_most_80();
+}
 
 /// A company's turn has an outcome.
 pub fn company_turn_ends()

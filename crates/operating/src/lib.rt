@@ -11,7 +11,7 @@
 //! of the board see it), `ruling`, `home`, `lay` and `token` (what orders do) with `cost`,
 //! `running`, `withholding`, `dividend`, `purchase` (the rules of trains), `discards`, `phases`
 //! (what a train brings), `train`, `turn` (the lines of a block), `playing`, `standing` (the lines
-//! before the first block), `laws` (what holds of every turn), `train_laws`.
+//! before the first block), `laws` (what holds of every turn), `train_laws`, `tile_laws`.
 #![tactic(auto)]
 
 mod asker;
@@ -31,6 +31,7 @@ mod ruling;
 mod running;
 mod runs;
 mod standing;
+mod tile_laws;
 mod token;
 mod train;
 mod train_laws;
@@ -43,4 +44,5 @@ pub use laws::{
 };
 pub use playing::play_company;
 pub use standing::rule_standing_lines;
+pub use tile_laws::all_tiles_are_there;
 pub use train_laws::{all_trains_are_there, phases_go_on};

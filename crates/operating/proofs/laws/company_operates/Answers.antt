@@ -1,4 +1,4 @@
-use Rattle.operating.proofs.Adding.{company_operates as law}
+use Rattle.operating.proofs.Operated.{company_operates as law}
 use Rattle.operating.proofs.laws.company_operates.Goals as goal
 
 pub returns : goal.returns

@@ -1,5 +1,5 @@
 use Rattle.board.proofs.Lawfulness.{lawful}
-use Rattle.operating.proofs.Ends.{turn_ends}
+use Rattle.operating.proofs.Outcome.{turn_ends}
 use Rattle.operating.proofs.laws.company_turn_ends.Goals as goal
 
 pub returns : goal.returns

@@ -1,5 +1,8 @@
-use Rattle.operating.proofs.Once.{one_turn}
+use Rattle.board.proofs.Lawfulness.{lawful}
+use Rattle.operating.proofs.Outcome.{one_turn}
 use Rattle.operating.proofs.laws.one_company_turn.Goals as goal
 
 pub returns : goal.returns
-returns c = one_turn
+returns c =
+    one_turn
+    (lawful c.neighbours_pair.ensures c.printed_links_are_in_order.ensures c.laid_links_are_in_order.ensures c.values_are_at_most_80.ensures)

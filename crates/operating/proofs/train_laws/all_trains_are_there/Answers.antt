@@ -1,6 +1,6 @@
 use Rattle.operating.proofs.Complete.{others_keep_all, others_keep_standing, stand_at_first}
 use Rattle.operating.proofs.Fleet.{purchases_keep_all}
-use Rattle.operating.proofs.TurnTrains.{turns_keep_all}
+use Rattle.operating.proofs.TurnLaws.{turns_keep_all}
 use Rattle.operating.proofs.train_laws.all_trains_are_there.Goals as goal
 
 pub returns-clause-first : goal.returns-clause-first

@@ -1,5 +1,5 @@
 use Rattle.operating.proofs.TrainSteps.{phases_go_on}
-use Rattle.operating.proofs.TurnTrains.{phases_go_on_in_turns}
+use Rattle.operating.proofs.TurnLaws.{phases_go_on_in_turns}
 use Rattle.operating.proofs.train_laws.phases_go_on.Goals as goal
 
 pub returns-clause-purchases : goal.returns-clause-purchases

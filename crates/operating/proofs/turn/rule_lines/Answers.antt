@@ -1,5 +1,5 @@
 use Rattle.std.proofs.Common.{List, ap, sym, subst, ◌∙◌}
-use Rattle.operating.proofs.Seats.{line_seats}
+use Rattle.operating.proofs.TurnLaws.{line_seats}
 use Rattle.operating.specs.InTurn.{in_turn}
 use Rattle.operating.specs.Turn.{LinesLead}
 use Rattle.sheets.specs.Part.{Numbered, Parts, line_read}

@@ -1,0 +1,145 @@
+-- A company's turn has one outcome: the rules of the board give one answer to a lay and to a token, and all else
+-- follows.
+use Rattle.std.proofs.Common.{◌≡◌, ℕ, Bool, true, false, ◌↔◌, IsTrue, List, [], ◌∷◌, ◌++◌, Option, Some, None, Result, Ok, Err, refl, sym, ap, subst, ◌∙◌}
+use Rattle.board.proofs.RuleTables.{earlier}
+use Rattle.board.specs.Ground.{Ground, position_of, with_lay}
+use Rattle.board.specs.LayRules.{IsConnected, IsLayAnswer, cost_or, ground_rules, lay_cost_of, lay_rules, reach_rules as lay_reach_rules}
+use Rattle.board.specs.TokenRules.{IsReachedPlace, IsTokenAnswer, reach_rules as token_reach_rules, slot_rules, token_cost_of, token_rules}
+use Rattle.board.specs.declared.asker.Asker.{Asker}
+use Rattle.history.specs.LookBack.{Game}
+use Rattle.history.specs.Shares.{president_of}
+use Rattle.map_tables.specs.declared.lay.Lay.{Lay}
+use Rattle.map_tables.specs.declared.place.Place.{Place}
+use Rattle.operating.proofs.Decided.{IsTested, piece_tested, place_tested}
+use Rattle.operating.specs.Ground.{ground_now}
+use Rattle.operating.specs.InTurn.{InTurn}
+use Rattle.operating.specs.Judgement.{asker_of}
+use Rattle.operating.specs.Laws.{CompanyTurnEnds, OneCompanyTurn}
+use Rattle.operating.specs.Turn.{BlockLeads, IsCompanyTurn, LinesLead, OrderLeads, ReadingLeads, begun, lay_answered, settled}
+use Rattle.operating.specs.Turn.{token_answered}
+use Rattle.operating.specs.declared.operator.Operator.{Operator}
+use Rattle.order_grammar.specs.declared.fault.Fault.{Fault}
+use Rattle.order_grammar.specs.declared.order.Order.{Order}
+use Rattle.order_grammar.specs.declared.order.Order.TheVariants as order
+use Rattle.reach.specs.Lawful.{IsLawful}
+use Rattle.sheets.specs.Block.{block_for}
+use Rattle.sheets.specs.Part.{Numbered}
+use Rattle.tables.specs.Rules.{Rule, first_broken}
+use Rattle.tables.specs.declared.roster.Company.{Company}
+use Rattle.tables.specs.declared.round.Round.{Round}
+use Rattle.tables.specs.declared.seat.Seat.{Seat}
+
+-- this is so of one thing and of no other
+record IsOne {A : Type 0} (P : A → Type 0) : Type 0 where
+  it : A
+  so : P it
+  only : (other : A) → P other → other ≡ it
+
+-- two tests of one fact are the same
+same_tests : {P : Type 0} (a b : Bool) → IsTrue a ↔ P → IsTrue b ↔ P → a ≡ b
+same_tests true true first second = refl
+same_tests false false first second = refl
+same_tests true false first second = let wrong : false ≡ true = second.1 (first.0 refl) in cc
+same_tests false true first second = let wrong : false ≡ true = first.1 (second.0 refl) in cc
+
+-- a table that goes on by a test breaks one rule first, where the test is one once the first rules are kept
+same_break : {Code : Type 0} (first : List (Rule Code)) (later : Bool → List (Rule Code)) (a b : Bool) →
+    (first_broken first ≡ None → a ≡ b) → first_broken (first ++ later a) ≡ first_broken (first ++ later b)
+same_break {Code} first later a b same =
+    elim (first_broken first) as (λ (found : Option Code). first_broken first ≡ found → first_broken (first ++ later a) ≡ first_broken (first ++ later b)) [
+      | None ↦ λ is. ap (λ (test : Bool). first_broken (first ++ later test)) (same is)
+      | Some code ↦ λ is. earlier first (later a) code is ∙ sym (earlier first (later b) code is)
+    ]
+    refl
+
+-- the position of each ground is lawful
+abbrev pub AllLawful : Type 0
+AllLawful = (laid : Ground) → IsLawful (position_of laid)
+
+module _ (all : AllLawful) where
+  -- a lay has one answer
+  one_lay_answer : (laid : Ground) (asker : Asker) (lay : Lay) → IsOne (IsLayAnswer laid asker lay)
+  one_lay_answer laid asker lay =
+      let tested : IsTested (IsConnected (position_of (with_lay laid lay)) asker.company lay) = piece_tested
+      (position_of (with_lay laid lay)) asker.company (all (with_lay laid lay)) lay in
+      record {
+        it = cost_or (lay_cost_of laid.lays lay.hex) (first_broken (lay_rules laid asker lay tested.test));
+        so = record { reached = tested.test; exact = λ none. tested.exact; given = refl };
+        only = λ other its. its.given
+            ∙ ap (cost_or (lay_cost_of laid.lays lay.hex)) (same_break (ground_rules laid asker lay) (lay_reach_rules laid asker lay) its.reached tested.test
+            (λ none. same_tests {P = IsConnected (position_of (with_lay laid lay)) asker.company lay} its.reached tested.test (its.exact none) tested.exact));
+      }
+
+  -- so has a token
+  one_token_answer : (laid : Ground) (asker : Asker) (place : Place) → IsOne (IsTokenAnswer laid asker place)
+  one_token_answer laid asker place =
+      let tested : IsTested (IsReachedPlace (position_of laid) asker.company place) = place_tested (position_of laid) asker.company (all laid) place in
+      record {
+        it = cost_or (token_cost_of laid.tokens asker.company) (first_broken (token_rules laid asker place tested.test));
+        so = record { reached = tested.test; exact = λ none. tested.exact; given = refl };
+        only = λ other its. its.given
+            ∙ ap (cost_or (token_cost_of laid.tokens asker.company))
+            (same_break (slot_rules laid asker place) (token_reach_rules laid asker) its.reached tested.test
+            (λ none. same_tests {P = IsReachedPlace (position_of laid) asker.company place} its.reached tested.test (its.exact none) tested.exact));
+      }
+
+  -- an order leads to one turn
+  one_order : (by : Operator) (turn : InTurn) (number : ℕ) (its : Order) → IsOne (OrderLeads by turn number its)
+  one_order by turn number (order.Lay lay) =
+      let answer = one_lay_answer (ground_now turn.game.events) (asker_of turn.game by.company turn.progress) lay in
+      record {
+        it = lay_answered by turn number lay answer.it;
+        so = record { answer = answer.it; answered = answer.so; after = refl };
+        only = λ new leads. leads.after ∙ ap (lay_answered by turn number lay) (answer.only leads.answer leads.answered);
+      }
+  one_order by turn number (order.Token place) =
+      let answer = one_token_answer (ground_now turn.game.events) (asker_of turn.game by.company turn.progress) place in
+      record {
+        it = token_answered by turn number place answer.it;
+        so = record { answer = answer.it; answered = answer.so; after = refl };
+        only = λ new leads. leads.after ∙ ap (token_answered by turn number place) (answer.only leads.answer leads.answered);
+      }
+  one_order by turn number other = record { it = _; so = refl; only = λ new leads. leads }
+
+  -- a line does
+  one_line : (by : Operator) (turn : InTurn) (number : ℕ) (reading : Result Order Fault) → IsOne (ReadingLeads by turn number reading)
+  one_line by turn number (Err fault) = record { it = _; so = refl; only = λ new leads. leads }
+  one_line by turn number (Ok its) = one_order by turn number its
+
+  -- lines do
+  one_way : (by : Operator) (turn : InTurn) (lines : List Numbered) → IsOne (LinesLead by turn lines)
+  one_way by turn [] = record { it = turn; so = refl; only = λ new leads. leads }
+  one_way by turn (line ∷ lines) =
+      let first = one_line by turn line.number line.reading in
+      let rest = one_way by first.it lines in
+      record {
+        it = rest.it;
+        so = (first.it, first.so, rest.so);
+        only = λ new leads. rest.only new (subst (λ (next : InTurn). LinesLead by next lines new) (first.only leads.0 leads.1) leads.2);
+      }
+
+  -- a block does
+  one_block : (file : List ℕ) (round : Round) (company : Company) (turn : InTurn) (president : Option Seat) →
+      IsOne (BlockLeads file round company turn president)
+  one_block file round company turn None = record { it = turn; so = refl; only = λ new leads. leads }
+  one_block file round company turn (Some seat) =
+      one_way (record { company = company; president = seat }) turn (block_for file round seat.0 company)
+
+  -- and a turn
+  outcome : (file : List ℕ) (round : Round) (company : Company) (old : Game) → IsOne (IsCompanyTurn file round company old)
+  outcome file round company old =
+      let block = one_block file round company (begun old company) (president_of old.events company) in
+      record {
+        it = (settled company block.it).game;
+        so = record { last = block.it; block = block.so; after = refl };
+        only = λ new turn. turn.after ∙ ap (λ (last : InTurn). (settled company last).game) (block.only turn.last turn.block);
+      }
+
+  -- it has at most one outcome
+  pub one_turn : OneCompanyTurn
+  one_turn file round company old a b first second =
+      let one = outcome file round company old in one.only a first ∙ sym (one.only b second)
+
+  -- and it has one
+  pub turn_ends : CompanyTurnEnds
+  turn_ends file round company old = let one = outcome file round company old in (one.it, one.so)

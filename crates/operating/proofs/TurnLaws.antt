@@ -1,0 +1,95 @@
+-- Laws of a company's turn: it only adds events and begins no round, trains stand as they did, phases go on, and no
+-- tile is lost.
+use Rattle.std.proofs.Common.{◌≡◌, ℕ, ◌≤◌, ◌||◌, Bool, false, List, [], ◌∷◌, ◌++◌, Result, is_some, refl, sym, ap, ◌∙◌, arith}
+use Rattle.std.proofs.lemmas.List.{append_assoc, append-nil}
+use Rattle.std.proofs.lemmas.List.Folds.{list_any-append}
+use Rattle.history.specs.Event.{round_of}
+use Rattle.history.specs.LookBack.{Game}
+use Rattle.history.specs.Trains.{phase_of}
+use Rattle.history.specs.declared.event.Event.{Event}
+use Rattle.history.specs.declared.event.Event.TheVariants as event
+use Rattle.operating.proofs.Complete.{others_keep_standing, phase_kept}
+use Rattle.operating.proofs.Fleet.{purchases_keep_all}
+use Rattle.operating.proofs.TrainSteps.{IsPassedOn, phases_go_on}
+use Rattle.operating.proofs.TurnEvents.{begins_none}
+use Rattle.operating.proofs.TurnGames.{OfEvents, by_each, of_game_turn, of_steps}
+use Rattle.operating.proofs.TurnSteps.{of_line}
+use Rattle.operating.specs.InTurn.{InTurn}
+use Rattle.operating.specs.Laws.{OnlyAdds, TurnOnlyAdds}
+use Rattle.operating.specs.TrainLaws.{PhasesGoOnInTurns, TrainsStand, TurnsKeepAll}
+use Rattle.operating.specs.Turn.{ReadingLeads}
+use Rattle.operating.specs.declared.operator.Operator.{Operator}
+use Rattle.order_grammar.specs.declared.fault.Fault.{Fault}
+use Rattle.order_grammar.specs.declared.order.Order.{Order}
+use Rattle.tables.specs.Train.{place_of_kind}
+use Rattle.tables.specs.declared.roster.Company.{Company}
+
+-- neither of two
+neither : (a b : Bool) → a ≡ false → b ≡ false → (a || b) ≡ false
+neither a b first second = ap (λ (x : Bool). x || b) first ∙ second
+
+-- to add events that begin no round is passed on
+adds_on : IsPassedOn OnlyAdds
+adds_on =
+    record {
+      same = λ game. record {
+        more = [];
+        added = ap (λ (events : List Event). record { seats = game.seats; events = events })
+            (sym (append-nil game.events));
+        no_round = refl;
+      };
+      both = λ a b c one two. record {
+        more = one.more ++ two.more;
+        added = two.added ∙ ap (λ (game : Game). record { seats = game.seats; events = game.events ++ two.more }) one.added
+            ∙ ap (λ (events : List Event). record { seats = a.seats; events = events }) (append_assoc a.events one.more two.more);
+        no_round = list_any-append (λ its. is_some (round_of its)) one.more two.more ∙ neither _ _ one.no_round two.no_round;
+      };
+    }
+
+-- so it holds of each event of a turn
+adds_by : (company : Company) → OfEvents company OnlyAdds
+adds_by company =
+    by_each company OnlyAdds adds_on
+    (λ game its is. record { more = its ∷ []; added = refl; no_round = ap (λ (b : Bool). b || false) (begins_none company its is) })
+
+-- a turn only adds events, and begins no round
+pub only_adds : TurnOnlyAdds
+only_adds file round company old new turn = of_game_turn company OnlyAdds (adds_by company) file round old new turn
+
+-- a line leaves the seats as they are
+pub line_seats : (by : Operator) (turn : InTurn) (number : ℕ) (reading : Result Order Fault) (new : InTurn) →
+    ReadingLeads by turn number reading new → new.game.seats ≡ turn.game.seats
+line_seats by turn number reading new leads =
+    ap (λ (game : Game). game.seats) (of_line by _ (of_steps by.company OnlyAdds (adds_by by.company)) turn number reading new leads).added
+
+-- trains stand in a later game if they did before
+abbrev StillStand : Game → Game → Type 0
+StillStand before after = TrainsStand before.events → TrainsStand after.events
+
+-- so it is in a turn
+pub turns_keep_all : TurnsKeepAll
+turns_keep_all file round company old new turn =
+    of_game_turn company StillStand
+    (record {
+      on = record { same = λ game stand. stand; both = λ a b c one two stand. two (one stand) };
+      others = λ game its is no_tile no_train no_phase stand. others_keep_standing game.events its no_train no_phase stand;
+      lays = λ game asker lay cost rules stand. others_keep_standing game.events (event.Laid company lay cost) refl refl stand;
+      purchases = λ game purchase rules. purchases_keep_all game company purchase rules;
+    })
+    file round old new turn
+
+-- the phase is the same in a later game, or a later one
+abbrev GoesOn : Game → Game → Type 0
+GoesOn before after = place_of_kind (phase_of before.events) ≤ place_of_kind (phase_of after.events)
+
+-- and so it is in a turn
+pub phases_go_on_in_turns : PhasesGoOnInTurns
+phases_go_on_in_turns file round company old new turn =
+    of_game_turn company GoesOn
+    (record {
+      on = record { same = λ game. omega arith; both = λ a b c one two. omega arith };
+      others = λ game its is no_tile no_train no_phase. omega (arith, ap place_of_kind (phase_kept game.events its no_phase));
+      lays = λ game asker lay cost rules. omega (arith, ap place_of_kind (phase_kept game.events (event.Laid company lay cost) refl));
+      purchases = λ game purchase rules. phases_go_on game company purchase;
+    })
+    file round old new turn
