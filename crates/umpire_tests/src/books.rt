@@ -1,7 +1,7 @@
 //! Money that is paid, tenths that change hands, and the rounds after the bank is broken.
 
 use certs::Holdings;
-use history::{Event, History, Holder, Party, Shareholder, Transfer};
+use history::{Event, History, Holder, Party, Shareholder, Tenths, Transfer};
 use rounds::{Next, next};
 use std::alloc::AllocError;
 use tables::{Company, Round, Seat};
@@ -33,14 +33,16 @@ fn presidency_follows_a_transfer(rt: HostRuntime) -> Result<(), AllocError> {
     history.append(Event::President { company, seat: ann })?;
     let mut holdings = Holdings::of(&history);
     assert!(rt; holdings.president(company) == Some(ann));
+    let (from, to, tenths) = (Shareholder::InitialOffering, Shareholder::Seat(bob), 3);
+    assert!(rt; holdings.tenths(company, from) >= Tenths::from(tenths));
     holdings.transfer(Transfer {
         company,
-        from: Shareholder::InitialOffering,
-        to: Shareholder::Seat(bob),
-        tenths: 3,
+        from,
+        to,
+        tenths,
     });
     assert!(rt; holdings.president(company) == Some(bob));
-    assert!(rt; holdings.tenths(company, Shareholder::InitialOffering) == 5);
+    assert!(rt; holdings.tenths(company, from) == 5);
     Ok(())
 }
 
