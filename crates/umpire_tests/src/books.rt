@@ -1,22 +1,34 @@
 //! Money that is paid, tenths that change hands, and the rounds after the bank is broken.
 
+ghost use Rattle.treasury.specs.Accounts.{HasAccount, IsSum};
+
 use certs::Holdings;
-use history::{Event, History, Holder, Party, Shareholder, Transfer};
+use history::{Event, History, Holder, Party, Shareholder, Tenths, Transfer};
 use rounds::{Next, next};
-use std::alloc::AllocError;
-use tables::{Company, Round, Seat};
+use std::alloc::{AllocError, Global};
+use tables::{Company, Money, Round, Seat};
 use treasury::Accounts;
+
+const ANN: Party = Party::Holder(Holder::Seat(Seat(0)));
+
+const PRR: Party = Party::Holder(Holder::Company(Company::Pennsylvania));
+
+/// Tries a payment at the start of a game: whether it is made, and what both then have.
+fn paid(alloc: Global, from: Party, to: Party, sum: Money) -> (bool, Money, Money)
+    requires from { HasAccount from }
+    requires to { HasAccount to }
+    requires sum { IsSum sum }
+{
+    let history = History::start(alloc, 3);
+    let mut accounts = Accounts::of(&history);
+    let is_paid = accounts.pay(from, to, sum).is_ok();
+    (is_paid, accounts.cash(from), accounts.cash(to))
+}
 
 #[test]
 fn pays_what_there_is(rt: HostRuntime) {
-    let ann = Party::Holder(Holder::Seat(Seat(0)));
-    let prr = Party::Holder(Holder::Company(Company::Pennsylvania));
-    let history = History::start(rt.alloc(), 3);
-    let mut accounts = Accounts::of(&history);
-    assert!(rt; accounts.pay(ann, prr, 801).is_err());
-    assert!(rt; accounts.cash(ann) == 800 && accounts.cash(prr) == 0);
-    assert!(rt; accounts.pay(ann, prr, 670).is_ok());
-    assert!(rt; accounts.cash(ann) == 130 && accounts.cash(prr) == 670);
+    assert!(rt; paid(rt.alloc(), ANN, PRR, 801) == (false, 800, 0));
+    assert!(rt; paid(rt.alloc(), ANN, PRR, 670) == (true, 130, 670));
 }
 
 /// ANN presides over BO with two tenths, and then BOB has three.
@@ -33,14 +45,16 @@ fn presidency_follows_a_transfer(rt: HostRuntime) -> Result<(), AllocError> {
     history.append(Event::President { company, seat: ann })?;
     let mut holdings = Holdings::of(&history);
     assert!(rt; holdings.president(company) == Some(ann));
+    let (from, to, tenths) = (Shareholder::InitialOffering, Shareholder::Seat(bob), 3);
+    assert!(rt; holdings.tenths(company, from) >= Tenths::from(tenths));
     holdings.transfer(Transfer {
         company,
-        from: Shareholder::InitialOffering,
-        to: Shareholder::Seat(bob),
-        tenths: 3,
+        from,
+        to,
+        tenths,
     });
     assert!(rt; holdings.president(company) == Some(bob));
-    assert!(rt; holdings.tenths(company, Shareholder::InitialOffering) == 5);
+    assert!(rt; holdings.tenths(company, from) == 5);
     Ok(())
 }
 
