@@ -14,7 +14,6 @@ mod GoingOn
 mod OpeningGrows
 mod StockGrows
 mod OperatingGrows
-mod Ground
 mod Idle
 mod CompanyTurns
 mod WholeOperatingRound
