@@ -131,10 +131,14 @@ within_kept seats events event none within = within_after seats events event (su
 
 -- without a tile or a token what lies fits as before
 pub fit_kept : (events : List Event) (event : Event) → tile_laid event ≡ None → token_placed event ≡ None → LiesFit events → LiesFit (events ++ event ∷ [])
+unfolding LiesFit
 fit_kept events event no_tile no_token fit =
-    record {
-      fits = subst (λ (lays : List Lay). AreFitWithHomes lays (tokens_of (events ++ event ∷ []))) (sym (lays_before events event no_tile)) (subst (AreFitWithHomes (lays_of events)) (sym (tokens_before events event no_token)) fit.fits);
-    }
+    subst (λ (lays : List Lay). AreFitWithHomes lays (tokens_of (events ++ event ∷ []))) (sym (lays_before events event no_tile)) (subst (AreFitWithHomes (lays_of events)) (sym (tokens_before events event no_token)) fit)
+
+-- nothing that was laid fits
+none_fit : LiesFit []
+unfolding LiesFit
+none_fit = nothing_fits
 
 -- a quiet event keeps each fact
 pub quiet_sound : QuietKeepsSound
@@ -195,5 +199,5 @@ start_sound seats =
       floated = λ company floated. absurd (cc);
       within = tt;
       trains = no_trains;
-      fit = record { fits = nothing_fits };
+      fit = none_fit;
     }

@@ -99,8 +99,8 @@ abbrev pub FloatedAreLed : List Event → Type 0
 FloatedAreLed events = (company : Company) → is_floated events company ≡ true → IsLed events company
 
 -- what lies on the map fits there, with the home tokens to come
-pub record LiesFit (events : List Event) : Type 0 where
-  pub fits : AreFitWithHomes (lays_of events) (tokens_of events)
+unfoldable pub LiesFit : List Event → Type 0
+LiesFit events = AreFitWithHomes (lays_of events) (tokens_of events)
 
 pub record IsSound (game : Game) : Type 0 where
   pub solvent : SeatsAreSolvent game

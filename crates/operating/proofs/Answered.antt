@@ -29,7 +29,7 @@ use Rattle.history.specs.declared.ruling.TokenRule.{TokenRule}
 use Rattle.map_tables.specs.declared.lay.Lay.{Lay}
 use Rattle.map_tables.specs.declared.place.Place.{Place}
 use Rattle.operating.proofs.Allowed.{lay_allowed, token_allowed}
-use Rattle.operating.proofs.Fitting.{lay_fits, same_ground, token_fits}
+use Rattle.operating.proofs.Fitting.{fits_now, lay_fits, same_ground, token_fits}
 use Rattle.operating.specs.Ground.{ground_now}
 use Rattle.operating.specs.Judgement.{asker_of, rule_of_lay, rule_of_token}
 use Rattle.operating.specs.InTurn.{InTurn, in_turn, lay_done, token_done}
@@ -48,7 +48,7 @@ want_of_memory events lays tokens fault is_lays is_tokens fit is =
     is
     ∙ ap (λ (l : List Lay). unwrap_or (board_fault_of l tokens) board_fault.Memory) is_lays
     ∙ ap (λ (t : List (Place × Company)). unwrap_or (board_fault_of (lays_of events) t) board_fault.Memory) is_tokens
-    ∙ ap (λ (broken : Option BoardFault). unwrap_or broken board_fault.Memory) (fits_without_homes (ground_now events) fit.fits)
+    ∙ ap (λ (broken : Option BoardFault). unwrap_or broken board_fault.Memory) (fits_without_homes (ground_now events) (fits_now events fit))
 
 -- the answer to a lay, by what lies and by who asks
 pub lay_by : (board laid : Ground) (asker its : Asker) (lay : Lay) (answer : Result ℤ LayFault) → board ≡ laid → asker ≡ its → ¬ (answer ≡ Err lay_fault.Memory) → (answer ≡ Err lay_fault.Memory) ⊎ IsLayAnswer board asker lay answer → IsLayAnswer laid its lay answer

@@ -6,6 +6,7 @@ use Rattle.std.proofs.lemmas.List.Sums.{sum_by-cons}
 use Rattle.std.specs.List.{count_by}
 use Rattle.board.proofs.FitLaws.{home_keeps_fit, lay_keeps_fit, token_keeps_fit}
 use Rattle.board.specs.Ground.{ground_of}
+use Rattle.board.specs.Homes.{Fits}
 use Rattle.board.specs.LayRules.{ground_rules}
 use Rattle.board.specs.TokenRules.{slot_rules}
 use Rattle.board.specs.declared.asker.Asker.{Asker}
@@ -60,25 +61,29 @@ same_ground events event no_tile no_token no_phase =
     ∙ ap (λ (tokens : List (Place × Company)). ground_of (lays_of events) tokens (phase_of (events ++ event ∷ []))) (tokens_before events event no_token)
     ∙ ap (ground_of (lays_of events) (tokens_of events)) (same_phase events event no_phase)
 
+-- what lies by a list fits, as it lies now
+pub fits_now : (events : List Event) → LiesFit events → Fits (ground_now events)
+unfolding LiesFit
+fits_now events fit = fit
+
 -- what lies fits after an event where the tiles and tokens are fit that lie then
 fit_then : (events : List Event) (event : Event) → AreFitWithHomes (lays_of events ++ lays_of (event ∷ [])) (tokens_of events ++ tokens_of (event ∷ [])) → LiesFit (events ++ event ∷ [])
+unfolding LiesFit
 fit_then events event fit =
-    record {
-      fits = subst (λ (lays : List Lay). AreFitWithHomes lays (tokens_of (events ++ event ∷ []))) (sym (lays_grow events event))
-          (subst (AreFitWithHomes (lays_of events ++ lays_of (event ∷ []))) (sym (tokens_grow events event)) fit);
-    }
+    subst (λ (lays : List Lay). AreFitWithHomes lays (tokens_of (events ++ event ∷ []))) (sym (lays_grow events event))
+    (subst (AreFitWithHomes (lays_of events ++ lays_of (event ∷ []))) (sym (tokens_grow events event)) fit)
 
 -- a lay by the rules
 pub lay_fits : (events : List Event) (asker : Asker) (lay : Lay) (cost : ℕ) → first_broken (ground_rules (ground_now events) asker lay) ≡ None → LiesFit events → LiesFit (events ++ event.Laid asker.company lay cost ∷ [])
 lay_fits events asker lay cost allowed fit =
     fit_then events (event.Laid asker.company lay cost)
-    (subst (AreFitWithHomes (lays_of events ++ lay ∷ [])) (sym (append-nil (tokens_of events))) (lay_keeps_fit (ground_now events) asker lay fit.fits allowed))
+    (subst (AreFitWithHomes (lays_of events ++ lay ∷ [])) (sym (append-nil (tokens_of events))) (lay_keeps_fit (ground_now events) asker lay (fits_now events fit) allowed))
 
 -- a token by the rules
 pub token_fits : (events : List Event) (asker : Asker) (place : Place) (cost : ℕ) → first_broken (slot_rules (ground_now events) asker place) ≡ None → LiesFit events → LiesFit (events ++ event.Token asker.company place cost ∷ [])
 token_fits events asker place cost allowed fit =
     fit_then events (event.Token asker.company place cost)
-    (subst (λ (lays : List Lay). AreFitWithHomes lays (tokens_of events ++ (place, asker.company) ∷ [])) (sym (append-nil (lays_of events))) (token_keeps_fit (ground_now events) asker place fit.fits allowed))
+    (subst (λ (lays : List Lay). AreFitWithHomes lays (tokens_of events ++ (place, asker.company) ∷ [])) (sym (append-nil (lays_of events))) (token_keeps_fit (ground_now events) asker place (fits_now events fit) allowed))
 
 -- nothing is both
 and_false : (b : Bool) → (b && false) ≡ false
@@ -103,7 +108,7 @@ no_token_there (token ∷ tokens) stop company none =
 home_fits : (events : List Event) (company : Company) → tokens_placed events company ≡ 0 → LiesFit events → LiesFit (events ++ event.Home company (place_of (home_of company)) ∷ [])
 home_fits events company none fit =
     fit_then events (event.Home company (place_of (home_of company)))
-    (subst (λ (lays : List Lay). AreFitWithHomes lays (tokens_of events ++ (place_of (home_of company), company) ∷ [])) (sym (append-nil (lays_of events))) (home_keeps_fit (ground_now events) company fit.fits (no_token_there (tokens_of events) (home_of company) company none)))
+    (subst (λ (lays : List Lay). AreFitWithHomes lays (tokens_of events ++ (place_of (home_of company), company) ∷ [])) (sym (append-nil (lays_of events))) (home_keeps_fit (ground_now events) company (fits_now events fit) (no_token_there (tokens_of events) (home_of company) company none)))
 
 -- it keeps a list sound
 pub home_sound_after : (game new : Game) (company : Company) (stop : Stop) (place : Place) → stop ≡ home_of company → place ≡ place_of stop → new ≡ with_event game (event.Home company place) → tokens_placed game.events company ≡ 0 → IsSound game → IsSound new

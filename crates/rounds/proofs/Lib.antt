@@ -14,7 +14,6 @@ mod StockGrows
 mod OperatingGrows
 mod RoundSteps
 mod GoingOn
-mod Ground
 mod Idle
 mod CompanyTurns
 mod WholeOperatingRound

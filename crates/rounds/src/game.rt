@@ -1,14 +1,12 @@
 ghost use Rattle.std.specs.Prelude.{◌≡◌, IfOk, length};
 ghost use Rattle.history.specs.Sound.{IsSound};
 ghost use Rattle.rounds.specs.Gifts.{GiftsWait};
-ghost use Rattle.operating.specs.Ground.{GroundFits};
 ghost use Rattle.rounds.specs.Play.{IsPlayed, IsTheGame, all_posted, in_set_before as set_before, rounds_of_new_set};
 ghost use Rattle.sheets.specs.File.{players_of};
 
 use crate::following::Next;
 use crate::operating_round::play_operating;
 use crate::sequence::next;
-use board::nothing_fits;
 use history::History;
 use privates::play_opening;
 use sheets::{Sheets, sheets_are_numbered};
@@ -78,9 +76,7 @@ pub fn play<'a>(alloc: Global, sheets: &'a Sheets<'a>) -> Result<Game<'a>, Alloc
     let mut history = History::start(alloc, sheets.seats());
     let mut in_set = rounds_of_new_set(&history);
     let mut upcoming = Round::Opening(1);
-    // Laws, which do nothing when they run: by them the empty map fits, and the loop comes to an
-    // end.
-    nothing_fits();
+    // A law, which does nothing when it runs: by it the loop comes to an end.
     sheets_are_numbered();
     while are_all_posted(sheets, upcoming) {
         history = play_round(alloc, history, sheets, upcoming)?;
@@ -107,13 +103,11 @@ fn play_round(
     round: Round,
 ) -> Result<History, AllocError>
     requires sound { IsSound history }
-    requires fits { GroundFits history }
     requires seats { history.seats ≡ length (players_of sheets.now) }
     requires gifts { GiftsWait round history.events }
     ensures round { IfOk result (IsPlayed sheets.now round history) }
     ensures seats { IfOk result (λ new. new.seats ≡ history.seats) }
     ensures sound { IfOk result IsSound }
-    ensures fits { IfOk result GroundFits }
     ensures gifts { IfOk result (λ new. GiftsWait round new.events) }
 {
     match round {

@@ -3,7 +3,6 @@ ghost use Rattle.history.specs.LookBack.{with_event};
 ghost use Rattle.history.specs.Sound.{IsSound};
 ghost use Rattle.history.specs.Tell.{with_left};
 ghost use Rattle.history.specs.declared.event.Event.TheVariants as event;
-ghost use Rattle.operating.specs.Ground.{GroundFits};
 ghost use Rattle.rounds.specs.OperatingRound.{IsOperatingRound, TurnsLead, finished, lines_left, next_company as company_to_operate};
 ghost use Rattle.sheets.specs.File.{players_of};
 
@@ -16,8 +15,8 @@ use tables::{Company, Round, Seat};
 
 /// Plays an operating round with the sheets for it: the standing lines and the revenues of the
 /// privates, and then the turn of each company, in operating order as it is at the time. The list
-/// of events must be sound, with a ground that fits, and its seats those of the sheets' players. An
-/// `Err` comes from want of memory alone, and the game is dropped.
+/// of events must be sound, and its seats those of the sheets' players. An `Err` comes from want of
+/// memory alone, and the game is dropped.
 pub(crate) fn play_operating(
     alloc: Global,
     history: History,
@@ -25,12 +24,10 @@ pub(crate) fn play_operating(
     round: Round,
 ) -> Result<History, AllocError>
     requires sound { IsSound history }
-    requires fits { GroundFits history }
     requires seats { history.seats ≡ length (players_of sheets.now) }
     ensures round { IfOk result (λ new. IsOperatingRound sheets.now round history new) }
     ensures seats { IfOk result (λ new. new.seats ≡ history.seats) }
     ensures sound { IfOk result IsSound }
-    ensures fits { IfOk result GroundFits }
 {
     let mut history = history;
     begin(&mut history, round)?;
@@ -59,12 +56,10 @@ fn take_turns(
     round: Round,
 ) -> Result<History, AllocError>
     requires sound { IsSound history }
-    requires fits { GroundFits history }
     requires seats { history.seats ≡ length (players_of sheets.now) }
     ensures turns { IfOk result (λ turned. TurnsLead sheets.now round history turned) }
     ensures seats { IfOk result (λ turned. turned.seats ≡ history.seats) }
     ensures sound { IfOk result IsSound }
-    ensures fits { IfOk result GroundFits }
 {
     // Laws, which do nothing when they run: by them the next company has floated, and the loop
     // comes to an end.

@@ -1,6 +1,5 @@
 use Rattle.std.proofs.Common.{◌≡◌, zero, suc, ◌<◌, Bool, true, false, is_none, length, subst, sym, ap, ◌∙◌, arith, rules}
 use Rattle.history.specs.LookBack.{cheapest_of}
-use Rattle.operating.specs.Ground.{GroundFits}
 use Rattle.privates.specs.Turn.{all_sold}
 use Rattle.rounds.proofs.Coming.{not_over}
 use Rattle.rounds.proofs.Forward.{fewer_places, gifts_go_on, posted_small}
@@ -10,7 +9,6 @@ use Rattle.rounds.specs.Play.{Between, IsRound, all_posted}
 use Rattle.rounds.specs.Sequence.{following}
 use Rattle.rounds.specs.declared.following.Next.TheVariants as next
 use Rattle.sheets.specs.File.{players_of}
-use Rattle.tables.specs.declared.rolling_stock.Kind.TheVariants.{Two}
 use Rattle.rounds.proofs.game.play.Goals as goal
 
 pub loop-alloc-init : goal.loop-alloc-init
@@ -21,7 +19,6 @@ loop-alloc-init c =
       reached = reached;
       in_set = subst (λ (there : Between). StandsInSet there.next there.in_set) reached (first_in_set c.args.sheets.now);
       sound = search rules;
-      fits = subst GroundFits (sym c.start-history.ensures.empty) (c.nothing_fits.ensures Two);
       gifts = search rules;
       seats = search rules;
     }
@@ -70,7 +67,6 @@ loop-alloc-preserved c =
       reached = (old, c.loop-alloc.invariant.reached, round);
       in_set = round_in_set c.args.sheets.now old new c.loop-alloc.invariant.in_set round;
       sound = c.in_ok-history.ensures.sound;
-      fits = c.in_ok-history.ensures.fits;
       gifts =
           gifts_go_on c.loop-alloc.upcoming c.in-Round.round c.loop-alloc.in_set c.is_none-all_sold.result false
           c.in_ok-history.history.events c.in_ok-history.ensures.gifts comes;

@@ -1,6 +1,5 @@
 use Rattle.std.proofs.Common.{◌≡◌, ℕ, length}
 use Rattle.history.specs.Sound.{IsSound}
-use Rattle.operating.specs.Ground.{GroundFits}
 use Rattle.rounds.specs.Gifts.{GiftsWait}
 use Rattle.rounds.specs.Play.{AreRounds, before_play}
 use Rattle.rounds.proofs.Forward.{places_left}
@@ -8,15 +7,14 @@ use Rattle.rounds.proofs.InSet.{StandsInSet}
 use Rattle.sheets.specs.File.{players_of}
 use Rattle.rounds.proofs.game.play.Given as goal
 
--- some rounds have led here, and the list is a sound one of the file's players, with a ground that fits, of
--- which the next round can be played
+-- some rounds have led here, and the list is a sound one of the file's players, of which the next round can be
+-- played
 abbrev pub invariant-loop-alloc : goal.invariant-loop-alloc
 invariant-loop-alloc l = record {
   rounds : ℕ;
   reached : AreRounds l.sheets rounds (before_play l.sheets) (record { game = l.history; in_set = l.in_set; next = l.upcoming });
   in_set : StandsInSet l.upcoming l.in_set;
   sound : IsSound l.history;
-  fits : GroundFits l.history;
   gifts : GiftsWait l.upcoming l.history.events;
   seats : l.history.seats ≡ length (players_of l.sheets);
 }

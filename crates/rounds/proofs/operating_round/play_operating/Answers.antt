@@ -1,20 +1,7 @@
-use Rattle.std.proofs.Common.{length, ap}
-use Rattle.history.specs.LookBack.{Game}
-use Rattle.rounds.proofs.Ground.{finished_fits, opened_fits}
 use Rattle.rounds.proofs.WholeOperatingRound.{round_opened, whole_round}
-use Rattle.sheets.specs.File.{players_of}
 use Rattle.rounds.proofs.operating_round.play_operating.Goals as goal
-
-pub take_turns-requires-clause-fits : goal.take_turns-requires-clause-fits
-take_turns-requires-clause-fits c =
-    let is = round_opened c.args.sheets.now c.args.round c.args.history c.begin.new.history c.rule_standing_lines.new.history c.tell_revenues.new.self c.requires.seats c.in_ok-begin.ensures.event c.in_ok-rule_standing_lines.ensures.seats c.in_ok-rule_standing_lines.ensures.events c.in_ok-tell_revenues.ensures.ok in
-    opened_fits c.args.sheets.now c.args.round c.args.history c.tell_revenues.new.self (ap (λ (game : Game). game.events) is) c.requires.fits
 
 pub returns-clause-round : goal.returns-clause-round
 returns-clause-round c =
     let is = round_opened c.args.sheets.now c.args.round c.args.history c.begin.new.history c.rule_standing_lines.new.history c.tell_revenues.new.self c.requires.seats c.in_ok-begin.ensures.event c.in_ok-rule_standing_lines.ensures.seats c.in_ok-rule_standing_lines.ensures.events c.in_ok-tell_revenues.ensures.ok in
     whole_round c.args.sheets.now c.args.round c.args.history c.tell_revenues.new.self c.in_ok-history.history c.tell_all_left.new.history c.requires.seats is c.in_ok-history.ensures.turns c.in_ok-history.ensures.seats c.in_ok-tell_all_left.ensures.seats c.in_ok-tell_all_left.ensures.events
-
-pub returns-clause-fits : goal.returns-clause-fits
-returns-clause-fits c =
-    finished_fits c.args.sheets.now c.args.round (length (players_of c.args.sheets.now)) c.in_ok-history.history c.tell_all_left.new.history c.in_ok-tell_all_left.ensures.events c.in_ok-history.ensures.fits

@@ -13,7 +13,6 @@ loop-company-preserved c =
       turns = one_more_turn c.args.sheets.now c.args.round c.loop-company.invariant.companies c.in-Some.company c.args.history c.loop-company.history c.in_ok-history.history c.loop-company.invariant.turns taken;
       seats = c.in_ok-history.ensures.seats ∙ c.loop-company.invariant.seats;
       sound = c.in_ok-history.ensures.sound;
-      fits = c.in_ok-history.ensures.ground;
     }
 
 pub loop-company-smaller : goal.loop-company-smaller

@@ -1,6 +1,5 @@
 use Rattle.std.proofs.Common.{◌≡◌, List}
 use Rattle.history.specs.Sound.{IsSound}
-use Rattle.operating.specs.Ground.{GroundFits}
 use Rattle.rounds.proofs.Idle.{idle_of}
 use Rattle.rounds.specs.OperatingRound.{TakeTurns}
 use Rattle.tables.specs.declared.roster.Company.{Company}
@@ -13,7 +12,6 @@ invariant-loop-company l = record {
   turns : TakeTurns l.sheets l.round companies l.fn.history l.history;
   seats : l.history.seats ≡ l.fn.history.seats;
   sound : IsSound l.history;
-  fits : GroundFits l.history;
 }
 
 -- each turn leaves fewer companies that have not operated
