@@ -50,7 +50,7 @@ is_stop : (a b : Stop) → a ≡ b → (stop_order a == stop_order b) ≡ true
 is_stop a b is = eq-eqb (stop_order a) (stop_order b) (ap stop_order is)
 
 -- the test of a stop among stops
-has_stop_is : (stop : Stop) (stops : List Stop) → (has_stop stop stops ≡ true) ↔ IsAmong stop stops
+pub has_stop_is : (stop : Stop) (stops : List Stop) → (has_stop stop stops ≡ true) ↔ IsAmong stop stops
 has_stop_is stop stops =
     (among_found (λ a b. stop_order a == stop_order b) stop_is stops stop, found_among (λ a b. stop_order a == stop_order b) is_stop stops stop)
 

@@ -15,7 +15,7 @@ use Rattle.certificate.specs.Set.{AreApart, AreTakenFrom, IsGreatest, IsLegalSet
 use Rattle.certificate.proofs.Greatest.{no_more_earned}
 
 -- how many trains of a kind one train is
-abbrev of_kind : Kind → Kind → ℕ
+abbrev pub of_kind : Kind → Kind → ℕ
 of_kind kind train = if same_kind train kind then 1 else 0
 
 abbrev run_of : Kind → List Step → TrainRun
@@ -66,7 +66,7 @@ kind_at Five = refl
 kind_at Six = refl
 kind_at Diesel = refl
 
-kind_is : (a b : Kind) → same_kind a b ≡ true → a ≡ b
+pub kind_is : (a b : Kind) → same_kind a b ≡ true → a ≡ b
 kind_is a b same =
     sym (kind_at a) ∙ ap (λ n. get_or kinds n Two) (eqb-true (place_of_kind a) (place_of_kind b) same) ∙ kind_at b
 
