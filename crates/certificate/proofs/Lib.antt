@@ -22,3 +22,4 @@ pub mod Leaves
 pub mod RunReached
 pub mod RunBelow
 pub mod SetBelow
+pub mod Example

@@ -7,5 +7,6 @@ pub mod Set
 pub mod Greatest
 pub mod Tree
 pub mod TreeLaws
+pub mod Example
 pub mod Tally
 pub mod Law

@@ -8,6 +8,7 @@ ghost use Rattle.certificate.specs.Law.{
   RunsEarnByBorders,
   RunsShareNoBorder,
 };
+ghost use Rattle.certificate.specs.Example.{WorkedTree};
 ghost use Rattle.certificate.specs.Greatest.{
   AGreatestExists,
   GreaterTrainsEarnNoLess,
@@ -115,4 +116,9 @@ pub fn leaves_are_legal_sets()
 /// Each legal set is the settled runs of a leaf of the choice tree.
 pub fn legal_sets_are_leaves()
     ensures { LegalSetsAreLeaves }
+{}
+
+/// A small example of the choice tree: two trains, two cities, and one border between them.
+pub fn worked_tree()
+    ensures { WorkedTree }
 {}

@@ -31,7 +31,7 @@ pub use laws::{
     each_legal_run_is_named, greater_trains_earn_no_less, leaves_are_legal_sets,
     leaves_earn_their_bounds, legal_by_marks, legal_sets_are_leaves, legal_where_no_rule_is_broken,
     more_trains_earn_no_less, no_leaf_earns_more, one_greatest, order_of_trains_changes_nothing,
-    runs_earn_by_borders, runs_share_no_border,
+    runs_earn_by_borders, runs_share_no_border, worked_tree,
 };
 pub use run_fault::RunFault;
 pub use used::Used;
