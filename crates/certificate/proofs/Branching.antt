@@ -1,5 +1,5 @@
 -- What the choices at a node are: steps that enter a link where the head is, and that pass a test.
-use Rattle.std.proofs.Common.{◌≡◌, ℕ, ◌+◌, ◌<◌, ◌==◌, Bool, true, false, not, eqb, ◌&&◌, ◌||◌, ◌⊎◌, inl, inr, Option, Some, None, is_some, option_map, if◌then◌else◌, List, [], ◌∷◌, ◌++◌, length, refl, ap, sym, ◌∙◌, subst, arith}
+use Rattle.std.proofs.Common.{◌≡◌, ℕ, ◌==◌, Bool, true, false, not, ◌&&◌, inl, inr, Option, Some, None, is_some, option_map, if◌then◌else◌, List, [], ◌∷◌, refl, ap, sym, ◌∙◌, subst, arith}
 use Rattle.std.proofs.lemmas.Bool.{eq-eqb, eqb-true}
 use Rattle.map_tables.specs.Border.{neighbour_of}
 use Rattle.map_tables.specs.Place.{joined_hex, joined_stop_of, stop_at}
@@ -8,20 +8,19 @@ use Rattle.map_tables.specs.Track.{end_order}
 use Rattle.map_tables.specs.declared.hex.Hex.{Hex}
 use Rattle.map_tables.specs.declared.hex.Hex.TheVariants.{A9, A11, I1, J2}
 use Rattle.map_tables.specs.declared.place.Stop.{Stop}
-use Rattle.map_tables.specs.declared.place.StopNumber.{StopNumber}
 use Rattle.map_tables.specs.declared.side.Side.{Side}
 use Rattle.map_tables.specs.declared.track.End.{End}
 use Rattle.map_tables.specs.declared.track.End.TheVariants.{Side as AtSide, Stop as AtStop}
 use Rattle.map_tables.specs.declared.track.Link.{Link}
 use Rattle.reach.specs.Lawful.{IsLawful}
 use Rattle.reach.specs.Position.{Position, IsAmong, links_of}
-use Rattle.reach.specs.Walk.{IsTrack, across, entered_at, left_at, spot_at, stop_at_end, stop_of}
+use Rattle.reach.specs.Walk.{IsTrack, across, entered_at, spot_at, stop_at_end, stop_of}
 use Rattle.reach.specs.declared.walk.Spot.{Spot}
 use Rattle.reach.specs.declared.walk.Step.{Step}
 use Rattle.reach.proofs.Collected.{lies_there, own_hex}
 use Rattle.certificate.specs.Fault.{has_border}
 use Rattle.certificate.specs.Legal.{border_at, border_of}
-use Rattle.certificate.specs.Tree.{Node, for_each, goes_over, hexes_of, is_free_end, node_if, ways_at, ways_by, ways_from, with_step, with_steps}
+use Rattle.certificate.specs.Tree.{Node, for_each, hexes_of, is_free_end, node_if, ways_at, ways_by, ways_from, with_step, with_steps}
 use Rattle.certificate.proofs.Borders.{faced}
 use Rattle.certificate.proofs.Marks.{among_both, among_is, eqb_not}
 use Rattle.certificate.proofs.Named.{same_end}

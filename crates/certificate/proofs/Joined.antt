@@ -1,5 +1,5 @@
 -- Each rule of a walk is kept exactly where the fact of a legal run holds that it stands for.
-use Rattle.std.proofs.Common.{◌≡◌, ◌↔◌, ℕ, ◌+◌, ◌*◌, ◌<◌, ◌≤◌, ◌==◌, Bool, true, false, ◌||◌, ltb, ◌⊎◌, inl, inr, Option, Some, None, IfSome, List, [], ◌∷◌, get_or, refl, ap, ◌∙◌, arith}
+use Rattle.std.proofs.Common.{◌≡◌, ◌↔◌, ℕ, ◌+◌, ◌*◌, ◌<◌, ◌≤◌, ◌==◌, Bool, true, false, ◌||◌, ltb, ◌⊎◌, inl, inr, Option, Some, None, IfSome, List, [], ◌∷◌, refl, ap, ◌∙◌, arith}
 use Rattle.std.specs.List.{AllByRecursion, list_any}
 use Rattle.std.proofs.lemmas.Bool.{eqb-true, eq-eqb, ltb-true, ltb-false}
 use Rattle.map_tables.specs.Hex.{index_of}

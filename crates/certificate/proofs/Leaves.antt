@@ -1,22 +1,22 @@
 -- Down the tree what holds at a node keeps holding, and the bound never grows; so the settled runs of a leaf are a legal
 -- set, which earns no more than the bound of any node above it.
-use Rattle.std.proofs.Common.{◌≡◌, ℕ, ◌+◌, ◌≤◌, ◌⊎◌, inl, inr, if◌then◌else◌, List, [], ◌∷◌, ◌++◌, refl, ap, sym, ◌∙◌, subst, arith}
+use Rattle.std.proofs.Common.{◌≡◌, ◌+◌, ◌≤◌, inl, inr, if◌then◌else◌, List, [], ◌∷◌, ◌++◌, refl, ap, subst, arith}
 use Rattle.map_tables.specs.Place.{joined_stop_of}
 use Rattle.map_tables.specs.declared.place.Stop.{Stop}
 use Rattle.reach.specs.Lawful.{IsLawful}
-use Rattle.reach.specs.Position.{Position, HasToken, IsAmong}
-use Rattle.reach.specs.Reached.{IsReach, IsWalkOf, Reaching, ReachesStop}
-use Rattle.reach.specs.Walk.{EndsAt, TouchesStop, entered_at, left_at}
+use Rattle.reach.specs.Position.{Position, IsAmong}
+use Rattle.reach.specs.Reached.{IsReach, Reaching, ReachesStop}
+use Rattle.reach.specs.Walk.{TouchesStop, entered_at, left_at}
 use Rattle.reach.specs.declared.walk.Step.{Step}
 use Rattle.reach.proofs.Spots.{names_itself}
 use Rattle.tables.specs.Train.{same_kind}
 use Rattle.tables.specs.declared.rolling_stock.Kind.{Kind}
 use Rattle.tables.specs.declared.rolling_stock.Kind.TheVariants.{Two, Three, Four, Five, Six, Diesel}
 use Rattle.tables.specs.declared.roster.Company.{Company}
-use Rattle.certificate.specs.Set.{IsLegalSet, in_number, revenue_of}
-use Rattle.certificate.specs.Tree.{IsBelow, IsLeaf, IsWayDown, Node, bound, children, end_of, for_each, greatest_first, may_come, root_of}
+use Rattle.certificate.specs.Set.{in_number, revenue_of}
+use Rattle.certificate.specs.Tree.{IsBelow, IsWayDown, Node, bound, end_of, for_each, greatest_first, may_come, root_of}
 use Rattle.certificate.specs.TreeLaws.{BoundsFall, IsInTree, LeavesAreLegalSets, LeavesEarnTheirBounds, NoLeafEarnsMore}
-use Rattle.certificate.proofs.Nodes.{IsGood, IsGoodChoice, IsGoodNode, choice_good, none_begun}
+use Rattle.certificate.proofs.Nodes.{IsGoodChoice, IsGoodNode, choice_good, none_begun}
 
 -- the trains of one kind
 abbrev only : Kind → List Kind → List Kind

@@ -10,18 +10,18 @@ use Rattle.map_tables.specs.declared.place.Stop.{Stop}
 use Rattle.map_tables.specs.declared.track.End.{End}
 use Rattle.map_tables.specs.declared.track.End.TheVariants.{Side as AtSide, Stop as AtStop}
 use Rattle.reach.specs.Lawful.{IsLawful}
-use Rattle.reach.specs.Position.{Position, HasToken, IsAmong, IsFull, is_red, value_of}
-use Rattle.reach.specs.Walk.{AreJoined, BeginsAt, IsTrack, IsWalk, PassesOnly, across, entered_at, left_at, spot_at, stop_at_end, stop_of}
+use Rattle.reach.specs.Position.{Position, HasToken, IsAmong, IsFull, is_red}
+use Rattle.reach.specs.Walk.{AreJoined, BeginsAt, IsTrack, IsWalk, PassesOnly, across, entered_at, left_at, stop_at_end, stop_of}
 use Rattle.reach.specs.declared.walk.Spot.{Spot}
 use Rattle.reach.specs.declared.walk.Step.{Step}
 use Rattle.reach.proofs.Spots.{back, names_itself}
-use Rattle.tables.specs.Train.{same_kind, stops_of}
+use Rattle.tables.specs.Train.{stops_of}
 use Rattle.tables.specs.declared.rolling_stock.Kind.{Kind}
 use Rattle.tables.specs.declared.rolling_stock.Kind.TheVariants.{Two, Three, Four, Five, Six, Diesel}
 use Rattle.tables.specs.declared.roster.Company.{Company}
 use Rattle.certificate.specs.Fault.{has_stop, has_token, is_full}
-use Rattle.certificate.specs.Legal.{AreAtMost, AreDistinct, HasSuch, IsLegalRun, border_at, border_of, crossed, earned, listed, visited, worth}
-use Rattle.certificate.specs.Set.{AreApart, IsLegalSet, RunsLegally, ShareNoBorder, TrainRun, in_number, revenue_of, trains_that_run}
+use Rattle.certificate.specs.Legal.{AreAtMost, AreDistinct, border_at, border_of, crossed, listed, visited, worth}
+use Rattle.certificate.specs.Set.{AreApart, RunsLegally, ShareNoBorder, TrainRun, in_number, revenue_of, trains_that_run}
 use Rattle.certificate.specs.Tree.{Node, bound, with_steps, choices_at, finishing, from_border, from_head, from_stop, goes_over, gone_over, is_finished, is_last_stop, is_new_stop, is_used_up, leads_on, may_all_earn, may_come, may_earn, node_of, run_borders, setting_out, taken_borders, ways_at, ways_from, for_each}
 use Rattle.certificate.proofs.Bounds.{one_stop_more}
 use Rattle.certificate.proofs.Branching.{IsWay, LeadsOver, Leaves, border_both, for_each_among, leads_over, leaves_stop, no_border, node_if_among, not_true, way_is, with_steps_among}

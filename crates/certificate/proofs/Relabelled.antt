@@ -2,7 +2,7 @@
 -- has one, is then the run of the other.
 use Rattle.std.proofs.Common.{◌≡◌, ℕ, ◌+◌, ◌≤◌, ◌⊎◌, inl, inr, Bool, true, false, eqb, if◌then◌else◌, List, [], ◌∷◌, length, get_or, refl, ap, sym, ◌∙◌, subst, arith}
 use Rattle.std.specs.List.{AllByRecursion}
-use Rattle.std.proofs.lemmas.Bool.{eqb-true, eq-eqb}
+use Rattle.std.proofs.lemmas.Bool.{eqb-true}
 use Rattle.reach.specs.Position.{Position}
 use Rattle.reach.specs.declared.walk.Step.{Step}
 use Rattle.tables.specs.Train.{kinds, place_of_kind, same_kind, stops_of}
@@ -10,9 +10,8 @@ use Rattle.tables.specs.declared.rolling_stock.Kind.{Kind}
 use Rattle.tables.specs.declared.rolling_stock.Kind.TheVariants.{Two, Three, Four, Five, Six, Diesel}
 use Rattle.tables.specs.declared.roster.Company.{Company}
 use Rattle.certificate.specs.Greatest.{GreaterTrainsEarnNoLess, VisitsAsMany}
-use Rattle.certificate.specs.Legal.{AreAtMost, IsLegalRun, earned, visited}
-use Rattle.certificate.specs.Set.{AreApart, AreTakenFrom, IsGreatest, IsLegalSet, RunsLegally, ShareNoBorder, TrainRun, in_number, revenue_of, trains_that_run}
-use Rattle.certificate.proofs.Greatest.{no_more_earned}
+use Rattle.certificate.specs.Legal.{AreAtMost, earned, visited}
+use Rattle.certificate.specs.Set.{AreApart, AreTakenFrom, IsLegalSet, RunsLegally, ShareNoBorder, TrainRun, in_number, revenue_of, trains_that_run}
 
 -- how many trains of a kind one train is
 abbrev pub of_kind : Kind → Kind → ℕ

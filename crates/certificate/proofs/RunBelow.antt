@@ -1,20 +1,18 @@
 -- A legal run whose borders are free is a way down the tree: from where nothing is begun, step by step, to where it is
 -- settled.
-use Rattle.std.proofs.Common.{◌≡◌, ℕ, suc, ◌+◌, ◌<◌, ◌≤◌, Bool, true, false, not, ltb, ◌&&◌, ◌||◌, ◌⊎◌, inl, inr, Option, Some, None, IfSome, if◌then◌else◌, List, [], ◌∷◌, ◌++◌, length, refl, ap, sym, ◌∙◌, subst, arith}
-use Rattle.std.specs.List.{AllByRecursion, list_any}
+use Rattle.std.proofs.Common.{◌≡◌, ℕ, suc, Bool, true, false, not, ltb, ◌||◌, ◌⊎◌, inl, inr, Option, Some, None, IfSome, if◌then◌else◌, List, [], ◌∷◌, ◌++◌, length, refl, ap, sym, ◌∙◌, subst, arith}
+use Rattle.std.specs.List.{list_any}
 use Rattle.std.proofs.lemmas.Bool.{lt-ltb}
 use Rattle.map_tables.specs.Border.{neighbour_of}
-use Rattle.map_tables.specs.Side.{facing_of}
 use Rattle.map_tables.specs.declared.hex.Hex.{Hex}
 use Rattle.map_tables.specs.declared.place.Stop.{Stop}
-use Rattle.map_tables.specs.declared.place.StopNumber.{StopNumber}
 use Rattle.map_tables.specs.declared.side.Side.{Side}
 use Rattle.map_tables.specs.declared.track.End.{End}
 use Rattle.map_tables.specs.declared.track.End.TheVariants.{Side as AtSide, Stop as AtStop}
 use Rattle.reach.specs.Lawful.{IsLawful}
 use Rattle.reach.specs.Position.{Position, HasToken, IsAmong, IsFull, is_red}
 use Rattle.reach.specs.Reached.{ReachesStop}
-use Rattle.reach.specs.Walk.{AreJoined, BeginsAt, IsTrack, IsWalk, PassesOnly, across, across_end, entered_at, left_at, spot_at, stop_at_end, stop_of}
+use Rattle.reach.specs.Walk.{AreJoined, IsTrack, across, across_end, entered_at, left_at, stop_at_end, stop_of}
 use Rattle.reach.specs.declared.walk.Spot.{Spot}
 use Rattle.reach.specs.declared.walk.Step.{Step}
 use Rattle.reach.proofs.Spots.{back}
@@ -22,14 +20,14 @@ use Rattle.tables.specs.Train.{stops_of}
 use Rattle.tables.specs.declared.rolling_stock.Kind.{Kind}
 use Rattle.tables.specs.declared.roster.Company.{Company}
 use Rattle.certificate.specs.Fault.{has_stop, has_token, is_full}
-use Rattle.certificate.specs.Legal.{AreAtMost, AreDistinct, HasSuch, IsLegalRun, border_at, border_of, crossed, first_stop, listed, visited}
+use Rattle.certificate.specs.Legal.{AreAtMost, AreDistinct, IsLegalRun, border_at, border_of, crossed, listed, visited}
 use Rattle.certificate.specs.Set.{TrainRun}
-use Rattle.certificate.specs.Tree.{IsBelow, Node, children, end_of, finishing, for_each, from_border, from_head, from_stop, goes_over, gone_over, is_finished, is_last_stop, is_new_stop, is_used_up, leads_on, node_if, node_of, run_borders, setting_out, taken_borders, ways_at, ways_from, with_steps}
+use Rattle.certificate.specs.Tree.{IsBelow, Node, children, finishing, for_each, from_border, from_head, from_stop, goes_over, gone_over, is_finished, is_last_stop, is_new_stop, is_used_up, leads_on, node_of, run_borders, taken_borders, ways_at, ways_from, with_steps}
 use Rattle.certificate.proofs.Branching.{LeadsOver, among_for_each, among_node_if, among_with_steps, border_both, no_border, over_leads, stop_left, true_both, way_there}
 use Rattle.certificate.proofs.Joined.{fails, has_stop_is, not_less, such_has}
 use Rattle.certificate.proofs.Marks.{among_both}
 use Rattle.certificate.proofs.Nodes.{HasRoom, IsRunBegun, fewer_fit}
-use Rattle.certificate.proofs.RunReached.{all_reached, among_listed, no_stop_across}
+use Rattle.certificate.proofs.RunReached.{all_reached}
 use Rattle.certificate.proofs.Tests.{has_token_is, is_full_is}
 use Rattle.certificate.proofs.Written.{ordered, stop_to_stop}
 

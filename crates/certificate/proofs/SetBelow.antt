@@ -1,18 +1,18 @@
 -- Each legal set is the settled runs of a leaf: train by train, in their order, a run of the set is taken for a train of
 -- its kind, or none where no run of that kind is left.
-use Rattle.std.proofs.Common.{◌≡◌, ◌↔◌, ℕ, suc, ◌+◌, ◌≤◌, Bool, true, false, ◌⊎◌, inl, inr, if◌then◌else◌, List, [], ◌∷◌, ◌++◌, length, refl, ap, sym, ◌∙◌, subst, arith}
+use Rattle.std.proofs.Common.{◌≡◌, ◌↔◌, ℕ, ◌+◌, ◌≤◌, Bool, true, false, ◌⊎◌, inl, inr, if◌then◌else◌, List, [], ◌∷◌, refl, ap, subst, arith}
 use Rattle.std.specs.List.{AllByRecursion}
 use Rattle.map_tables.specs.declared.place.Stop.{Stop}
 use Rattle.reach.specs.Lawful.{IsLawful}
 use Rattle.reach.specs.Position.{Position, IsAmong}
-use Rattle.reach.specs.Reached.{IsReach, Reaching, ReachesStop}
+use Rattle.reach.specs.Reached.{Reaching, ReachesStop}
 use Rattle.reach.specs.declared.walk.Step.{Step}
 use Rattle.tables.specs.Train.{same_kind}
 use Rattle.tables.specs.declared.rolling_stock.Kind.{Kind}
 use Rattle.tables.specs.declared.rolling_stock.Kind.TheVariants.{Two, Three, Four, Five, Six, Diesel}
 use Rattle.tables.specs.declared.roster.Company.{Company}
-use Rattle.certificate.specs.Legal.{IsLegalRun, crossed, earned}
-use Rattle.certificate.specs.Set.{AreApart, IsLegalSet, RunsLegally, ShareNoBorder, TrainRun, in_number, revenue_of, trains_that_run}
+use Rattle.certificate.specs.Legal.{crossed, earned}
+use Rattle.certificate.specs.Set.{AreApart, RunsLegally, ShareNoBorder, TrainRun, in_number, revenue_of, trains_that_run}
 use Rattle.certificate.specs.Tree.{IsBelow, IsLeaf, Node, greatest_first, node_of, root_of, run_borders}
 use Rattle.certificate.specs.TreeLaws.{AreItsRuns, IsInTree, LegalSetsAreLeaves}
 use Rattle.certificate.proofs.Leaves.{same_number}

@@ -20,7 +20,7 @@ use Rattle.map_tables.specs.declared.track.End.{End}
 use Rattle.map_tables.specs.declared.track.End.TheVariants.{Side as AtSide, Stop as AtStop}
 use Rattle.map_tables.specs.declared.track.Link.{Link}
 use Rattle.reach.specs.Position.{Position, IsAmong, is_red, links_of, value_of}
-use Rattle.reach.specs.Walk.{across, entered_at, left_at, stop_of}
+use Rattle.reach.specs.Walk.{across, left_at, stop_of}
 use Rattle.reach.specs.declared.walk.Spot.{Spot}
 use Rattle.reach.specs.declared.walk.Step.{Step}
 use Rattle.tables.specs.Train.{same_kind, stops_of}

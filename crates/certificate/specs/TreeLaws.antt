@@ -2,7 +2,7 @@
 -- set is that of a leaf, at whichever of its stops a run begins, wherever its own tokens are, and however far a D goes.
 -- No node has a child with a greater bound; a leaf's bound is what it earns; so no leaf below a node earns more than
 -- the node's bound.
-use Rattle.std.specs.Prelude.{◌≡◌, ◌↔◌, ℕ, ◌≤◌, List}
+use Rattle.std.specs.Prelude.{◌≡◌, ◌↔◌, ◌≤◌, List}
 use Rattle.reach.specs.Lawful.{IsLawful}
 use Rattle.reach.specs.Position.{Position, IsAmong}
 use Rattle.reach.specs.Reached.{IsReach, Reaching}
