@@ -3,7 +3,7 @@
 -- crossed by two of the walks, though they may meet at stops. A set earns what its runs earn; the empty set is
 -- legal, and earns nothing. The greatest revenue is what some legal set earns and no legal set exceeds. Nothing
 -- here knows of how it is looked for.
-use Rattle.std.specs.Prelude.{◌≡◌, ℕ, ◌+◌, ◌≤◌, if◌then◌else◌, List, [], ◌∷◌}
+use Rattle.std.specs.Prelude.{◌≡◌, ℕ, ◌+◌, ◌≤◌, Bool, true, false, if◌then◌else◌, List, [], ◌∷◌}
 use Rattle.std.specs.List.{AllByRecursion}
 use Rattle.reach.specs.Position.{Position, IsAmong}
 use Rattle.reach.specs.declared.walk.Step.{Step}
