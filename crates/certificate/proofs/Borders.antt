@@ -64,7 +64,7 @@ one_border pair hex other next beyond side way is also (far low number) (far bel
     inl (let one : spot_at hex (AtSide side) ≡ spot_at other (AtSide way) = cc in one)
 
 -- a side and the side that faces it have one number
-faced : (hex next : Hex) (side : Side) → neighbour_of hex side ≡ Some next → neighbour_of next (facing_of side) ≡ Some hex → border_of hex side ≡ border_of next (facing_of side)
+pub faced : (hex next : Hex) (side : Side) → neighbour_of hex side ≡ Some next → neighbour_of next (facing_of side) ≡ Some hex → border_of hex side ≡ border_of next (facing_of side)
 unfolding border_of
 faced hex next SouthWest is back = sym (ap (border_beyond 0) back)
 faced hex next West is back = sym (ap (border_beyond 1) back)

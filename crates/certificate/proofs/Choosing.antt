@@ -1,7 +1,7 @@
 -- The legal runs of a company are finitely many: each is named by a list of at most 280 places, of which there are
 -- finitely many. So are its legal sets, which have at most as many runs as there are trains; and of a set of legal runs
 -- it is known whether it is legal.
-use Rattle.std.proofs.Common.{◌≡◌, ℕ, zero, suc, ◌+◌, ◌<◌, ◌≤◌, lit<, Bool, true, false, eqb, ◌⊎◌, inl, inr, Option, Some, None, List, [], ◌∷◌, ◌++◌, length, get_or, if◌then◌else◌, refl, ap, sym, ◌∙◌, subst, arith}
+use Rattle.std.proofs.Common.{◌≡◌, ℕ, suc, ◌+◌, ◌<◌, ◌≤◌, lit<, Bool, true, false, eqb, ◌⊎◌, inl, inr, Option, Some, None, List, [], ◌∷◌, ◌++◌, length, get_or, refl, ap, sym, ◌∙◌, subst, arith}
 use Rattle.std.specs.List.{AllByRecursion}
 use Rattle.std.proofs.lemmas.Bool.{eq-eqb, eqb-true}
 use Rattle.map_tables.specs.Hex.{hexes, index_of}
@@ -14,19 +14,18 @@ use Rattle.reach.specs.Lawful.{IsLawful}
 use Rattle.reach.specs.Position.{Position, IsAmong}
 use Rattle.reach.specs.declared.walk.Step.{Step}
 use Rattle.reach.proofs.Lists.{among_at}
-use Rattle.tables.specs.Train.{kinds, same_kind}
+use Rattle.tables.specs.Train.{kinds}
 use Rattle.tables.specs.declared.rolling_stock.Kind.{Kind}
 use Rattle.tables.specs.declared.rolling_stock.Kind.TheVariants.{Two, Three, Four, Five, Six, Diesel}
 use Rattle.tables.specs.declared.roster.Company.{Company}
 use Rattle.certificate.specs.Fault.{named_steps, run_fault, steps_of}
 use Rattle.certificate.specs.Law.{AreItsPlaces, NameLegalRun}
 use Rattle.certificate.specs.Legal.{IsLegalRun, crossed}
-use Rattle.certificate.specs.Named.{walk_named}
 use Rattle.certificate.specs.Set.{AreApart, AreTakenFrom, IsLegalSet, RunsLegally, ShareNoBorder, TrainRun, in_number, trains_that_run}
 use Rattle.certificate.specs.declared.run_fault.RunFault.{RunFault}
 use Rattle.certificate.proofs.Finite.{Decided, among_each_with, among_lists, decided_at_most, decided_both, each_with, lists_among, lists_of}
 use Rattle.certificate.proofs.Lawful.{legal_where_unbroken}
-use Rattle.certificate.proofs.Marks.{among_both, among_is}
+use Rattle.certificate.proofs.Marks.{among_both}
 use Rattle.certificate.proofs.Written.{each_named}
 
 -- all places

@@ -1,16 +1,14 @@
 -- The greatest revenue: it is that of the best of finitely many legal sets, and at most 160 dollars for each border.
-use Rattle.std.proofs.Common.{◌≡◌, ℕ, zero, suc, ◌+◌, ◌*◌, ◌<◌, ◌≤◌, ◌⊎◌, inl, inr, Bool, true, false, if◌then◌else◌, List, [], ◌∷◌, ◌++◌, length, refl, ap, sym, ◌∙◌, subst, arith}
+use Rattle.std.proofs.Common.{ℕ, ◌*◌, ◌<◌, ◌≤◌, inl, inr, List, [], ◌∷◌, ◌++◌, length, refl, subst, arith}
 use Rattle.std.specs.List.{AllByRecursion}
 use Rattle.std.proofs.lemmas.List.{length-append}
 use Rattle.reach.specs.Lawful.{IsLawful}
 use Rattle.reach.specs.Position.{Position, IsAmong}
-use Rattle.reach.specs.declared.walk.Step.{Step}
-use Rattle.tables.specs.Train.{same_kind}
 use Rattle.tables.specs.declared.rolling_stock.Kind.{Kind}
 use Rattle.tables.specs.declared.roster.Company.{Company}
-use Rattle.certificate.specs.Greatest.{AGreatestExists, AreSameTrains, MoreTrainsEarnNoLess, OneGreatest, OrderOfTrainsChangesNothing}
-use Rattle.certificate.specs.Legal.{AreDistinct, IsLegalRun, crossed, earned, visited, worth}
-use Rattle.certificate.specs.Set.{AreApart, AreTakenFrom, IsGreatest, IsLegalSet, RunsLegally, ShareNoBorder, TrainRun, in_number, revenue_of, trains_that_run}
+use Rattle.certificate.specs.Greatest.{AGreatestExists, MoreTrainsEarnNoLess, OneGreatest, OrderOfTrainsChangesNothing}
+use Rattle.certificate.specs.Legal.{AreDistinct, crossed, earned, visited}
+use Rattle.certificate.specs.Set.{AreApart, AreTakenFrom, IsGreatest, IsLegalSet, RunsLegally, ShareNoBorder, TrainRun, revenue_of}
 use Rattle.certificate.proofs.Choosing.{choices, set_decided, set_there}
 use Rattle.certificate.proofs.Counting.{no_more}
 use Rattle.certificate.proofs.Earning.{few_visited, worth_low}

@@ -1,5 +1,5 @@
 -- Each rule of a walk is kept exactly where the fact of a legal run holds that it stands for.
-use Rattle.std.proofs.Common.{◌≡◌, ◌↔◌, ℕ, ◌+◌, ◌*◌, ◌<◌, ◌≤◌, ◌==◌, Bool, true, false, ◌||◌, ltb, ◌⊎◌, inl, inr, Option, Some, None, IfSome, List, [], ◌∷◌, get_or, refl, ap, ◌∙◌, arith}
+use Rattle.std.proofs.Common.{◌≡◌, ◌↔◌, ℕ, ◌+◌, ◌*◌, ◌<◌, ◌≤◌, ◌==◌, Bool, true, false, ◌||◌, ltb, ◌⊎◌, inl, inr, Option, Some, None, IfSome, List, [], ◌∷◌, refl, ap, ◌∙◌, arith}
 use Rattle.std.specs.List.{AllByRecursion, list_any}
 use Rattle.std.proofs.lemmas.Bool.{eqb-true, eq-eqb, ltb-true, ltb-false}
 use Rattle.map_tables.specs.Hex.{index_of}
@@ -50,7 +50,7 @@ is_stop : (a b : Stop) → a ≡ b → (stop_order a == stop_order b) ≡ true
 is_stop a b is = eq-eqb (stop_order a) (stop_order b) (ap stop_order is)
 
 -- the test of a stop among stops
-has_stop_is : (stop : Stop) (stops : List Stop) → (has_stop stop stops ≡ true) ↔ IsAmong stop stops
+pub has_stop_is : (stop : Stop) (stops : List Stop) → (has_stop stop stops ≡ true) ↔ IsAmong stop stops
 has_stop_is stop stops =
     (among_found (λ a b. stop_order a == stop_order b) stop_is stops stop, found_among (λ a b. stop_order a == stop_order b) is_stop stops stop)
 

@@ -15,3 +15,11 @@ pub mod Finite
 pub mod Choosing
 pub mod Greatest
 pub mod Relabelled
+pub mod Bounds
+pub mod Branching
+pub mod Nodes
+pub mod Leaves
+pub mod RunReached
+pub mod RunBelow
+pub mod SetBelow
+pub mod Example

@@ -1,9 +1,7 @@
 -- The borders that are marked, and the marks of used borders once a walk has crossed more.
-use Rattle.std.proofs.Common.{◌≡◌, ◌↔◌, ℕ, zero, suc, ◌+◌, ◌<◌, ◌==◌, Bool, true, false, eqb, ◌||◌, ◌⊎◌, inl, inr, List, [], ◌∷◌, ◌++◌, length, get_or, refl, ap, sym, ◌∙◌, subst, arith}
-use Rattle.std.specs.List.{AllByRecursion, list_any}
+use Rattle.std.proofs.Common.{◌≡◌, ◌↔◌, ℕ, zero, suc, ◌+◌, ◌<◌, ◌==◌, Bool, true, false, eqb, ◌||◌, ◌⊎◌, inl, inr, List, [], ◌∷◌, ◌++◌, get_or, refl, sym, ◌∙◌, subst, arith}
 use Rattle.std.proofs.lemmas.Bool.{eq-eqb, eqb-true}
 use Rattle.reach.specs.Position.{IsAmong}
-use Rattle.reach.specs.declared.walk.Step.{Step}
 use Rattle.reach.proofs.Lists.{among_found, found_among}
 use Rattle.certificate.specs.Fault.{has_border}
 use Rattle.certificate.specs.Marks.{IsUsed, borders_from, borders_used}

@@ -47,7 +47,7 @@ towards hex other side is =
     hex_found other (neighbour_of hex side) (found_passes (λ side. is_hex other (neighbour_of hex side)) sides side is)
 
 -- ends with one place in the order of ends are one
-same_end : (a b : End) → end_order a ≡ end_order b → a ≡ b
+pub same_end : (a b : End) → end_order a ≡ end_order b → a ≡ b
 same_end (AtSide side) (AtSide other) same = ap AtSide (same_side side other same)
 same_end (AtStop number) (AtStop other) same = ap AtStop (same_stop_index number other (omega arith))
 same_end (AtSide side) (AtStop other) same = absurd (omega (arith, side_low side))

@@ -2,7 +2,7 @@
 -- has one, is then the run of the other.
 use Rattle.std.proofs.Common.{◌≡◌, ℕ, ◌+◌, ◌≤◌, ◌⊎◌, inl, inr, Bool, true, false, eqb, if◌then◌else◌, List, [], ◌∷◌, length, get_or, refl, ap, sym, ◌∙◌, subst, arith}
 use Rattle.std.specs.List.{AllByRecursion}
-use Rattle.std.proofs.lemmas.Bool.{eqb-true, eq-eqb}
+use Rattle.std.proofs.lemmas.Bool.{eqb-true}
 use Rattle.reach.specs.Position.{Position}
 use Rattle.reach.specs.declared.walk.Step.{Step}
 use Rattle.tables.specs.Train.{kinds, place_of_kind, same_kind, stops_of}
@@ -10,12 +10,11 @@ use Rattle.tables.specs.declared.rolling_stock.Kind.{Kind}
 use Rattle.tables.specs.declared.rolling_stock.Kind.TheVariants.{Two, Three, Four, Five, Six, Diesel}
 use Rattle.tables.specs.declared.roster.Company.{Company}
 use Rattle.certificate.specs.Greatest.{GreaterTrainsEarnNoLess, VisitsAsMany}
-use Rattle.certificate.specs.Legal.{AreAtMost, IsLegalRun, earned, visited}
-use Rattle.certificate.specs.Set.{AreApart, AreTakenFrom, IsGreatest, IsLegalSet, RunsLegally, ShareNoBorder, TrainRun, in_number, revenue_of, trains_that_run}
-use Rattle.certificate.proofs.Greatest.{no_more_earned}
+use Rattle.certificate.specs.Legal.{AreAtMost, earned, visited}
+use Rattle.certificate.specs.Set.{AreApart, AreTakenFrom, IsLegalSet, RunsLegally, ShareNoBorder, TrainRun, in_number, revenue_of, trains_that_run}
 
 -- how many trains of a kind one train is
-abbrev of_kind : Kind → Kind → ℕ
+abbrev pub of_kind : Kind → Kind → ℕ
 of_kind kind train = if same_kind train kind then 1 else 0
 
 abbrev run_of : Kind → List Step → TrainRun
@@ -66,7 +65,7 @@ kind_at Five = refl
 kind_at Six = refl
 kind_at Diesel = refl
 
-kind_is : (a b : Kind) → same_kind a b ≡ true → a ≡ b
+pub kind_is : (a b : Kind) → same_kind a b ≡ true → a ≡ b
 kind_is a b same =
     sym (kind_at a) ∙ ap (λ n. get_or kinds n Two) (eqb-true (place_of_kind a) (place_of_kind b) same) ∙ kind_at b
 

@@ -1,6 +1,6 @@
 -- A run that is legal after another shares no border with it; and what is legal by the marks of the used borders is
 -- so by the borders themselves.
-use Rattle.std.proofs.Common.{◌≡◌, ◌↔◌, ℕ, inl, inr, Bool, List, [], ◌∷◌, ◌++◌}
+use Rattle.std.proofs.Common.{ℕ, inl, List, [], ◌∷◌, ◌++◌}
 use Rattle.std.specs.List.{AllByRecursion}
 use Rattle.reach.specs.Position.{Position, IsAmong}
 use Rattle.reach.specs.declared.walk.Step.{Step}
@@ -8,7 +8,7 @@ use Rattle.tables.specs.declared.rolling_stock.Kind.{Kind}
 use Rattle.tables.specs.declared.roster.Company.{Company}
 use Rattle.certificate.specs.Law.{LegalByMarks, RunsShareNoBorder}
 use Rattle.certificate.specs.Legal.{IsLegalRun, crossed}
-use Rattle.certificate.specs.Marks.{MarksAre, borders_used}
+use Rattle.certificate.specs.Marks.{borders_used}
 use Rattle.certificate.proofs.Marks.{among_both, used_is}
 
 -- borders that are none of some are none of others that are among these

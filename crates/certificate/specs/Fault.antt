@@ -1,6 +1,6 @@
 -- What is wrong with a run: the first rule that it breaks, of a table in the order of the rules' numbers.
 -- Each rule is a test over the walk that the places name.
-use Rattle.std.specs.Prelude.{ℕ, Bool, true, false, not, ◌==◌, ◌&&◌, ◌||◌, nat_lt, Option, Some, None, is_none, List, [], ◌∷◌, length}
+use Rattle.std.specs.Prelude.{ℕ, Bool, false, not, ◌==◌, ◌&&◌, ◌||◌, nat_lt, Option, Some, None, is_none, List, [], ◌∷◌, length}
 use Rattle.std.specs.List.{list_any}
 use Rattle.map_tables.specs.declared.place.Place.{Place}
 use Rattle.map_tables.specs.declared.place.Stop.{Stop}

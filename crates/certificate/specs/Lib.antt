@@ -5,5 +5,8 @@ pub mod Fault
 pub mod Code
 pub mod Set
 pub mod Greatest
+pub mod Tree
+pub mod TreeLaws
+pub mod Example
 pub mod Tally
 pub mod Law

@@ -8,12 +8,20 @@ ghost use Rattle.certificate.specs.Law.{
   RunsEarnByBorders,
   RunsShareNoBorder,
 };
+ghost use Rattle.certificate.specs.Example.{WorkedTree};
 ghost use Rattle.certificate.specs.Greatest.{
   AGreatestExists,
   GreaterTrainsEarnNoLess,
   MoreTrainsEarnNoLess,
   OneGreatest,
   OrderOfTrainsChangesNothing,
+};
+ghost use Rattle.certificate.specs.TreeLaws.{
+  BoundsFall,
+  LeavesAreLegalSets,
+  LeavesEarnTheirBounds,
+  LegalSetsAreLeaves,
+  NoLeafEarnsMore,
 };
 
 use map_tables::neighbours_pair;
@@ -83,4 +91,34 @@ pub fn greater_trains_earn_no_less()
 /// The order of a company's trains changes nothing.
 pub fn order_of_trains_changes_nothing()
     ensures { OrderOfTrainsChangesNothing }
+{}
+
+/// In the choice tree no child's bound exceeds its node's.
+pub fn bounds_fall()
+    ensures { BoundsFall }
+{}
+
+/// A leaf's bound is what it earns.
+pub fn leaves_earn_their_bounds()
+    ensures { LeavesEarnTheirBounds }
+{}
+
+/// No leaf below a node earns more than the node's bound.
+pub fn no_leaf_earns_more()
+    ensures { NoLeafEarnsMore }
+{}
+
+/// The settled runs of each leaf are a legal set.
+pub fn leaves_are_legal_sets()
+    ensures { LeavesAreLegalSets }
+{}
+
+/// Each legal set is the settled runs of a leaf of the choice tree.
+pub fn legal_sets_are_leaves()
+    ensures { LegalSetsAreLeaves }
+{}
+
+/// A small example of the choice tree: two trains, two cities, and one border between them.
+pub fn worked_tree()
+    ensures { WorkedTree }
 {}

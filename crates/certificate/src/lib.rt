@@ -8,8 +8,11 @@
 //! and what a legal run is, and knows nothing of places; `Named` says which walk a list of places
 //! names; `Fault` is the table of the rules. `Law` joins them: what the places name is a legal run
 //! exactly where they break no rule. `Marks` is how the borders are told that earlier runs crossed.
-//! `Tally` is what the check keeps of the steps that it has gone
-//! over.
+//! `Tally` is what the check keeps of the steps that it has gone over.
+//!
+//! `Set` says what a legal set of runs is, what it earns and what the greatest revenue is, and
+//! `Greatest` what holds of it. `Tree` is the choice tree with the bound of a node, and `TreeLaws`
+//! joins it to the legal sets.
 //!
 //! Reading order: `check` (the public call), `run_fault`, `used`, `leg` (from place to place),
 //! `tally`, `laws`.
@@ -24,10 +27,11 @@ mod used;
 
 pub use check::check_run;
 pub use laws::{
-    a_greatest_exists, borders_are_told_apart, crossed_borders_are_used, each_legal_run_is_named,
-    greater_trains_earn_no_less, legal_by_marks, legal_where_no_rule_is_broken,
-    more_trains_earn_no_less, one_greatest, order_of_trains_changes_nothing, runs_earn_by_borders,
-    runs_share_no_border,
+    a_greatest_exists, borders_are_told_apart, bounds_fall, crossed_borders_are_used,
+    each_legal_run_is_named, greater_trains_earn_no_less, leaves_are_legal_sets,
+    leaves_earn_their_bounds, legal_by_marks, legal_sets_are_leaves, legal_where_no_rule_is_broken,
+    more_trains_earn_no_less, no_leaf_earns_more, one_greatest, order_of_trains_changes_nothing,
+    runs_earn_by_borders, runs_share_no_border, worked_tree,
 };
 pub use run_fault::RunFault;
 pub use used::Used;

@@ -132,7 +132,7 @@ hexes_more position hex index is link low track =
     ]
 
 -- each of the links that lie in a hex lies there
-lies_there : (hex : Hex) (links : List Link) (link : Link) → LieIn hex links → IsAmong link links → link.hex ≡ hex
+pub lies_there : (hex : Hex) (links : List Link) (link : Link) → LieIn hex links → IsAmong link links → link.hex ≡ hex
 lies_there hex [] link lie among = absurd among
 lies_there hex (first ∷ rest) link lie (inl is) = subst (λ (l : Link). l.hex ≡ hex) is lie.0
 lies_there hex (first ∷ rest) link lie (inr later) = lies_there hex rest link lie.1 later

@@ -1,10 +1,10 @@
 -- The tally of the run tells the first rule that it breaks, what it earns and what it crosses.
-use Rattle.std.proofs.Common.{◌≡◌, Bool, List, ◌∙◌, sym, ap, subst, pos, length, arith, refl}
+use Rattle.std.proofs.Common.{Bool, List, ◌∙◌, sym, ap, subst, pos, length, arith, refl}
 use Rattle.std.proofs.lemmas.Int.{to_z-of_z}
 use mir.Syntax.{w128}
 use Rattle.certificate.specs.Fault.{named_steps}
 use Rattle.certificate.specs.Legal.{crossed}
-use Rattle.certificate.specs.Marks.{AreAdded, borders_used, marked}
+use Rattle.certificate.specs.Marks.{AreAdded, borders_used}
 use Rattle.certificate.proofs.Kept.{crossed_added}
 use Rattle.certificate.proofs.Lawful.{legal_where_unbroken, none_where_broken}
 use Rattle.certificate.proofs.Ruled.{no_track, ruled, value_kept, crossed_kept}

@@ -1,0 +1,239 @@
+-- Each legal set is the settled runs of a leaf: train by train, in their order, a run of the set is taken for a train of
+-- its kind, or none where no run of that kind is left.
+use Rattle.std.proofs.Common.{◌≡◌, ◌↔◌, ℕ, ◌+◌, ◌≤◌, Bool, true, false, ◌⊎◌, inl, inr, if◌then◌else◌, List, [], ◌∷◌, refl, ap, subst, arith}
+use Rattle.std.specs.List.{AllByRecursion}
+use Rattle.map_tables.specs.declared.place.Stop.{Stop}
+use Rattle.reach.specs.Lawful.{IsLawful}
+use Rattle.reach.specs.Position.{Position, IsAmong}
+use Rattle.reach.specs.Reached.{Reaching, ReachesStop}
+use Rattle.reach.specs.declared.walk.Step.{Step}
+use Rattle.tables.specs.Train.{same_kind}
+use Rattle.tables.specs.declared.rolling_stock.Kind.{Kind}
+use Rattle.tables.specs.declared.rolling_stock.Kind.TheVariants.{Two, Three, Four, Five, Six, Diesel}
+use Rattle.tables.specs.declared.roster.Company.{Company}
+use Rattle.certificate.specs.Legal.{crossed, earned}
+use Rattle.certificate.specs.Set.{AreApart, RunsLegally, ShareNoBorder, TrainRun, in_number, revenue_of, trains_that_run}
+use Rattle.certificate.specs.Tree.{IsBelow, IsLeaf, Node, greatest_first, node_of, root_of, run_borders}
+use Rattle.certificate.specs.TreeLaws.{AreItsRuns, IsInTree, LegalSetsAreLeaves}
+use Rattle.certificate.proofs.Leaves.{same_number}
+use Rattle.certificate.proofs.Marks.{among_both}
+use Rattle.certificate.proofs.Relabelled.{kind_is, of_kind}
+use Rattle.certificate.proofs.RunBelow.{one_below, run_below}
+
+-- a run is taken out of some, and these are left
+abbrev TakenOut : TrainRun → List TrainRun → List TrainRun → Type 0
+TakenOut run [] rest = ⊥
+TakenOut run (first ∷ others) rest =
+    ((first ≡ run) × (others ≡ rest)) ⊎ ((more : List TrainRun) × TakenOut run others more × ((first ∷ more) ≡ rest))
+
+all_out : (P : TrainRun → Type 0) (run : TrainRun) (runs rest : List TrainRun) → TakenOut run runs rest → AllByRecursion P runs → P run × AllByRecursion P rest
+all_out P run [] rest out holds = absurd out
+all_out P run (first ∷ others) rest (inl is) holds = (subst P is.0 holds.0, subst (λ (l : List TrainRun). AllByRecursion P l) is.1 holds.1)
+all_out P run (first ∷ others) rest (inr later) holds =
+    let found = all_out P run others later.0 later.1 holds.1 in
+    (found.0, subst (λ (l : List TrainRun). AllByRecursion P l) later.2 (holds.0, found.1))
+
+among_out : (other run : TrainRun) (runs rest : List TrainRun) → TakenOut run runs rest → IsAmong other runs ↔ ((run ≡ other) ⊎ IsAmong other rest)
+among_out other run [] rest out = absurd out
+among_out other run (first ∷ others) rest (inl is) =
+    subst (λ (l : List TrainRun). IsAmong other (first ∷ others) ↔ ((run ≡ other) ⊎ IsAmong other l)) is.1
+    (subst (λ (r : TrainRun). ((first ≡ other) ⊎ IsAmong other others) ↔ ((r ≡ other) ⊎ IsAmong other others)) is.0 (λ h. h, λ h. h))
+among_out other run (first ∷ others) rest (inr later) =
+    let found = among_out other run others later.0 later.1 in
+    subst (λ (l : List TrainRun). IsAmong other (first ∷ others) ↔ ((run ≡ other) ⊎ IsAmong other l)) later.2 (
+      λ h. elim h [
+        | inl here ↦ inr (inl here)
+        | inr there ↦ elim (found.0 there) [ inl it ↦ inl it | inr left ↦ inr (inr left) ]
+      ],
+      λ h. elim h [
+        | inl it ↦ inr (found.1 (inl it))
+        | inr left ↦ elim left [ inl here ↦ inl here | inr there ↦ inr (found.1 (inr there)) ]
+      ],
+    )
+
+earns_out : (position : Position) (run : TrainRun) (runs rest : List TrainRun) → TakenOut run runs rest → revenue_of position runs ≡ earned position run.steps + revenue_of position rest
+earns_out position run [] rest out = absurd out
+earns_out position run (first ∷ others) rest (inl is) =
+    subst (λ (l : List TrainRun). earned position first.steps + revenue_of position others ≡ earned position run.steps + revenue_of position l) is.1
+    (ap (λ (r : TrainRun). earned position r.steps + revenue_of position others) is.0)
+earns_out position run (first ∷ others) rest (inr later) =
+    let found = earns_out position run others later.0 later.1 in
+    subst (λ (l : List TrainRun). earned position first.steps + revenue_of position others ≡ earned position run.steps + revenue_of position l) later.2
+    (omega (arith, found))
+
+number_out : (k : Kind) (run : TrainRun) (runs rest : List TrainRun) → TakenOut run runs rest → in_number k (trains_that_run runs) ≡ of_kind k run.kind + in_number k (trains_that_run rest)
+number_out k run [] rest out = absurd out
+number_out k run (first ∷ others) rest (inl is) =
+    subst (λ (l : List TrainRun). of_kind k first.kind + in_number k (trains_that_run others) ≡ of_kind k run.kind + in_number k (trains_that_run l)) is.1
+    (ap (λ (r : TrainRun). of_kind k r.kind + in_number k (trains_that_run others)) is.0)
+number_out k run (first ∷ others) rest (inr later) =
+    let found = number_out k run others later.0 later.1 in
+    subst (λ (l : List TrainRun). of_kind k first.kind + in_number k (trains_that_run others) ≡ of_kind k run.kind + in_number k (trains_that_run l)) later.2
+    (omega (arith, found))
+
+turned_round : (steps others : List Step) → ShareNoBorder steps others → ShareNoBorder others steps
+turned_round steps others apart border there here = apart border here there
+
+apart_out : (run : TrainRun) (runs rest : List TrainRun) → TakenOut run runs rest → AreApart runs → AllByRecursion (λ (other : TrainRun). ShareNoBorder run.steps other.steps) rest × AreApart rest
+apart_out run [] rest out apart = absurd out
+apart_out run (first ∷ others) rest (inl is) apart =
+    subst (λ (l : List TrainRun). AllByRecursion (λ (other : TrainRun). ShareNoBorder run.steps other.steps) l × AreApart l) is.1
+    (subst (λ (r : TrainRun). AllByRecursion (λ (other : TrainRun). ShareNoBorder r.steps other.steps) others) is.0 apart.0, apart.1)
+apart_out run (first ∷ others) rest (inr later) apart =
+    let found = apart_out run others later.0 later.1 apart.1 in
+    let parts = all_out (λ (other : TrainRun). ShareNoBorder first.steps other.steps) run others later.0 later.1 apart.0 in
+    subst (λ (l : List TrainRun). AllByRecursion (λ (other : TrainRun). ShareNoBorder run.steps other.steps) l × AreApart l) later.2
+    ((turned_round first.steps run.steps parts.0, found.0), (parts.1, found.1))
+
+-- a run of a train of a kind is found, or there is none
+abbrev Found : Kind → List TrainRun → Type 0
+Found kind runs =
+    ((steps : List Step) × (rest : List TrainRun) × TakenOut (record { kind = kind; steps = steps }) runs rest) ⊎ (in_number kind (trains_that_run runs) ≡ 0)
+
+found_run : (kind : Kind) (runs : List TrainRun) → Found kind runs
+found_run kind [] = inr refl
+found_run kind (run ∷ runs) = by_test (same_kind run.kind kind) refl (found_run kind runs)
+  where
+    by_test : (b : Bool) → same_kind run.kind kind ≡ b → Found kind runs → Found kind (run ∷ runs)
+    by_test true is later =
+        inl (run.steps, runs, inl (ap (λ (k : Kind). let r : TrainRun = record { kind = k; steps = run.steps } in r) (kind_is run.kind kind is), refl))
+    by_test false is (inl later) = inl (later.0, run ∷ later.1, inr (later.1, later.2, refl))
+    by_test false is (inr none) = inr (let not_it : of_kind kind run.kind ≡ 0 = ap (λ (b : Bool). if b then 1 else 0) is in omega arith)
+
+-- a train is of its own kind
+own_kind : (k : Kind) → of_kind k k ≡ 1
+own_kind Two = refl
+own_kind Three = refl
+own_kind Four = refl
+own_kind Five = refl
+own_kind Six = refl
+own_kind Diesel = refl
+
+-- where none of a kind is left the trains after it are enough
+enough : (kind k : Kind) (runs : List TrainRun) (later : List Kind) → in_number kind (trains_that_run runs) ≡ 0 → in_number k (trains_that_run runs) ≤ of_kind k kind + in_number k later → in_number k (trains_that_run runs) ≤ in_number k later
+enough kind k runs later none few = by_test (same_kind kind k) refl
+  where
+    by_test : (b : Bool) → same_kind kind k ≡ b → in_number k (trains_that_run runs) ≤ in_number k later
+    by_test true is =
+        let zero : in_number k (trains_that_run runs) ≡ 0 = subst (λ (q : Kind). in_number q (trains_that_run runs) ≡ 0) (kind_is kind k is) none in omega arith
+    by_test false is = let not_it : of_kind k kind ≡ 0 = ap (λ (b : Bool). if b then 1 else 0) is in omega arith
+
+module _ (position : Position) (lawful : IsLawful position) (company : Company) (reached : List Stop) (exactly : (stop : Stop) → ReachesStop position company stop → IsAmong stop reached) (start : Node) where
+  -- a run crosses none of the borders of the settled ones
+  abbrev IsFree : List TrainRun → TrainRun → Type 0
+  IsFree settled run = (border : ℕ) → IsAmong border (crossed run.steps) → ¬ IsAmong border (run_borders settled)
+
+  -- what is left of a set while some of its runs are settled
+  record IsLeft (settled runs : List TrainRun) (trains : List Kind) : Type 0 where
+    legal : AllByRecursion (RunsLegally position company) runs
+    apart : AreApart runs
+    free : AllByRecursion (IsFree settled) runs
+    enough_trains : (k : Kind) → in_number k (trains_that_run runs) ≤ in_number k trains
+
+  -- a leaf with the runs that were settled and those that were left
+  record IsLeafOf (settled runs : List TrainRun) : Type 0 where
+    leaf : Node
+    below : IsBelow position company reached start leaf
+    is_leaf : IsLeaf leaf
+    same : (run : TrainRun) → IsAmong run leaf.settled ↔ (IsAmong run settled ⊎ IsAmong run runs)
+    earns : revenue_of position leaf.settled ≡ revenue_of position settled + revenue_of position runs
+
+  -- with one run more settled
+  still_free : (run : TrainRun) (settled rest : List TrainRun) → AllByRecursion (λ (other : TrainRun). ShareNoBorder run.steps other.steps) rest → AllByRecursion (IsFree settled) rest → AllByRecursion (IsFree (run ∷ settled)) rest
+  still_free run settled [] apart free = tt
+  still_free run settled (other ∷ rest) apart free = (
+    λ border among there. elim ((among_both border (crossed run.steps) (run_borders settled)).0 there) [
+      | inl here ↦ apart.0 border here among
+      | inr later ↦ free.0 border among later
+    ],
+    still_free run settled rest apart.1 free.1,
+  )
+
+  one_settled : (settled runs rest : List TrainRun) (run : TrainRun) → TakenOut run runs rest → IsLeafOf (run ∷ settled) rest → IsLeafOf settled runs
+  one_settled settled runs rest run out found =
+      record {
+        leaf = found.leaf;
+        below = found.below;
+        is_leaf = found.is_leaf;
+        same = λ other. (
+          λ h. elim ((found.same other).0 h) [
+            | inl one ↦ elim one [ inl it ↦ inr ((among_out other run runs rest out).1 (inl it)) | inr there ↦ inl there ]
+            | inr left ↦ inr ((among_out other run runs rest out).1 (inr left))
+          ],
+          λ h. (found.same other).1 (elim h [
+            | inl there ↦ inl (inr there)
+            | inr among ↦ elim ((among_out other run runs rest out).0 among) [ inl it ↦ inl (inl it) | inr left ↦ inr left ]
+          ]),
+        );
+        earns = omega (arith, found.earns, earns_out position run runs rest out);
+      }
+
+  all_settled : (trains : List Kind) (settled runs : List TrainRun) → IsBelow position company reached start (node_of settled [] trains) → IsLeft settled runs trains → IsLeafOf settled runs
+  all_settled [] settled [] below left =
+      record {
+        leaf = node_of settled [] [];
+        below = below;
+        is_leaf = refl;
+        same = λ run. (λ h. inl h, λ h. elim h [ inl there ↦ there | inr none ↦ absurd none ]);
+        earns = omega arith;
+      }
+  all_settled [] settled (run ∷ runs) below left =
+      absurd (let few = left.enough_trains run.kind in let one = own_kind run.kind in omega arith)
+  all_settled (kind ∷ later) settled runs below left =
+      by_run (found_run kind runs) (λ more rest there its. all_settled later more rest there its)
+    where
+      by_run : Found kind runs → ((more rest : List TrainRun) → IsBelow position company reached start (node_of more [] later) → IsLeft more rest later → IsLeafOf more rest) → IsLeafOf settled runs
+      by_run (inr none) go_on =
+          go_on settled runs
+          (one_below position company reached start (node_of settled [] (kind ∷ later)) (node_of settled [] later) below (inl refl))
+          (record {
+            legal = left.legal;
+            apart = left.apart;
+            free = left.free;
+            enough_trains = λ k. enough kind k runs later none (left.enough_trains k);
+          })
+      by_run (inl found) go_on =
+          let run : TrainRun = record { kind = kind; steps = found.0 } in
+          let legal = all_out (RunsLegally position company) run runs found.1 found.2 left.legal in
+          let free = all_out (IsFree settled) run runs found.1 found.2 left.free in
+          let apart = apart_out run runs found.1 found.2 left.apart in
+          one_settled settled runs found.1 run found.2
+          (go_on (run ∷ settled) found.1
+          (run_below position lawful company reached settled kind later exactly start below found.0 legal.0 free.0)
+          (record {
+            legal = legal.1;
+            apart = apart.1;
+            free = still_free run settled found.1 apart.0 free.1;
+            enough_trains = λ k. omega (arith, number_out k run runs found.1 found.2, left.enough_trains k);
+          }))
+
+-- nothing is settled at first
+free_at_first : (runs : List TrainRun) → AllByRecursion (λ (run : TrainRun). (border : ℕ) → IsAmong border (crossed run.steps) → ¬ IsAmong border (run_borders [])) runs
+free_at_first [] = tt
+free_at_first (run ∷ runs) = (λ border among none. none, free_at_first runs)
+
+-- a leaf with the runs of a set, where none was settled before
+its_leaf : (position : Position) (lawful : IsLawful position) (company : Company) (trains : List Kind) (reach : Reaching) (exactly : (stop : Stop) → ReachesStop position company stop → IsAmong stop reach.stops) (runs : List TrainRun) → IsLeafOf position lawful company reach.stops exactly (root_of trains) [] runs → (leaf : Node) × IsInTree position company trains reach leaf × IsLeaf leaf × AreItsRuns position leaf.settled runs
+its_leaf position lawful company trains reach exactly runs found = (
+  found.leaf,
+  found.below,
+  found.is_leaf,
+  record {
+    same = λ run. (
+      λ h. elim ((found.same run).0 h) [ inl none ↦ absurd none | inr among ↦ among ],
+      λ h. (found.same run).1 (inr h),
+    );
+    earn_same = omega (arith, found.earns);
+  },
+)
+
+pub sets_are_leaves : LegalSetsAreLeaves
+sets_are_leaves position company trains reach runs lawful is set =
+    its_leaf position lawful company trains reach (λ stop. (is.stops stop).1) runs
+    (all_settled position lawful company reach.stops (λ stop. (is.stops stop).1) (root_of trains) (greatest_first trains) [] runs ([], tt, refl)
+    (record {
+      legal = set.legal;
+      apart = set.apart;
+      free = free_at_first runs;
+      enough_trains = λ k. omega (arith, set.each_once k, same_number k trains);
+    }))

@@ -1,0 +1,50 @@
+-- A small example of the choice tree. The Pennsylvania has its token on H12 and two 2-trains; a yellow city lies on H10,
+-- worth 20, beside its home, worth 10. Its runs can earn 30, since one border joins the two cities. In the order in which
+-- the tree is gone through, down to nodes whose bound is at most 30, these are the nodes with a greater bound.
+use Rattle.std.specs.Prelude.{◌≡◌, ℕ, zero, suc, nat_le, Bool, true, false, if◌then◌else◌, List, [], ◌∷◌, map}
+use Rattle.map_tables.specs.Hex.{hexes}
+use Rattle.map_tables.specs.Place.{stop_at}
+use Rattle.map_tables.specs.declared.hex.Hex.{Hex}
+use Rattle.map_tables.specs.declared.hex.Hex.TheVariants.{H10, H12}
+use Rattle.map_tables.specs.declared.place.Stop.{Stop}
+use Rattle.map_tables.specs.declared.place.StopNumber.TheVariants.{First}
+use Rattle.map_tables.specs.declared.side.Side.TheVariants.{East, West}
+use Rattle.map_tables.specs.declared.track.End.TheVariants.{Side as AtSide, Stop as AtStop}
+use Rattle.reach.specs.Position.{InHex, Position, empty_hex}
+use Rattle.tables.specs.declared.rolling_stock.Kind.TheVariants.{Two}
+use Rattle.tables.specs.declared.roster.Company.TheVariants.{Pennsylvania}
+use Rattle.certificate.specs.Tree.{Node, bound, children, for_each, root_of}
+
+-- what lies in a hex
+unfoldable pub lying : Hex → InHex
+lying H10 = record {
+  links = record { hex = H10; a = AtSide West; b = AtStop First } ∷ record { hex = H10; a = AtSide East; b = AtStop First } ∷ [];
+  stops = record { value = 20; red = false; slots = 1; tokens = [] } ∷ [];
+}
+lying H12 = record {
+  links =
+      record { hex = H12; a = AtSide West; b = AtSide East } ∷
+      record { hex = H12; a = AtSide West; b = AtStop First } ∷
+      record { hex = H12; a = AtSide East; b = AtStop First } ∷ [];
+  stops = record { value = 10; red = false; slots = 1; tokens = Pennsylvania ∷ [] } ∷ [];
+}
+lying hex = empty_hex
+
+unfoldable pub two_cities : Position
+two_cities = record { hexes = map lying hexes }
+
+-- the stops that are reached
+abbrev pub both_cities : List Stop
+both_cities = stop_at H10 First ∷ stop_at H12 First ∷ []
+
+-- for a node, and those below it as far as their bounds are over this, whether its bound is over it
+abbrev pub over_bound : ℕ → ℕ → Node → List Bool
+over_bound zero revenue node = []
+over_bound (suc depth) revenue node =
+    if nat_le (bound two_cities both_cities node) revenue then false ∷ [] else
+    true ∷ for_each (over_bound depth revenue) (children two_cities Pennsylvania both_cities node)
+
+abbrev pub WorkedTree : Type 0
+WorkedTree =
+    over_bound 8 30 (root_of (Two ∷ Two ∷ [])) ≡
+    true ∷ false ∷ true ∷ true ∷ true ∷ true ∷ true ∷ false ∷ true ∷ true ∷ true ∷ true ∷ true ∷ false ∷ true ∷ true ∷ true ∷ []
