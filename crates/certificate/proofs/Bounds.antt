@@ -57,7 +57,9 @@ module _ (position : Position) (stop : Stop) (stops : List Stop) where
   fewer [] = λ count. omega arith
   fewer (first ∷ reached) = by_tests (stop_order stop == stop_order first) (has_stop first stops) (fewer reached)
     where
-      by_tests : (b c : Bool) → AreLess (after reached) (here reached) → AreLess (if b || c then after reached else value_of position first ∷ after reached) (if c then here reached else value_of position first ∷ here reached)
+      by_tests :
+          (b c : Bool) → AreLess (after reached) (here reached) →
+          AreLess (if b || c then after reached else value_of position first ∷ after reached) (if c then here reached else value_of position first ∷ here reached)
       by_tests true true less = less
       by_tests true false less = less_more (value_of position first) (after reached) (here reached) less
       by_tests false true less = less
@@ -67,7 +69,9 @@ module _ (position : Position) (stop : Stop) (stops : List Stop) where
   fewer_total [] = omega arith
   fewer_total (first ∷ reached) = by_tests (stop_order stop == stop_order first) (has_stop first stops) (fewer_total reached)
     where
-      by_tests : (b c : Bool) → total (after reached) ≤ total (here reached) → total (if b || c then after reached else value_of position first ∷ after reached) ≤ total (if c then here reached else value_of position first ∷ here reached)
+      by_tests :
+          (b c : Bool) → total (after reached) ≤ total (here reached) →
+          total (if b || c then after reached else value_of position first ∷ after reached) ≤ total (if c then here reached else value_of position first ∷ here reached)
       by_tests true true less = less
       by_tests true false less = omega arith
       by_tests false true less = less
@@ -83,41 +87,55 @@ module _ (position : Position) (stop : Stop) (stops : List Stop) where
       subst (λ (s : Stop). AreLessBy (value_of position stop) (after (s ∷ reached)) (here (s ∷ reached))) (sym is)
       (by_tests (stop_order stop == stop_order stop) (has_stop stop stops) same_stop new)
     where
-      by_tests : (b c : Bool) → b ≡ true → c ≡ false → AreLessBy (value_of position stop) (if b || c then after reached else value_of position stop ∷ after reached) (if c then here reached else value_of position stop ∷ here reached)
+      by_tests :
+          (b c : Bool) → b ≡ true → c ≡ false →
+          AreLessBy (value_of position stop) (if b || c then after reached else value_of position stop ∷ after reached) (if c then here reached else value_of position stop ∷ here reached)
       by_tests true false is also = first_by (value_of position stop) (after reached) (here reached) (fewer reached)
       by_tests true true is also = absurd cc
       by_tests false c is also = absurd cc
   fewer_by new (first ∷ reached) (inr later) = by_tests (stop_order stop == stop_order first) (has_stop first stops) (fewer_by new reached later)
     where
-      by_tests : (b c : Bool) → AreLessBy (value_of position stop) (after reached) (here reached) → AreLessBy (value_of position stop) (if b || c then after reached else value_of position first ∷ after reached) (if c then here reached else value_of position first ∷ here reached)
+      by_tests :
+          (b c : Bool) → AreLessBy (value_of position stop) (after reached) (here reached) →
+          AreLessBy (value_of position stop) (if b || c then after reached else value_of position first ∷ after reached) (if c then here reached else value_of position first ∷ here reached)
       by_tests true true less = less
       by_tests true false less = by_more (value_of position stop) (value_of position first) (after reached) (here reached) less
       by_tests false true less = less
       by_tests false false less = by_both (value_of position stop) (value_of position first) (after reached) (here reached) less
 
-  fewer_total_by : has_stop stop stops ≡ false → (reached : List Stop) → IsAmong stop reached → value_of position stop + total (after reached) ≤ total (here reached)
+  fewer_total_by :
+      has_stop stop stops ≡ false → (reached : List Stop) → IsAmong stop reached →
+      value_of position stop + total (after reached) ≤ total (here reached)
   fewer_total_by new [] among = absurd among
   fewer_total_by new (first ∷ reached) (inl is) =
       subst (λ (s : Stop). value_of position stop + total (after (s ∷ reached)) ≤ total (here (s ∷ reached))) (sym is)
       (by_tests (stop_order stop == stop_order stop) (has_stop stop stops) same_stop new)
     where
-      by_tests : (b c : Bool) → b ≡ true → c ≡ false → value_of position stop + total (if b || c then after reached else value_of position stop ∷ after reached) ≤ total (if c then here reached else value_of position stop ∷ here reached)
+      by_tests :
+          (b c : Bool) → b ≡ true → c ≡ false →
+          value_of position stop + total (if b || c then after reached else value_of position stop ∷ after reached) ≤ total (if c then here reached else value_of position stop ∷ here reached)
       by_tests true false is also = omega (arith, fewer_total reached)
       by_tests true true is also = absurd cc
       by_tests false c is also = absurd cc
   fewer_total_by new (first ∷ reached) (inr later) = by_tests (stop_order stop == stop_order first) (has_stop first stops) (fewer_total_by new reached later)
     where
-      by_tests : (b c : Bool) → value_of position stop + total (after reached) ≤ total (here reached) → value_of position stop + total (if b || c then after reached else value_of position first ∷ after reached) ≤ total (if c then here reached else value_of position first ∷ here reached)
+      by_tests :
+          (b c : Bool) → value_of position stop + total (after reached) ≤ total (here reached) →
+          value_of position stop + total (if b || c then after reached else value_of position first ∷ after reached) ≤ total (if c then here reached else value_of position first ∷ here reached)
       by_tests true true less = less
       by_tests true false less = omega arith
       by_tests false true less = less
       by_tests false false less = omega arith
 
   -- a train with room for one more stop
-  pub one_stop_more : (kind : Kind) (reached : List Stop) → has_stop stop stops ≡ false → IsAmong stop reached → AreAtMost (stops_of kind) (suc (length stops)) → value_of position stop + may_earn position reached kind (stop ∷ stops) ≤ may_earn position reached kind stops
+  pub one_stop_more :
+      (kind : Kind) (reached : List Stop) → has_stop stop stops ≡ false → IsAmong stop reached → AreAtMost (stops_of kind) (suc (length stops)) →
+      value_of position stop + may_earn position reached kind (stop ∷ stops) ≤ may_earn position reached kind stops
   one_stop_more kind reached new among room = by_most (stops_of kind) room
     where
-      by_most : (most : Option ℕ) → AreAtMost most (suc (length stops)) → value_of position stop + still_to_come most (suc (length stops)) (after reached) ≤ still_to_come most (length stops) (here reached)
+      by_most :
+          (most : Option ℕ) → AreAtMost most (suc (length stops)) →
+          value_of position stop + still_to_come most (suc (length stops)) (after reached) ≤ still_to_come most (length stops) (here reached)
       by_most None room = fewer_total_by new reached among
       by_most (Some most) room =
           let left : most - length stops ≡ suc (most - suc (length stops)) = omega arith in

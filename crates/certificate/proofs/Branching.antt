@@ -52,7 +52,9 @@ among_node_if true node is = inl refl
 among_node_if false node is = absurd cc
 
 module _ (test : Step → Bool) (node : Node) (steps : List Step) where
-  pub with_steps_among : (made : Node) → IsAmong made (with_steps test node steps) → (step : Step) × IsAmong step steps × (test step ≡ true) × (with_step node step ≡ made)
+  pub with_steps_among :
+      (made : Node) → IsAmong made (with_steps test node steps) →
+      (step : Step) × IsAmong step steps × (test step ≡ true) × (with_step node step ≡ made)
   with_steps_among made among =
       let found = for_each_among (λ (step : Step). node_if (test step) (with_step node step)) steps made among in
       let parts = node_if_among (test found.0) (with_step node found.0) made found.2 in
@@ -67,7 +69,10 @@ ways_are : (end : End) (link : Link) (step : Step) → IsAmong step (ways_by end
 ways_are end link step among =
     by_tests (end_order link.a == end_order end) (end_order link.b == end_order end) refl refl among
   where
-    by_tests : (b c : Bool) → (end_order link.a == end_order end) ≡ b → (end_order link.b == end_order end) ≡ c → IsAmong step (if b then record { link = link; turned = false } ∷ [] else (if c then record { link = link; turned = true } ∷ [] else [])) → (step.link ≡ link) × ((entered_at step).end ≡ end)
+    by_tests :
+        (b c : Bool) → (end_order link.a == end_order end) ≡ b → (end_order link.b == end_order end) ≡ c →
+        IsAmong step (if b then record { link = link; turned = false } ∷ [] else (if c then record { link = link; turned = true } ∷ [] else [])) →
+        (step.link ≡ link) × ((entered_at step).end ≡ end)
     by_tests true c is also (inl here) =
         (ap (λ (s : Step). s.link) (sym here), ap (λ (s : Step). (entered_at s).end) (sym here) ∙ same_end link.a end (eqb-true (end_order link.a) (end_order end) is))
     by_tests true c is also (inr none) = absurd none
@@ -76,7 +81,9 @@ ways_are end link step among =
     by_tests false true is also (inr none) = absurd none
     by_tests false false is also among = absurd among
 
-way_itself : (link : Link) (turned : Bool) → Ordered link → IsAmong (let step : Step = record { link = link; turned = turned } in step) (ways_by (if turned then link.b else link.a) link)
+way_itself :
+    (link : Link) (turned : Bool) → Ordered link →
+    IsAmong (let step : Step = record { link = link; turned = turned } in step) (ways_by (if turned then link.b else link.a) link)
 way_itself link false facts =
     subst (λ (b : Bool). IsAmong (let step : Step = record { link = link; turned = false } in step) (if b then record { link = link; turned = false } ∷ [] else (if end_order link.b == end_order link.a then record { link = link; turned = true } ∷ [] else [])))
     (sym (eq-eqb (end_order link.a) (end_order link.a) refl)) (inl refl)
@@ -159,11 +166,15 @@ over_leads borders hex end over =
     (not_false (has_border (border_of hex over.side) borders) (λ has. over.free ((among_is (border_of hex over.side) borders).0 has))))
 
 -- a border is that of both its sides
-pub border_both : (position : Position) → IsLawful position → (hex : Hex) (end : End) (spot : Spot) → across (spot_at hex end) ≡ Some spot → border_at hex end ≡ border_at spot.hex spot.end
+pub border_both :
+    (position : Position) → IsLawful position → (hex : Hex) (end : End) (spot : Spot) → across (spot_at hex end) ≡ Some spot →
+    border_at hex end ≡ border_at spot.hex spot.end
 border_both position lawful hex (AtStop number) spot is = absurd cc
 border_both position lawful hex (AtSide side) spot is = by_next (neighbour_of hex side) refl is
   where
-    by_next : (found : Option Hex) → neighbour_of hex side ≡ found → option_map (λ other. spot_at other (AtSide (facing_of side))) found ≡ Some spot → border_of hex side ∷ [] ≡ border_at spot.hex spot.end
+    by_next :
+        (found : Option Hex) → neighbour_of hex side ≡ found → option_map (λ other. spot_at other (AtSide (facing_of side))) found ≡ Some spot →
+        border_of hex side ∷ [] ≡ border_at spot.hex spot.end
     by_next None beside is = absurd cc
     by_next (Some next) beside is =
         let there : spot_at next (AtSide (facing_of side)) ≡ spot = cc in
@@ -208,7 +219,9 @@ module _ (position : Position) (lawful : IsLawful position) where
         from_stop = ap stop_of way.enters ∙ ap (λ (h : Hex). Some (stop_at h stop.number)) (named_hex stop.hex found.0 (ap (λ (s : Stop). s.hex) names) found.1);
       }
 
-  by_its_end : (stop : Stop) (step : Step) → IsTrack position step → (end : End) → (entered_at step).end ≡ end → stop_at_end step.link.hex end ≡ Some stop → IsAmong step (ways_from position stop)
+  by_its_end :
+      (stop : Stop) (step : Step) → IsTrack position step → (end : End) → (entered_at step).end ≡ end → stop_at_end step.link.hex end ≡ Some stop →
+      IsAmong step (ways_from position stop)
   by_its_end stop step track (AtSide side) enters is = absurd cc
   by_its_end stop step track (AtStop number) enters is =
       let named : stop_at (joined_hex step.link.hex) number ≡ stop = cc in

@@ -115,7 +115,9 @@ decided_free : (borders others : List ℕ) → Decided ((border : ℕ) → IsAmo
 decided_free [] others = inl (λ border among. absurd among)
 decided_free (border ∷ borders) others = by_first (decided_among border others) (decided_free borders others)
   where
-    by_first : Decided (IsAmong border others) → Decided ((b : ℕ) → IsAmong b borders → ¬ IsAmong b others) → Decided ((b : ℕ) → IsAmong b (border ∷ borders) → ¬ IsAmong b others)
+    by_first :
+        Decided (IsAmong border others) → Decided ((b : ℕ) → IsAmong b borders → ¬ IsAmong b others) →
+        Decided ((b : ℕ) → IsAmong b (border ∷ borders) → ¬ IsAmong b others)
     by_first (inl shared) rest = inr (λ free. free border (inl refl) shared)
     by_first (inr apart) (inl free) = inl (λ b among. elim among [
       | inl here ↦ subst (λ (n : ℕ). ¬ IsAmong n others) here apart
@@ -181,7 +183,9 @@ module _ (position : Position) (company : Company) where
       let run : NameLegalRun position company kind [] list = (legal_where_unbroken position company kind [] list).0 is in
       subst (λ (steps : List Step). IsLegalRun position company kind [] steps) (sym (ap steps_of run.1)) run.2
 
-  among_kept : (fault : Option RunFault) (run other : TrainRun) (runs : List TrainRun) → IsAmong other (kept fault run runs) → ((fault ≡ None) × (run ≡ other)) ⊎ IsAmong other runs
+  among_kept :
+      (fault : Option RunFault) (run other : TrainRun) (runs : List TrainRun) → IsAmong other (kept fault run runs) →
+      ((fault ≡ None) × (run ≡ other)) ⊎ IsAmong other runs
   unfolding kept
   among_kept None run other runs (inl is) = inl (refl, is)
   among_kept None run other runs (inr later) = inr later
@@ -206,7 +210,9 @@ module _ (position : Position) (company : Company) where
         | inr later ↦ all_legal kind lists run later
       ]
 
-  legal_there : (kind : Kind) (lists : List (List Place)) (list : List Place) → IsAmong list lists → run_fault position company kind [] list ≡ None → IsAmong (run_by kind list) (legal_of kind lists)
+  legal_there :
+      (kind : Kind) (lists : List (List Place)) (list : List Place) → IsAmong list lists → run_fault position company kind [] list ≡ None →
+      IsAmong (run_by kind list) (legal_of kind lists)
   unfolding legal_of
   legal_there kind [] list among is = absurd among
   legal_there kind (other ∷ lists) list (inl here) is =
@@ -229,7 +235,9 @@ module _ (position : Position) (company : Company) where
         | inr later ↦ each_legal more most run later
       ]
 
-  legal_here : (some : List Kind) (most : ℕ) (kind : Kind) (list : List Place) → IsAmong kind some → length list ≤ most → run_fault position company kind [] list ≡ None → IsAmong (run_by kind list) (legal_runs some most)
+  legal_here :
+      (some : List Kind) (most : ℕ) (kind : Kind) (list : List Place) → IsAmong kind some → length list ≤ most →
+      run_fault position company kind [] list ≡ None → IsAmong (run_by kind list) (legal_runs some most)
   unfolding legal_runs
   legal_here [] most kind list among few is = absurd among
   legal_here (first ∷ more) most kind list (inl here) few is =

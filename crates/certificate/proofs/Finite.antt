@@ -55,7 +55,9 @@ module _ {A B C : Type 0} (make : A → B → C) where
   each_with [] others = []
   each_with (thing ∷ things) others = each (make thing) others ++ each_with things others
 
-  pub among_each_with : (things : List A) (others : List B) (thing : A) (other : B) → IsAmong thing things → IsAmong other others → IsAmong (make thing other) (each_with things others)
+  pub among_each_with :
+      (things : List A) (others : List B) (thing : A) (other : B) → IsAmong thing things → IsAmong other others →
+      IsAmong (make thing other) (each_with things others)
   unfolding each_with
   among_each_with [] others thing other among also = absurd among
   among_each_with (first ∷ things) others thing other (inl is) also =
@@ -64,7 +66,9 @@ module _ {A B C : Type 0} (make : A → B → C) where
   among_each_with (first ∷ things) others thing other (inr later) also =
       (among_both (make thing other) (each (make first) others) (each_with things others)).1 (inr (among_each_with things others thing other later also))
 
-  pub each_with_among : (things : List A) (others : List B) (made : C) → IsAmong made (each_with things others) → (thing : A) × (other : B) × IsAmong thing things × IsAmong other others × (make thing other ≡ made)
+  pub each_with_among :
+      (things : List A) (others : List B) (made : C) → IsAmong made (each_with things others) →
+      (thing : A) × (other : B) × IsAmong thing things × IsAmong other others × (make thing other ≡ made)
   unfolding each_with
   each_with_among [] others made among = absurd among
   each_with_among (first ∷ things) others made among =
@@ -83,7 +87,9 @@ module _ {A : Type 0} where
   lists_of zero things = [] ∷ []
   lists_of (suc count) things = [] ∷ each_with in_front things (lists_of count things)
 
-  pub among_lists : (count : ℕ) (things list : List A) → length list ≤ count → ((thing : A) → IsAmong thing list → IsAmong thing things) → IsAmong list (lists_of count things)
+  pub among_lists :
+      (count : ℕ) (things list : List A) → length list ≤ count → ((thing : A) → IsAmong thing list → IsAmong thing things) →
+      IsAmong list (lists_of count things)
   unfolding lists_of
   among_lists zero things [] few all = inl refl
   among_lists zero things (thing ∷ list) few all = absurd (omega arith)

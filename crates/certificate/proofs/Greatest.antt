@@ -25,7 +25,9 @@ all_both : (P : ℕ → Type 0) (first second : List ℕ) → AllByRecursion P f
 all_both P [] second one two = two
 all_both P (border ∷ first) second one two = (one.0, all_both P first second one.1 two)
 
-distinct_both : (first second : List ℕ) → AreDistinct first → AreDistinct second → ((border : ℕ) → IsAmong border first → ¬ IsAmong border second) → AreDistinct (first ++ second)
+distinct_both :
+    (first second : List ℕ) → AreDistinct first → AreDistinct second → ((border : ℕ) → IsAmong border first → ¬ IsAmong border second) →
+    AreDistinct (first ++ second)
 distinct_both [] second one two apart = two
 distinct_both (border ∷ first) second one two apart = (
   λ among. elim ((among_both border first second).0 among) [ inl before ↦ one.0 before | inr after ↦ apart border (inl refl) after ],
@@ -36,7 +38,9 @@ runs_low : (runs : List TrainRun) → AllByRecursion (λ border. border < 279) (
 runs_low [] = tt
 runs_low (run ∷ runs) = all_both (λ border. border < 279) (crossed run.steps) (borders_of_runs runs) (crossed_low 279 run.steps (omega arith)) (runs_low runs)
 
-apart_from : (run : TrainRun) (runs : List TrainRun) → AllByRecursion (λ (other : TrainRun). ShareNoBorder run.steps other.steps) runs → (border : ℕ) → IsAmong border (crossed run.steps) → ¬ IsAmong border (borders_of_runs runs)
+apart_from :
+    (run : TrainRun) (runs : List TrainRun) → AllByRecursion (λ (other : TrainRun). ShareNoBorder run.steps other.steps) runs → (border : ℕ) →
+    IsAmong border (crossed run.steps) → ¬ IsAmong border (borders_of_runs runs)
 apart_from run [] apart border among there = there
 apart_from run (other ∷ runs) apart border among there =
     elim ((among_both border (crossed other.steps) (borders_of_runs runs)).0 there) [
@@ -56,7 +60,9 @@ module _ (position : Position) (company : Company) where
   run_earns lawful run legal =
       omega (arith, worth_low position lawful (visited run.steps), few_visited position lawful run.steps legal.walk, legal.two)
 
-  runs_earn : IsLawful position → (runs : List TrainRun) → AllByRecursion (RunsLegally position company) runs → revenue_of position runs ≤ 160 * length (borders_of_runs runs)
+  runs_earn :
+      IsLawful position → (runs : List TrainRun) → AllByRecursion (RunsLegally position company) runs →
+      revenue_of position runs ≤ 160 * length (borders_of_runs runs)
   runs_earn lawful [] legal = omega arith
   runs_earn lawful (run ∷ runs) legal =
       omega (arith, run_earns lawful run legal.0, runs_earn lawful runs legal.1, length-append (crossed run.steps) (borders_of_runs runs))
@@ -82,7 +88,10 @@ a_greatest_exists position company trains lawful =
     )
 
 -- what some legal set earns is no more than the greatest
-pub no_more_earned : (position : Position) (company : Company) (trains more : List Kind) (revenue greater : ℕ) → ((runs : List TrainRun) → IsLegalSet position company trains runs → IsLegalSet position company more runs) → IsGreatest position company trains revenue → IsGreatest position company more greater → revenue ≤ greater
+pub no_more_earned :
+    (position : Position) (company : Company) (trains more : List Kind) (revenue greater : ℕ) →
+    ((runs : List TrainRun) → IsLegalSet position company trains runs → IsLegalSet position company more runs) →
+    IsGreatest position company trains revenue → IsGreatest position company more greater → revenue ≤ greater
 no_more_earned position company trains more revenue greater also first second =
     subst (λ (n : ℕ). n ≤ greater) first.earned.2 (second.most first.earned.0 (also first.earned.0 first.earned.1))
 
@@ -93,7 +102,9 @@ one_greatest position company trains revenue other first second =
     omega arith
 
 -- a legal set for some trains is one for more
-with_more : (position : Position) (company : Company) (trains more : List Kind) → AreTakenFrom more trains → (runs : List TrainRun) → IsLegalSet position company trains runs → IsLegalSet position company more runs
+with_more :
+    (position : Position) (company : Company) (trains more : List Kind) → AreTakenFrom more trains → (runs : List TrainRun) →
+    IsLegalSet position company trains runs → IsLegalSet position company more runs
 with_more position company trains more taken runs set =
     record { legal = set.legal; each_once = λ kind. omega (arith, set.each_once kind, taken kind); apart = set.apart }
 

@@ -26,7 +26,9 @@ number_both : (kind : Kind) (first second : List Kind) → in_number kind (first
 number_both kind [] second = omega arith
 number_both kind (train ∷ first) second = omega (arith, number_both kind first second)
 
-kind_by_kind : (k : Kind) (trains : List Kind) → in_number k (only Diesel trains) + (in_number k (only Six trains) + (in_number k (only Five trains) + (in_number k (only Four trains) + (in_number k (only Three trains) + in_number k (only Two trains))))) ≡ in_number k trains
+kind_by_kind :
+    (k : Kind) (trains : List Kind) →
+    in_number k (only Diesel trains) + (in_number k (only Six trains) + (in_number k (only Five trains) + (in_number k (only Four trains) + (in_number k (only Three trains) + in_number k (only Two trains))))) ≡ in_number k trains
 kind_by_kind k [] = refl
 kind_by_kind k (Two ∷ trains) = omega (arith, kind_by_kind k trains)
 kind_by_kind k (Three ∷ trains) = omega (arith, kind_by_kind k trains)
@@ -58,11 +60,15 @@ reached_named position company stop (inl own) = own.0
 reached_named position company stop (inr walk) = touched_named stop walk.0 walk.2
 
 -- so do all stops that are reached
-pub all_named : (position : Position) (company : Company) (reach : Reaching) → IsReach position company reach → (stop : Stop) → IsAmong stop reach.stops → joined_stop_of stop ≡ stop
+pub all_named :
+    (position : Position) (company : Company) (reach : Reaching) → IsReach position company reach → (stop : Stop) → IsAmong stop reach.stops →
+    joined_stop_of stop ≡ stop
 all_named position company reach is stop among = reached_named position company stop ((is.stops stop).0 among)
 
 module _ (position : Position) (lawful : IsLawful position) (company : Company) (reached : List Stop) (named : (stop : Stop) → IsAmong stop reached → joined_stop_of stop ≡ stop) (all : List Kind) where
-  pub good_down : (start : Node) → IsGoodNode position company all start → (nodes : List Node) → IsWayDown position company reached start nodes → IsGoodNode position company all (end_of position company reached start nodes) × (bound position reached (end_of position company reached start nodes) ≤ bound position reached start)
+  pub good_down :
+      (start : Node) → IsGoodNode position company all start → (nodes : List Node) → IsWayDown position company reached start nodes →
+      IsGoodNode position company all (end_of position company reached start nodes) × (bound position reached (end_of position company reached start nodes) ≤ bound position reached start)
   good_down start good [] way = (good, omega arith)
   good_down start good (node ∷ before) way =
       let above = good_down start good before way.1 in
@@ -79,12 +85,16 @@ module _ (position : Position) (lawful : IsLawful position) (company : Company) 
         in_hand = none_begun position company [] (greatest_first all);
       }
 
-  pub good_below : (start node : Node) → IsGoodNode position company all start → IsBelow position company reached start node → IsGoodNode position company all node × (bound position reached node ≤ bound position reached start)
+  pub good_below :
+      (start node : Node) → IsGoodNode position company all start → IsBelow position company reached start node →
+      IsGoodNode position company all node × (bound position reached node ≤ bound position reached start)
   good_below start node good below =
       subst (λ (n : Node). IsGoodNode position company all n × (bound position reached n ≤ bound position reached start)) below.2 (good_down start good below.0 below.1)
 
 -- what holds at each node of the tree
-good_in_tree : (position : Position) (company : Company) (trains : List Kind) (reach : Reaching) (node : Node) → IsLawful position → IsReach position company reach → IsInTree position company trains reach node → IsGoodNode position company trains node
+good_in_tree :
+    (position : Position) (company : Company) (trains : List Kind) (reach : Reaching) (node : Node) → IsLawful position →
+    IsReach position company reach → IsInTree position company trains reach node → IsGoodNode position company trains node
 good_in_tree position company trains reach node lawful is there =
     let named = all_named position company reach is in
     (good_below position lawful company reach.stops named trains (root_of trains) node (root_good position lawful company reach.stops named trains) there).0

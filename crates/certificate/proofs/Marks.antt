@@ -28,7 +28,9 @@ none_before number border (true ∷ marks) low =
     or_both (eqb number border) (has_border border (borders_from (number + 1) marks)) false (eqb_not number border (λ same. omega arith)) (none_before (number + 1) border marks (omega arith))
 none_before number border (false ∷ marks) low = none_before (number + 1) border marks (omega arith)
 
-one_later : (number k : ℕ) (marks : List Bool) → has_border ((number + 1) + k) (borders_from (number + 1) marks) ≡ get_or marks k false → has_border (number + suc k) (borders_from (number + 1) marks) ≡ get_or marks k false
+one_later :
+    (number k : ℕ) (marks : List Bool) → has_border ((number + 1) + k) (borders_from (number + 1) marks) ≡ get_or marks k false →
+    has_border (number + suc k) (borders_from (number + 1) marks) ≡ get_or marks k false
 one_later number k marks is =
     let next : number + suc k ≡ (number + 1) + k = omega arith in
     subst (λ (n : ℕ). has_border n (borders_from (number + 1) marks) ≡ get_or marks k false) (sym next) is

@@ -93,14 +93,20 @@ room_left (Some most) count is = by_test (ltb count most) refl is
 stop_none : (hex : Hex) (end : End) (borders : List ℕ) → LeadsOver borders hex end → stop_at_end hex end ≡ None
 stop_none hex end borders over = ap (stop_at_end hex) over.at_side
 
-room_over : (kind : Kind) (count : ℕ) (hex : Hex) (end : End) (borders : List ℕ) → LeadsOver borders hex end → AreAtMost (stops_of kind) (suc count) → HasRoom kind count end
+room_over :
+    (kind : Kind) (count : ℕ) (hex : Hex) (end : End) (borders : List ℕ) → LeadsOver borders hex end → AreAtMost (stops_of kind) (suc count) →
+    HasRoom kind count end
 room_over kind count hex end borders over fit = subst (HasRoom kind count) (sym over.at_side) fit
 
-room_at_stop : (kind : Kind) (count : ℕ) (hex : Hex) (end : End) (stop : Stop) → stop_at_end hex end ≡ Some stop → AreAtMost (stops_of kind) count → HasRoom kind count end
+room_at_stop :
+    (kind : Kind) (count : ℕ) (hex : Hex) (end : End) (stop : Stop) → stop_at_end hex end ≡ Some stop → AreAtMost (stops_of kind) count →
+    HasRoom kind count end
 room_at_stop kind count hex (AtSide side) stop is fit = absurd cc
 room_at_stop kind count hex (AtStop number) stop is fit = fit
 
-stop_had_room : (kind : Kind) (count : ℕ) (hex : Hex) (end : End) (stop : Stop) → stop_at_end hex end ≡ Some stop → HasRoom kind count end → AreAtMost (stops_of kind) count
+stop_had_room :
+    (kind : Kind) (count : ℕ) (hex : Hex) (end : End) (stop : Stop) → stop_at_end hex end ≡ Some stop → HasRoom kind count end →
+    AreAtMost (stops_of kind) count
 stop_had_room kind count hex (AtSide side) stop is room = absurd cc
 stop_had_room kind count hex (AtStop number) stop is room = room
 
@@ -129,7 +135,9 @@ record IsNew (reached stops : List Stop) (stop : Stop) : Type 0 where
   there : IsAmong stop reached
   no_other : has_stop stop stops ≡ false
 
-new_stop : (reached stops : List Stop) (found : Option Stop) → is_new_stop reached stops found ≡ true → (stop : Stop) × (found ≡ Some stop) × IsNew reached stops stop
+new_stop :
+    (reached stops : List Stop) (found : Option Stop) → is_new_stop reached stops found ≡ true →
+    (stop : Stop) × (found ≡ Some stop) × IsNew reached stops stop
 new_stop reached stops None is = absurd cc
 new_stop reached stops (Some stop) is =
     let parts = both (has_stop stop reached) (not (has_stop stop stops)) is in
@@ -145,7 +153,9 @@ none_begun position company borders [] = refl
 none_begun position company borders (kind ∷ later) = tt
 
 -- a run shares no border with settled ones whose borders are free of its own
-shares_none : (steps : List Step) (runs : List TrainRun) → ((border : ℕ) → IsAmong border (crossed steps) → ¬ IsAmong border (run_borders runs)) → AllByRecursion (λ (other : TrainRun). ShareNoBorder steps other.steps) runs
+shares_none :
+    (steps : List Step) (runs : List TrainRun) → ((border : ℕ) → IsAmong border (crossed steps) → ¬ IsAmong border (run_borders runs)) →
+    AllByRecursion (λ (other : TrainRun). ShareNoBorder steps other.steps) runs
 shares_none steps [] free = tt
 shares_none steps (run ∷ runs) free = (
   λ border among here. free border among ((among_both border (crossed run.steps) (run_borders runs)).1 (inl here)),
@@ -177,12 +187,18 @@ module _ (position : Position) (lawful : IsLawful position) (company : Company) 
     first_visited stop step enters leaves =
         ap (λ (l : Option Stop). listed l ++ (listed (stop_of (entered_at step)) ++ [])) leaves ∙ ap (λ (e : Option Stop). listed e ++ []) enters
 
-    first_gone : (stop : Stop) (step : Step) → stop_of (entered_at step) ≡ Some stop → (over : LeadsOver (taken_borders (node_of settled [] (kind ∷ later))) (left_at step).hex (left_at step).end) → gone_over (step ∷ []) ≡ border_of (left_at step).hex over.side ∷ []
+    first_gone :
+        (stop : Stop) (step : Step) → stop_of (entered_at step) ≡ Some stop →
+        (over : LeadsOver (taken_borders (node_of settled [] (kind ∷ later))) (left_at step).hex (left_at step).end) →
+        gone_over (step ∷ []) ≡ border_of (left_at step).hex over.side ∷ []
     first_gone stop step enters over =
         ap (λ (l : List ℕ). l ++ (border_at (entered_at step).hex (entered_at step).end ++ [])) (over_border (left_at step).hex (left_at step).end _ over)
         ∙ ap (λ (e : List ℕ). border_of (left_at step).hex over.side ∷ (e ++ [])) (no_border (entered_at step).hex (entered_at step).end stop enters)
 
-    set_out : IsGood position company all settled [] (kind ∷ later) → (stop : Stop) → IsAmong stop reached → (step : Step) → Leaves position lawful stop step → LeadsOver (run_borders settled) (left_at step).hex (left_at step).end → IsGoodChoice settled [] (kind ∷ later) (node_of settled (step ∷ []) (kind ∷ later))
+    set_out :
+        IsGood position company all settled [] (kind ∷ later) → (stop : Stop) → IsAmong stop reached → (step : Step) →
+        Leaves position lawful stop step → LeadsOver (run_borders settled) (left_at step).hex (left_at step).end →
+        IsGoodChoice settled [] (kind ∷ later) (node_of settled (step ∷ []) (kind ∷ later))
     set_out good stop there step leaves over =
         let none : stop_of (left_at step) ≡ None = stop_none (left_at step).hex (left_at step).end (run_borders settled) over in
         let stops : visited (step ∷ []) ≡ stop ∷ [] = first_visited stop step leaves.from_stop none in
@@ -211,7 +227,9 @@ module _ (position : Position) (lawful : IsLawful position) (company : Company) 
               (omega (arith, one_stop_more position stop [] kind reached refl there (fewer_fit (stops_of kind) 1 (two_fit kind))));
         }
 
-    setting_out_good : IsGood position company all settled [] (kind ∷ later) → (child : Node) → IsAmong child (setting_out position company reached (node_of settled [] (kind ∷ later))) → IsGoodChoice settled [] (kind ∷ later) child
+    setting_out_good :
+        IsGood position company all settled [] (kind ∷ later) → (child : Node) →
+        IsAmong child (setting_out position company reached (node_of settled [] (kind ∷ later))) → IsGoodChoice settled [] (kind ∷ later) child
     setting_out_good good child among =
         let node = node_of settled [] (kind ∷ later) in
         let found = with_steps_among (goes_over (taken_borders node)) node (for_each (ways_from position) reached) child among in
@@ -236,7 +254,9 @@ module _ (position : Position) (lawful : IsLawful position) (company : Company) 
         room : AreAtMost (stops_of kind) (suc (length (visited run)))
 
       -- over a border
-      went_over : (next : Step) → GoesFurther next → LeadsOver (gone_over run ++ run_borders settled) (left_at next).hex (left_at next).end → IsGoodChoice settled run (kind ∷ later) (node_of settled (next ∷ run) (kind ∷ later))
+      went_over :
+          (next : Step) → GoesFurther next → LeadsOver (gone_over run ++ run_borders settled) (left_at next).hex (left_at next).end →
+          IsGoodChoice settled run (kind ∷ later) (node_of settled (next ∷ run) (kind ∷ later))
       went_over next on over =
           let none : stop_of (left_at next) ≡ None = stop_none (left_at next).hex (left_at next).end _ over in
           let stops : visited (next ∷ run) ≡ visited run = ap (λ (l : Option Stop). listed l ++ visited run) none in
@@ -268,7 +288,9 @@ module _ (position : Position) (lawful : IsLawful position) (company : Company) 
           }
 
       -- to a new stop
-      came_to : (next : Step) → GoesFurther next → (stop : Stop) → stop_of (left_at next) ≡ Some stop → IsNew reached (visited run) stop → IsGoodChoice settled run (kind ∷ later) (node_of settled (next ∷ run) (kind ∷ later))
+      came_to :
+          (next : Step) → GoesFurther next → (stop : Stop) → stop_of (left_at next) ≡ Some stop → IsNew reached (visited run) stop →
+          IsGoodChoice settled run (kind ∷ later) (node_of settled (next ∷ run) (kind ∷ later))
       came_to next on stop is new =
           let stops : visited (next ∷ run) ≡ stop ∷ visited run = ap (λ (l : Option Stop). listed l ++ visited run) is in
           let gone : gone_over (next ∷ run) ≡ gone_over run =
@@ -295,7 +317,9 @@ module _ (position : Position) (lawful : IsLawful position) (company : Company) 
           }
 
       -- from a border
-      from_side : (spot : Spot) → stop_of (left_at step) ≡ None → across (left_at step) ≡ Some spot → (next : Step) → IsWay position lawful spot.hex spot.end next → GoesFurther next
+      from_side :
+          (spot : Spot) → stop_of (left_at step) ≡ None → across (left_at step) ≡ Some spot → (next : Step) →
+          IsWay position lawful spot.hex spot.end next → GoesFurther next
       from_side spot none is next way =
           let there : (across spot ≡ Some (left_at step)) × (stop_of spot ≡ None) = back position lawful (left_at step) spot is in
           let no_stop : stop_of (entered_at next) ≡ None = ap stop_of way.enters ∙ there.1 in
@@ -310,7 +334,10 @@ module _ (position : Position) (lawful : IsLawful position) (company : Company) 
             room = side_had_room kind (length (visited run)) (left_at step).hex (left_at step).end none so_far.room;
           }
 
-      border_good : stop_of (left_at step) ≡ None → (found : Option Spot) → across (left_at step) ≡ found → (child : Node) → IsAmong child (from_border position company reached (node_of settled run (kind ∷ later)) found) → IsGoodChoice settled run (kind ∷ later) child
+      border_good :
+          stop_of (left_at step) ≡ None → (found : Option Spot) → across (left_at step) ≡ found → (child : Node) →
+          IsAmong child (from_border position company reached (node_of settled run (kind ∷ later)) found) →
+          IsGoodChoice settled run (kind ∷ later) child
       border_good none None is child among = absurd among
       border_good none (Some spot) is child among =
           let node = node_of settled run (kind ∷ later) in
@@ -323,7 +350,9 @@ module _ (position : Position) (lawful : IsLawful position) (company : Company) 
           ])
 
       -- from a stop
-      past_stop : (stop : Stop) → stop_of (left_at step) ≡ Some stop → is_red position stop ≡ false → is_full position company stop ≡ false → is_used_up (stops_of kind) (length (visited run)) ≡ false → (next : Step) → Leaves position lawful stop next → GoesFurther next
+      past_stop :
+          (stop : Stop) → stop_of (left_at step) ≡ Some stop → is_red position stop ≡ false → is_full position company stop ≡ false →
+          is_used_up (stops_of kind) (length (visited run)) ≡ false → (next : Step) → Leaves position lawful stop next → GoesFurther next
       past_stop stop is not_red not_full used next leaves =
           record {
             track = leaves.track;
@@ -336,7 +365,11 @@ module _ (position : Position) (lawful : IsLawful position) (company : Company) 
             room = room_left (stops_of kind) (length (visited run)) used;
           }
 
-      stop_good : (stop : Stop) → stop_of (left_at step) ≡ Some stop → (last : Bool) → is_last_stop position company reached (node_of settled run (kind ∷ later)) kind stop ≡ last → (child : Node) → IsAmong child (from_stop position company reached (node_of settled run (kind ∷ later)) kind stop) → IsGoodChoice settled run (kind ∷ later) child
+      stop_good :
+          (stop : Stop) → stop_of (left_at step) ≡ Some stop → (last : Bool) →
+          is_last_stop position company reached (node_of settled run (kind ∷ later)) kind stop ≡ last → (child : Node) →
+          IsAmong child (from_stop position company reached (node_of settled run (kind ∷ later)) kind stop) →
+          IsGoodChoice settled run (kind ∷ later) child
       stop_good stop is true last child among =
           let node = node_of settled run (kind ∷ later) in
           let none : IsAmong child [] = subst (λ (b : Bool). IsAmong child (if b then [] else with_steps (goes_over (taken_borders node)) node (ways_from position stop))) last among in absurd none
@@ -354,7 +387,9 @@ module _ (position : Position) (lawful : IsLawful position) (company : Company) 
       all_gone : (stop : Stop) → stop_of (left_at step) ≡ Some stop → gone_over run ≡ crossed run
       all_gone stop is = ap (λ (l : List ℕ). l ++ crossed run) (no_border (left_at step).hex (left_at step).end stop is)
 
-      done : (stop : Stop) → stop_of (left_at step) ≡ Some stop → is_finished position company reached (visited run) ≡ true → IsGoodChoice settled run (kind ∷ later) (node_of (record { kind = kind; steps = run } ∷ settled) [] later)
+      done :
+          (stop : Stop) → stop_of (left_at step) ≡ Some stop → is_finished position company reached (visited run) ≡ true →
+          IsGoodChoice settled run (kind ∷ later) (node_of (record { kind = kind; steps = run } ∷ settled) [] later)
       done stop is finished =
           let parts = both (not (ltb (length (visited run)) 2)) (list_any (has_token position company) (visited run)) finished in
           let gone : gone_over run ≡ crossed run = all_gone stop is in
@@ -383,7 +418,10 @@ module _ (position : Position) (lawful : IsLawful position) (company : Company) 
             falls = omega (arith, none_in_hand position reached later);
           }
 
-      head_good : (found : Option Stop) → stop_of (left_at step) ≡ found → (child : Node) → IsAmong child (from_head position company reached (node_of settled run (kind ∷ later)) kind later (left_at step) found) → IsGoodChoice settled run (kind ∷ later) child
+      head_good :
+          (found : Option Stop) → stop_of (left_at step) ≡ found → (child : Node) →
+          IsAmong child (from_head position company reached (node_of settled run (kind ∷ later)) kind later (left_at step) found) →
+          IsGoodChoice settled run (kind ∷ later) child
       head_good None is child among = border_good is (across (left_at step)) refl child among
       head_good (Some stop) is child among =
           let node = node_of settled run (kind ∷ later) in
@@ -395,7 +433,9 @@ module _ (position : Position) (lawful : IsLawful position) (company : Company) 
           ]
 
   -- each choice at a good node is good
-  pub choice_good : (settled : List TrainRun) (begun : List Step) (trains : List Kind) → IsGood position company all settled begun trains → (child : Node) → IsAmong child (choices_at position company reached settled begun trains) → IsGoodChoice settled begun trains child
+  pub choice_good :
+      (settled : List TrainRun) (begun : List Step) (trains : List Kind) → IsGood position company all settled begun trains → (child : Node) →
+      IsAmong child (choices_at position company reached settled begun trains) → IsGoodChoice settled begun trains child
   choice_good settled begun [] good child among = absurd among
   choice_good settled [] (kind ∷ later) good child (inl is) = subst (IsGoodChoice settled [] (kind ∷ later)) is (no_run settled kind later good)
   choice_good settled [] (kind ∷ later) good child (inr among) = setting_out_good settled kind later good child among

@@ -34,16 +34,22 @@ earns_same : (position : Position) (kind other : Kind) (runs : List TrainRun) �
 earns_same position kind other [] = refl
 earns_same position kind other (run ∷ runs) = by_test (same_kind run.kind kind) (earns_same position kind other runs)
   where
-    by_test : (b : Bool) → revenue_of position (relabelled kind other runs) ≡ revenue_of position runs → revenue_of position (replaced b other run runs (relabelled kind other runs)) ≡ earned position run.steps + revenue_of position runs
+    by_test :
+        (b : Bool) → revenue_of position (relabelled kind other runs) ≡ revenue_of position runs →
+        revenue_of position (replaced b other run runs (relabelled kind other runs)) ≡ earned position run.steps + revenue_of position runs
     by_test true same = refl
     by_test false same = ap (λ n. earned position run.steps + n) same
 
 -- what holds of the walks of runs holds of them then
-all_steps : (P : List Step → Type 0) (kind other : Kind) (runs : List TrainRun) → AllByRecursion (λ (run : TrainRun). P run.steps) runs → AllByRecursion (λ (run : TrainRun). P run.steps) (relabelled kind other runs)
+all_steps :
+    (P : List Step → Type 0) (kind other : Kind) (runs : List TrainRun) → AllByRecursion (λ (run : TrainRun). P run.steps) runs →
+    AllByRecursion (λ (run : TrainRun). P run.steps) (relabelled kind other runs)
 all_steps P kind other [] holds = tt
 all_steps P kind other (run ∷ runs) holds = by_test (same_kind run.kind kind) (all_steps P kind other runs holds.1)
   where
-    by_test : (b : Bool) → AllByRecursion (λ (r : TrainRun). P r.steps) (relabelled kind other runs) → AllByRecursion (λ (r : TrainRun). P r.steps) (replaced b other run runs (relabelled kind other runs))
+    by_test :
+        (b : Bool) → AllByRecursion (λ (r : TrainRun). P r.steps) (relabelled kind other runs) →
+        AllByRecursion (λ (r : TrainRun). P r.steps) (replaced b other run runs (relabelled kind other runs))
     by_test true later = (holds.0, holds.1)
     by_test false later = (holds.0, later)
 
@@ -52,7 +58,9 @@ still_apart kind other [] apart = tt
 still_apart kind other (run ∷ runs) apart =
     by_test (same_kind run.kind kind) (all_steps (ShareNoBorder run.steps) kind other runs apart.0) (still_apart kind other runs apart.1)
   where
-    by_test : (b : Bool) → AllByRecursion (λ (r : TrainRun). ShareNoBorder run.steps r.steps) (relabelled kind other runs) → AreApart (relabelled kind other runs) → AreApart (replaced b other run runs (relabelled kind other runs))
+    by_test :
+        (b : Bool) → AllByRecursion (λ (r : TrainRun). ShareNoBorder run.steps r.steps) (relabelled kind other runs) →
+        AreApart (relabelled kind other runs) → AreApart (replaced b other run runs (relabelled kind other runs))
     by_test true first later = (apart.0, apart.1)
     by_test false first later = (first, later)
 
@@ -89,11 +97,15 @@ module _ (position : Position) (company : Company) (kind other : Kind) (as_many 
     no_full_inside = legal.no_full_inside;
   }
 
-  legal_still : (runs : List TrainRun) → AllByRecursion (RunsLegally position company) runs → AllByRecursion (RunsLegally position company) (relabelled kind other runs)
+  legal_still :
+      (runs : List TrainRun) → AllByRecursion (RunsLegally position company) runs →
+      AllByRecursion (RunsLegally position company) (relabelled kind other runs)
   legal_still [] legal = tt
   legal_still (run ∷ runs) legal = by_test (same_kind run.kind kind) refl (legal_still runs legal.1)
     where
-      by_test : (b : Bool) → same_kind run.kind kind ≡ b → AllByRecursion (RunsLegally position company) (relabelled kind other runs) → AllByRecursion (RunsLegally position company) (replaced b other run runs (relabelled kind other runs))
+      by_test :
+          (b : Bool) → same_kind run.kind kind ≡ b → AllByRecursion (RunsLegally position company) (relabelled kind other runs) →
+          AllByRecursion (RunsLegally position company) (replaced b other run runs (relabelled kind other runs))
       by_test true is later = (run_still run is legal.0, legal.1)
       by_test false is later = (legal.0, later)
 
@@ -131,10 +143,14 @@ counted_still kind other (run ∷ runs) = by_test (same_kind run.kind kind) refl
         ))
     by_test false is (inr one) = inr (λ k. let rest = one k in omega arith)
 
-taken_still : (kind other : Kind) (trains : List Kind) (runs : List TrainRun) → AreTakenFrom (kind ∷ trains) (trains_that_run runs) → AreTakenFrom (other ∷ trains) (trains_that_run (relabelled kind other runs))
+taken_still :
+    (kind other : Kind) (trains : List Kind) (runs : List TrainRun) → AreTakenFrom (kind ∷ trains) (trains_that_run runs) →
+    AreTakenFrom (other ∷ trains) (trains_that_run (relabelled kind other runs))
 taken_still kind other trains runs taken k = by_count (counted_still kind other runs) (same_kind kind k) refl
   where
-    by_count : Counted kind other runs → (b : Bool) → same_kind kind k ≡ b → in_number k (trains_that_run (relabelled kind other runs)) ≤ of_kind k other + in_number k trains
+    by_count :
+        Counted kind other runs → (b : Bool) → same_kind kind k ≡ b →
+        in_number k (trains_that_run (relabelled kind other runs)) ≤ of_kind k other + in_number k trains
     by_count (inl none) true is = let zero : in_number k (trains_that_run runs) ≡ 0 = (none k).0 is in let same = (none k).1 in omega arith
     by_count (inl none) false is =
         let not_it : of_kind k kind ≡ 0 = ap (λ (b : Bool). if b then 1 else 0) is in

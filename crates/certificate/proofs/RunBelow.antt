@@ -32,7 +32,9 @@ use Rattle.certificate.proofs.Tests.{has_token_is, is_full_is}
 use Rattle.certificate.proofs.Written.{ordered, stop_to_stop}
 
 -- a child is below what its node is below
-pub one_below : (position : Position) (company : Company) (reached : List Stop) (start node child : Node) → IsBelow position company reached start node → IsAmong child (children position company reached node) → IsBelow position company reached start child
+pub one_below :
+    (position : Position) (company : Company) (reached : List Stop) (start node child : Node) → IsBelow position company reached start node →
+    IsAmong child (children position company reached node) → IsBelow position company reached start child
 one_below position company reached start node child below among =
     (child ∷ below.0, (subst (λ (n : Node). IsAmong child (children position company reached n)) (sym below.2) among, below.1), refl)
 
@@ -46,7 +48,9 @@ distinct_over hex (AtSide side) borders distinct = distinct.1
 distinct_over hex (AtStop number) borders distinct = distinct
 
 -- a train that has visited a listed stop and others has room for one more than the others
-fit_after : (kind : Kind) (hex : Hex) (end : End) (stops : List Stop) → HasRoom kind (length (listed (stop_at_end hex end) ++ stops)) end → AreAtMost (stops_of kind) (suc (length stops))
+fit_after :
+    (kind : Kind) (hex : Hex) (end : End) (stops : List Stop) → HasRoom kind (length (listed (stop_at_end hex end) ++ stops)) end →
+    AreAtMost (stops_of kind) (suc (length stops))
 fit_after kind hex (AtSide side) stops room = room
 fit_after kind hex (AtStop number) stops room = room
 
@@ -95,7 +99,9 @@ module _ (position : Position) (lawful : IsLawful position) (company : Company) 
       no_border other.hex other.end joint.0 joint.2 ∙ sym (no_border spot.hex spot.end joint.0 joint.1)
   joint_over spot other (inr over) = sym (border_both position lawful spot.hex spot.end other over)
 
-  joint_crossed : (step earlier : Step) (more : List Step) → AreJoined (left_at earlier) (entered_at step) → crossed (step ∷ earlier ∷ more) ≡ gone_over (earlier ∷ more)
+  joint_crossed :
+      (step earlier : Step) (more : List Step) → AreJoined (left_at earlier) (entered_at step) →
+      crossed (step ∷ earlier ∷ more) ≡ gone_over (earlier ∷ more)
   joint_crossed step earlier more joined =
       ap (λ (l : List ℕ). l ++ crossed (earlier ∷ more)) (joint_over (left_at earlier) (entered_at step) joined)
 
@@ -131,7 +137,9 @@ module _ (position : Position) (lawful : IsLawful position) (company : Company) 
     at_side : end ≡ AtSide side
     beside : neighbour_of hex side ≡ Some next
 
-  over_found : (found : Option Hex) (hex : Hex) (side : Side) → neighbour_of hex side ≡ found → (spot : Spot) → across_end hex (AtSide side) ≡ Some spot → Over hex (AtSide side)
+  over_found :
+      (found : Option Hex) (hex : Hex) (side : Side) → neighbour_of hex side ≡ found → (spot : Spot) → across_end hex (AtSide side) ≡ Some spot →
+      Over hex (AtSide side)
   over_found None hex side beside spot is =
       let none : across_end hex (AtSide side) ≡ None = across_none hex side beside in let wrong : None ≡ Some spot = sym none ∙ is in absurd cc
     where
@@ -144,7 +152,10 @@ module _ (position : Position) (lawful : IsLawful position) (company : Company) 
   over_by hex (AtStop number) spot is = absurd cc
 
   -- and the border is free
-  over_free : (step : Step) (before : List Step) → IsPrefix step before → (borders : List ℕ) → ((border : ℕ) → IsAmong border borders → IsAmong border (crossed (step ∷ before)) ⊎ IsAmong border (run_borders settled)) → stop_of (left_at step) ≡ None → LeadsOver borders (left_at step).hex (left_at step).end
+  over_free :
+      (step : Step) (before : List Step) → IsPrefix step before → (borders : List ℕ) →
+      ((border : ℕ) → IsAmong border borders → IsAmong border (crossed (step ∷ before)) ⊎ IsAmong border (run_borders settled)) →
+      stop_of (left_at step) ≡ None → LeadsOver borders (left_at step).hex (left_at step).end
   over_free step before prefix borders parts none =
       let spot = prefix.onward none in
       let over : Over (left_at step).hex (left_at step).end = over_by (left_at step).hex (left_at step).end spot.0 spot.1 in
@@ -167,7 +178,9 @@ module _ (position : Position) (lawful : IsLawful position) (company : Company) 
   from_stop_over : (step : Step) → IsTrack position step → (stop : Stop) → stop_of (entered_at step) ≡ Some stop → stop_of (left_at step) ≡ None
   from_stop_over step track stop is = by_ends (entered_at step).end (left_at step).end refl refl is
     where
-      by_ends : (enters leaves : End) → (entered_at step).end ≡ enters → (left_at step).end ≡ leaves → stop_at_end step.link.hex enters ≡ Some stop → stop_at_end step.link.hex (left_at step).end ≡ None
+      by_ends :
+          (enters leaves : End) → (entered_at step).end ≡ enters → (left_at step).end ≡ leaves → stop_at_end step.link.hex enters ≡ Some stop →
+          stop_at_end step.link.hex (left_at step).end ≡ None
       by_ends (AtSide side) leaves e l is = absurd cc
       by_ends (AtStop n) (AtSide side) e l is = ap (stop_at_end step.link.hex) l
       by_ends (AtStop n) (AtStop m) e l is = absurd (stop_to_stop step.link step.turned n m (ordered position lawful step track) e l)
@@ -190,7 +203,9 @@ module _ (position : Position) (lawful : IsLawful position) (company : Company) 
     run = earlier ∷ more
 
     -- what was crossed before it
-    taken_before : (border : ℕ) → IsAmong border (gone_over run ++ run_borders settled) → IsAmong border (crossed (step ∷ run)) ⊎ IsAmong border (run_borders settled)
+    taken_before :
+        (border : ℕ) → IsAmong border (gone_over run ++ run_borders settled) →
+        IsAmong border (crossed (step ∷ run)) ⊎ IsAmong border (run_borders settled)
     taken_before border among =
         let begun = prefix.begun in
         elim ((among_both border (gone_over run) (run_borders settled)).0 among) [
@@ -220,7 +235,9 @@ module _ (position : Position) (lawful : IsLawful position) (company : Company) 
         (among_with_steps (leads_on reached (at run)) (at run) (ways_at position (entered_at step).hex (entered_at step).end) step
         (way_there position lawful step begun.walk.0) (leads_further (stop_of (left_at step)) refl)))
 
-    past_stop : (stop : Stop) → stop_of (left_at earlier) ≡ Some stop → stop_of (entered_at step) ≡ Some stop → IsAmong (at (step ∷ run)) (children position company reached (at run))
+    past_stop :
+        (stop : Stop) → stop_of (left_at earlier) ≡ Some stop → stop_of (entered_at step) ≡ Some stop →
+        IsAmong (at (step ∷ run)) (children position company reached (at run))
     past_stop stop is enters =
         let begun = prefix.begun in
         let none : stop_of (left_at step) ≡ None = from_stop_over step begun.walk.0 stop enters in
@@ -240,7 +257,9 @@ module _ (position : Position) (lawful : IsLawful position) (company : Company) 
     later_child (inr over) = over_side over
 
   -- all the way
-  run_begun : (start : Node) → IsBelow position company reached start base → (step : Step) (before : List Step) → IsPrefix step before → IsBelow position company reached start (at (step ∷ before))
+  run_begun :
+      (start : Node) → IsBelow position company reached start base → (step : Step) (before : List Step) → IsPrefix step before →
+      IsBelow position company reached start (at (step ∷ before))
   run_begun start below step [] prefix =
       one_below position company reached start base (at (step ∷ [])) below (first_child step prefix)
   run_begun start below step (earlier ∷ more) prefix =
@@ -255,7 +274,9 @@ module _ (position : Position) (lawful : IsLawful position) (company : Company) 
   done steps = node_of (record { kind = kind; steps = steps } ∷ settled) [] later
 
   module _ (exactly : (stop : Stop) → ReachesStop position company stop → IsAmong stop reached) where
-    whole : (step : Step) (before : List Step) → IsLegalRun position company kind [] (step ∷ before) → ((border : ℕ) → IsAmong border (crossed (step ∷ before)) → ¬ IsAmong border (run_borders settled)) → IsPrefix step before
+    whole :
+        (step : Step) (before : List Step) → IsLegalRun position company kind [] (step ∷ before) →
+        ((border : ℕ) → IsAmong border (crossed (step ∷ before)) → ¬ IsAmong border (run_borders settled)) → IsPrefix step before
     whole step before legal free =
         let gone : gone_over (step ∷ before) ≡ crossed (step ∷ before) = ap (λ (l : List ℕ). l ++ crossed (step ∷ before)) (no_border (left_at step).hex (left_at step).end legal.ends.0 legal.ends.1) in
         record {
@@ -277,7 +298,9 @@ module _ (position : Position) (lawful : IsLawful position) (company : Company) 
         at_its_end (AtSide side) is = absurd cc
         at_its_end (AtStop number) is = legal.most
 
-    pub run_below : (start : Node) → IsBelow position company reached start base → (steps : List Step) → IsLegalRun position company kind [] steps → ((border : ℕ) → IsAmong border (crossed steps) → ¬ IsAmong border (run_borders settled)) → IsBelow position company reached start (done steps)
+    pub run_below :
+        (start : Node) → IsBelow position company reached start base → (steps : List Step) → IsLegalRun position company kind [] steps →
+        ((border : ℕ) → IsAmong border (crossed steps) → ¬ IsAmong border (run_borders settled)) → IsBelow position company reached start (done steps)
     run_below start below [] legal free = absurd legal.begins
     run_below start below (step ∷ before) legal free =
         one_below position company reached start (at (step ∷ before)) (done (step ∷ before)) (run_begun start below step before (whole step before legal free))

@@ -22,14 +22,18 @@ flipped step = record { link = step.link; turned = not step.turned }
 flip_enters : (step : Step) → entered_at (flipped step) ≡ left_at step
 flip_enters step = by_turn step.link step.turned
   where
-    by_turn : (link : Link) (turned : Bool) → entered_at (let step : Step = record { link = link; turned = not turned } in step) ≡ left_at (let step : Step = record { link = link; turned = turned } in step)
+    by_turn :
+        (link : Link) (turned : Bool) →
+        entered_at (let step : Step = record { link = link; turned = not turned } in step) ≡ left_at (let step : Step = record { link = link; turned = turned } in step)
     by_turn link true = refl
     by_turn link false = refl
 
 flip_leaves : (step : Step) → left_at (flipped step) ≡ entered_at step
 flip_leaves step = by_turn step.link step.turned
   where
-    by_turn : (link : Link) (turned : Bool) → left_at (let step : Step = record { link = link; turned = not turned } in step) ≡ entered_at (let step : Step = record { link = link; turned = turned } in step)
+    by_turn :
+        (link : Link) (turned : Bool) →
+        left_at (let step : Step = record { link = link; turned = not turned } in step) ≡ entered_at (let step : Step = record { link = link; turned = turned } in step)
     by_turn link true = refl
     by_turn link false = refl
 
@@ -68,7 +72,9 @@ module _ (position : Position) (lawful : IsLawful position) (company : Company) 
       ⊎ ((step : Step) × (before : List Step) × IsWalkOf position company (step ∷ before) × AreJoined (left_at step) spot)
 
   -- and goes on by that step
-  comes_on : (step : Step) → IsTrack position step → ComesTo (entered_at step) → IsOpen (entered_at step) → (before : List Step) × IsWalkOf position company (step ∷ before)
+  comes_on :
+      (step : Step) → IsTrack position step → ComesTo (entered_at step) → IsOpen (entered_at step) →
+      (before : List Step) × IsWalkOf position company (step ∷ before)
   comes_on step track (inl own) open_there =
       ([], record { walk = (track, tt, tt); from_token = own; passes = (tt, tt) })
   comes_on step track (inr walk) open_there =
@@ -92,11 +98,16 @@ module _ (position : Position) (lawful : IsLawful position) (company : Company) 
       subst (λ (s : Option Stop). IfSome s (λ stop. ¬ IsFull position stop company)) (sym is) (λ full. full.by_others own)
 
   -- the stop where a walk ends is reached
-  left_reached : (step : Step) (before : List Step) (stop : Stop) → IsWalkOf position company (step ∷ before) → stop_of (left_at step) ≡ Some stop → ReachesStop position company stop
+  left_reached :
+      (step : Step) (before : List Step) (stop : Stop) → IsWalkOf position company (step ∷ before) → stop_of (left_at step) ≡ Some stop →
+      ReachesStop position company stop
   left_reached step before stop walk is = inr (step ∷ before, walk, inl (inr is))
 
   -- back from the end of a run all stops before it are reached
-  all_back : (step : Step) (before : List Step) → IsWalk position (step ∷ before) → PassesOnly (λ stop. ¬ IsFull position stop company) (step ∷ before) → ComesTo (left_at step) → IsOpen (left_at step) → (stop : Stop) → IsAmong stop (first_stop before step ++ visited before) → ReachesStop position company stop
+  all_back :
+      (step : Step) (before : List Step) → IsWalk position (step ∷ before) → PassesOnly (λ stop. ¬ IsFull position stop company) (step ∷ before) →
+      ComesTo (left_at step) → IsOpen (left_at step) → (stop : Stop) → IsAmong stop (first_stop before step ++ visited before) →
+      ReachesStop position company stop
   all_back step [] walk passes comes open_there stop among =
       let turned = comes_on (flipped step) walk.0 (subst ComesTo (sym (flip_enters step)) comes) (subst IsOpen (sym (flip_enters step)) open_there) in
       elim ((among_both stop (listed (stop_of (entered_at step))) []).0 among) [
@@ -114,7 +125,9 @@ module _ (position : Position) (lawful : IsLawful position) (company : Company) 
             (open_both (left_at earlier) (entered_at step) joined passes.0) stop later
       ]
     where
-      at_joint : AreJoined (left_at earlier) (entered_at step) → (walked : List Step) → IsWalkOf position company (flipped step ∷ walked) → stop_of (left_at earlier) ≡ Some stop → ReachesStop position company stop
+      at_joint :
+          AreJoined (left_at earlier) (entered_at step) → (walked : List Step) → IsWalkOf position company (flipped step ∷ walked) →
+          stop_of (left_at earlier) ≡ Some stop → ReachesStop position company stop
       at_joint (inl at) walked of_company is =
           left_reached (flipped step) walked stop of_company (ap stop_of (flip_leaves step) ∙ at.2 ∙ sym at.1 ∙ is)
       at_joint (inr over) walked of_company is = absurd (no_stop_across (left_at earlier) (entered_at step) stop is over)
@@ -128,7 +141,9 @@ module _ (position : Position) (lawful : IsLawful position) (company : Company) 
   IsOwn stop = HasToken position stop company
 
   -- by a walk that ends with its latest step
-  by_walk : (step : Step) (before walked : List Step) → IsWalkOf position company (step ∷ walked) → ((stop : Stop) → IsAmong stop (first_stop before step ++ visited before) → ReachesStop position company stop) → IsReached step before
+  by_walk :
+      (step : Step) (before walked : List Step) → IsWalkOf position company (step ∷ walked) →
+      ((stop : Stop) → IsAmong stop (first_stop before step ++ visited before) → ReachesStop position company stop) → IsReached step before
   by_walk step before walked walk earlier =
       record {
         stops = λ stop among. elim ((among_both stop (listed (stop_of (left_at step))) (first_stop before step ++ visited before)).0 among) [
@@ -139,7 +154,9 @@ module _ (position : Position) (lawful : IsLawful position) (company : Company) 
       }
 
   -- by a token at its end
-  by_token : (step : Step) (before : List Step) → IsWalk position (step ∷ before) → PassesOnly (λ stop. ¬ IsFull position stop company) (step ∷ before) → (own : Stop) → stop_of (left_at step) ≡ Some own → IsOwn own → IsReached step before
+  by_token :
+      (step : Step) (before : List Step) → IsWalk position (step ∷ before) → PassesOnly (λ stop. ¬ IsFull position stop company) (step ∷ before) →
+      (own : Stop) → stop_of (left_at step) ≡ Some own → IsOwn own → IsReached step before
   by_token step before walk passes own is has =
       record {
         stops = λ stop among. elim ((among_both stop (listed (stop_of (left_at step))) (first_stop before step ++ visited before)).0 among) [
@@ -156,7 +173,9 @@ module _ (position : Position) (lawful : IsLawful position) (company : Company) 
       on spot (inl at) = inl (own, at.2 ∙ sym at.1 ∙ is, has)
       on spot (inr over) = absurd (no_stop_across (left_at step) spot own is over)
 
-  pub run_reached : (step : Step) (before : List Step) → IsWalk position (step ∷ before) → PassesOnly (λ stop. ¬ IsFull position stop company) (step ∷ before) → HasSuch IsOwn (visited (step ∷ before)) → IsReached step before
+  pub run_reached :
+      (step : Step) (before : List Step) → IsWalk position (step ∷ before) → PassesOnly (λ stop. ¬ IsFull position stop company) (step ∷ before) →
+      HasSuch IsOwn (visited (step ∷ before)) → IsReached step before
   run_reached step [] walk passes own =
       elim (has_both IsOwn (listed (stop_of (left_at step))) (listed (stop_of (entered_at step)) ++ []) own) [
         | inl here ↦ let at = has_listed IsOwn (stop_of (left_at step)) here in by_token step [] walk passes at.0 at.1 at.2
@@ -175,7 +194,9 @@ module _ (position : Position) (lawful : IsLawful position) (company : Company) 
   run_reached step (earlier ∷ more) walk passes own =
       by_place (has_both IsOwn (listed (stop_of (left_at step))) (visited (earlier ∷ more)) own) (λ later. run_reached earlier more walk.2 passes.1 later)
     where
-      by_place : HasSuch IsOwn (listed (stop_of (left_at step))) ⊎ HasSuch IsOwn (visited (earlier ∷ more)) → (HasSuch IsOwn (visited (earlier ∷ more)) → IsReached earlier more) → IsReached step (earlier ∷ more)
+      by_place :
+          HasSuch IsOwn (listed (stop_of (left_at step))) ⊎ HasSuch IsOwn (visited (earlier ∷ more)) →
+          (HasSuch IsOwn (visited (earlier ∷ more)) → IsReached earlier more) → IsReached step (earlier ∷ more)
       by_place (inl here) so_far = let at = has_listed IsOwn (stop_of (left_at step)) here in by_token step (earlier ∷ more) walk passes at.0 at.1 at.2
       by_place (inr later) so_far =
           let rest : IsReached earlier more = so_far later in
@@ -183,7 +204,10 @@ module _ (position : Position) (lawful : IsLawful position) (company : Company) 
           by_walk step (earlier ∷ more) on.0 on.1 rest.stops
 
 -- all stops of a run with an own token are reached
-pub all_reached : (position : Position) (lawful : IsLawful position) (company : Company) (steps : List Step) → IsWalk position steps → PassesOnly (λ stop. ¬ IsFull position stop company) steps → HasSuch (λ stop. HasToken position stop company) (visited steps) → (stop : Stop) → IsAmong stop (visited steps) → ReachesStop position company stop
+pub all_reached :
+    (position : Position) (lawful : IsLawful position) (company : Company) (steps : List Step) → IsWalk position steps →
+    PassesOnly (λ stop. ¬ IsFull position stop company) steps → HasSuch (λ stop. HasToken position stop company) (visited steps) → (stop : Stop) →
+    IsAmong stop (visited steps) → ReachesStop position company stop
 all_reached position lawful company [] walk passes own = λ stop among. absurd among
 all_reached position lawful company (step ∷ before) walk passes own =
     let reached : IsReached position lawful company step before = run_reached position lawful company step before walk passes own in reached.stops

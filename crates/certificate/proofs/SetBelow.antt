@@ -51,7 +51,9 @@ among_out other run (first ∷ others) rest (inr later) =
       ],
     )
 
-earns_out : (position : Position) (run : TrainRun) (runs rest : List TrainRun) → TakenOut run runs rest → revenue_of position runs ≡ earned position run.steps + revenue_of position rest
+earns_out :
+    (position : Position) (run : TrainRun) (runs rest : List TrainRun) → TakenOut run runs rest →
+    revenue_of position runs ≡ earned position run.steps + revenue_of position rest
 earns_out position run [] rest out = absurd out
 earns_out position run (first ∷ others) rest (inl is) =
     subst (λ (l : List TrainRun). earned position first.steps + revenue_of position others ≡ earned position run.steps + revenue_of position l) is.1
@@ -61,7 +63,9 @@ earns_out position run (first ∷ others) rest (inr later) =
     subst (λ (l : List TrainRun). earned position first.steps + revenue_of position others ≡ earned position run.steps + revenue_of position l) later.2
     (omega (arith, found))
 
-number_out : (k : Kind) (run : TrainRun) (runs rest : List TrainRun) → TakenOut run runs rest → in_number k (trains_that_run runs) ≡ of_kind k run.kind + in_number k (trains_that_run rest)
+number_out :
+    (k : Kind) (run : TrainRun) (runs rest : List TrainRun) → TakenOut run runs rest →
+    in_number k (trains_that_run runs) ≡ of_kind k run.kind + in_number k (trains_that_run rest)
 number_out k run [] rest out = absurd out
 number_out k run (first ∷ others) rest (inl is) =
     subst (λ (l : List TrainRun). of_kind k first.kind + in_number k (trains_that_run others) ≡ of_kind k run.kind + in_number k (trains_that_run l)) is.1
@@ -74,7 +78,9 @@ number_out k run (first ∷ others) rest (inr later) =
 turned_round : (steps others : List Step) → ShareNoBorder steps others → ShareNoBorder others steps
 turned_round steps others apart border there here = apart border here there
 
-apart_out : (run : TrainRun) (runs rest : List TrainRun) → TakenOut run runs rest → AreApart runs → AllByRecursion (λ (other : TrainRun). ShareNoBorder run.steps other.steps) rest × AreApart rest
+apart_out :
+    (run : TrainRun) (runs rest : List TrainRun) → TakenOut run runs rest → AreApart runs →
+    AllByRecursion (λ (other : TrainRun). ShareNoBorder run.steps other.steps) rest × AreApart rest
 apart_out run [] rest out apart = absurd out
 apart_out run (first ∷ others) rest (inl is) apart =
     subst (λ (l : List TrainRun). AllByRecursion (λ (other : TrainRun). ShareNoBorder run.steps other.steps) l × AreApart l) is.1
@@ -110,7 +116,9 @@ own_kind Six = refl
 own_kind Diesel = refl
 
 -- where none of a kind is left the trains after it are enough
-enough : (kind k : Kind) (runs : List TrainRun) (later : List Kind) → in_number kind (trains_that_run runs) ≡ 0 → in_number k (trains_that_run runs) ≤ of_kind k kind + in_number k later → in_number k (trains_that_run runs) ≤ in_number k later
+enough :
+    (kind k : Kind) (runs : List TrainRun) (later : List Kind) → in_number kind (trains_that_run runs) ≡ 0 →
+    in_number k (trains_that_run runs) ≤ of_kind k kind + in_number k later → in_number k (trains_that_run runs) ≤ in_number k later
 enough kind k runs later none few = by_test (same_kind kind k) refl
   where
     by_test : (b : Bool) → same_kind kind k ≡ b → in_number k (trains_that_run runs) ≤ in_number k later
@@ -139,7 +147,9 @@ module _ (position : Position) (lawful : IsLawful position) (company : Company) 
     earns : revenue_of position leaf.settled ≡ revenue_of position settled + revenue_of position runs
 
   -- with one run more settled
-  still_free : (run : TrainRun) (settled rest : List TrainRun) → AllByRecursion (λ (other : TrainRun). ShareNoBorder run.steps other.steps) rest → AllByRecursion (IsFree settled) rest → AllByRecursion (IsFree (run ∷ settled)) rest
+  still_free :
+      (run : TrainRun) (settled rest : List TrainRun) → AllByRecursion (λ (other : TrainRun). ShareNoBorder run.steps other.steps) rest →
+      AllByRecursion (IsFree settled) rest → AllByRecursion (IsFree (run ∷ settled)) rest
   still_free run settled [] apart free = tt
   still_free run settled (other ∷ rest) apart free = (
     λ border among there. elim ((among_both border (crossed run.steps) (run_borders settled)).0 there) [
@@ -168,7 +178,9 @@ module _ (position : Position) (lawful : IsLawful position) (company : Company) 
         earns = omega (arith, found.earns, earns_out position run runs rest out);
       }
 
-  all_settled : (trains : List Kind) (settled runs : List TrainRun) → IsBelow position company reached start (node_of settled [] trains) → IsLeft settled runs trains → IsLeafOf settled runs
+  all_settled :
+      (trains : List Kind) (settled runs : List TrainRun) → IsBelow position company reached start (node_of settled [] trains) →
+      IsLeft settled runs trains → IsLeafOf settled runs
   all_settled [] settled [] below left =
       record {
         leaf = node_of settled [] [];
@@ -182,7 +194,10 @@ module _ (position : Position) (lawful : IsLawful position) (company : Company) 
   all_settled (kind ∷ later) settled runs below left =
       by_run (found_run kind runs) (λ more rest there its. all_settled later more rest there its)
     where
-      by_run : Found kind runs → ((more rest : List TrainRun) → IsBelow position company reached start (node_of more [] later) → IsLeft more rest later → IsLeafOf more rest) → IsLeafOf settled runs
+      by_run :
+          Found kind runs →
+          ((more rest : List TrainRun) → IsBelow position company reached start (node_of more [] later) → IsLeft more rest later → IsLeafOf more rest) →
+          IsLeafOf settled runs
       by_run (inr none) go_on =
           go_on settled runs
           (one_below position company reached start (node_of settled [] (kind ∷ later)) (node_of settled [] later) below (inl refl))
@@ -208,12 +223,17 @@ module _ (position : Position) (lawful : IsLawful position) (company : Company) 
           }))
 
 -- nothing is settled at first
-free_at_first : (runs : List TrainRun) → AllByRecursion (λ (run : TrainRun). (border : ℕ) → IsAmong border (crossed run.steps) → ¬ IsAmong border (run_borders [])) runs
+free_at_first :
+    (runs : List TrainRun) →
+    AllByRecursion (λ (run : TrainRun). (border : ℕ) → IsAmong border (crossed run.steps) → ¬ IsAmong border (run_borders [])) runs
 free_at_first [] = tt
 free_at_first (run ∷ runs) = (λ border among none. none, free_at_first runs)
 
 -- a leaf with the runs of a set, where none was settled before
-its_leaf : (position : Position) (lawful : IsLawful position) (company : Company) (trains : List Kind) (reach : Reaching) (exactly : (stop : Stop) → ReachesStop position company stop → IsAmong stop reach.stops) (runs : List TrainRun) → IsLeafOf position lawful company reach.stops exactly (root_of trains) [] runs → (leaf : Node) × IsInTree position company trains reach leaf × IsLeaf leaf × AreItsRuns position leaf.settled runs
+its_leaf :
+    (position : Position) (lawful : IsLawful position) (company : Company) (trains : List Kind) (reach : Reaching) (exactly : (stop : Stop) → ReachesStop position company stop → IsAmong stop reach.stops) (runs : List TrainRun) →
+    IsLeafOf position lawful company reach.stops exactly (root_of trains) [] runs →
+    (leaf : Node) × IsInTree position company trains reach leaf × IsLeaf leaf × AreItsRuns position leaf.settled runs
 its_leaf position lawful company trains reach exactly runs found = (
   found.leaf,
   found.below,

@@ -12,7 +12,9 @@ use Rattle.certificate.specs.Marks.{borders_used}
 use Rattle.certificate.proofs.Marks.{among_both, used_is}
 
 -- borders that are none of some are none of others that are among these
-pub apart : (used others : List ℕ) → ((border : ℕ) → IsAmong border others → IsAmong border used) → (borders : List ℕ) → AllByRecursion (λ border. ¬ IsAmong border used) borders → AllByRecursion (λ border. ¬ IsAmong border others) borders
+pub apart :
+    (used others : List ℕ) → ((border : ℕ) → IsAmong border others → IsAmong border used) → (borders : List ℕ) →
+    AllByRecursion (λ border. ¬ IsAmong border used) borders → AllByRecursion (λ border. ¬ IsAmong border others) borders
 apart used others makes [] free = tt
 apart used others makes (border ∷ borders) free =
     (λ among. free.0 (makes border among), apart used others makes borders free.1)
@@ -22,7 +24,9 @@ share_none position company kind used first second run =
     apart (crossed first ++ used) (crossed first) (λ border among. (among_both border (crossed first) used).1 (inl among)) (crossed second) run.no_used_border
 
 -- a run that is legal where some borders are used is so where others are that are among these
-pub legal_over : (position : Position) (company : Company) (kind : Kind) (used others : List ℕ) → ((border : ℕ) → IsAmong border others → IsAmong border used) → (steps : List Step) → IsLegalRun position company kind used steps → IsLegalRun position company kind others steps
+pub legal_over :
+    (position : Position) (company : Company) (kind : Kind) (used others : List ℕ) → ((border : ℕ) → IsAmong border others → IsAmong border used) →
+    (steps : List Step) → IsLegalRun position company kind used steps → IsLegalRun position company kind others steps
 legal_over position company kind used others makes steps run = record {
   walk = run.walk;
   begins = run.begins;

@@ -46,19 +46,27 @@ lay_refusal : (by : Operator) (turn : InTurn) (number : ℕ) (lay : Lay) (rule :
 lay_refusal by turn number lay None = refl
 lay_refusal by turn number lay (Some rule) = refl
 
-after_lay : (by : Operator) (turn : InTurn) (number : ℕ) (lay : Lay) (answer : Result ℤ LayFault) → marks_in (lay_answered by turn number lay answer) ≡ marks_in turn
+after_lay :
+    (by : Operator) (turn : InTurn) (number : ℕ) (lay : Lay) (answer : Result ℤ LayFault) →
+    marks_in (lay_answered by turn number lay answer) ≡ marks_in turn
 after_lay by turn number lay (Ok cost) = refl
 after_lay by turn number lay (Err fault) = lay_refusal by turn number lay (rule_of_lay fault)
 
-token_refusal : (by : Operator) (turn : InTurn) (number : ℕ) (place : Place) (rule : Option TokenRule) → marks_in (token_refused by turn number place rule) ≡ marks_in turn
+token_refusal :
+    (by : Operator) (turn : InTurn) (number : ℕ) (place : Place) (rule : Option TokenRule) →
+    marks_in (token_refused by turn number place rule) ≡ marks_in turn
 token_refusal by turn number place None = refl
 token_refusal by turn number place (Some rule) = refl
 
-after_token : (by : Operator) (turn : InTurn) (number : ℕ) (place : Place) (answer : Result ℤ TokenFault) → marks_in (token_answered by turn number place answer) ≡ marks_in turn
+after_token :
+    (by : Operator) (turn : InTurn) (number : ℕ) (place : Place) (answer : Result ℤ TokenFault) →
+    marks_in (token_answered by turn number place answer) ≡ marks_in turn
 after_token by turn number place (Ok cost) = refl
 after_token by turn number place (Err fault) = token_refusal by turn number place (rule_of_token fault)
 
-after_pay : (by : Operator) (turn : InTurn) (number : ℕ) (its : Order) (rule : Option PayRule) (after : Game → Game) → marks_in (pay_ruled by turn number its rule after) ≡ marks_in turn
+after_pay :
+    (by : Operator) (turn : InTurn) (number : ℕ) (its : Order) (rule : Option PayRule) (after : Game → Game) →
+    marks_in (pay_ruled by turn number its rule after) ≡ marks_in turn
 after_pay by turn number its None after = refl
 after_pay by turn number its (Some rule) after = refl
 
@@ -69,7 +77,9 @@ after_settling company turn =
       | false ↦ refl
     ]
 
-after_train : (by : Operator) (turn : InTurn) (number : ℕ) (its : Order) (purchase : Purchase) (rule : Option TrainRule) → marks_in (train_ruled by turn number its purchase rule) ≡ marks_in turn
+after_train :
+    (by : Operator) (turn : InTurn) (number : ℕ) (its : Order) (purchase : Purchase) (rule : Option TrainRule) →
+    marks_in (train_ruled by turn number its purchase rule) ≡ marks_in turn
 after_train by turn number its purchase None = refl
 after_train by turn number its purchase (Some rule) = refl
 
@@ -78,7 +88,10 @@ abbrev AreWalks : List (List Step) → InTurn → Type 0
 AreWalks walks turn = MarksAre (all_crossed walks) (marks_in turn)
 
 -- a run that is obeyed marks its own
-after_run : (by : Operator) (turn : InTurn) (number : ℕ) (its : Order) (kind : Kind) (run : List Place) (before : List (List Step)) (judged : Result Ran RunRule) → judged_run turn by.company kind run ≡ judged → AreWalks before turn → AreWalks (walk_if_ran (steps_now turn.game.events run) judged ++ before) (run_ruled by turn number its judged)
+after_run :
+    (by : Operator) (turn : InTurn) (number : ℕ) (its : Order) (kind : Kind) (run : List Place) (before : List (List Step)) (judged : Result Ran RunRule) →
+    judged_run turn by.company kind run ≡ judged → AreWalks before turn →
+    AreWalks (walk_if_ran (steps_now turn.game.events run) judged ++ before) (run_ruled by turn number its judged)
 after_run by turn number its kind run before (Err rule) is are = are
 after_run by turn number its kind run before (Ok ran) is are =
     subst (λ (marks : List Bool). MarksAre (crossed (steps_now turn.game.events run) ++ all_crossed before) marks) (sym (judged_borders turn by.company kind run ran is))
@@ -89,7 +102,9 @@ left_as : (before : List (List Step)) (turn new : InTurn) → marks_in new ≡ m
 left_as before turn new same are = subst (λ (marks : List Bool). MarksAre (all_crossed before) marks) (sym same) are
 
 -- after an order
-after_order : (by : Operator) (turn : InTurn) (number : ℕ) (before : List (List Step)) (its : Order) (new : InTurn) → OrderLeads by turn number its new → AreWalks before turn → AreWalks (walk_obeyed by.company turn (Ok its) ++ before) new
+after_order :
+    (by : Operator) (turn : InTurn) (number : ℕ) (before : List (List Step)) (its : Order) (new : InTurn) → OrderLeads by turn number its new →
+    AreWalks before turn → AreWalks (walk_obeyed by.company turn (Ok its) ++ before) new
 after_order by turn number before (order.Lay lay) new leads are =
     left_as before turn new (ap marks_in leads.after ∙ after_lay by turn number lay leads.answer) are
 after_order by turn number before (order.Token place) new leads are =
@@ -109,12 +124,16 @@ after_order by turn number before (order.BuyTrain kind from) new leads are =
 after_order by turn number before other new leads are = left_as before turn new (ap marks_in leads) are
 
 -- after a line
-after_line : (by : Operator) (turn : InTurn) (number : ℕ) (before : List (List Step)) (reading : Result Order Fault) (new : InTurn) → ReadingLeads by turn number reading new → AreWalks before turn → AreWalks (walk_obeyed by.company turn reading ++ before) new
+after_line :
+    (by : Operator) (turn : InTurn) (number : ℕ) (before : List (List Step)) (reading : Result Order Fault) (new : InTurn) →
+    ReadingLeads by turn number reading new → AreWalks before turn → AreWalks (walk_obeyed by.company turn reading ++ before) new
 after_line by turn number before (Err fault) new leads are = left_as before turn new (ap marks_in leads) are
 after_line by turn number before (Ok its) new leads are = after_order by turn number before its new leads are
 
 -- after some lines
-after_lines : (by : Operator) (turn : InTurn) (before : List (List Step)) (lines : List Numbered) (new : InTurn) (all : List (List Step)) → AreWalks before turn → LinesRun by turn before lines new all → AreWalks all new
+after_lines :
+    (by : Operator) (turn : InTurn) (before : List (List Step)) (lines : List Numbered) (new : InTurn) (all : List (List Step)) →
+    AreWalks before turn → LinesRun by turn before lines new all → AreWalks all new
 after_lines by turn before [] new all are ran =
     subst (λ (walks : List (List Step)). AreWalks walks new) (sym ran.1) (left_as before turn new (ap marks_in ran.0) are)
 after_lines by turn before (line ∷ lines) new all are ran =
