@@ -4,5 +4,6 @@ pub mod Named
 pub mod Fault
 pub mod Code
 pub mod Set
+pub mod Claim
 pub mod Tally
 pub mod Law
