@@ -5,6 +5,7 @@ pub mod Fault
 pub mod Code
 pub mod Set
 pub mod Greatest
+pub mod Claim
 pub mod Tree
 pub mod TreeLaws
 pub mod Example

@@ -11,21 +11,25 @@
 //! `Tally` is what the check keeps of the steps that it has gone over.
 //!
 //! `Set` says what a legal set of runs is, what it earns and what the greatest revenue is, and
-//! `Greatest` what holds of it. `Tree` is the choice tree with the bound of a node, and `TreeLaws`
-//! joins it to the legal sets.
+//! `Greatest` what holds of it; `Claim` says when a claim of runs holds. `Tree` is the choice tree
+//! with the bound of a node, and `TreeLaws` joins it to the legal sets.
 //!
 //! Reading order: `check` (the public call), `run_fault`, `used`, `leg` (from place to place),
-//! `tally`, `laws`.
+//! `tally`, `laws`; `claim` (a revenue with runs that earn it), `runner` (what tells the greatest
+//! revenue).
 #![tactic(auto)]
 
 mod check;
+mod claim;
 mod laws;
 mod leg;
 mod run_fault;
+mod runner;
 mod tally;
 mod used;
 
 pub use check::check_run;
+pub use claim::{Claim, ClaimedRun, ClaimedRuns};
 pub use laws::{
     a_greatest_exists, borders_are_told_apart, bounds_fall, crossed_borders_are_used,
     each_legal_run_is_named, greater_trains_earn_no_less, leaves_are_legal_sets,
@@ -34,4 +38,5 @@ pub use laws::{
     runs_earn_by_borders, runs_share_no_border, worked_tree,
 };
 pub use run_fault::RunFault;
+pub use runner::{Runner, RunnerFault};
 pub use used::Used;

@@ -1,0 +1,13 @@
+pub mod Marks
+pub mod Tried
+pub mod Places
+pub mod Advance
+pub mod Prefix
+pub mod Complete
+pub mod Sets
+pub mod Few
+pub mod Runs
+pub mod Sound
+pub mod Greatest
+pub mod Laid
+pub mod Described

@@ -1,0 +1,182 @@
+ghost use Rattle.std.specs.Prelude.{◌≡◌, ◌+◌, ◌-◌, ◌*◌, ◌^◌, ◌<◌, ◌≤◌, ◌&&◌, false, length};
+ghost use Rattle.best_run.specs.Fit.{BordersFit, IsFit};
+ghost use Rattle.best_run.specs.Moves.{along, begun, can_take, left_after, marked_all, may_come, misses, node_at, passed, settling, stop_in, using};
+
+use crate::task::{Piece, Task};
+use tables::Amount;
+
+/// How many ends the hexes of the map have: six sides and two stops each.
+pub(crate) const SPOTS: usize = 744;
+
+/// How many borders the hexes of the map have.
+pub(crate) const BORDERS: usize = 279;
+
+/// The trains settled so far.
+#[derive(Clone, Copy)]
+pub(crate) struct Settled {
+    /// The first train that is not settled.
+    pub(crate) next: usize,
+    /// What the runs so far earn, in dollars.
+    pub(crate) total: Amount,
+    /// The borders that runs cross, that of the run begun too.
+    pub(crate) used: [bool; BORDERS],
+}
+
+/// A run that has begun.
+#[derive(Clone, Copy)]
+pub(crate) struct Standing {
+    /// Where it stands.
+    pub(crate) head: usize,
+    /// How many more stops it may visit.
+    pub(crate) left: usize,
+    /// What its stops are worth, in dollars.
+    pub(crate) value: Amount,
+    /// It has come by a token of the company.
+    pub(crate) own: bool,
+    /// The stops that it visits.
+    pub(crate) visited: [bool; SPOTS],
+}
+
+impl Settled {
+    /// The next train does not run.
+    pub(crate) fn passed(&self) -> Settled
+        requires { self.now.next < 2 ^ 63 }
+        ensures { result ≡ passed self.now }
+    {
+        Settled {
+            next: self.next + 1,
+            total: self.total,
+            used: self.used,
+        }
+    }
+
+    /// The run begun is settled.
+    pub(crate) fn settling(&self, run: &Standing) -> Settled
+        requires next { self.now.next < 2 ^ 63 }
+        requires room { self.now.total + run.now.value ≤ 44640 }
+        ensures { result ≡ settling self.now run.now }
+    {
+        Settled {
+            next: self.next + 1,
+            total: self.total + run.value,
+            used: self.used,
+        }
+    }
+
+    /// The borders of a piece are used.
+    pub(crate) fn using(&self, piece: &Piece) -> Settled
+        requires { BordersFit piece.now.borders.items }
+        ensures using { result ≡ using self.now piece.now }
+        ensures whole { length self.now.used ≡ 279 }
+    {
+        let mut used = self.used;
+        mark_all(&mut used, &piece.borders);
+        Settled {
+            next: self.next,
+            total: self.total,
+            used,
+        }
+    }
+}
+
+/// Marks some borders.
+fn mark_all(used: &mut [bool; BORDERS], borders: &[usize])
+    requires { BordersFit borders.now }
+    ensures marked { used.new ≡ marked_all used.old borders.now }
+    ensures whole { length used.old ≡ 279 }
+{
+    for border in borders {
+        used[*border] = true;
+    }
+}
+
+/// Whether no border of some is used.
+fn misses(used: &[bool; BORDERS], borders: &[usize]) -> bool
+    requires { BordersFit borders.now }
+    ensures { result ≡ misses used.now borders.now }
+{
+    for border in borders {
+        if used[*border] {
+            return false;
+        }
+    }
+    true
+}
+
+impl Standing {
+    /// Whether the run may come to a spot, which may be a stop.
+    fn may_come(&self, stop: bool, spot: usize) -> bool
+        requires { spot < 744 }
+        ensures { result ≡ may_come stop self.now spot }
+    {
+        if stop {
+            self.left > 0 && !self.visited[spot]
+        } else {
+            true
+        }
+    }
+}
+
+/// How many stops are left after a spot, which may be a stop.
+fn left_after(stop: bool, left: usize) -> usize
+    ensures { result ≡ left_after stop left }
+{
+    if stop { left.saturating_sub(1) } else { left }
+}
+
+impl Task {
+    /// Whether a run may take a piece.
+    pub(crate) fn can_take(&self, run: &Standing, settled: &Settled, piece: &Piece) -> bool
+        requires fit { IsFit self.now }
+        requires to { piece.now.to < 744 }
+        requires borders { BordersFit piece.now.borders.items }
+        ensures { result ≡ can_take self.now run.now settled.now.used piece.now }
+    {
+        run.may_come(self.spots[piece.to].stop, piece.to) && misses(&settled.used, &piece.borders)
+    }
+
+    /// A run that stands at the stop where it begins.
+    pub(crate) fn begun(&self, settled: &Settled, stop: usize) -> Standing
+        requires fit { IsFit self.now }
+        requires stop { stop < 744 }
+        requires next { settled.now.next < length self.now.trains.items }
+        ensures { result ≡ begun self.now settled.now stop }
+    {
+        let mut visited = [false; SPOTS];
+        visited[stop] = true;
+        Standing {
+            head: stop,
+            left: self.trains[settled.next].saturating_sub(1),
+            value: self.spots[stop].value,
+            own: self.spots[stop].own,
+            visited,
+        }
+    }
+
+    /// Whether a run may be settled.
+    pub(crate) fn may_settle(&self, run: &Standing) -> bool
+        requires fit { IsFit self.now }
+        requires head { run.now.head < 744 }
+        ensures { result ≡ (run.now.own && stop_in (node_at self.now run.now.head)) }
+    {
+        run.own && self.spots[run.head].stop
+    }
+
+    /// A run after a piece.
+    pub(crate) fn along(&self, run: &Standing, piece: &Piece) -> Standing
+        requires fit { IsFit self.now }
+        requires to { piece.now.to < 744 }
+        requires room { run.now.value ≤ 50000 }
+        ensures { result ≡ along self.now run.now piece.now }
+    {
+        let mut visited = run.visited;
+        visited[piece.to] = true;
+        Standing {
+            head: piece.to,
+            left: left_after(self.spots[piece.to].stop, run.left),
+            value: run.value + self.spots[piece.to].value,
+            own: run.own || self.spots[piece.to].own,
+            visited,
+        }
+    }
+}
