@@ -1,12 +1,11 @@
 -- Where bids rise, the last bid on a private that is unsold stands and is the highest.
-use Rattle.std.proofs.Common.{◌≡◌, ℕ, ◌+◌, ◌≤◌, ◌==◌, ◌⊎◌, inl, inr, Bool, true, false, ◌||◌, ◌&&◌, nat_lt, if◌then◌else◌, List, [], ◌∷◌, ◌++◌, Option, Some, None, is_some, refl, sym, ap, ◌∙◌, arith}
+use Rattle.std.proofs.Common.{◌≡◌, ℕ, ◌+◌, ◌≤◌, ◌==◌, ◌⊎◌, inl, inr, Bool, true, false, ◌||◌, ◌&&◌, nat_lt, if◌then◌else◌, List, [], ◌∷◌, Option, Some, None, is_some, refl, sym, ap, ◌∙◌, arith}
 use Rattle.std.proofs.lemmas.Bool.Decides.{Decides-eqb, nat_tests}
 use Rattle.std.specs.Option.{option_flatten, option_or}
 use Rattle.history.proofs.BidWords.{same_private_is}
 use Rattle.history.specs.Bids.{bid_of, bid_said, bids_on}
 use Rattle.history.specs.Event.{bidding_of, ownership_of}
-use Rattle.history.specs.LookBack.{Game, is_sold, last_said, owner_said}
-use Rattle.history.specs.Sound.{BiddersAreSeated}
+use Rattle.history.specs.LookBack.{is_sold, last_said, owner_said}
 use Rattle.history.specs.declared.event.Bid.{Bid}
 use Rattle.history.specs.declared.event.Bidding.{Bidding}
 use Rattle.history.specs.declared.event.Bidding.TheVariants.{Made, Ended}
@@ -28,7 +27,8 @@ one_of true false pass = inr (refl, refl)
 one_of false false pass = absurd (cc)
 
 -- the word that holds is one of the later or of the earlier
-flatten_cases : (later earlier : Option (Option ℕ)) (amount : ℕ) → option_flatten (option_or later earlier) ≡ Some amount → (option_flatten later ≡ Some amount) ⊎ (option_flatten earlier ≡ Some amount)
+flatten_cases : (later earlier : Option (Option ℕ)) (amount : ℕ) → option_flatten (option_or later earlier) ≡ Some amount →
+    (option_flatten later ≡ Some amount) ⊎ (option_flatten earlier ≡ Some amount)
 flatten_cases None earlier amount holds = inr holds
 flatten_cases (Some word) earlier amount holds = inl holds
 
@@ -49,7 +49,8 @@ neither_said None (Some word) none = absurd (cc)
 neither_said (Some word) earlier none = absurd (cc)
 
 -- a bid that is said here is the one that was made here
-made_here : (here seat : Bool) (made amount sum : ℕ) → option_flatten (if here && seat then Some (Some made) else None) ≡ Some amount → nat_lt sum (amount + 5) ≡ true → (here && nat_lt sum (made + 5)) ≡ true
+made_here : (here seat : Bool) (made amount sum : ℕ) → option_flatten (if here && seat then Some (Some made) else None) ≡ Some amount →
+    nat_lt sum (amount + 5) ≡ true → (here && nat_lt sum (made + 5)) ≡ true
 made_here true true made amount sum said near = let same : made ≡ amount = cc in ap (λ (n : ℕ). nat_lt sum (n + 5)) same ∙ near
 made_here true false made amount sum said near = absurd (cc)
 made_here false seat made amount sum said near = absurd (cc)
@@ -60,7 +61,8 @@ no_bid_at_end true amount said = absurd (cc)
 no_bid_at_end false amount said = absurd (cc)
 
 -- a sum near a bid that is said here is near the bid that was made here
-near_here : (private : Private) (seat : Seat) (amount sum : ℕ) (word : Option Bidding) → option_flatten (bid_said private seat word) ≡ Some amount → nat_lt sum (amount + 5) ≡ true → is_near_bid private sum word ≡ true
+near_here : (private : Private) (seat : Seat) (amount sum : ℕ) (word : Option Bidding) → option_flatten (bid_said private seat word) ≡ Some amount →
+    nat_lt sum (amount + 5) ≡ true → is_near_bid private sum word ≡ true
 near_here private seat amount sum None said near = absurd (cc)
 near_here private seat amount sum (Some (Made other bid)) said near =
     made_here (same_private other private) (bid.seat.0 == seat.0) bid.amount amount sum said near
@@ -77,7 +79,8 @@ second_passes true b pass = refl
 second_passes false b pass = pass
 
 -- a bid that stands was made
-pub standing_was_made : (events : List Event) (private : Private) (seat : Seat) (amount sum : ℕ) → bid_of events private seat ≡ Some amount → nat_lt sum (amount + 5) ≡ true → is_near_ever sum events private ≡ true
+standing_was_made : (events : List Event) (private : Private) (seat : Seat) (amount sum : ℕ) → bid_of events private seat ≡ Some amount →
+    nat_lt sum (amount + 5) ≡ true → is_near_ever sum events private ≡ true
 standing_was_made [] private seat amount sum stands near = absurd (cc)
 standing_was_made (event ∷ events) private seat amount sum stands near =
     let here : Bool = is_near_bid private sum (bidding_of event) in
@@ -88,7 +91,8 @@ standing_was_made (event ∷ events) private seat amount sum stands near =
     ]
 
 -- a bid on the private would be near the sum, or be near itself
-not_between : (i k later sum bid : ℕ) → ((k == i) && nat_lt later (bid + 5)) ≡ false → ((i == k) && nat_lt sum (later + 5)) ≡ false → nat_lt sum (bid + 5) ≡ true → (i == k) ≡ false
+not_between : (i k later sum bid : ℕ) → ((k == i) && nat_lt later (bid + 5)) ≡ false → ((i == k) && nat_lt sum (later + 5)) ≡ false →
+    nat_lt sum (bid + 5) ≡ true → (i == k) ≡ false
 not_between i k later sum bid far_later far_sum near = grind (arith, nat_tests)
 
 -- no word on the owner of another private
@@ -97,15 +101,19 @@ no_owner true owner none = absurd (cc)
 no_owner false owner none = refl
 
 -- an event says nothing of a seat's bid on a private that it doesn't sell, where a bid on it would be near
-silent_here : (event : Event) (private : Private) (seat : Seat) (bid : Bid) (sum : ℕ) → is_near_earlier (Some (Made private bid)) (bidding_of event) ≡ false → is_near_bid private sum (bidding_of event) ≡ false → nat_lt sum (bid.amount + 5) ≡ true → owner_said private (ownership_of event) ≡ None → bid_said private seat (bidding_of event) ≡ None
+silent_here : (event : Event) (private : Private) (seat : Seat) (bid : Bid) (sum : ℕ) →
+    is_near_earlier (Some (Made private bid)) (bidding_of event) ≡ false → is_near_bid private sum (bidding_of event) ≡ false →
+    nat_lt sum (bid.amount + 5) ≡ true → owner_said private (ownership_of event) ≡ None → bid_said private seat (bidding_of event) ≡ None
 silent_here (event.Bids other by amount) private seat bid sum far_later far_sum near unsold =
     ap (λ (b : Bool). if b && (by.0 == seat.0) then Some (Some amount) else None) (not_between _ _ amount sum bid.amount far_later far_sum near)
 silent_here (event.Sold other by price) private seat bid sum far_later far_sum near unsold =
     ap (λ (b : Bool). if b then Some None else None) (no_owner (same_private other private) _ unsold)
 silent_here other private seat bid sum far_later far_sum near unsold = refl
 
--- so do the events after the last bid on it
-silent_after : (events : List Event) (private : Private) (seat : Seat) (bid : Bid) (sum : ℕ) → some_later_is_near (Some (Made private bid)) events ≡ false → is_near_ever sum events private ≡ false → nat_lt sum (bid.amount + 5) ≡ true → is_sold events private ≡ false → last_said (λ e. bid_said private seat (bidding_of e)) events ≡ None
+-- so say the events after the last bid on it
+silent_after : (events : List Event) (private : Private) (seat : Seat) (bid : Bid) (sum : ℕ) →
+    some_later_is_near (Some (Made private bid)) events ≡ false → is_near_ever sum events private ≡ false → nat_lt sum (bid.amount + 5) ≡ true →
+    is_sold events private ≡ false → last_said (λ e. bid_said private seat (bidding_of e)) events ≡ None
 silent_after [] private seat bid sum far_later far_sum near unsold = refl
 silent_after (event ∷ events) private seat bid sum far_later far_sum near unsold =
     let later = neither (is_near_earlier (Some (Made private bid)) (bidding_of event)) (some_later_is_near (Some (Made private bid)) events) far_later in
@@ -134,22 +142,33 @@ record NearLast (events : List Event) (private : Private) (sum : ℕ) (word : Op
   near : nat_lt sum (amount + 5) ≡ true
 
 -- a bid that the sum is near stands, where the sum is near no later one
-near_last : (word : Option Bidding) (events : List Event) (private : Private) (sum : ℕ) → some_later_is_near word events ≡ false → is_near_ever sum events private ≡ false → is_near_bid private sum word ≡ true → is_sold events private ≡ false → NearLast events private sum word
+near_last : (word : Option Bidding) (events : List Event) (private : Private) (sum : ℕ) → some_later_is_near word events ≡ false →
+    is_near_ever sum events private ≡ false → is_near_bid private sum word ≡ true → is_sold events private ≡ false → NearLast events private sum word
 near_last None events private sum far_later far_sum near unsold = absurd (cc)
 near_last (Some (Ended other)) events private sum far_later far_sum near unsold = absurd (cc)
 near_last (Some (Made other bid)) events private sum far_later far_sum near unsold =
     let tests = both (same_private other private) (nat_lt sum (bid.amount + 5)) near in
     let is : other ≡ private = same_private_is other private tests.0 in
-    let far : some_later_is_near (Some (Made private bid)) events ≡ false = ap (λ (p : Private). some_later_is_near (Some (Made p bid)) events) (sym is) ∙ far_later in
+    let far : some_later_is_near (Some (Made private bid)) events ≡ false =
+    ap (λ (p : Private). some_later_is_near (Some (Made p bid)) events) (sym is) ∙ far_later
+    in
     let silent = silent_after events private bid.seat bid sum far far_sum tests.1 unsold in
     let said : option_flatten (bid_said private bid.seat (Some (Made other bid))) ≡ Some bid.amount =
     ap (λ (b : Bool). option_flatten (if b && (bid.seat.0 == bid.seat.0) then Some (Some bid.amount) else None)) tests.0
     ∙ ap (λ (b : Bool). option_flatten (if b then Some (Some bid.amount) else None)) ((Decides-eqb bid.seat.0 bid.seat.0).1 refl)
     in
-    record { seat = bid.seat; amount = bid.amount; stands = earlier_holds (last_said (λ e. bid_said private bid.seat (bidding_of e)) events) (bid_said private bid.seat (Some (Made other bid))) silent ∙ said; near = tests.1 }
+    record {
+      seat = bid.seat;
+      amount = bid.amount;
+      stands =
+          earlier_holds (last_said (λ e. bid_said private bid.seat (bidding_of e)) events) (bid_said private bid.seat (Some (Made other bid))) silent
+          ∙ said;
+      near = tests.1;
+    }
 
 -- a sum that is near some bid on an unsold private is near one that stands
-near_stands : (events : List Event) (private : Private) (sum : ℕ) → BidsRise events → is_sold events private ≡ false → is_near_ever sum events private ≡ true → NearStanding events private sum
+near_stands : (events : List Event) (private : Private) (sum : ℕ) → BidsRise events → is_sold events private ≡ false →
+    is_near_ever sum events private ≡ true → NearStanding events private sum
 near_stands [] private sum rise unsold near = absurd (cc)
 near_stands (event ∷ events) private sum rise unsold near =
     let still = (neither_said (last_said (λ e. owner_said private (ownership_of e)) events) (owner_said private (ownership_of event)) unsold).0 in
@@ -184,7 +203,8 @@ near_or_far : (sum amount : ℕ) → nat_lt sum (amount + 5) ≡ true → amount
 near_or_far sum amount near far = grind (arith, nat_tests)
 
 -- a sum that is near no bid is near none that stands
-far_from_standing : (events : List Event) (private : Private) (seats sum : ℕ) (bids : List Bid) → is_near_ever sum events private ≡ false → EachBid (Stands events private 0 seats) bids → is_near sum bids ≡ false
+far_from_standing : (events : List Event) (private : Private) (seats sum : ℕ) (bids : List Bid) → is_near_ever sum events private ≡ false →
+    EachBid (Stands events private 0 seats) bids → is_near sum bids ≡ false
 far_from_standing events private seats sum [] far stand = refl
 far_from_standing events private seats sum (bid ∷ bids) far stand =
     both_fail (nat_lt sum (bid.amount + 5)) (is_near sum bids)

@@ -1,5 +1,5 @@
 -- Within an opening round bids rise: a bid that is obeyed is at least 5 over every earlier one on its private.
-use Rattle.std.proofs.Common.{◌≡◌, ℕ, zero, suc, ◌+◌, ◌-◌, ◌<◌, ◌==◌, ◌||◌, ◌&&◌, nat_lt, Bool, true, false, if◌then◌else◌, List, [], ◌∷◌, ◌++◌, Option, Some, None, Result, Ok, Err, append-nil, unwrap_or, refl, sym, subst, ap, ◌∙◌, arith}
+use Rattle.std.proofs.Common.{◌≡◌, ℕ, zero, suc, ◌+◌, ◌-◌, ◌<◌, ◌==◌, ◌||◌, nat_lt, Bool, true, false, if◌then◌else◌, List, [], ◌∷◌, ◌++◌, Option, Some, None, Result, Ok, Err, append-nil, unwrap_or, refl, sym, subst, ap, ◌∙◌, arith}
 use Rattle.std.proofs.lemmas.Bool.Decides.{nat_tests}
 use Rattle.std.proofs.lemmas.List.{append_assoc}
 use Rattle.std.proofs.lemmas.List.Folds.{list_any-append}
@@ -17,7 +17,6 @@ use Rattle.history.specs.declared.event.Event.{Event}
 use Rattle.history.specs.declared.event.Event.TheVariants as event
 use Rattle.history.specs.declared.event.Holder.{Holder}
 use Rattle.history.specs.declared.ruling.OpeningRule.{OpeningRule}
-use Rattle.history.specs.declared.ruling.Ruling.{Ruling}
 use Rattle.order_grammar.specs.declared.fault.Fault.{Fault}
 use Rattle.order_grammar.specs.declared.order.Order.{Order}
 use Rattle.order_grammar.specs.declared.order.Order.TheVariants as order
@@ -25,7 +24,7 @@ use Rattle.privates.proofs.BidsRise.{both, standing_bids_suffice}
 use Rattle.privates.proofs.Judged.{may_act_after}
 use Rattle.privates.proofs.Sales.{neither}
 use Rattle.privates.specs.Act.{MayBid}
-use Rattle.privates.specs.BidsRise.{BidsRise, OpeningBidsRise, is_near_bid, is_near_earlier, is_near_ever}
+use Rattle.privates.specs.BidsRise.{BidsRise, OpeningBidsRise, is_near_earlier, is_near_ever}
 use Rattle.privates.specs.Closing.{after_fall, after_passing, all_sold, closed, given_away}
 use Rattle.privates.specs.Judgement.{has_place_in_group, judged, judgement_of, placed_ruling, price_of}
 use Rattle.privates.specs.Opening.{IsOpeningRound}
@@ -59,7 +58,8 @@ is_no_bid (Some (Made private bid)) = false
 is_no_bid (Some (Ended private)) = true
 
 -- bids rise with one more event that is near no earlier bid
-rise_more : (events : List Event) (new : Event) → list_any (λ e. is_near_earlier (bidding_of e) (bidding_of new)) events ≡ false → BidsRise events → BidsRise (events ++ new ∷ [])
+rise_more : (events : List Event) (new : Event) → list_any (λ e. is_near_earlier (bidding_of e) (bidding_of new)) events ≡ false → BidsRise events →
+    BidsRise (events ++ new ∷ [])
 rise_more [] new far rise = (refl, tt)
 rise_more (event ∷ events) new far rise =
     let parts = neither (is_near_earlier (bidding_of event) (bidding_of new)) (list_any (λ e. is_near_earlier (bidding_of e) (bidding_of new)) events) far in (
@@ -82,7 +82,8 @@ not_ended true before amount stands = absurd (cc)
 not_ended false before amount stands = stands
 
 -- a bid that stands after what is no bid stood before
-stood : (word : Option Bidding) (private : Private) (seat : Seat) (before : Option ℕ) (amount : ℕ) → is_no_bid word ≡ true → unwrap_or (bid_said private seat word) before ≡ Some amount → before ≡ Some amount
+stood : (word : Option Bidding) (private : Private) (seat : Seat) (before : Option ℕ) (amount : ℕ) → is_no_bid word ≡ true →
+    unwrap_or (bid_said private seat word) before ≡ Some amount → before ≡ Some amount
 stood None private seat before amount none stands = stands
 stood (Some (Made other bid)) private seat before amount none stands = absurd (cc)
 stood (Some (Ended other)) private seat before amount none stands = not_ended (same_private other private) before amount stands
@@ -93,11 +94,13 @@ with_other seats events event none before =
     record {
       rise = rise_more events event (never_near (bidding_of event) events none) before.rise;
       seated = λ private seat amount stands.
-          before.seated private seat amount (stood (bidding_of event) private seat (bid_of events private seat) amount none (sym (bid_of_at_end events event private seat) ∙ stands));
+          before.seated private seat amount
+          (stood (bidding_of event) private seat (bid_of events private seat) amount none (sym (bid_of_at_end events event private seat) ∙ stands));
     }
 
 -- with some events that are no bids
-with_others : (seats : ℕ) (events more : List Event) → list_all (λ e. is_no_bid (bidding_of e)) more ≡ true → RiseAt seats events → RiseAt seats (events ++ more)
+with_others : (seats : ℕ) (events more : List Event) → list_all (λ e. is_no_bid (bidding_of e)) more ≡ true → RiseAt seats events →
+    RiseAt seats (events ++ more)
 with_others seats events [] none before = subst (λ (list : List Event). RiseAt seats list) (sym (append-nil events)) before
 with_others seats events (event ∷ more) none before =
     let parts = both (is_no_bid (bidding_of event)) (list_all (λ e. is_no_bid (bidding_of e)) more) none in
@@ -110,7 +113,8 @@ in_either seats true one other first second = first
 in_either seats false one other first second = second
 
 -- a sale and what it brings are no bids
-sale_bids_nothing : (events : List Event) (private : Private) (buyer : Seat) (price : ℕ) → list_all (λ e. is_no_bid (bidding_of e)) (event.Sold private buyer price ∷ gifts events private buyer) ≡ true
+sale_bids_nothing : (events : List Event) (private : Private) (buyer : Seat) (price : ℕ) →
+    list_all (λ e. is_no_bid (bidding_of e)) (event.Sold private buyer price ∷ gifts events private buyer) ≡ true
 sale_bids_nothing events private.SchuylkillValley buyer price = refl
 sale_bids_nothing events private.ChamplainStLawrence buyer price = refl
 sale_bids_nothing events private.DelawareHudson buyer price = refl
@@ -119,12 +123,14 @@ sale_bids_nothing events private.CamdenAmboy buyer price = refl
 sale_bids_nothing events private.BaltimoreOhio buyer price = refl
 
 -- after a sale
-after_sale_rise : (seats : ℕ) (events : List Event) (private : Private) (buyer : Seat) (price : ℕ) → RiseAt seats events → RiseAt seats (after_sale events private buyer price)
+after_sale_rise : (seats : ℕ) (events : List Event) (private : Private) (buyer : Seat) (price : ℕ) → RiseAt seats events →
+    RiseAt seats (after_sale events private buyer price)
 after_sale_rise seats events private buyer price before =
     with_others seats events (event.Sold private buyer price ∷ gifts events private buyer) (sale_bids_nothing events private buyer price) before
 
 -- after the sale that the bids on a private bring
-after_bids_rise : (seats : ℕ) (events : List Event) (private : Private) (bids : List Bid) → RiseAt seats events → RiseAt seats (settled_by seats events private bids)
+after_bids_rise : (seats : ℕ) (events : List Event) (private : Private) (bids : List Bid) → RiseAt seats events →
+    RiseAt seats (settled_by seats events private bids)
 after_bids_rise seats events private [] before = before
 after_bids_rise seats events private (bid ∷ []) before = after_sale_rise seats events private bid.seat bid.amount before
 after_bids_rise seats events private (bid ∷ other ∷ bids) before = after_sale_rise seats events private _ _ before
@@ -151,16 +157,19 @@ broken_rise seats events before =
     in_either seats (breaks seats events) (events ++ event.Broken ∷ []) events (with_other seats events event.Broken refl before) before
 
 -- after a revenue
-revenue_rise : (seats : ℕ) (events : List Event) (private : Private) (owner : Option Holder) → RiseAt seats events → RiseAt seats (paid_to_owner seats events private owner)
+revenue_rise : (seats : ℕ) (events : List Event) (private : Private) (owner : Option Holder) → RiseAt seats events →
+    RiseAt seats (paid_to_owner seats events private owner)
 revenue_rise seats events private None before = before
 revenue_rise seats events private (Some owner) before =
-    broken_rise seats (events ++ event.Revenue private owner (revenue_of private) ∷ []) (with_other seats events (event.Revenue private owner (revenue_of private)) refl before)
+    broken_rise seats (events ++ event.Revenue private owner (revenue_of private) ∷ [])
+    (with_other seats events (event.Revenue private owner (revenue_of private)) refl before)
 
 -- after the revenues of some privates
 revenues_rise : (seats : ℕ) (events : List Event) (paying : List Private) → RiseAt seats events → RiseAt seats (after_revenues seats events paying)
 revenues_rise seats events [] before = before
 revenues_rise seats events (private ∷ others) before =
-    revenues_rise seats (paid_to_owner seats events private (owner_of events private)) others (revenue_rise seats events private (owner_of events private) before)
+    revenues_rise seats (paid_to_owner seats events private (owner_of events private)) others
+    (revenue_rise seats events private (owner_of events private) before)
 
 -- after the fall of SV's price
 fall_rise : (seats : ℕ) (events : List Event) (price : ℕ) (holder : Seat) → RiseAt seats events → RiseAt seats (after_fall seats events price holder)
@@ -173,10 +182,13 @@ fall_rise seats events price holder before =
 closed_rise : (seats : ℕ) (events : List Event) → RiseAt seats events → RiseAt seats (closed seats events)
 closed_rise seats events before =
     in_either seats (all_sold events) events (after_passing seats events) before
-    (in_either seats (is_sold events private.SchuylkillValley) (after_revenues seats events privates) (after_fall seats events (sv_price_of events - 5) (priority_of seats events)) (revenues_rise seats events privates before) (fall_rise seats events (sv_price_of events - 5) (priority_of seats events) before))
+    (in_either seats (is_sold events private.SchuylkillValley) (after_revenues seats events privates)
+    (after_fall seats events (sv_price_of events - 5) (priority_of seats events)) (revenues_rise seats events privates before)
+    (fall_rise seats events (sv_price_of events - 5) (priority_of seats events) before))
 
 -- after a bid that a seat at the table may make
-bid_rise : (seats : ℕ) (events : List Event) (seat : Seat) (private : Private) (amount : ℕ) → MayBid seats events seat private amount → seat.0 < seats → RiseAt seats events → RiseAt seats (events ++ event.Bids private seat amount ∷ [])
+bid_rise : (seats : ℕ) (events : List Event) (seat : Seat) (private : Private) (amount : ℕ) → MayBid seats events seat private amount →
+    seat.0 < seats → RiseAt seats events → RiseAt seats (events ++ event.Bids private seat amount ∷ [])
 bid_rise seats events seat private amount may under before =
     let suffice = standing_bids_suffice (record { seats = seats; events = events }) private amount before.rise before.seated may.pays.unsold in
     let far : is_near_ever amount events private ≡ false =
@@ -247,7 +259,8 @@ module _ (seats : ℕ) (some : 0 < seats) (start : InPlay (List Event) Numbered)
   turn_at_table (suc n) = left_within seats (Some (seat_at (iterate (after_turn (turns_of opening_rules seats)) n start).seat)) some
 
   -- so it is one by the rules at the table
-  turn_by_rules : (at : InPlay (List Event) Numbered) → at.seat < seats → after_turn (turns_of opening_rules seats) at ≡ after_turn (turns_of (rules_at seats) seats) at
+  turn_by_rules : (at : InPlay (List Event) Numbered) → at.seat < seats →
+      after_turn (turns_of opening_rules seats) at ≡ after_turn (turns_of (rules_at seats) seats) at
   turn_by_rules at under =
       let seat : Seat = seat_at at.seat in
       let group : List Numbered = next_group (groups_at at.groups at.seat) in
@@ -264,7 +277,8 @@ module _ (seats : ℕ) (some : 0 < seats) (start : InPlay (List Event) Numbered)
       ∙ ap (after_turn (turns_of (rules_at seats) seats)) (turns_by_rules n)
 
 -- an opening round is one by the rules at its table
-by_rules : (file : List ℕ) (round : Round) (old new : Game) → IsOpeningRound file round old new → 0 < old.seats → IsRoundOfTurns (rules_at old.seats) file round old new
+by_rules : (file : List ℕ) (round : Round) (old new : Game) → IsOpeningRound file round old new → 0 < old.seats →
+    IsRoundOfTurns (rules_at old.seats) file round old new
 by_rules file round old new played some =
     let start : InPlay (List Event) Numbered = opened opening_rules old.seats file round old.events in
     let same = turns_by_rules old.seats some start (priority_within old.seats old.events some) in

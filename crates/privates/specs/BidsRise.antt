@@ -49,7 +49,8 @@ BidsRise (event ∷ later) = (some_later_is_near (bidding_of event) later ≡ fa
 abbrev pub StandingBidsSuffice : Type 0
 StandingBidsSuffice =
     (game : Game) (private : Private) (amount : ℕ) →
-    BidsRise game.events → BiddersAreSeated game.seats game.events → is_sold game.events private ≡ false → is_too_low game.seats game.events private amount ≡ is_too_low_ever game.events private amount
+    BidsRise game.events → BiddersAreSeated game.seats game.events → is_sold game.events private ≡ false →
+    is_too_low game.seats game.events private amount ≡ is_too_low_ever game.events private amount
 
 -- bids that rise at the start of an opening round rise at its end: where the table has a seat, and those who bid before
 -- it are at the table
