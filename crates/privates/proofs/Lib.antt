@@ -1,7 +1,9 @@
 pub mod Acted
 pub mod Auctions
 pub mod Bidders
+pub mod BidsRise
 pub mod Judged
+pub mod OpeningBids
 pub mod Pars
 pub mod Prices
 pub mod Sales

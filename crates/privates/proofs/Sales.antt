@@ -122,7 +122,7 @@ bop_underway game new buyer price par may seated is_par told before =
     })
 
 -- a sum that is near none of some bids is 5 over each at least
-far_from_each : (amount : ℕ) (bids : List Bid) → is_near amount bids ≡ false → EachBid (λ bid. bid.amount + 5 ≤ amount) bids
+pub far_from_each : (amount : ℕ) (bids : List Bid) → is_near amount bids ≡ false → EachBid (λ bid. bid.amount + 5 ≤ amount) bids
 far_from_each amount [] far = tt
 far_from_each amount (bid ∷ bids) far =
     let here : bid.amount + 5 ≤ amount = grind (arith, nat_tests) in
@@ -141,7 +141,7 @@ head_of holds seat (Some found) amount rest is all =
     let same : found ≡ amount = cc in subst (λ (n : ℕ). holds (record { seat = seat; amount = n })) same all.0
 
 -- of a seat's bid, among those of seats from one on, holds what holds of each
-of_seat : (holds : Bid → Type 0) (events : List Event) (private : Private) (first count : ℕ) (other : Seat) (amount : ℕ) → first ≤ other.0 → other.0 < first + count → bid_of events private other ≡ Some amount → EachBid holds (bids_from events private first count) → holds (record { seat = other; amount = amount })
+pub of_seat : (holds : Bid → Type 0) (events : List Event) (private : Private) (first count : ℕ) (other : Seat) (amount : ℕ) → first ≤ other.0 → other.0 < first + count → bid_of events private other ≡ Some amount → EachBid holds (bids_from events private first count) → holds (record { seat = other; amount = amount })
 of_seat holds events private first zero other amount from under is all = absurd (omega arith)
 of_seat holds events private first (suc count) other amount from under is all =
     let rest : List Bid = bids_from events private (first + 1) count in
@@ -154,14 +154,14 @@ of_seat holds events private first (suc count) other amount from under is all =
     ]
 
 -- neither of two tests passes
-second_fails : (a b : Bool) → (a || b) ≡ false → b ≡ false
-second_fails true b fails = cc
-second_fails false b fails = fails
+pub neither : (a b : Bool) → (a || b) ≡ false → (a ≡ false) × (b ≡ false)
+neither true b fails = absurd (cc)
+neither false b fails = (refl, fails)
 
 -- no other seat has bid what a seat may bid
 no_other_bid : (game : Game) (private : Private) (seat : Seat) (amount : ℕ) → MayBid game.seats game.events seat private amount → IsSound game → (other : Seat) → bid_of game.events private other ≡ Some amount → other ≡ seat
 no_other_bid game private seat amount may sound other is =
-    let far = far_from_each amount (bids_on game.seats game.events private) (second_fails (nat_lt amount (face_of private + 5)) (is_near amount (bids_on game.seats game.events private)) may.high) in
+    let far = far_from_each amount (bids_on game.seats game.events private) (neither (nat_lt amount (face_of private + 5)) (is_near amount (bids_on game.seats game.events private)) may.high).1 in
     let under = sound.seated private other amount is in
     let over : amount + 5 ≤ amount = of_seat (λ bid. bid.amount + 5 ≤ amount) game.events private 0 game.seats other amount (omega arith) (omega arith) is far in
     absurd (omega arith)

@@ -10,3 +10,4 @@ pub mod Underway
 pub mod LimitsKept
 pub mod UnderwayKept
 pub mod Keeping
+pub mod BidsRise

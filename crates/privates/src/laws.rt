@@ -1,6 +1,7 @@
 //! Laws of the definitions, each the contract of a function that does nothing.
 ghost use Rattle.std.specs.Prelude.{◌≡◌, ℕ, List};
 ghost use Rattle.privates.specs.Auction.{AuctionIsWon};
+ghost use Rattle.privates.specs.BidsRise.{OpeningBidsRise, StandingBidsSuffice};
 ghost use Rattle.history.specs.LookBack.{Game};
 ghost use Rattle.privates.specs.Opening.{EndsSoon, IsOpeningRound};
 ghost use Rattle.history.specs.declared.event.Event.{Event};
@@ -40,4 +41,17 @@ pub fn opening_round_ends()
 /// name it as the seat that acted last, and where it did not act they name nobody.
 pub fn opening_turns_tell_who_acted()
     ensures { TurnsTellWhoActed opening_rules }
+{}
+
+/// A bid has to be at least 5 over every earlier bid on its private. Where each bid so far was, and
+/// those who bid are at the table, it is enough to look at the bids that stand while the private is
+/// unsold: they find a sum too low exactly where all earlier bids do.
+pub fn standing_bids_suffice()
+    ensures { StandingBidsSuffice }
+{}
+
+/// In an opening round each bid that is obeyed is at least 5 over every earlier bid on its private,
+/// stand they or not: where that is so of the bids before the round, it is so after it.
+pub fn opening_bids_rise()
+    ensures { OpeningBidsRise }
 {}

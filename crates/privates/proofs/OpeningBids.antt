@@ -1,0 +1,318 @@
+-- Within an opening round bids rise: a bid that is obeyed is at least 5 over every earlier one on its private.
+use Rattle.std.proofs.Common.{◌≡◌, ℕ, zero, suc, ◌+◌, ◌-◌, ◌<◌, ◌==◌, ◌||◌, nat_lt, Bool, true, false, if◌then◌else◌, List, [], ◌∷◌, ◌++◌, Option, Some, None, Result, Ok, Err, append-nil, unwrap_or, refl, sym, subst, ap, ◌∙◌, arith}
+use Rattle.std.proofs.lemmas.Bool.Decides.{nat_tests}
+use Rattle.std.proofs.lemmas.List.{append_assoc}
+use Rattle.std.proofs.lemmas.List.Folds.{list_any-append}
+use Rattle.std.specs.List.{list_all, list_any}
+use Rattle.history.proofs.BidWords.{bid_of_at_end, seated_after_bid}
+use Rattle.history.specs.Bids.{bid_of, bid_said, bids_on}
+use Rattle.history.specs.Event.{bidding_of}
+use Rattle.history.specs.LookBack.{Game, cheapest_of, is_sold, owner_of, priority_of, sv_price_of}
+use Rattle.history.specs.Sound.{BiddersAreSeated}
+use Rattle.history.specs.Tell.{after_revenues, breaks, paid_to_owner, with_broken}
+use Rattle.history.specs.declared.event.Bid.{Bid}
+use Rattle.history.specs.declared.event.Bidding.{Bidding}
+use Rattle.history.specs.declared.event.Bidding.TheVariants.{Made, Ended}
+use Rattle.history.specs.declared.event.Event.{Event}
+use Rattle.history.specs.declared.event.Event.TheVariants as event
+use Rattle.history.specs.declared.event.Holder.{Holder}
+use Rattle.history.specs.declared.ruling.OpeningRule.{OpeningRule}
+use Rattle.order_grammar.specs.declared.fault.Fault.{Fault}
+use Rattle.order_grammar.specs.declared.order.Order.{Order}
+use Rattle.order_grammar.specs.declared.order.Order.TheVariants as order
+use Rattle.privates.proofs.BidsRise.{both, standing_bids_suffice}
+use Rattle.privates.proofs.Judged.{may_act_after}
+use Rattle.privates.proofs.Sales.{neither}
+use Rattle.privates.specs.Act.{MayBid}
+use Rattle.privates.specs.BidsRise.{BidsRise, OpeningBidsRise, is_near_earlier, is_near_ever}
+use Rattle.privates.specs.Closing.{after_fall, after_passing, all_sold, closed, given_away}
+use Rattle.privates.specs.Judgement.{has_place_in_group, judged, judgement_of, placed_ruling, price_of}
+use Rattle.privates.specs.Opening.{IsOpeningRound}
+use Rattle.privates.specs.Sale.{after_sale, gifts, settle, settled, settled_by, settled_of}
+use Rattle.privates.specs.Standing.{after_standing_line, standing_ruling}
+use Rattle.privates.specs.Turn.{InTurn, after_line, after_ruling, opening_rules}
+use Rattle.sheets.specs.Part.{Numbered}
+use Rattle.sheets.specs.Place.{placed}
+use Rattle.sheets.specs.Taken.{after_each}
+use Rattle.tables.specs.Roster.{face_of, privates, revenue_of, same_private}
+use Rattle.tables.specs.Seat.{seat_at}
+use Rattle.tables.specs.Steps.{iterate}
+use Rattle.tables.specs.Turns.{InPlay, after_turn, groups_at, next_group, turn_over, turns_over}
+use Rattle.tables.specs.declared.roster.Private.{Private}
+use Rattle.tables.specs.declared.roster.Private.TheVariants as private
+use Rattle.tables.specs.declared.round.Round.{Round}
+use Rattle.tables.specs.declared.seat.Seat.{Seat}
+use Rattle.turns.proofs.RoundLeads.{round_leads}
+use Rattle.turns.proofs.Turns.{left_within, priority_within}
+use Rattle.turns.specs.RoundOfTurns.{IsRoundOfTurns, RoundRules, in_turn, opened, turned, turns_of}
+
+-- bids rise, and those that stand are of seats at the table
+record RiseAt (seats : ℕ) (events : List Event) : Type 0 where
+  rise : BidsRise events
+  seated : BiddersAreSeated seats events
+
+-- no bid is made
+abbrev is_no_bid : Option Bidding → Bool
+is_no_bid None = true
+is_no_bid (Some (Made private bid)) = false
+is_no_bid (Some (Ended private)) = true
+
+-- bids rise with one more event that is near no earlier bid
+rise_more : (events : List Event) (new : Event) → list_any (λ e. is_near_earlier (bidding_of e) (bidding_of new)) events ≡ false → BidsRise events →
+    BidsRise (events ++ new ∷ [])
+rise_more [] new far rise = (refl, tt)
+rise_more (event ∷ events) new far rise =
+    let parts = neither (is_near_earlier (bidding_of event) (bidding_of new)) (list_any (λ e. is_near_earlier (bidding_of e) (bidding_of new)) events) far in (
+      list_any-append (λ e. is_near_earlier (bidding_of event) (bidding_of e)) events (new ∷ [])
+          ∙ ap (λ (b : Bool). b || (is_near_earlier (bidding_of event) (bidding_of new) || false)) rise.0
+          ∙ ap (λ (b : Bool). b || false) parts.0,
+      rise_more events new parts.1 rise.1,
+    )
+
+-- what is no bid is near none
+never_near : (word : Option Bidding) (events : List Event) → is_no_bid word ≡ true → list_any (λ e. is_near_earlier (bidding_of e) word) events ≡ false
+never_near word [] none = refl
+never_near None (event ∷ events) none = never_near None events none
+never_near (Some (Made private bid)) (event ∷ events) none = absurd (cc)
+never_near (Some (Ended private)) (event ∷ events) none = never_near (Some (Ended private)) events none
+
+-- a bid on a private that is or isn't ended stood before, if it stands
+not_ended : (here : Bool) (before : Option ℕ) (amount : ℕ) → unwrap_or (if here then Some None else None) before ≡ Some amount → before ≡ Some amount
+not_ended true before amount stands = absurd (cc)
+not_ended false before amount stands = stands
+
+-- a bid that stands after what is no bid stood before
+stood : (word : Option Bidding) (private : Private) (seat : Seat) (before : Option ℕ) (amount : ℕ) → is_no_bid word ≡ true →
+    unwrap_or (bid_said private seat word) before ≡ Some amount → before ≡ Some amount
+stood None private seat before amount none stands = stands
+stood (Some (Made other bid)) private seat before amount none stands = absurd (cc)
+stood (Some (Ended other)) private seat before amount none stands = not_ended (same_private other private) before amount stands
+
+-- bids rise with one more event that is no bid
+with_other : (seats : ℕ) (events : List Event) (event : Event) → is_no_bid (bidding_of event) ≡ true → RiseAt seats events → RiseAt seats (events ++ event ∷ [])
+with_other seats events event none before =
+    record {
+      rise = rise_more events event (never_near (bidding_of event) events none) before.rise;
+      seated = λ private seat amount stands.
+          before.seated private seat amount
+          (stood (bidding_of event) private seat (bid_of events private seat) amount none (sym (bid_of_at_end events event private seat) ∙ stands));
+    }
+
+-- with some events that are no bids
+with_others : (seats : ℕ) (events more : List Event) → list_all (λ e. is_no_bid (bidding_of e)) more ≡ true → RiseAt seats events →
+    RiseAt seats (events ++ more)
+with_others seats events [] none before = subst (λ (list : List Event). RiseAt seats list) (sym (append-nil events)) before
+with_others seats events (event ∷ more) none before =
+    let parts = both (is_no_bid (bidding_of event)) (list_all (λ e. is_no_bid (bidding_of e)) more) none in
+    subst (λ (list : List Event). RiseAt seats list) (append_assoc events (event ∷ []) more)
+    (with_others seats (events ++ event ∷ []) more parts.1 (with_other seats events event parts.0 before))
+
+-- in either of two cases
+in_either : (seats : ℕ) (b : Bool) (one other : List Event) → RiseAt seats one → RiseAt seats other → RiseAt seats (if b then one else other)
+in_either seats true one other first second = first
+in_either seats false one other first second = second
+
+-- a sale and what it brings are no bids
+sale_bids_nothing : (events : List Event) (private : Private) (buyer : Seat) (price : ℕ) →
+    list_all (λ e. is_no_bid (bidding_of e)) (event.Sold private buyer price ∷ gifts events private buyer) ≡ true
+sale_bids_nothing events private.SchuylkillValley buyer price = refl
+sale_bids_nothing events private.ChamplainStLawrence buyer price = refl
+sale_bids_nothing events private.DelawareHudson buyer price = refl
+sale_bids_nothing events private.MohawkHudson buyer price = refl
+sale_bids_nothing events private.CamdenAmboy buyer price = refl
+sale_bids_nothing events private.BaltimoreOhio buyer price = refl
+
+-- after a sale
+after_sale_rise : (seats : ℕ) (events : List Event) (private : Private) (buyer : Seat) (price : ℕ) → RiseAt seats events →
+    RiseAt seats (after_sale events private buyer price)
+after_sale_rise seats events private buyer price before =
+    with_others seats events (event.Sold private buyer price ∷ gifts events private buyer) (sale_bids_nothing events private buyer price) before
+
+-- after the sale that the bids on a private bring
+after_bids_rise : (seats : ℕ) (events : List Event) (private : Private) (bids : List Bid) → RiseAt seats events →
+    RiseAt seats (settled_by seats events private bids)
+after_bids_rise seats events private [] before = before
+after_bids_rise seats events private (bid ∷ []) before = after_sale_rise seats events private bid.seat bid.amount before
+after_bids_rise seats events private (bid ∷ other ∷ bids) before = after_sale_rise seats events private _ _ before
+
+-- after that of the cheapest private
+after_cheapest_rise : (seats : ℕ) (events : List Event) (cheapest : Option Private) → RiseAt seats events → RiseAt seats (settled_of seats events cheapest)
+after_cheapest_rise seats events None before = before
+after_cheapest_rise seats events (Some private) before = after_bids_rise seats events private (bids_on seats events private) before
+
+-- after some of these
+after_steps_rise : (seats n : ℕ) (events : List Event) → RiseAt seats events → RiseAt seats (iterate (settle seats) n events)
+after_steps_rise seats zero events before = before
+after_steps_rise seats (suc n) events before =
+    after_cheapest_rise seats (iterate (settle seats) n events) (cheapest_of (iterate (settle seats) n events)) (after_steps_rise seats n events before)
+
+-- after the sales that follow from a sale
+settled_rise : (seats : ℕ) (events : List Event) → RiseAt seats events → RiseAt seats (settled seats events)
+unfolding settled
+settled_rise seats events before = after_steps_rise seats 6 events before
+
+-- after BROKEN, where the bank breaks
+broken_rise : (seats : ℕ) (events : List Event) → RiseAt seats events → RiseAt seats (with_broken seats events)
+broken_rise seats events before =
+    in_either seats (breaks seats events) (events ++ event.Broken ∷ []) events (with_other seats events event.Broken refl before) before
+
+-- after a revenue
+revenue_rise : (seats : ℕ) (events : List Event) (private : Private) (owner : Option Holder) → RiseAt seats events →
+    RiseAt seats (paid_to_owner seats events private owner)
+revenue_rise seats events private None before = before
+revenue_rise seats events private (Some owner) before =
+    broken_rise seats (events ++ event.Revenue private owner (revenue_of private) ∷ [])
+    (with_other seats events (event.Revenue private owner (revenue_of private)) refl before)
+
+-- after the revenues of some privates
+revenues_rise : (seats : ℕ) (events : List Event) (paying : List Private) → RiseAt seats events → RiseAt seats (after_revenues seats events paying)
+revenues_rise seats events [] before = before
+revenues_rise seats events (private ∷ others) before =
+    revenues_rise seats (paid_to_owner seats events private (owner_of events private)) others
+    (revenue_rise seats events private (owner_of events private) before)
+
+-- after the fall of SV's price
+fall_rise : (seats : ℕ) (events : List Event) (price : ℕ) (holder : Seat) → RiseAt seats events → RiseAt seats (after_fall seats events price holder)
+fall_rise seats events price holder before =
+    in_either seats (price == 0) (settled seats (given_away events holder)) (events ++ event.Price price ∷ [])
+    (settled_rise seats (given_away events holder) (after_sale_rise seats (events ++ event.Price 0 ∷ []) private.SchuylkillValley holder 0 (with_other seats events (event.Price 0) refl before)))
+    (with_other seats events (event.Price price) refl before)
+
+-- after the close
+closed_rise : (seats : ℕ) (events : List Event) → RiseAt seats events → RiseAt seats (closed seats events)
+closed_rise seats events before =
+    in_either seats (all_sold events) events (after_passing seats events) before
+    (in_either seats (is_sold events private.SchuylkillValley) (after_revenues seats events privates)
+    (after_fall seats events (sv_price_of events - 5) (priority_of seats events)) (revenues_rise seats events privates before)
+    (fall_rise seats events (sv_price_of events - 5) (priority_of seats events) before))
+
+-- after a bid that a seat at the table may make
+bid_rise : (seats : ℕ) (events : List Event) (seat : Seat) (private : Private) (amount : ℕ) → MayBid seats events seat private amount →
+    seat.0 < seats → RiseAt seats events → RiseAt seats (events ++ event.Bids private seat amount ∷ [])
+bid_rise seats events seat private amount may under before =
+    let suffice = standing_bids_suffice (record { seats = seats; events = events }) private amount before.rise before.seated may.pays.unsold in
+    let far : is_near_ever amount events private ≡ false =
+    (neither (nat_lt amount (face_of private + 5)) (is_near_ever amount events private) (sym suffice ∙ may.high)).1
+    in
+    record {
+      rise = rise_more events (event.Bids private seat amount) far before.rise;
+      seated = seated_after_bid seats events private seat amount under before.seated;
+    }
+
+-- after a line with the ruling of an order that breaks this rule, or none
+order_rise : (seats : ℕ) (seat : Seat) (turn : InTurn) (number : ℕ) (done : Order) (broken : Option OpeningRule) →
+    judgement_of seats turn.events seat turn.deeds done ≡ broken → seat.0 < seats → RiseAt seats turn.events →
+    RiseAt seats (after_ruling seats seat turn number (judged done broken)).events
+order_rise seats seat turn number done (Some rule) is under before =
+    with_other seats turn.events (event.Ruled seat number (judged done (Some rule))) refl before
+order_rise seats seat turn number (order.BuyPrivate private) None is under before =
+    let ruled : List Event = turn.events ++ event.Ruled seat number (judged (order.BuyPrivate private) None) ∷ [] in
+    settled_rise seats (after_sale ruled private seat (price_of ruled private))
+    (after_sale_rise seats ruled private seat (price_of ruled private) (with_other seats turn.events (event.Ruled seat number (judged (order.BuyPrivate private) None)) refl before))
+order_rise seats seat turn number (order.Bid private amount) None is under before =
+    let told : Event = event.Ruled seat number (judged (order.Bid private amount) None) in
+    let ruled : List Event = turn.events ++ told ∷ [] in
+    bid_rise seats ruled seat private amount
+    (may_act_after (record { seats = seats; events = turn.events }) (record { seats = seats; events = ruled }) told seat turn.deeds (order.Bid private amount) refl (record { payment = refl; ownership = refl; bidding = refl; transfer = refl; par = refl; square = refl; office = refl; float = refl; sv_price = refl; train = refl; tile = refl; token = refl }) is)
+    under (with_other seats turn.events told refl before)
+order_rise seats seat turn number other None is under before = absurd (cc)
+
+-- after a line of which this is placed
+placed_rise : (seats : ℕ) (seat : Seat) (turn : InTurn) (number : ℕ) (reading : Result Order Fault) → seat.0 < seats → RiseAt seats turn.events →
+    RiseAt seats (after_ruling seats seat turn number (placed_ruling seats turn.events seat turn.deeds reading)).events
+placed_rise seats seat turn number (Err fault) under before =
+    with_other seats turn.events (event.Ruled seat number (placed_ruling seats turn.events seat turn.deeds (Err fault))) refl before
+placed_rise seats seat turn number (Ok done) under before =
+    order_rise seats seat turn number done (judgement_of seats turn.events seat turn.deeds done) refl under before
+
+-- the rules of an opening round at a table of so many seats: a line of a seat elsewhere does nothing
+abbrev rules_at : ℕ → RoundRules Bool
+rules_at seats =
+    record {
+      standing = after_standing_line;
+      nothing = false;
+      line = λ any seat turn line. if nat_lt seat.0 seats then after_line seats seat turn line else turn;
+      has_acted = λ acted. acted;
+      over = all_sold;
+      closed = λ any events. closed seats events;
+    }
+
+-- a number is under another where a test says so
+is_under : (a b : ℕ) → nat_lt a b ≡ true → a < b
+is_under a b under = grind (arith, nat_tests)
+
+-- a test says so where a number is under another
+says_under : (a b : ℕ) → a < b → nat_lt a b ≡ true
+says_under a b under = grind (arith, nat_tests)
+
+-- after a line where the test of its seat passes
+tested_rise : (seats : ℕ) (seat : Seat) (turn : InTurn) (line : Numbered) (b : Bool) → (b ≡ true → seat.0 < seats) → RiseAt seats turn.events →
+    RiseAt seats (if b then after_line seats seat turn line else turn).events
+tested_rise seats seat turn line true under before =
+    placed_rise seats seat turn line.number (placed has_place_in_group line.reading) (under refl) before
+tested_rise seats seat turn line false under before = before
+
+module _ (seats : ℕ) (some : 0 < seats) (start : InPlay (List Event) Numbered) (first : start.seat < seats) where
+  -- each turn is of a seat at the table
+  turn_at_table : (n : ℕ) → (iterate (after_turn (turns_of opening_rules seats)) n start).seat < seats
+  turn_at_table zero = first
+  turn_at_table (suc n) = left_within seats (Some (seat_at (iterate (after_turn (turns_of opening_rules seats)) n start).seat)) some
+
+  -- so it is one by the rules at the table
+  turn_by_rules : (at : InPlay (List Event) Numbered) → at.seat < seats →
+      after_turn (turns_of opening_rules seats) at ≡ after_turn (turns_of (rules_at seats) seats) at
+  turn_by_rules at under =
+      let seat : Seat = seat_at at.seat in
+      let group : List Numbered = next_group (groups_at at.groups at.seat) in
+      ap (λ (b : Bool).
+      turn_over (turns_of opening_rules seats) at
+      (turned opening_rules (after_each (λ (turn : InTurn) (line : Numbered). if b then after_line seats seat turn line else turn) (in_turn at.now false) group)))
+      (sym (says_under at.seat seats under))
+
+  -- and so are all of them
+  turns_by_rules : (n : ℕ) → iterate (after_turn (turns_of opening_rules seats)) n start ≡ iterate (after_turn (turns_of (rules_at seats) seats)) n start
+  turns_by_rules zero = refl
+  turns_by_rules (suc n) =
+      turn_by_rules (iterate (after_turn (turns_of opening_rules seats)) n start) (turn_at_table n)
+      ∙ ap (after_turn (turns_of (rules_at seats) seats)) (turns_by_rules n)
+
+-- an opening round is one by the rules at its table
+by_rules : (file : List ℕ) (round : Round) (old new : Game) → IsOpeningRound file round old new → 0 < old.seats →
+    IsRoundOfTurns (rules_at old.seats) file round old new
+by_rules file round old new played some =
+    let start : InPlay (List Event) Numbered = opened opening_rules old.seats file round old.events in
+    let same = turns_by_rules old.seats some start (priority_within old.seats old.events some) in
+    record {
+      last = played.last;
+      turns =
+          record {
+            steps = played.turns.steps;
+            reached = sym (same played.turns.steps) ∙ played.turns.reached;
+            over_then = played.turns.over_then;
+            not_before = λ k before.
+                ap (λ (at : InPlay (List Event) Numbered). turns_over (turns_of opening_rules old.seats) at) (sym (same k)) ∙ played.turns.not_before k before;
+          };
+      after = played.after;
+    }
+
+-- bids rise over an opening round
+pub opening_bids_rise : OpeningBidsRise
+opening_bids_rise file round old new played some seated rise =
+    let seats : ℕ = old.seats in
+    let begun : RiseAt seats (old.events ++ event.Round round ∷ []) =
+    with_other seats old.events (event.Round round) refl (record { rise = rise; seated = seated })
+    in
+    let kept : RiseAt seats new.events =
+    round_leads (rules_at seats) (λ (a b : List Event). RiseAt seats a → RiseAt seats b)
+    (record {
+      stays = λ events before. before;
+      further = λ a b c first second before. second (first before);
+      standing = λ seat events line before. with_other seats events (event.Ruled seat line.number (standing_ruling events line.reading)) refl before;
+      line = λ any seat turn line before. tested_rise seats seat turn line (nat_lt seat.0 seats) (λ under. is_under seat.0 seats under) before;
+      passes = λ events seat before. with_other seats events (event.Passes seat) refl before;
+      closed = λ any events before. closed_rise seats events before;
+      leaves = λ events seat lines before. with_other seats events (event.Left seat lines) refl before;
+    })
+    file round old new (by_rules file round old new played some) begun
+    in
+    kept.rise
