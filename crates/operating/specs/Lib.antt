@@ -8,7 +8,9 @@ pub mod Dividend
 pub mod Trains
 pub mod Discards
 pub mod Phases
+pub mod Offers
 pub mod Standing
+pub mod Privates
 pub mod Turn
 pub mod LegalRuns
 pub mod Laws
