@@ -48,6 +48,10 @@ abbrev pub is_given : List Event → Company → Private → ℕ → Bool
 is_given events company private price =
     is_given_by events (owner_of events private) (president_of events company) (offer.Private private company price)
 
+-- the company has less than the price
+abbrev pub is_too_dear : Game → Company → ℕ → Bool
+is_too_dear game company price = lt_z (cash_of game.seats game.events (party_of_company company)) (pos price)
+
 -- the rules of the purchase of a private by a company
 abbrev pub private_rules : Game → Company → Private → ℕ → List (Rule PrivateRule)
 private_rules game company private price =
@@ -55,7 +59,7 @@ private_rules game company private price =
     ∷ record { code = WrongPrice; broken = is_wrong_price private price }
     ∷ record { code = NoConsent; broken = not (is_given game.events company private price) }
     ∷ record { code = NeverSold; broken = same_private private BaltimoreOhio }
-    ∷ record { code = CashTooSmall; broken = lt_z (cash_of game.seats game.events (party_of_company company)) (pos price) }
+    ∷ record { code = CashTooSmall; broken = is_too_dear game company price }
     ∷ []
 
 -- the first rule that it breaks

@@ -142,7 +142,7 @@ abbrev pub is_not_sellers : List Event → Company → Kind → TrainSeller → 
 is_not_sellers events buyer kind seller.Bank = false
 is_not_sellers events buyer kind seller.BankPool = false
 is_not_sellers events buyer kind (seller.Company company) =
-    not (has_train events company kind) || same_company company buyer
+    not (has_train events company kind) || same_company buyer company
 
 -- the rules of a purchase by a company
 abbrev pub purchase_rules : Game → Company → Purchase → List (Rule TrainRule)

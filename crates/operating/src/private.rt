@@ -2,7 +2,7 @@
 ghost use Rattle.std.specs.Prelude.{◌≡◌, IfOk, OnOk, None};
 ghost use Rattle.history.specs.Sound.{IsSound};
 ghost use Rattle.operating.specs.InTurn.{in_turn};
-ghost use Rattle.operating.specs.Privates.{after_private, is_given as is_sale_given, is_given_by as is_sale_given_by, is_too_early as too_early, is_wrong_price as wrong_price, private_bought, private_judgement};
+ghost use Rattle.operating.specs.Privates.{after_private, is_given as is_sale_given, is_given_by as is_sale_given_by, is_too_dear as too_dear, is_too_early as too_early, is_wrong_price as wrong_price, private_bought, private_judgement};
 
 use crate::operator::Operator;
 use crate::progress::Progress;
@@ -27,7 +27,7 @@ pub(crate) fn rule_private(
         ≡ after_private by (in_turn history.old progress) line private price) }
     ensures sound { OnOk result (IsSound history.new) }
 {
-    let broken = judge_private(&history.now(), by.company, private, price);
+    let broken = judge_private(history, by.company, private, price);
     let kept = history.keep(&Order::BuyOwnedPrivate { private, price })?;
     if let Some(rule) = broken {
         let refused = KeptRuling::refused(Refusal::Private(rule), kept);
@@ -64,11 +64,18 @@ fn buy_private(
 
 /// The first rule that the purchase of a private by a company breaks; `None` if it breaks none.
 fn judge_private(
-    past: &Past,
+    history: &History,
     company: Company,
     private: Private,
     price: Amount,
 ) -> Option<PrivateRule>
+    ensures { result ≡ private_judgement history.now company private price }
+{
+    broken_by(&history.now(), company, private, price)
+}
+
+/// The first rule that the purchase of a private breaks.
+fn broken_by(past: &Past, company: Company, private: Private, price: Amount) -> Option<PrivateRule>
     ensures { result ≡ private_judgement
         (record { seats = past.now.seats; events = past.now.events.now }) company private price }
 {
@@ -84,10 +91,18 @@ fn judge_private(
     if private == Private::BaltimoreOhio {
         return Some(PrivateRule::NeverSold);
     }
-    if past.cash(Party::of_company(company)) < Money::from(price) {
+    if is_too_dear(past, company, price) {
         return Some(PrivateRule::CashTooSmall);
     }
     None
+}
+
+/// Whether a company has less than a price.
+fn is_too_dear(past: &Past, company: Company, price: Amount) -> bool
+    ensures { result ≡ too_dear
+        (record { seats = past.now.seats; events = past.now.events.now }) company price }
+{
+    past.cash(Party::of_company(company)) < Money::from(price)
 }
 
 /// Whether phase 3 has not begun.

@@ -220,7 +220,7 @@ fn is_not_sellers(past: &Past, buyer: Company, kind: Kind, from: TrainSeller) ->
     ensures { result ≡ none_of_sellers past.now.events.now buyer kind from }
 {
     match from {
-        TrainSeller::Company(seller) => !has_train(past, seller, kind) || seller == buyer,
+        TrainSeller::Company(seller) => !has_train(past, seller, kind) || buyer == seller,
         TrainSeller::Bank | TrainSeller::BankPool => false,
     }
 }
