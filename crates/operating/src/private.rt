@@ -116,7 +116,7 @@ fn is_too_early(past: &Past) -> bool
 fn is_wrong_price(private: Private, price: Amount) -> bool
     ensures { result ≡ wrong_price private price }
 {
-    let (face, price) = (Money::from(face(private)), Money::from(price));
+    let (face, price) = (u64::from(face(private)), u64::from(price));
     price + price < face || face + face < price
 }
 
