@@ -5,8 +5,8 @@ pub mod Done
 pub mod InTurn
 pub mod Runs
 pub mod Dividend
-pub mod Trains
 pub mod Discards
+pub mod Trains
 pub mod Phases
 pub mod Offers
 pub mod Standing

@@ -1,8 +1,9 @@
 //! The purchase of a private by a company.
-ghost use Rattle.std.specs.Prelude.{◌≡◌, IfOk, OnOk, None};
+ghost use Rattle.std.specs.Prelude.{◌≡◌, IfOk, OnOk, None, Some};
+ghost use Rattle.history.specs.LookBack.{owner_of};
 ghost use Rattle.history.specs.Sound.{IsSound};
 ghost use Rattle.operating.specs.InTurn.{in_turn};
-ghost use Rattle.operating.specs.Privates.{after_private, is_given as is_sale_given, is_given_by as is_sale_given_by, is_too_dear as too_dear, is_too_early as too_early, is_wrong_price as wrong_price, private_bought, private_judgement};
+ghost use Rattle.operating.specs.Privates.{after_private, is_given as is_sale_given, is_given_by as is_sale_given_by, is_too_dear as too_dear, is_too_early as too_early, is_wrong_price as wrong_price, private_bought, private_judgement, sold_by};
 
 use crate::operator::Operator;
 use crate::progress::Progress;
@@ -51,14 +52,36 @@ fn buy_private(
     ensures after { OnOk result (history.new ≡ private_bought history.old company private price) }
     ensures sound { OnOk result (IsSound history.new) }
 {
-    if let Some(Holder::Seat(seller)) = history.owner(private) {
-        history.append(Event::PrivateBought {
-            private,
-            company,
-            seller,
-            price,
-        })?;
-    }
+    let Some(owner) = history.owner(private) else {
+        return Ok(());
+    };
+    buy_from(history, company, private, price, owner)
+}
+
+/// A company buys a private from this owner, if that is a player.
+fn buy_from(
+    history: &mut History,
+    company: Company,
+    private: Private,
+    price: Amount,
+    owner: Holder,
+) -> Result<(), AllocError>
+    requires owner { owner_of history.old.events private ≡ Some owner }
+    requires may { private_judgement history.old company private price ≡ None }
+    requires sound { IsSound history.old }
+    ensures after { OnOk result (history.new
+        ≡ sold_by history.old company private price (Some owner)) }
+    ensures sound { OnOk result (IsSound history.new) }
+{
+    let Holder::Seat(seller) = owner else {
+        return Ok(());
+    };
+    history.append(Event::PrivateBought {
+        private,
+        company,
+        seller,
+        price,
+    })?;
     Ok(())
 }
 
