@@ -6,13 +6,11 @@ use Rattle.std.proofs.lemmas.Int.{ints}
 use Rattle.std.specs.Int.Signed.{lt_z}
 use Rattle.std.specs.Option.{option_flatten, option_map}
 use Rattle.history.proofs.EventAtEnd.{cash_of_before, last_said_before, president_of_before}
-use Rattle.history.proofs.PrivateActs.{private_sound}
 use Rattle.history.specs.Event.{obeyed_of, ownership_of, party_of_company, phase_set}
 use Rattle.history.specs.LookBack.{Game, cash_of, in_round, owner_of, owner_said, with_event}
 use Rattle.history.specs.Offers.{has_consent, offered_in}
 use Rattle.history.specs.Orders.{said_by}
 use Rattle.history.specs.Shares.{president_of}
-use Rattle.history.specs.Sound.{IsSound}
 use Rattle.history.specs.Trains.{phase_of}
 use Rattle.history.specs.declared.event.Event.{Event}
 use Rattle.history.specs.declared.event.Event.TheVariants.{Ruled}
@@ -23,7 +21,7 @@ use Rattle.history.specs.declared.ruling.PrivateRule.TheVariants.{TooEarly, Wron
 use Rattle.history.specs.declared.ruling.Ruling.TheVariants.{Obeyed}
 use Rattle.operating.proofs.Buying.{not_less}
 use Rattle.operating.specs.InTurn.{InTurn, in_turn, told}
-use Rattle.operating.specs.Privates.{after_private, is_given, is_given_by, is_wrong_price, private_bought, private_judgement, private_ruled, private_rules, sold_by}
+use Rattle.operating.specs.Privates.{after_private, is_given, is_given_by, is_wrong_price, private_bought, private_judgement, private_ruled, private_rules}
 use Rattle.operating.specs.declared.operator.Operator.{Operator}
 use Rattle.order_grammar.specs.declared.order.Offer.{Offer}
 use Rattle.order_grammar.specs.declared.order.Offer.TheVariants as offer
@@ -68,14 +66,6 @@ may_sell game company private price none =
       pays = not_less (cash_of game.seats game.events (party_of_company company)) (pos price) kept.1.1.1.1.0;
     }
 
--- so the list is sound once its owner has sold it
-pub sale_sound : (game new : Game) (company : Company) (private : Private) (price : ℕ) (owner : Option Holder) →
-    owner_of game.events private ≡ owner → private_judgement game company private price ≡ None → new ≡ sold_by game company private price owner →
-    IsSound game → IsSound new
-sale_sound game new company private price (Some (holder.Seat seller)) owns none is sound =
-    subst IsSound (sym is) (private_sound game private company seller price owns (may_sell game company private price none).pays sound)
-sale_sound game new company private price (Some (holder.Company other)) owns none is sound = subst IsSound (sym is) sound
-sale_sound game new company private price None owns none is sound = subst IsSound (sym is) sound
 
 module _ (events : List Event) (seat : Seat) (number : ℕ) (private : Private) (price : ℕ) where
   -- a line PRIVATE
