@@ -29,3 +29,4 @@ pub mod TurnGames
 pub mod TurnLaws
 pub mod Tiles
 pub mod Operated
+pub mod Consents

@@ -66,7 +66,6 @@ may_sell game company private price none =
       pays = not_less (cash_of game.seats game.events (party_of_company company)) (pos price) kept.1.1.1.1.0;
     }
 
-
 module _ (events : List Event) (seat : Seat) (number : ℕ) (private : Private) (price : ℕ) where
   -- a line PRIVATE
   abbrev line : Event

@@ -16,3 +16,4 @@ pub mod LegalRuns
 pub mod Laws
 pub mod TrainLaws
 pub mod TileLaws
+pub mod ConsentLaws

@@ -11,10 +11,12 @@
 //! of the board see it), `ruling`, `home`, `lay` and `token` (what orders do) with `cost`,
 //! `running`, `withholding`, `dividend`, `purchase` (the rules of trains), `discards`, `phases`
 //! (what a train brings), `train`, `private` (that it buys), `turn` (the lines of a block), `playing`, `standing` (the lines
-//! before the first block) with `offers`, `laws` (what holds of every turn), `train_laws`, `tile_laws`.
+//! before the first block) with `offers`, `laws` (what holds of every turn), `train_laws`, `tile_laws`,
+//! `consent_laws`.
 #![tactic(auto)]
 
 mod asker;
+mod consent_laws;
 mod cost;
 mod discards;
 mod dividend;
@@ -40,6 +42,7 @@ mod train_laws;
 mod turn;
 mod withholding;
 
+pub use consent_laws::sellers_agree;
 pub use laws::{
     company_operates, company_turn_ends, no_more_is_paid, obeyed_runs_are_legal, one_company_turn,
     turn_only_adds,
