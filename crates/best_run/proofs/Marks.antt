@@ -1,0 +1,77 @@
+-- Marks of borders: marking some, and what is left unmarked.
+use Rattle.std.proofs.Common.{◌≡◌, ℕ, zero, suc, ◌+◌, ◌*◌, ◌<◌, ◌≤◌, Bool, true, false, not, ◌||◌, List, [], ◌∷◌, length, get_or, set, drop, refl, sym, ap, subst, ◌∙◌, arith, add-one, drop-cons, length-set}
+use Rattle.std.specs.List.{AllByRecursion, list_any}
+use Rattle.best_run.specs.Fit.{BordersFit, if_unset, unused}
+use Rattle.best_run.specs.Moves.{marked_all, misses}
+
+-- a border of some by its place
+pub fits_at : (borders : List ℕ) → BordersFit borders → (i d : ℕ) → i < length borders → get_or borders i d < 279
+fits_at [] fit i d low = absurd (omega arith)
+fits_at (border ∷ borders) fit zero d low = fit.0
+fits_at (border ∷ borders) fit (suc i) d low = fits_at borders fit.1 i d (omega arith)
+
+-- the next border is marked, and then the others
+pub marked_step : (used : List Bool) (borders : List ℕ) (i d : ℕ) → i < length borders → marked_all used (drop i borders) ≡ marked_all (set used (get_or borders i d) true) (drop (i + 1) borders)
+marked_step used borders i d low = rw (add-one, drop-cons borders i d)
+
+pub marked_end : (used : List Bool) (borders : List ℕ) (i : ℕ) → length borders ≤ i → marked_all used (drop i borders) ≡ used
+marked_end used [] zero past = refl
+marked_end used [] (suc i) past = refl
+marked_end used (border ∷ borders) zero past = absurd (omega arith)
+marked_end used (border ∷ borders) (suc i) past = marked_end used borders i (omega arith)
+
+or_false : (a b : Bool) → a ≡ false → (a || b) ≡ b
+or_false true b is = absurd cc
+or_false false b is = refl
+
+or_true : (a b : Bool) → a ≡ true → (a || b) ≡ true
+or_true true b is = refl
+or_true false b is = absurd cc
+
+-- the next border is not used, so the others tell
+pub misses_step : (used : List Bool) (borders : List ℕ) (i d : ℕ) → i < length borders → get_or used (get_or borders i d) false ≡ false → misses used (drop i borders) ≡ misses used (drop (i + 1) borders)
+misses_step used borders i d low free =
+    rw (add-one, drop-cons borders i d) (ap not (or_false (get_or used (get_or borders i d) false) (list_any (λ border. get_or used border false) (drop (suc i) borders)) free))
+
+-- the next border is used
+pub misses_used : (used : List Bool) (borders : List ℕ) (i d : ℕ) → i < length borders → get_or used (get_or borders i d) false ≡ true → misses used (drop i borders) ≡ false
+misses_used used borders i d low taken =
+    rw (drop-cons borders i d) (ap not (or_true (get_or used (get_or borders i d) false) (list_any (λ border. get_or used border false) (drop (suc i) borders)) taken))
+
+pub misses_end : (used : List Bool) (borders : List ℕ) (i : ℕ) → length borders ≤ i → misses used (drop i borders) ≡ true
+misses_end used [] zero past = refl
+misses_end used [] (suc i) past = refl
+misses_end used (border ∷ borders) zero past = absurd (omega arith)
+misses_end used (border ∷ borders) (suc i) past = misses_end used borders i (omega arith)
+
+-- a mark leaves no more unset
+set_most : (marks : List Bool) (border : ℕ) → unused (set marks border true) ≤ unused marks
+set_most [] border = omega arith
+set_most (mark ∷ marks) zero = omega arith
+set_most (mark ∷ marks) (suc border) = let rest = set_most marks border in omega arith
+
+-- a new mark leaves one fewer
+set_fewer : (marks : List Bool) (border : ℕ) → border < length marks → get_or marks border false ≡ false → unused (set marks border true) + 1 ≡ unused marks
+set_fewer [] border low free = absurd (omega arith)
+set_fewer (mark ∷ marks) zero low free = let counts : if_unset mark ≡ 1 = ap if_unset free in omega arith
+set_fewer (mark ∷ marks) (suc border) low free = let rest = set_fewer marks border (omega arith) free in omega arith
+
+marked_most : (used : List Bool) (borders : List ℕ) → unused (marked_all used borders) ≤ unused used
+marked_most used [] = omega arith
+marked_most used (border ∷ borders) =
+    omega (arith, marked_most (set used border true) borders, set_most used border)
+
+pub length_marked : (used : List Bool) (borders : List ℕ) → length (marked_all used borders) ≡ length used
+length_marked used [] = refl
+length_marked used (border ∷ borders) = length_marked (set used border true) borders ∙ length-set used border true
+
+first_free : (a b : Bool) → not (a || b) ≡ true → a ≡ false
+first_free true b is = absurd cc
+first_free false b is = refl
+
+-- new marks leave at least one fewer
+pub marked_fewer : (used : List Bool) (borders : List ℕ) → length used ≡ 279 → BordersFit borders → 0 < length borders → misses used borders ≡ true → unused (marked_all used borders) + 1 ≤ unused used
+marked_fewer used [] whole fit some free = absurd (omega arith)
+marked_fewer used (border ∷ borders) whole fit some free =
+    let one : unused (set used border true) + 1 ≡ unused used = set_fewer used border (omega (arith, fit.0)) (first_free (get_or used border false) (list_any (λ b. get_or used b false) borders) free) in
+    omega (arith, marked_most (set used border true) borders)

@@ -1,0 +1,162 @@
+-- What has been tried: moves of one sort after those of another, a piece as a move, and all moves of a state.
+use Rattle.std.proofs.Common.{◌≡◌, ℕ, suc, ◌+◌, ◌<◌, ◌≤◌, Bool, true, false, ◌⊎◌, inl, inr, Some, List, [], ◌∷◌, length, slice_get, refl, sym, ap, subst, ◌∙◌, arith, le_trans}
+use Rattle.best_run.specs.declared.task.Piece.{Piece}
+use Rattle.best_run.specs.declared.task.Task.{Task}
+use Rattle.best_run.specs.declared.state.Settled.{Settled}
+use Rattle.best_run.specs.declared.state.Standing.{Standing}
+use Rattle.best_run.specs.Moves.{Allows, Any, CanEarn, Completes, Explores, IsBegin, IsBeginAt, IsGo, IsOpen, IsTurn, LeadsFrom, Move, State, Takes, Tries, along, begin, begun, between, can_take, ends_in, go, node_at, own_in, pass, passed, pieces_in, settle, settling, standing, total_after, turn, turned, using}
+
+-- nothing has been tried
+pub tries_none : (task : Task) (state : State) (P : Move → Type 0) (best : ℕ) → ((move : Move) → P move → Allows task state move → ⊥) → Tries task state P best best
+tries_none task state P best none =
+    record {
+      grows = omega arith;
+      earned = λ possible earned. earned;
+      most = λ move moves is completes. absurd (none move is completes.0);
+    }
+
+-- moves of one sort, and then those of another
+pub tries_both : (task : Task) (state : State) (P Q R : Move → Type 0) (old middle new : ℕ) → Tries task state P old middle → Tries task state Q middle new → ((move : Move) → R move → Allows task state move → P move ⊎ Q move) → Tries task state R old new
+tries_both task state P Q R old middle new first second either =
+    record {
+      grows = le_trans first.grows second.grows;
+      earned = λ possible earned. second.earned possible (first.earned possible earned);
+      most = λ move moves is completes. elim (either move is completes.0) [
+        | inl p ↦ le_trans (first.most move moves p completes) second.grows
+        | inr q ↦ second.most move moves q completes
+      ];
+    }
+
+-- fewer moves
+pub tries_fewer : (task : Task) (state : State) (P R : Move → Type 0) (old new : ℕ) → Tries task state P old new → ((move : Move) → R move → Allows task state move → P move) → Tries task state R old new
+tries_fewer task state P R old new tries are =
+    record {
+      grows = tries.grows;
+      earned = tries.earned;
+      most = λ move moves is completes. tries.most move moves (are move is completes.0) completes;
+    }
+
+-- all ways on from a piece, if a run may take it, earn at most so much
+abbrev MostBy : Task → Settled → Standing → ℕ → Piece → Type 0
+MostBy task settled run new piece =
+    can_take task run settled.used piece ≡ true → (moves : List Move) → Completes task (standing (using settled piece) (along task run piece)) moves → total_after task (standing (using settled piece) (along task run piece)) moves ≤ new
+
+-- the piece at a place is one
+same_piece : (task : Task) (stop index other : ℕ) (piece found : Piece) → LeadsFrom task stop index piece → LeadsFrom task stop other found → other ≡ index → piece ≡ found
+same_piece task stop index other piece found leads finds same =
+    let e : Some piece ≡ Some found = sym leads ∙ (ap (λ i. slice_get (pieces_in (node_at task stop)) i) (sym same) ∙ finds) in cc
+
+go_most : (task : Task) (settled : Settled) (run : Standing) (index : ℕ) (piece : Piece) (new : ℕ) → LeadsFrom task run.head index piece → MostBy task settled run new piece → (move : Move) (moves : List Move) → IsGo (λ i. i ≡ index) move → Completes task (standing settled run) (move ∷ moves) → total_after task (standing settled run) (move ∷ moves) ≤ new
+go_most task settled run index piece new leads most pass moves is completes = absurd is
+go_most task settled run index piece new leads most (begin token i found) moves is completes = absurd is
+go_most task settled run index piece new leads most (go i found) moves is completes =
+    subst (MostBy task settled run new) (same_piece task run.head index i piece found leads completes.0.leads is) most completes.0.taken moves completes.1
+go_most task settled run index piece new leads most (turn i found) moves is completes = absurd is
+go_most task settled run index piece new leads most settle moves is completes = absurd is
+
+-- a piece from where the run stands has been tried
+pub take_go : (task : Task) (settled : Settled) (run : Standing) (index : ℕ) (piece : Piece) (old new : ℕ) → ends_in (node_at task run.head) ≡ false → LeadsFrom task run.head index piece → Takes task settled run piece old new → Tries task (standing settled run) (IsGo (λ i. i ≡ index)) old new
+take_go task settled run index piece old new passes leads takes =
+    record {
+      grows = takes.grows;
+      earned = λ possible. takes.earned (λ taken moves completes. possible (go index piece ∷ moves) (record { passes = passes; leads = leads; taken = taken }, completes));
+      most = go_most task settled run index piece new leads takes.most;
+    }
+
+turn_most : (task : Task) (settled : Settled) (run : Standing) (index : ℕ) (piece : Piece) (new : ℕ) → LeadsFrom task run.token index piece → MostBy task settled (turned run) new piece → (move : Move) (moves : List Move) → IsTurn (λ i. i ≡ index) move → Completes task (standing settled run) (move ∷ moves) → total_after task (standing settled run) (move ∷ moves) ≤ new
+turn_most task settled run index piece new leads most pass moves is completes = absurd is
+turn_most task settled run index piece new leads most (begin token i found) moves is completes = absurd is
+turn_most task settled run index piece new leads most (go i found) moves is completes = absurd is
+turn_most task settled run index piece new leads most (turn i found) moves is completes =
+    subst (MostBy task settled (turned run) new) (same_piece task run.token index i piece found leads completes.0.leads is) most completes.0.taken moves completes.1
+turn_most task settled run index piece new leads most settle moves is completes = absurd is
+
+-- a second piece from the token has been tried
+pub take_turn : (task : Task) (settled : Settled) (run : Standing) (index : ℕ) (piece : Piece) (old new : ℕ) → run.second ≡ false → run.first < index → ends_in (node_at task run.token) ≡ false → LeadsFrom task run.token index piece → Takes task settled (turned run) piece old new → Tries task (standing settled run) (IsTurn (λ i. i ≡ index)) old new
+take_turn task settled run index piece old new first later passes leads takes =
+    record {
+      grows = takes.grows;
+      earned = λ possible. takes.earned (λ taken moves completes. possible (turn index piece ∷ moves) (record { first = first; later = later; passes = passes; leads = leads; taken = taken }, completes));
+      most = turn_most task settled run index piece new leads takes.most;
+    }
+
+begin_most : (task : Task) (settled : Settled) (stop index : ℕ) (piece : Piece) (new : ℕ) → LeadsFrom task stop index piece → MostBy task settled (begun task settled stop index) new piece → (move : Move) (moves : List Move) → IsBeginAt stop (λ i. i ≡ index) move → Completes task (between settled) (move ∷ moves) → total_after task (between settled) (move ∷ moves) ≤ new
+begin_most task settled stop index piece new leads most pass moves is completes = absurd is
+begin_most task settled stop index piece new leads most (begin token i found) moves is completes =
+    let P : ℕ → ℕ → Type 0 = λ t k. LeadsFrom task t k found in
+    let finds : LeadsFrom task stop i found = subst (λ (t : ℕ). LeadsFrom task t i found) is.0 completes.0.leads in
+    let most_found : MostBy task settled (begun task settled stop index) new found = subst (MostBy task settled (begun task settled stop index) new) (same_piece task stop index i piece found leads finds is.1) most in
+    let most_there : MostBy task settled (begun task settled token index) new found = subst (λ (t : ℕ). MostBy task settled (begun task settled t index) new found) (sym is.0) most_found in
+    let most_by : MostBy task settled (begun task settled token i) new found = subst (λ (k : ℕ). MostBy task settled (begun task settled token k) new found) (sym is.1) most_there in
+    most_by completes.0.taken moves completes.1
+begin_most task settled stop index piece new leads most (go i found) moves is completes = absurd is
+begin_most task settled stop index piece new leads most (turn i found) moves is completes = absurd is
+begin_most task settled stop index piece new leads most settle moves is completes = absurd is
+
+-- a first piece from a token has been tried
+pub take_begin : (task : Task) (settled : Settled) (stop index : ℕ) (piece : Piece) (old new : ℕ) → settled.next < length task.trains.items → own_in (node_at task stop) ≡ true → LeadsFrom task stop index piece → Takes task settled (begun task settled stop index) piece old new → Tries task (between settled) (IsBeginAt stop (λ i. i ≡ index)) old new
+take_begin task settled stop index piece old new train own leads takes =
+    record {
+      grows = takes.grows;
+      earned = λ possible. takes.earned (λ taken moves completes. possible (begin stop index piece ∷ moves) (record { train = train; own = own; leads = leads; taken = taken }, completes));
+      most = begin_most task settled stop index piece new leads takes.most;
+    }
+
+-- all trains are settled, and the best is kept
+over_most : (task : Task) (settled : Settled) (new : ℕ) → length task.trains.items ≤ settled.next → settled.total ≤ new → (moves : List Move) → Completes task (between settled) moves → total_after task (between settled) moves ≤ new
+over_most task settled new over low [] completes = low
+over_most task settled new over low (pass ∷ moves) completes = let before : settled.next < length task.trains.items = completes.0 in absurd (omega arith)
+over_most task settled new over low (begin token i found ∷ moves) completes = absurd (omega (arith, completes.0.train))
+over_most task settled new over low (go i found ∷ moves) completes = absurd completes.0
+over_most task settled new over low (turn i found ∷ moves) completes = absurd completes.0
+over_most task settled new over low (settle ∷ moves) completes = absurd completes.0
+
+pub over_better : (task : Task) (settled : Settled) (old : ℕ) → length task.trains.items ≤ settled.next → old ≤ settled.total → Explores task (between settled) old settled.total
+over_better task settled old over low =
+    record {
+      grows = low;
+      earned = λ possible earned. possible [] over;
+      most = over_most task settled settled.total over (omega arith);
+    }
+
+pub over_no_better : (task : Task) (settled : Settled) (old : ℕ) → length task.trains.items ≤ settled.next → settled.total ≤ old → Explores task (between settled) old old
+over_no_better task settled old over low =
+    record {
+      grows = omega arith;
+      earned = λ possible earned. earned;
+      most = over_most task settled old over low;
+    }
+
+-- the next train has passed, and has begun all its runs
+pub explores_between : (task : Task) (settled : Settled) (old middle new : ℕ) → settled.next < length task.trains.items → Explores task (between (passed settled)) old middle → Tries task (between settled) (IsBegin Any) middle new → Explores task (between settled) old new
+explores_between task settled old middle new before first second =
+    record {
+      grows = le_trans first.grows second.grows;
+      earned = λ possible earned. second.earned possible (first.earned (λ moves completes. possible (pass ∷ moves) (before, completes)) earned);
+      most = by_moves;
+    }
+  where
+    by_moves : (moves : List Move) → Completes task (between settled) moves → total_after task (between settled) moves ≤ new
+    by_moves [] completes = absurd (let over : length task.trains.items ≤ settled.next = completes in omega arith)
+    by_moves (pass ∷ moves) completes = le_trans (first.most moves completes.1) second.grows
+    by_moves (begin token i found ∷ moves) completes = second.most (begin token i found) moves tt completes
+    by_moves (go i found ∷ moves) completes = absurd completes.0
+    by_moves (turn i found ∷ moves) completes = absurd completes.0
+    by_moves (settle ∷ moves) completes = absurd completes.0
+
+-- the run has been settled, has gone on and has turned
+pub explores_standing : (task : Task) (settled : Settled) (run : Standing) (old a b new : ℕ) → Explores task (between (settling settled run)) old a → Tries task (standing settled run) (IsGo Any) a b → Tries task (standing settled run) (IsTurn Any) b new → Explores task (standing settled run) old new
+explores_standing task settled run old a b new first second third =
+    record {
+      grows = le_trans first.grows (le_trans second.grows third.grows);
+      earned = λ possible earned. third.earned possible (second.earned possible (first.earned (λ moves completes. possible (settle ∷ moves) (tt, completes)) earned));
+      most = by_moves;
+    }
+  where
+    by_moves : (moves : List Move) → Completes task (standing settled run) moves → total_after task (standing settled run) moves ≤ new
+    by_moves [] completes = absurd completes
+    by_moves (pass ∷ moves) completes = absurd completes.0
+    by_moves (begin token i found ∷ moves) completes = absurd completes.0
+    by_moves (go i found ∷ moves) completes = le_trans (second.most (go i found) moves tt completes) third.grows
+    by_moves (turn i found ∷ moves) completes = third.most (turn i found) moves tt completes
+    by_moves (settle ∷ moves) completes = le_trans (first.most moves completes.1) (le_trans second.grows third.grows)

@@ -1,0 +1,42 @@
+-- What keeps a search within its bounds: the numbers of stops and borders, and what can be earned by the borders
+-- that are not used.
+use Rattle.std.specs.Prelude.{◌≡◌, ℕ, ◌+◌, ◌*◌, ◌<◌, ◌≤◌, Bool, true, false, Some, List, [], ◌∷◌, length, slice_get}
+use Rattle.std.specs.List.{AllByRecursion}
+use Rattle.best_run.specs.declared.task.Node.{Node}
+use Rattle.best_run.specs.declared.task.Piece.{Piece}
+use Rattle.best_run.specs.declared.task.Task.{Task}
+use Rattle.best_run.specs.declared.state.Settled.{Settled}
+
+-- borders by their numbers
+abbrev pub BordersFit : List ℕ → Type 0
+BordersFit borders = AllByRecursion (λ border. border < 279) borders
+
+-- a piece leads to a stop of the map, over at least one border
+pub record PieceFits (piece : Piece) : Type 0 where
+  pub to : piece.to < 186
+  pub borders : BordersFit piece.borders.items
+  pub some : 0 < length piece.borders.items
+
+-- a stop is worth at most 80 dollars
+pub record NodeFits (node : Node) : Type 0 where
+  pub value : node.value ≤ 80
+  pub pieces : (index : ℕ) (piece : Piece) → slice_get node.pieces.items index ≡ Some piece → PieceFits piece
+
+-- all stops of the map are there, each fit
+pub record IsFit (task : Task) : Type 0 where
+  pub all : length task.stops.items ≡ 186
+  pub nodes : (stop : ℕ) (node : Node) → slice_get task.stops.items stop ≡ Some node → NodeFits node
+  pub trains : (index : ℕ) (most : ℕ) → slice_get task.trains.items index ≡ Some most → most ≤ 186
+
+-- how many of some marks are not set
+abbrev pub if_unset : Bool → ℕ
+if_unset true = 0
+if_unset false = 1
+
+abbrev pub unused : List Bool → ℕ
+unused [] = 0
+unused (mark ∷ marks) = if_unset mark + unused marks
+
+-- so much is earned, and each border that is not used is good for 160 dollars more, within a limit
+abbrev pub HasRoom : List Bool → ℕ → ℕ → Type 0
+HasRoom used amount limit = amount + 160 * unused used ≤ limit

@@ -1,0 +1,237 @@
+-- What the search goes over: from nothing settled, move by move, to all trains settled. The next train passes, or
+-- begins a run at a token by a piece of plain track; a run that has begun goes on from where it stands, or turns,
+-- which is to leave its token by a later piece, or is settled.
+use Rattle.std.specs.Prelude.{◌≡◌, ℕ, ◌+◌, ◌-◌, ◌<◌, ◌≤◌, Bool, true, false, not, ◌&&◌, nat_lt, Option, Some, None, List, [], ◌∷◌, length, get_or, set, slice_get, replicate}
+use Rattle.std.specs.List.{list_any}
+use Rattle.best_run.specs.declared.task.Node.{Node}
+use Rattle.best_run.specs.declared.task.Piece.{Piece}
+use Rattle.best_run.specs.declared.task.Task.{Task}
+use Rattle.best_run.specs.declared.state.Settled.{Settled}
+use Rattle.best_run.specs.declared.state.Standing.{Standing}
+
+-- what is known of a stop, by its number
+abbrev pub value_in : Option Node → ℕ
+value_in (Some node) = node.value
+value_in None = 0
+
+abbrev pub own_in : Option Node → Bool
+own_in (Some node) = node.own
+own_in None = false
+
+abbrev pub ends_in : Option Node → Bool
+ends_in (Some node) = node.ends
+ends_in None = true
+
+abbrev pub pieces_in : Option Node → List Piece
+pieces_in (Some node) = node.pieces.items
+pieces_in None = []
+
+abbrev pub node_at : Task → ℕ → Option Node
+node_at task stop = slice_get task.stops.items stop
+
+-- a piece leads from a stop, at a place among its pieces
+abbrev pub LeadsFrom : Task → ℕ → ℕ → Piece → Type 0
+LeadsFrom task stop index piece = slice_get (pieces_in (node_at task stop)) index ≡ Some piece
+
+-- no border of some is used
+abbrev pub misses : List Bool → List ℕ → Bool
+misses used borders = not (list_any (λ border. get_or used border false) borders)
+
+-- the used borders, with more
+abbrev pub marked_all : List Bool → List ℕ → List Bool
+marked_all used [] = used
+marked_all used (border ∷ borders) = marked_all (set used border true) borders
+
+-- a run may visit a stop: it has not, and it is no own token before the one where it began
+abbrev pub may_visit : Task → Standing → ℕ → Bool
+may_visit task run stop =
+    not (get_or run.visited stop false) && not (own_in (node_at task stop) && nat_lt stop run.token)
+
+-- a run may take a piece
+abbrev pub can_take : Task → Standing → List Bool → Piece → Bool
+can_take task run used piece = nat_lt 0 run.left && (may_visit task run piece.to && misses used piece.borders.items)
+
+-- a run that stands at a token, and is to leave it by a piece
+abbrev pub begun : Task → Settled → ℕ → ℕ → Standing
+begun task settled token index =
+    record {
+      token = token;
+      first = index;
+      second = false;
+      head = token;
+      left = get_or task.trains.items settled.next 0 - 1;
+      value = value_in (node_at task token);
+      visited = set (replicate 186 false) token true;
+    }
+
+-- a run that is to leave its token by a second piece
+abbrev pub turned : Standing → Standing
+turned run = record run { second = true }
+
+-- a run after a piece
+abbrev pub along : Task → Standing → Piece → Standing
+along task run piece =
+    record run {
+      head = piece.to;
+      left = run.left - 1;
+      value = run.value + value_in (node_at task piece.to);
+      visited = set run.visited piece.to true;
+    }
+
+-- the borders of a piece are used
+abbrev pub using : Settled → Piece → Settled
+using settled piece = record settled { used = marked_all settled.used piece.borders.items }
+
+-- the next train does not run
+abbrev pub passed : Settled → Settled
+passed settled = record settled { next = settled.next + 1 }
+
+-- the run begun is settled
+abbrev pub settling : Settled → Standing → Settled
+settling settled run = record settled { next = settled.next + 1; total = settled.total + run.value }
+
+-- a state of the search
+pub data State : Type 0 where
+  between : Settled → State
+  standing : Settled → Standing → State
+
+-- a move
+pub data Move : Type 0 where
+  pass : Move
+  begin : ℕ → ℕ → Piece → Move
+  go : ℕ → Piece → Move
+  turn : ℕ → Piece → Move
+  settle : Move
+
+pub record MayBegin (task : Task) (settled : Settled) (token index : ℕ) (piece : Piece) : Type 0 where
+  pub train : settled.next < length task.trains.items
+  pub own : own_in (node_at task token) ≡ true
+  pub leads : LeadsFrom task token index piece
+  pub taken : can_take task (begun task settled token index) settled.used piece ≡ true
+
+pub record MayGo (task : Task) (settled : Settled) (run : Standing) (index : ℕ) (piece : Piece) : Type 0 where
+  pub passes : ends_in (node_at task run.head) ≡ false
+  pub leads : LeadsFrom task run.head index piece
+  pub taken : can_take task run settled.used piece ≡ true
+
+pub record MayTurn (task : Task) (settled : Settled) (run : Standing) (index : ℕ) (piece : Piece) : Type 0 where
+  pub first : run.second ≡ false
+  pub later : run.first < index
+  pub passes : ends_in (node_at task run.token) ≡ false
+  pub leads : LeadsFrom task run.token index piece
+  pub taken : can_take task (turned run) settled.used piece ≡ true
+
+-- a move may be made in a state
+abbrev pub Allows : Task → State → Move → Type 0
+Allows task (between settled) pass = settled.next < length task.trains.items
+Allows task (between settled) (begin token index piece) = MayBegin task settled token index piece
+Allows task (between settled) (go index piece) = ⊥
+Allows task (between settled) (turn index piece) = ⊥
+Allows task (between settled) settle = ⊥
+Allows task (standing settled run) pass = ⊥
+Allows task (standing settled run) (begin token index piece) = ⊥
+Allows task (standing settled run) (go index piece) = MayGo task settled run index piece
+Allows task (standing settled run) (turn index piece) = MayTurn task settled run index piece
+Allows task (standing settled run) settle = Unit {0}
+
+-- the state after a move
+abbrev pub after : Task → State → Move → State
+after task (between settled) pass = between (passed settled)
+after task (between settled) (begin token index piece) =
+    standing (using settled piece) (along task (begun task settled token index) piece)
+after task (between settled) (go index piece) = between settled
+after task (between settled) (turn index piece) = between settled
+after task (between settled) settle = between settled
+after task (standing settled run) pass = between settled
+after task (standing settled run) (begin token index piece) = between settled
+after task (standing settled run) (go index piece) = standing (using settled piece) (along task run piece)
+after task (standing settled run) (turn index piece) = standing (using settled piece) (along task (turned run) piece)
+after task (standing settled run) settle = between (settling settled run)
+
+-- all trains are settled
+abbrev pub IsOver : Task → State → Type 0
+IsOver task (between settled) = length task.trains.items ≤ settled.next
+IsOver task (standing settled run) = ⊥
+
+-- these moves lead from a state to the end
+abbrev pub Completes : Task → State → List Move → Type 0
+Completes task state [] = IsOver task state
+Completes task state (move ∷ moves) = Allows task state move × Completes task (after task state move) moves
+
+-- what the settled runs of a state earn, in dollars
+abbrev pub total_of : State → ℕ
+total_of (between settled) = settled.total
+total_of (standing settled run) = settled.total
+
+-- what they earn at the end of some moves
+abbrev pub total_after : Task → State → List Move → ℕ
+total_after task state [] = total_of state
+total_after task state (move ∷ moves) = total_after task (after task state move) moves
+
+-- nothing is settled
+abbrev pub start : State
+start = between (record { next = 0; total = 0; used = replicate 279 false })
+
+-- some moves lead from the start to the end, and earn so much
+abbrev pub CanEarn : Task → ℕ → Type 0
+CanEarn task amount = (moves : List Move) × Completes task start moves × (total_after task start moves ≡ amount)
+
+-- a state is one that some moves lead to: whatever it can earn, the start can
+abbrev pub IsOpen : Task → State → Type 0
+IsOpen task state = (moves : List Move) → Completes task state moves → CanEarn task (total_after task state moves)
+
+-- moves that begin with such a move have been tried in a state: the best found grows at most, moves from the start
+-- earn it, and those that have been tried earn at most that
+pub record Tries (task : Task) (state : State) (P : Move → Type 0) (old new : ℕ) : Type 0 where
+  pub grows : old ≤ new
+  pub earned : IsOpen task state → CanEarn task old → CanEarn task new
+  pub most : (move : Move) (moves : List Move) → P move → Completes task state (move ∷ moves) → total_after task state (move ∷ moves) ≤ new
+
+-- all ways from a state to the end have been tried
+pub record Explores (task : Task) (state : State) (old new : ℕ) : Type 0 where
+  pub grows : old ≤ new
+  pub earned : IsOpen task state → CanEarn task old → CanEarn task new
+  pub most : (moves : List Move) → Completes task state moves → total_after task state moves ≤ new
+
+-- a piece has been tried with a run that stands before it: if the run may take it, all ways on have been tried
+pub record Takes (task : Task) (settled : Settled) (run : Standing) (piece : Piece) (old new : ℕ) : Type 0 where
+  pub grows : old ≤ new
+  pub earned : (can_take task run settled.used piece ≡ true → IsOpen task (standing (using settled piece) (along task run piece))) → CanEarn task old → CanEarn task new
+  pub most : can_take task run settled.used piece ≡ true → (moves : List Move) → Completes task (standing (using settled piece) (along task run piece)) moves → total_after task (standing (using settled piece) (along task run piece)) moves ≤ new
+
+-- moves by their sort
+abbrev pub IsBegin : (ℕ → Type 0) → Move → Type 0
+IsBegin P pass = ⊥
+IsBegin P (begin token index piece) = P token
+IsBegin P (go index piece) = ⊥
+IsBegin P (turn index piece) = ⊥
+IsBegin P settle = ⊥
+
+abbrev pub IsBeginAt : ℕ → (ℕ → Type 0) → Move → Type 0
+IsBeginAt stop P pass = ⊥
+IsBeginAt stop P (begin token index piece) = (token ≡ stop) × P index
+IsBeginAt stop P (go index piece) = ⊥
+IsBeginAt stop P (turn index piece) = ⊥
+IsBeginAt stop P settle = ⊥
+
+abbrev pub IsGo : (ℕ → Type 0) → Move → Type 0
+IsGo P pass = ⊥
+IsGo P (begin token index piece) = ⊥
+IsGo P (go index piece) = P index
+IsGo P (turn index piece) = ⊥
+IsGo P settle = ⊥
+
+abbrev pub IsTurn : (ℕ → Type 0) → Move → Type 0
+IsTurn P pass = ⊥
+IsTurn P (begin token index piece) = ⊥
+IsTurn P (go index piece) = ⊥
+IsTurn P (turn index piece) = P index
+IsTurn P settle = ⊥
+
+-- any number
+abbrev pub Any : ℕ → Type 0
+Any number = Unit {0}
+
+-- a number below another
+abbrev pub Below : ℕ → ℕ → Type 0
+Below most number = number < most

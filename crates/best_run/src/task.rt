@@ -1,0 +1,34 @@
+ghost use Rattle.std.specs.Prelude.{◌≡◌};
+
+use tables::Amount;
+
+/// A piece of plain track that leads from a stop to the next one.
+#[derive(Drop)]
+pub(crate) struct Piece {
+    /// The stop to which it leads, by its number.
+    pub(crate) to: usize,
+    /// The borders that it crosses, by their numbers.
+    pub(crate) borders: Vec<usize>,
+}
+
+/// A stop, to a company.
+#[derive(Drop)]
+pub(crate) struct Node {
+    /// What it is worth, in dollars.
+    pub(crate) value: Amount,
+    /// The company has a token there.
+    pub(crate) own: bool,
+    /// No run passes it: it is red, or full for the company.
+    pub(crate) ends: bool,
+    /// The pieces of plain track that lead from it.
+    pub(crate) pieces: Vec<Piece>,
+}
+
+/// What is searched: the stops of the map, and how many stops each train may visit.
+#[derive(Drop)]
+pub(crate) struct Task {
+    /// The stops, by their numbers.
+    pub(crate) stops: Vec<Node>,
+    /// For each train, the most stops of a run.
+    pub(crate) trains: Vec<usize>,
+}
