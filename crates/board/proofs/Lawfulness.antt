@@ -1,13 +1,14 @@
 -- The position keeps the laws of positions, whatever was laid.
-use Rattle.std.proofs.Common.{◌≡◌, ◌∙◌, ap, sym, subst, refl, ◌≤◌, lit≤, true, false, cond, Option, Some, None}
+use Rattle.std.proofs.Common.{◌≡◌, ◌∙◌, ap, sym, subst, refl, ◌≤◌, lit≤, Bool, true, false, cond, if◌then◌else◌, Option, Some, None}
 use Rattle.board.specs.Ground.{Ground, by_tile, is_red_kind, is_stop, position_of, tile_on, value_in}
+use Rattle.board.proofs.Parts.{parts_have_one_stop}
 use Rattle.board.proofs.Positions.{in_hex_is, not_shown, shown}
 use Rattle.board.proofs.Same.{hex_is}
 use Rattle.board.proofs.Tiles.{lies_there}
 use Rattle.map_tables.specs.Hex.{index_of, same_hex}
 use Rattle.map_tables.specs.Laws.{AreLinksOf, LaidLinksAreInOrder, NeighboursPair, PrintedLinksAreInOrder, ValuesAreAtMost80}
 use Rattle.map_tables.specs.Lay.{laid_links_of}
-use Rattle.map_tables.specs.Place.{joined_stop_of, stop_at}
+use Rattle.map_tables.specs.Place.{joined_hex, joined_stop_of, stop_at}
 use Rattle.map_tables.specs.Print.{groups, plain_hexes, print_of, printed_links_of}
 use Rattle.map_tables.specs.Tile.{entry_of}
 use Rattle.map_tables.specs.declared.hex.Hex.{Hex}
@@ -67,12 +68,19 @@ west_is_red : is_red_kind (print_of A11).kind ≡ true
 unfolding index_of groups plain_hexes print_of
 west_is_red = refl
 
+-- the links of a hex are those of its print, or of what lies there
+of_track : PrintedLinksAreInOrder → LaidLinksAreInOrder → (laid : Ground) (hex : Hex) (whole : Bool) → AreLinksOf hex (if whole then by_tile (printed_links_of hex) laid_links_of (tile_on laid.lays hex) else printed_links_of hex)
+of_track printed laid_links laid hex true =
+    of_tile printed laid_links hex (tile_on laid.lays hex) (λ lay e. lies_there laid.lays hex lay e)
+of_track printed laid_links laid hex false = printed hex
+
 pub lawful : NeighboursPair → PrintedLinksAreInOrder → LaidLinksAreInOrder → ValuesAreAtMost80 → (laid : Ground) → IsLawful (position_of laid)
 lawful pair printed laid_links values laid =
     record {
-      links = λ hex. subst (λ (h : InHex). AreLinksOf hex h.links) (sym (in_hex_is laid hex)) (of_tile printed laid_links hex (tile_on laid.lays hex) (λ lay e. lies_there laid.lays hex lay e));
+      links = λ hex. subst (λ (h : InHex). AreLinksOf hex h.links) (sym (in_hex_is laid hex)) (of_track printed laid_links laid hex (same_hex (joined_hex hex) hex));
       borders_pair = pair;
       values = worth values laid;
       gulf_is_red = ap (λ (s : AtStop). s.red) (shown laid (stop_at J2 First) gulf_is_stop) ∙ gulf_is_red;
       canadian_west_is_red = ap (λ (s : AtStop). s.red) (shown laid (stop_at A11 First) west_is_stop) ∙ west_is_red;
+      parts_have_one_stop = parts_have_one_stop laid;
     }

@@ -135,9 +135,13 @@ abbrev pub stops_in : Ground → Hex → List AtStop
 stops_in laid hex =
     if same_hex (joined_hex hex) hex then map (λ number. lying_at laid (stop_at hex number)) (stop_numbers (print_of hex).stops) else []
 
+-- the track in a hex; one that is a part of another's stop is red and takes no tile, so that its print stays
+abbrev pub track_in : List Lay → Hex → List Link
+track_in lays hex = if same_hex (joined_hex hex) hex then links_on lays hex else printed_links_of hex
+
 -- what lies in a hex
 abbrev pub lying_in : Ground → Hex → InHex
-lying_in laid hex = record { links = links_on laid.lays hex; stops = stops_in laid hex }
+lying_in laid hex = record { links = track_in laid.lays hex; stops = stops_in laid hex }
 
 -- the position
 unfoldable pub position_of : Ground → Position

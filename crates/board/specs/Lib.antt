@@ -5,5 +5,4 @@ pub mod LayRules
 pub mod TokenRules
 pub mod Homes
 pub mod Stock
-pub mod Parts
 pub mod Example

@@ -1,7 +1,6 @@
 //! Laws of the definitions, each the contract of a function that does nothing.
 ghost use Rattle.board.specs.Example.{WorkedExamples};
 ghost use Rattle.board.specs.Homes.{FitsWithoutHomes, HomeKeepsFit, LayKeepsFit, NothingFits, PhaseKeepsFit, TokenKeepsFit};
-ghost use Rattle.board.specs.Parts.{PartsOfBoardsHaveOneStop};
 ghost use Rattle.board.specs.Stock.{LayKeepsStock};
 
 /// Before anything is laid what lies fits: each home has a slot for its token.
@@ -37,12 +36,6 @@ pub fn phase_keeps_fit()
 /// A lay by the rules leaves no more tiles of any number on the map than there are.
 pub fn lay_keeps_stock()
     ensures { LayKeepsStock }
-{}
-
-/// On a board that is not refused the hexes that are part of another's stop, I1 and A9, have that
-/// stop alone: no tile lies there. So each legal run on it can be written out.
-pub fn parts_of_boards_have_one_stop()
-    ensures { PartsOfBoardsHaveOneStop }
 {}
 
 /// Two small examples: a tile whose colour has not come, and then with its stops swapped; a token

@@ -9,8 +9,8 @@
 //!
 //! The definitions, in `specs/`: `Ground` (what lies, and the position), `Fit` (what may lie at
 //! all), `LayRules` and `TokenRules` (each rule beside its code, in order), `Homes` and `Stock`
-//! (what the rules keep: a slot for each home token, and no more tiles than there are), `Parts`
-//! (a stop that lies in two hexes), and two small examples, `Example`.
+//! (what the rules keep: a slot for each home token, and no more tiles than there are), and two
+//! small examples, `Example`.
 //!
 //! Reading order: `board`, `fault`, `fit` (what may lie at all), `shown` (what shows at a hex or a
 //! stop), `network` (the position that is kept), `asker`, `lay`, `token`, `laws`.
@@ -31,5 +31,5 @@ pub use board::Board;
 pub use fault::{BoardFault, LayFault, TokenFault};
 pub use laws::{
     fits_without_homes, home_keeps_fit, lay_keeps_fit, lay_keeps_stock, nothing_fits,
-    parts_of_boards_have_one_stop, phase_keeps_fit, token_keeps_fit, worked_examples,
+    phase_keeps_fit, token_keeps_fit, worked_examples,
 };

@@ -13,7 +13,7 @@ impl Network for Board {
     ghost position = { position_of };
 
     fn links(&self, hex: Hex) -> Links {
-        self.links_on(hex)
+        self.track_in(hex)
     }
 
     fn value(&self, stop: Stop) -> Amount {

@@ -2,15 +2,15 @@ ghost use Rattle.std.specs.Prelude.{◌≡◌, length};
 ghost use Rattle.std.specs.List.{count_by};
 ghost use Rattle.map_tables.specs.declared.place.Place.{Place};
 ghost use Rattle.tables.specs.declared.roster.Company.{Company};
-ghost use Rattle.board.specs.Ground.{colour_on, links_on, has_token, is_red_kind, is_stop, names, position_of, same_stop, slots_at, slots_on, taken_at, tile_on, value_in, value_on};
+ghost use Rattle.board.specs.Ground.{colour_on, links_on, has_token, is_red_kind, is_stop, names, position_of, same_stop, slots_at, slots_on, taken_at, tile_on, track_in, value_in, value_on};
 ghost use Rattle.map_tables.specs.Hex.{same_hex};
 ghost use Rattle.reach.specs.Position.{at_stop};
 ghost use Rattle.tables.specs.Roster.{same_company};
 
 use crate::board::Board;
 use map_tables::{
-    Colour, Hex, HexKind, Lay, Links, Place, PrintedValue, Stop, joined_stop, laid_links,
-    printed_colour, printed_links, printed_slots, printed_stops, printed_value, tile,
+    Colour, Hex, HexKind, Lay, Links, Place, PrintedValue, Stop, StopNumber, joined_stop,
+    laid_links, printed_colour, printed_links, printed_slots, printed_stops, printed_value, tile,
 };
 use tables::{Amount, Company, Kind};
 
@@ -108,6 +108,22 @@ impl Board {
         match self.tile_on(hex) {
             Some(lay) => laid_links(lay),
             None => printed_links(hex),
+        }
+    }
+
+    /// The track in a hex. One that is a part of another's stop keeps its print: no tile is laid
+    /// there.
+    pub(crate) fn track_in(&self, hex: Hex) -> Links
+        ensures { result.items ≡ track_in self.now.lays hex }
+    {
+        let named = joined_stop(Stop {
+            hex,
+            number: StopNumber::First,
+        });
+        if same_hex(named.hex, hex) {
+            self.links_on(hex)
+        } else {
+            printed_links(hex)
         }
     }
 

@@ -17,7 +17,8 @@ use Rattle.certificate.proofs.Joined.{distinct_borders, neither}
 use Rattle.certificate.proofs.Kept.{crossed_low, length_marked, marked_is}
 use Rattle.certificate.proofs.Lawful.{legal_where_unbroken}
 use Rattle.certificate.proofs.Written.{ordered, stop_to_stop}
-use Rattle.certificate.specs.Fault.{has_border_twice, is_taken, marked, named_steps, steps_of}
+use Rattle.certificate.specs.Fault.{has_border_twice, is_taken, named_steps, steps_of}
+use Rattle.certificate.specs.Marks.{borders_used, marked}
 use Rattle.certificate.specs.Law.{NameLegalRun, RunsEarnByBorders, if_unused, unused}
 use Rattle.certificate.specs.Legal.{IsLegalRun, border_at, crossed, earned, listed, visited, worth}
 
@@ -61,24 +62,24 @@ mark_used (mark ∷ marks) (suc border) low free =
     let rest = mark_used marks border (omega arith) free in omega arith
 
 -- so many leave so many fewer
-marks_used : (used : List Bool) (borders : List ℕ) → AllByRecursion (λ border. border < length used) borders → has_border_twice used borders ≡ false → unused (marked used borders) + length borders ≡ unused used
+marks_used : (used : List Bool) (borders : List ℕ) → AllByRecursion (λ border. border < length used) borders → has_border_twice (borders_used used) borders ≡ false → unused (marked used borders) + length borders ≡ unused used
 marks_used used [] low once = omega arith
 marks_used used (border ∷ borders) low once =
-    let parts : (has_border_twice used borders ≡ false) × (is_taken used borders border ≡ false) = neither (has_border_twice used borders) (is_taken used borders border) once in
+    let parts : (has_border_twice (borders_used used) borders ≡ false) × (is_taken (borders_used used) borders border ≡ false) = neither (has_border_twice (borders_used used) borders) (is_taken (borders_used used) borders border) once in
     let here : border < length (marked used borders) = omega (arith, length_marked used borders, low.0) in
     let free : get_or (marked used borders) border false ≡ false = marked_is used borders border low.1 ∙ parts.1 in
     omega (arith, mark_used (marked used borders) border here free, marks_used used borders low.1 parts.0)
 
 -- a legal run earns at most 160 dollars for each border that it uses
-legal_earns : (position : Position) (company : Company) (kind : Kind) (used : List Bool) (steps : List Step) → length used ≡ 279 → IsLawful position → IsLegalRun position company kind used steps → earned position steps + 160 * unused (marked used (crossed steps)) ≤ 160 * unused used
+legal_earns : (position : Position) (company : Company) (kind : Kind) (used : List Bool) (steps : List Step) → length used ≡ 279 → IsLawful position → IsLegalRun position company kind (borders_used used) steps → earned position steps + 160 * unused (marked used (crossed steps)) ≤ 160 * unused used
 legal_earns position company kind used steps whole lawful run =
     let low = crossed_low (length used) steps (omega arith) in
-    let once = distinct_borders used (crossed steps) run.no_border_twice run.no_used_border in
+    let once = distinct_borders (borders_used used) (crossed steps) run.no_border_twice run.no_used_border in
     omega (arith, worth_low position lawful (visited steps), few_visited position lawful steps run.walk, run.two, marks_used used (crossed steps) low once)
 
 -- so does a run that breaks no rule
 pub earn_by_borders : RunsEarnByBorders
 earn_by_borders position company kind used places whole lawful unbroken =
-    let run : NameLegalRun position company kind used places = (legal_where_unbroken position company kind used places).0 unbroken in
+    let run : NameLegalRun position company kind (borders_used used) places = (legal_where_unbroken position company kind (borders_used used) places).0 unbroken in
     let named : named_steps position places ≡ run.0 = ap steps_of run.1 in
     subst (λ (steps : List Step). earned position steps + 160 * unused (marked used (crossed steps)) ≤ 160 * unused used) (sym named) (legal_earns position company kind used run.0 whole lawful run.2)

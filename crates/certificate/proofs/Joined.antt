@@ -15,8 +15,9 @@ use Rattle.reach.proofs.Hexes.{same_index, same_stop_index, stop_index_low}
 use Rattle.reach.proofs.Lists.{among_found, found_among}
 use Rattle.tables.specs.Train.{stops_of}
 use Rattle.tables.specs.declared.rolling_stock.Kind.{Kind}
-use Rattle.certificate.specs.Fault.{are_over, goes_through, has_border_twice, has_stop, has_stop_twice, is_such, is_taken, is_wrong_number, passes}
-use Rattle.certificate.specs.Legal.{AreAtMost, AreDistinct, HasSuch, IsUsed}
+use Rattle.certificate.specs.Fault.{are_over, goes_through, has_border, has_border_twice, has_stop, has_stop_twice, is_such, is_taken, is_wrong_number, passes}
+use Rattle.certificate.specs.Legal.{AreAtMost, AreDistinct, HasSuch}
+use Rattle.certificate.proofs.Marks.{among_is}
 
 -- a test that is exact fails where there is no such fact
 pub fails : {P : Type 0} (test : Bool) → (test ≡ true) ↔ P → (test ≡ false) ↔ (¬ P)
@@ -65,29 +66,24 @@ distinct_stops [] h = refl
 distinct_stops (stop ∷ stops) h =
     both_fail (has_stop_twice stops) (has_stop stop stops) (distinct_stops stops h.1) ((fails (has_stop stop stops) (has_stop_is stop stops)).1 h.0)
 
--- the test of a border among borders
-among_is : (border : ℕ) (borders : List ℕ) → (list_any (λ other. other == border) borders ≡ true) ↔ IsAmong border borders
-among_is border borders =
-    (among_found (λ a b. a == b) (λ a b is. eqb-true a b is) borders border, found_among (λ a b. a == b) (λ a b is. eq-eqb a b is) borders border)
-
-used_is : (used : List Bool) (border : ℕ) → (get_or used border false ≡ false) ↔ (¬ IsUsed used border)
-used_is used border = fails (get_or used border false) (λ h. h, λ h. h)
+-- the test of a border among borders fails
+not_among_is : (border : ℕ) (borders : List ℕ) → (has_border border borders ≡ false) ↔ (¬ IsAmong border borders)
+not_among_is border borders = fails (has_border border borders) (among_is border borders)
 
 -- no border twice, and none that was used
-pub borders_distinct : (used : List Bool) (borders : List ℕ) → has_border_twice used borders ≡ false → AreDistinct borders × AllByRecursion (λ border. ¬ IsUsed used border) borders
+pub borders_distinct : (used : List ℕ) (borders : List ℕ) → has_border_twice used borders ≡ false → AreDistinct borders × AllByRecursion (λ border. ¬ IsAmong border used) borders
 borders_distinct used [] h = (tt, tt)
 borders_distinct used (border ∷ borders) h =
     let parts : (has_border_twice used borders ≡ false) × (is_taken used borders border ≡ false) = neither (has_border_twice used borders) (is_taken used borders border) h in
-    let free : (get_or used border false ≡ false) × (list_any (λ other. other == border) borders ≡ false) = neither (get_or used border false) (list_any (λ other. other == border) borders) parts.1 in
-    let rest : AreDistinct borders × AllByRecursion (λ b. ¬ IsUsed used b) borders = borders_distinct used borders parts.0 in
-    (((fails (list_any (λ other. other == border) borders) (among_is border borders)).0 free.1, rest.0), ((used_is used border).0 free.0, rest.1))
+    let free : (has_border border used ≡ false) × (has_border border borders ≡ false) = neither (has_border border used) (has_border border borders) parts.1 in
+    let rest : AreDistinct borders × AllByRecursion (λ b. ¬ IsAmong b used) borders = borders_distinct used borders parts.0 in
+    (((not_among_is border borders).0 free.1, rest.0), ((not_among_is border used).0 free.0, rest.1))
 
-pub distinct_borders : (used : List Bool) (borders : List ℕ) → AreDistinct borders → AllByRecursion (λ border. ¬ IsUsed used border) borders → has_border_twice used borders ≡ false
+pub distinct_borders : (used : List ℕ) (borders : List ℕ) → AreDistinct borders → AllByRecursion (λ border. ¬ IsAmong border used) borders → has_border_twice used borders ≡ false
 distinct_borders used [] once free = refl
 distinct_borders used (border ∷ borders) once free =
     both_fail (has_border_twice used borders) (is_taken used borders border) (distinct_borders used borders once.1 free.1)
-    (both_fail (get_or used border false) (list_any (λ other. other == border) borders) ((used_is used border).1 free.0)
-    ((fails (list_any (λ other. other == border) borders) (among_is border borders)).1 once.0))
+    (both_fail (has_border border used) (has_border border borders) ((not_among_is border used).1 free.0) ((not_among_is border borders).1 once.0))
 
 module _ (P : Stop → Type 0) (test : Stop → Bool) (exact : (stop : Stop) → (test stop ≡ true) ↔ P stop) where
   such_none : (stop : Option Stop) → (is_such test stop ≡ false) ↔ IfSome stop (λ s. ¬ P s)

@@ -1,5 +1,5 @@
 -- What the tally keeps of a walk is what the tests find in it.
-use Rattle.std.proofs.Common.{◌≡◌, ℕ, zero, suc, ◌+◌, ◌-◌, ◌*◌, ◌<◌, ◌≤◌, ◌==◌, Bool, true, false, ltb, eqb, ◌||◌, ◌⊎◌, inl, inr, if◌then◌else◌, Option, Some, None, List, [], ◌∷◌, ◌++◌, length, get_or, set, replicate, refl, ap, sym, ◌∙◌, subst, arith, get_or-set_same, get_or-set_other, length-set}
+use Rattle.std.proofs.Common.{◌≡◌, ◌↔◌, ℕ, zero, suc, ◌+◌, ◌-◌, ◌*◌, ◌<◌, ◌≤◌, ◌==◌, Bool, true, false, ltb, eqb, ◌||◌, ◌⊎◌, inl, inr, if◌then◌else◌, Option, Some, None, List, [], ◌∷◌, ◌++◌, length, get_or, set, replicate, refl, ap, sym, ◌∙◌, subst, arith, get_or-set_same, get_or-set_other, length-set}
 use Rattle.std.specs.List.{AllByRecursion, list_any}
 use Rattle.std.proofs.lemmas.Bool.{cases_eq, eqb-true, eq-eqb, ltb-true, ltb-false}
 use Rattle.map_tables.specs.Border.{neighbour_of}
@@ -10,18 +10,20 @@ use Rattle.map_tables.specs.declared.place.Stop.{Stop}
 use Rattle.map_tables.specs.declared.side.Side.{Side}
 use Rattle.map_tables.specs.declared.track.End.{End}
 use Rattle.map_tables.specs.declared.track.End.TheVariants.{Side as AtSide, Stop as AtStop}
-use Rattle.reach.specs.Position.{Position, is_red, value_of}
+use Rattle.reach.specs.Position.{IsAmong, Position, is_red, value_of}
 use Rattle.reach.specs.Reached.{stop_order}
 use Rattle.reach.specs.Walk.{entered_at, left_at, stop_of}
 use Rattle.reach.specs.declared.walk.Step.{Step}
 use Rattle.reach.proofs.Hexes.{index_low, side_low, stop_index_low}
 use Rattle.reach.proofs.Lists.{among_found, found_among}
 use Rattle.tables.specs.declared.roster.Company.{Company}
-use Rattle.certificate.specs.Fault.{has_border_twice, has_stop, has_stop_twice, has_token, is_full, is_such, is_taken, marked, passes}
+use Rattle.certificate.specs.Fault.{has_border, has_border_twice, has_stop, has_stop_twice, has_token, is_full, is_such, is_taken, passes}
 use Rattle.certificate.specs.Law.{CrossedBordersAreUsed}
 use Rattle.certificate.specs.Legal.{border_at, border_beyond, border_of, crossed, first_stop, listed, visited, worth}
+use Rattle.certificate.specs.Marks.{AreAdded, IsUsed, MarksAre, borders_used, marked}
 use Rattle.certificate.specs.Tally.{counted, crossing, entering, entering_side, entering_stop, leaving_stop, no_steps, passing, tally_of, visiting}
 use Rattle.certificate.specs.declared.tally.Tally.{Tally}
+use Rattle.certificate.proofs.Marks.{among_both, among_is, eqb_not, mark_listed, used_is}
 
 -- each stop has a place on the map
 stop_low : (stop : Stop) → stop_order stop < 186
@@ -58,13 +60,6 @@ or_not_here : (a b c : Bool) → a ≡ false → b ≡ c → b ≡ (a || c)
 or_not_here true b c is same = cc
 or_not_here false b c is same = same
 
-eqb_not : (m n : ℕ) → (m ≡ n → ⊥) → eqb m n ≡ false
-eqb_not m n differ = by_test (eqb m n) refl
-  where
-    by_test : (b : Bool) → eqb m n ≡ b → b ≡ false
-    by_test true is = absurd (differ (eqb-true m n is))
-    by_test false is = refl
-
 -- one more mark
 mark_more : (marks : List Bool) (n m : ℕ) → n < length marks → get_or (set marks n true) m false ≡ (eqb n m || get_or marks m false)
 mark_more marks n m low =
@@ -81,13 +76,13 @@ length_marked used [] = refl
 length_marked used (border ∷ borders) = length-set (marked used borders) border true ∙ length_marked used borders
 
 -- a border is marked where it was used or crossed
-pub marked_is : (used : List Bool) (borders : List ℕ) (border : ℕ) → AllByRecursion (λ b. b < length used) borders → get_or (marked used borders) border false ≡ is_taken used borders border
-marked_is used [] border low = or_swapped false (get_or used border false)
+pub marked_is : (used : List Bool) (borders : List ℕ) (border : ℕ) → AllByRecursion (λ b. b < length used) borders → get_or (marked used borders) border false ≡ is_taken (borders_used used) borders border
+marked_is used [] border low = sym (mark_listed used border) ∙ or_swapped false (has_border border (borders_used used))
 marked_is used (other ∷ borders) border low =
     let here : other < length (marked used borders) = omega (arith, length_marked used borders, low.0) in
     mark_more (marked used borders) other border here
     ∙ ap (λ b. eqb other border || b) (marked_is used borders border low.1)
-    ∙ or_inside (eqb other border) (get_or used border false) (list_any (λ b. b == border) borders)
+    ∙ or_inside (eqb other border) (has_border border (borders_used used)) (has_border border borders)
 
 -- whether a walk has a step
 abbrev pub has_begun : List Step → Bool
@@ -114,7 +109,7 @@ module _ (position : Position) (company : Company) (used : List Bool) where
     pub stop_twice_is : tally.stop_twice ≡ has_stop_twice stops
     pub crossed_is : tally.crossed ≡ marked used borders
     pub borders_low : AllByRecursion (λ b. b < length used) borders
-    pub border_twice_is : tally.border_twice ≡ has_border_twice used borders
+    pub border_twice_is : tally.border_twice ≡ has_border_twice (borders_used used) borders
     pub full_is : tally.passes_full ≡ full
     pub own_is : tally.own_token ≡ list_any (has_token position company) stops
     pub red_is : tally.red_inside ≡ red
@@ -171,7 +166,7 @@ module _ (position : Position) (company : Company) (used : List Bool) where
     borders_low = (low, kept.borders_low);
     border_twice_is =
         ap (λ b. b || get_or tally.crossed border false) kept.border_twice_is
-        ∙ ap (λ b. has_border_twice used borders || b) (ap (λ marks. get_or marks border false) kept.crossed_is ∙ marked_is used borders border kept.borders_low);
+        ∙ ap (λ b. has_border_twice (borders_used used) borders || b) (ap (λ marks. get_or marks border false) kept.crossed_is ∙ marked_is used borders border kept.borders_low);
     full_is = kept.full_is;
     own_is = kept.own_is;
     red_is = kept.red_is;
@@ -290,16 +285,44 @@ is_or false b (inl h) = cc
 is_or false b (inr h) = h
 
 -- after a walk those borders are used that were used before, and those that it crosses
+pub taken_is : (used borders : List ℕ) (border : ℕ) → (is_taken used borders border ≡ true) ↔ (IsAmong border borders ⊎ IsAmong border used)
+taken_is used borders border = (
+  λ h. elim (or_is (has_border border used) (has_border border borders) h) [
+    | inl before ↦ inr ((among_is border used).0 before)
+    | inr now ↦ inl ((among_is border borders).0 now)
+  ],
+  λ h. is_or (has_border border used) (has_border border borders) (elim h [
+    | inl now ↦ inr ((among_is border borders).1 now)
+    | inr before ↦ inl ((among_is border used).1 before)
+  ]),
+)
+
 pub crossed_used : CrossedBordersAreUsed
-crossed_used used steps border whole =
-    let low : AllByRecursion (λ b. b < length used) (crossed steps) = crossed_low (length used) steps (omega arith) in
-    let is : get_or (marked used (crossed steps)) border false ≡ is_taken used (crossed steps) border = marked_is used (crossed steps) border low in (
-      λ h. elim (or_is (get_or used border false) (list_any (λ other. other == border) (crossed steps)) (sym is ∙ h)) [
-        | inl before ↦ inl before
-        | inr among ↦ inr (among_found (λ a b. a == b) (λ a b same. eqb-true a b same) (crossed steps) border among)
-      ],
-      λ h. is ∙ is_or (get_or used border false) (list_any (λ other. other == border) (crossed steps)) (elim h [
-        | inl before ↦ inl before
-        | inr among ↦ inr (found_among (λ a b. a == b) (λ a b same. eq-eqb a b same) (crossed steps) border among)
-      ]),
+crossed_used used marks steps are =
+    record {
+      for_each = length_marked marks (crossed steps) ∙ are.for_each;
+      exact = λ border. after border;
+    }
+  where
+    low : AllByRecursion (λ b. b < length marks) (crossed steps)
+    low = crossed_low (length marks) steps (omega (arith, are.for_each))
+
+    after : (border : ℕ) → IsUsed (marked marks (crossed steps)) border ↔ IsAmong border (crossed steps ++ used)
+    after border =
+        let is : get_or (marked marks (crossed steps)) border false ≡ is_taken (borders_used marks) (crossed steps) border = marked_is marks (crossed steps) border low in
+        let parts = taken_is (borders_used marks) (crossed steps) border in
+        let both = among_both border (crossed steps) used in
+        let of_marks = used_is marks border in (
+          λ h. both.1 (elim (parts.0 (sym is ∙ h)) [ inl now ↦ inl now | inr before ↦ inr ((are.exact border).0 (of_marks.1 before)) ]),
+          λ h. is ∙ parts.1 (elim (both.0 h) [ inl now ↦ inl now | inr before ↦ inr (of_marks.0 ((are.exact border).1 before)) ]),
+        )
+
+-- to the marked borders those were added that the walk crosses
+pub crossed_added : (marks : List Bool) (steps : List Step) → length marks ≡ 279 → AreAdded (crossed steps) (borders_used marks) (borders_used (marked marks (crossed steps)))
+crossed_added marks steps whole border =
+    let now : MarksAre (crossed steps ++ borders_used marks) (marked marks (crossed steps)) = crossed_used (borders_used marks) marks steps (record { for_each = whole; exact = used_is marks }) in
+    let both = among_both border (crossed steps) (borders_used marks) in
+    let marks_now = used_is (marked marks (crossed steps)) border in (
+      λ h. both.0 ((now.exact border).0 (marks_now.1 h)),
+      λ h. marks_now.0 ((now.exact border).1 (both.1 h)),
     )

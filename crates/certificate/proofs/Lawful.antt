@@ -1,5 +1,5 @@
 -- What places name is a legal run exactly where they break no rule.
-use Rattle.std.proofs.Common.{◌≡◌, ◌↔◌, Bool, true, false, not, Option, Some, None, is_none, List, [], ◌∷◌, length, refl, ap, ◌∙◌}
+use Rattle.std.proofs.Common.{◌≡◌, ◌↔◌, ℕ, Bool, true, false, not, Option, Some, None, is_none, List, [], ◌∷◌, length, refl, ap, ◌∙◌}
 use Rattle.std.specs.List.{list_any}
 use Rattle.map_tables.specs.declared.place.Place.{Place}
 use Rattle.map_tables.specs.declared.place.Stop.{Stop}
@@ -8,7 +8,7 @@ use Rattle.reach.specs.declared.walk.Step.{Step}
 use Rattle.tables.specs.Rules.{Rule, first_broken}
 use Rattle.tables.specs.declared.rolling_stock.Kind.{Kind}
 use Rattle.tables.specs.declared.roster.Company.{Company}
-use Rattle.certificate.specs.Fault.{has_border_twice, has_stop_twice, has_token, is_full, is_wrong_number, passes, rules_of_walk, steps_of}
+use Rattle.certificate.specs.Fault.{has_border_twice, has_stop_twice, has_token, is_full, is_wrong_number, passes, rules_of_walk, run_fault, steps_of}
 use Rattle.certificate.specs.Law.{LegalWhereNoRuleIsBroken, NameLegalRun}
 use Rattle.certificate.specs.Legal.{IsLegalRun, crossed, visited}
 use Rattle.certificate.specs.Named.{walk_named}
@@ -52,7 +52,7 @@ none_found number twice border full own red a b c d e f =
 red_is_red : (position : Position) (stop : Stop) → (is_red position stop ≡ true) ↔ (is_red position stop ≡ true)
 red_is_red position stop = (λ h. h, λ h. h)
 
-module _ (position : Position) (company : Company) (kind : Kind) (used : List Bool) where
+module _ (position : Position) (company : Company) (kind : Kind) (used : List ℕ) where
   -- a walk from a stop to a stop that breaks no rule is a legal run
   legal : (steps : List Step) → IsWhole position steps → first_broken (rules_of_walk position company kind used steps) ≡ None → IsLegalRun position company kind used steps
   legal [] whole h = cc
@@ -102,3 +102,9 @@ legal_where_unbroken position company kind used places = (
   λ h. by_walk position company kind used places (walk_named position places) refl h,
   λ run. by_run position company kind used (walk_named position places) run.0 run.1 run.2,
 )
+
+-- what breaks a rule is no legal run
+pub none_where_broken : (position : Position) (company : Company) (kind : Kind) (used : List ℕ) (places : List Place) (fault : RunFault) → run_fault position company kind used places ≡ Some fault → NameLegalRun position company kind used places → false ≡ true
+none_where_broken position company kind used places fault broken run =
+    let kept : run_fault position company kind used places ≡ None = (legal_where_unbroken position company kind used places).1 run in
+    cc

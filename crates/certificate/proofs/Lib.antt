@@ -1,4 +1,5 @@
 pub mod Tests
+pub mod Marks
 pub mod Along
 pub mod Kept
 pub mod Ruled

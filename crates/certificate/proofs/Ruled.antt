@@ -6,8 +6,9 @@ use Rattle.reach.specs.declared.walk.Step.{Step}
 use Rattle.tables.specs.Rules.{Rule, first_broken}
 use Rattle.tables.specs.declared.rolling_stock.Kind.{Kind}
 use Rattle.tables.specs.declared.roster.Company.{Company}
-use Rattle.certificate.specs.Fault.{is_wrong_number, marked, named_steps, rules_of_walk, run_fault, steps_of}
+use Rattle.certificate.specs.Fault.{is_wrong_number, named_steps, rules_of_walk, run_fault, steps_of}
 use Rattle.certificate.specs.Legal.{crossed, earned}
+use Rattle.certificate.specs.Marks.{borders_used, marked}
 use Rattle.certificate.specs.Named.{made_along, taken, walk_named}
 use Rattle.certificate.specs.Tally.{counted, no_steps, tally_fault, tally_of}
 use Rattle.certificate.specs.declared.run_fault.RunFault.{RunFault}
@@ -36,15 +37,15 @@ module _ (position : Position) (company : Company) (used : List Bool) where
       made_alike taken (counted position company) (tally_of position company used) (λ made step. refl) position [] places
 
   -- no walk
-  no_walk : (kind : Kind) (walk : Option (List Step)) → option_map (tally_of position company used) walk ≡ None → first_broken (ruling NoTrack (is_none walk) ∷ rules_of_walk position company kind used (steps_of walk)) ≡ Some NoTrack
+  no_walk : (kind : Kind) (walk : Option (List Step)) → option_map (tally_of position company used) walk ≡ None → first_broken (ruling NoTrack (is_none walk) ∷ rules_of_walk position company kind (borders_used used) (steps_of walk)) ≡ Some NoTrack
   no_walk kind None is = refl
   no_walk kind (Some steps) is = cc
 
-  pub no_track : (kind : Kind) (places : List Place) → made_along (counted position company) position (no_steps used) places ≡ None → run_fault position company kind used places ≡ Some NoTrack
+  pub no_track : (kind : Kind) (places : List Place) → made_along (counted position company) position (no_steps used) places ≡ None → run_fault position company kind (borders_used used) places ≡ Some NoTrack
   no_track kind places is = no_walk kind (walk_named position places) (sym (made_is places) ∙ is)
 
   -- the rules of a walk, by its tally
-  walk_ruled : (kind : Kind) → 279 ≤ length used → (steps : List Step) → first_broken (rules_of_walk position company kind used steps) ≡ tally_fault kind (tally_of position company used steps)
+  walk_ruled : (kind : Kind) → 279 ≤ length used → (steps : List Step) → first_broken (rules_of_walk position company kind (borders_used used) steps) ≡ tally_fault kind (tally_of position company used steps)
   walk_ruled kind whole steps =
       let kept = tally_keeps position company used whole steps in
       same_table kind _ _ _ _ _ _ _ _ _ _ _ _ (sym kept.stops_are) (sym kept.stop_twice_is) (sym kept.border_twice_is) (sym kept.full_is) (sym kept.own_is) (sym kept.red_is)
@@ -52,13 +53,13 @@ module _ (position : Position) (company : Company) (used : List Bool) where
   some_is : (tally other : Tally) → Some tally ≡ Some other → tally ≡ other
   some_is tally other is = cc
 
-  ruled_by : (kind : Kind) → 279 ≤ length used → (walk : Option (List Step)) (tally : Tally) → option_map (tally_of position company used) walk ≡ Some tally → first_broken (ruling NoTrack (is_none walk) ∷ rules_of_walk position company kind used (steps_of walk)) ≡ tally_fault kind tally
+  ruled_by : (kind : Kind) → 279 ≤ length used → (walk : Option (List Step)) (tally : Tally) → option_map (tally_of position company used) walk ≡ Some tally → first_broken (ruling NoTrack (is_none walk) ∷ rules_of_walk position company kind (borders_used used) (steps_of walk)) ≡ tally_fault kind tally
   ruled_by kind whole None tally is = cc
   ruled_by kind whole (Some steps) tally is =
       walk_ruled kind whole steps ∙ ap (tally_fault kind) (some_is (tally_of position company used steps) tally is)
 
   -- the first rule that a run breaks, by its tally
-  pub ruled : (kind : Kind) → 279 ≤ length used → (places : List Place) (tally : Tally) → made_along (counted position company) position (no_steps used) places ≡ Some tally → run_fault position company kind used places ≡ tally_fault kind tally
+  pub ruled : (kind : Kind) → 279 ≤ length used → (places : List Place) (tally : Tally) → made_along (counted position company) position (no_steps used) places ≡ Some tally → run_fault position company kind (borders_used used) places ≡ tally_fault kind tally
   ruled kind whole places tally is =
       ruled_by kind whole (walk_named position places) tally (sym (made_is places) ∙ is)
 

@@ -20,7 +20,7 @@ use Rattle.map_tables.specs.declared.side.Side.TheVariants.{SouthWest, West, Nor
 use Rattle.map_tables.specs.declared.track.End.{End}
 use Rattle.map_tables.specs.declared.track.End.TheVariants.{Side as AtSide, Stop as AtStop}
 use Rattle.map_tables.specs.declared.track.Link.{Link}
-use Rattle.reach.specs.Lawful.{IsLawful, PartsHaveOneStop}
+use Rattle.reach.specs.Lawful.{IsLawful}
 use Rattle.reach.specs.Position.{Position, IsAmong, links_of, is_red}
 use Rattle.reach.specs.Walk.{AreJoined, BeginsAt, IsTrack, IsWalk, PassesOnly, entered_at, left_at, spot_at, stop_of}
 use Rattle.reach.specs.declared.walk.Spot.{Spot}
@@ -251,7 +251,7 @@ length_onto : (places rest : List Place) → length (onto places rest) ≡ lengt
 length_onto [] rest = omega arith
 length_onto (place ∷ earlier) rest = let later : length (onto earlier (place ∷ rest)) ≡ length earlier + length (place ∷ rest) = length_onto earlier (place ∷ rest) in omega (arith, later)
 
-module _ (position : Position) (lawful : IsLawful position) (parts : PartsHaveOneStop position) where
+module _ (position : Position) (lawful : IsLawful position) where
   -- some places lead a train to a spot by these steps
   record Led (at : Spot) (steps : List Step) : Type 0 where
     places : List Place
@@ -390,8 +390,8 @@ module _ (position : Position) (lawful : IsLawful position) (parts : PartsHaveOn
       let free : ¬ (is_red position (joined_stop_of (stop_at step.link.hex m)) ≡ true) = subst (λ (e : End). IfSome (stop_of (spot_at step.link.hex e)) (λ stop. ¬ (is_red position stop ≡ true))) enters not_red in
       let one : spot_at earlier.link.hex (AtStop n) ≡ spot_at step.link.hex (AtStop m) =
       one_stop earlier.link.hex step.link.hex n m spots
-      (λ is. parts earlier.link.hex earlier.link was (leaves_second earlier.link earlier.turned n (ordered position lawful earlier was) leaves ∙ ap AtStop is))
-      (λ is. parts step.link.hex step.link track (enters_second step.link step.turned m (ordered position lawful step track) enters ∙ ap AtStop is)) free in
+      (λ is. lawful.parts_have_one_stop earlier.link.hex earlier.link was (leaves_second earlier.link earlier.turned n (ordered position lawful earlier was) leaves ∙ ap AtStop is))
+      (λ is. lawful.parts_have_one_stop step.link.hex step.link track (enters_second step.link step.turned m (ordered position lawful step track) enters ∙ ap AtStop is)) free in
       from_stop step (earlier ∷ before) m track enters
       (subst (λ (e : End). Led (spot_at step.link.hex e) (earlier ∷ before)) (sym enters)
       (subst (λ (spot : Spot). Led spot (earlier ∷ before)) (ap (spot_at earlier.link.hex) leaves ∙ one) led))
@@ -427,9 +427,9 @@ module _ (position : Position) (lawful : IsLawful position) (parts : PartsHaveOn
 
 -- each legal run can be written out
 pub each_named : EachLegalRunIsNamed
-each_named position company kind used [] lawful parts run = absurd run.begins
-each_named position company kind used (step ∷ before) lawful parts run =
-    at_stop position lawful parts step before run.walk.0
+each_named position company kind used [] lawful run = absurd run.begins
+each_named position company kind used (step ∷ before) lawful run =
+    at_stop position lawful step before run.walk.0
     (no_more 279 (crossed (step ∷ before)) run.no_border_twice (crossed_low 279 (step ∷ before) (omega arith)))
     (left_at step).end refl run.ends.0 run.ends.1
-    (written position lawful parts step before run.walk run.begins run.no_red_inside)
+    (written position lawful step before run.walk run.begins run.no_red_inside)

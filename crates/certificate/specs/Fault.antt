@@ -1,6 +1,6 @@
 -- What is wrong with a run: the first rule that it breaks, of a table in the order of the rules' numbers.
 -- Each rule is a test over the walk that the places name.
-use Rattle.std.specs.Prelude.{ℕ, Bool, true, false, not, ◌==◌, ◌&&◌, ◌||◌, nat_lt, Option, Some, None, is_none, List, [], ◌∷◌, length, get_or, set}
+use Rattle.std.specs.Prelude.{ℕ, Bool, true, false, not, ◌==◌, ◌&&◌, ◌||◌, nat_lt, Option, Some, None, is_none, List, [], ◌∷◌, length}
 use Rattle.std.specs.List.{list_any}
 use Rattle.map_tables.specs.declared.place.Place.{Place}
 use Rattle.map_tables.specs.declared.place.Stop.{Stop}
@@ -45,10 +45,13 @@ has_stop_twice [] = false
 has_stop_twice (stop ∷ stops) = has_stop_twice stops || has_stop stop stops
 
 -- whether a border is crossed that was used, or crossed before
-abbrev pub is_taken : List Bool → List ℕ → ℕ → Bool
-is_taken used borders border = get_or used border false || list_any (λ other. other == border) borders
+abbrev pub has_border : ℕ → List ℕ → Bool
+has_border border borders = list_any (λ other. other == border) borders
 
-abbrev pub has_border_twice : List Bool → List ℕ → Bool
+abbrev pub is_taken : List ℕ → List ℕ → ℕ → Bool
+is_taken used borders border = has_border border used || has_border border borders
+
+abbrev pub has_border_twice : List ℕ → List ℕ → Bool
 has_border_twice used [] = false
 has_border_twice used (border ∷ borders) = has_border_twice used borders || is_taken used borders border
 
@@ -77,13 +80,8 @@ rule code broken = record { code = code; broken = broken }
 abbrev pub named_steps : Position → List Place → List Step
 named_steps position places = steps_of (walk_named position places)
 
--- the marks of used borders, with more borders marked
-abbrev pub marked : List Bool → List ℕ → List Bool
-marked used [] = used
-marked used (border ∷ borders) = set (marked used borders) border true
-
 -- the rules of a walk
-abbrev pub rules_of_walk : Position → Company → Kind → List Bool → List Step → List (Rule RunFault)
+abbrev pub rules_of_walk : Position → Company → Kind → List ℕ → List Step → List (Rule RunFault)
 rules_of_walk position company kind used steps =
     rule WrongNumber (is_wrong_number kind (length (visited steps))) ∷
     rule StopTwice (has_stop_twice (visited steps)) ∷
@@ -93,11 +91,11 @@ rules_of_walk position company kind used steps =
     rule RedInside (passes (is_red position) steps) ∷ []
 
 -- the rules of a run: that there is a walk, and those of the walk
-abbrev pub rules_of_run : Position → Company → Kind → List Bool → List Place → List (Rule RunFault)
+abbrev pub rules_of_run : Position → Company → Kind → List ℕ → List Place → List (Rule RunFault)
 rules_of_run position company kind used places =
     let walk = walk_named position places in
     rule NoTrack (is_none walk) ∷ rules_of_walk position company kind used (steps_of walk)
 
 -- the first rule that a run breaks
-abbrev pub run_fault : Position → Company → Kind → List Bool → List Place → Option RunFault
+abbrev pub run_fault : Position → Company → Kind → List ℕ → List Place → Option RunFault
 run_fault position company kind used places = first_broken (rules_of_run position company kind used places)

@@ -1,9 +1,9 @@
 -- A legal run of a train: a walk from a stop to a stop. It visits at least two stops and at most as many
 -- as its kind may, none of them twice, and at one of them the company has a token. It crosses no border
--- twice, and none that another train of the company has used in this turn. It passes no red stop and no
+-- twice, and none that earlier runs of the company in this turn have crossed. It passes no red stop and no
 -- city that is full for the company; it may begin and end at such. Nothing here knows of places, in
 -- whose words a run is ordered.
-use Rattle.std.specs.Prelude.{◌≡◌, ℕ, ◌+◌, ◌-◌, ◌*◌, ◌≤◌, Bool, true, false, nat_lt, if◌then◌else◌, Option, Some, None, ◌⊎◌, List, [], ◌∷◌, ◌++◌, length, get_or}
+use Rattle.std.specs.Prelude.{◌≡◌, ℕ, ◌+◌, ◌-◌, ◌*◌, ◌≤◌, true, nat_lt, if◌then◌else◌, Option, Some, None, ◌⊎◌, List, [], ◌∷◌, ◌++◌, length}
 use Rattle.std.specs.List.{AllByRecursion}
 use Rattle.map_tables.specs.Border.{neighbour_of}
 use Rattle.map_tables.specs.Hex.{index_of}
@@ -76,11 +76,7 @@ abbrev pub EndsAtStop : List Step → Type 0
 EndsAtStop [] = ⊥
 EndsAtStop (step ∷ before) = (stop : Stop) × (stop_of (left_at step) ≡ Some stop)
 
--- a border is used, by the marks of those that are
-abbrev pub IsUsed : List Bool → ℕ → Type 0
-IsUsed used border = get_or used border false ≡ true
-
-pub record IsLegalRun (position : Position) (company : Company) (kind : Kind) (used : List Bool) (steps : List Step) : Type 0 where
+pub record IsLegalRun (position : Position) (company : Company) (kind : Kind) (used : List ℕ) (steps : List Step) : Type 0 where
   pub walk : IsWalk position steps
   pub begins : BeginsAt (λ stop. Unit {0}) steps
   pub ends : EndsAtStop steps
@@ -89,9 +85,14 @@ pub record IsLegalRun (position : Position) (company : Company) (kind : Kind) (u
   pub no_stop_twice : AreDistinct (visited steps)
   pub own_token : HasSuch (λ stop. HasToken position stop company) (visited steps)
   pub no_border_twice : AreDistinct (crossed steps)
-  pub no_used_border : AllByRecursion (λ border. ¬ IsUsed used border) (crossed steps)
+  pub no_used_border : AllByRecursion (λ border. ¬ IsAmong border used) (crossed steps)
   pub no_red_inside : PassesOnly (λ stop. ¬ (is_red position stop ≡ true)) steps
   pub no_full_inside : PassesOnly (λ stop. ¬ IsFull position stop company) steps
+
+-- the borders that some walks cross
+abbrev pub all_crossed : List (List Step) → List ℕ
+all_crossed [] = []
+all_crossed (steps ∷ before) = crossed steps ++ all_crossed before
 
 -- what some stops are worth, in dollars
 abbrev pub worth : Position → List Stop → ℕ

@@ -1,4 +1,5 @@
 pub mod Legal
+pub mod Marks
 pub mod Named
 pub mod Fault
 pub mod Code

@@ -1,6 +1,8 @@
-ghost use Rattle.std.specs.Prelude.{◌≡◌, IfOk, IfErr, None, Some, pos};
-ghost use Rattle.certificate.specs.Fault.{marked, named_steps, run_fault};
+ghost use Rattle.std.specs.Prelude.{◌≡◌, ◌↔◌, IfOk, IfErr, IsOk, None, Some, pos};
+ghost use Rattle.certificate.specs.Fault.{named_steps, run_fault};
+ghost use Rattle.certificate.specs.Law.{NameLegalRun};
 ghost use Rattle.certificate.specs.Legal.{crossed, earned};
+ghost use Rattle.certificate.specs.Marks.{AreAdded, borders_used, marked};
 ghost use Rattle.certificate.specs.Named.{made_along};
 ghost use Rattle.certificate.specs.Tally.{counted, no_steps};
 
@@ -12,9 +14,10 @@ use map_tables::{End, Run};
 use reach::{Network, Spot};
 use tables::{Amount, Company, Kind, Money};
 
-/// Rules a run of a company's train of a kind, as it is written out place by place. Where it breaks
-/// no rule the answer is what it earns, in dollars, and the borders that it crosses are used from
-/// then on. Else it is the first rule that the run breaks, and `used` is as it was.
+/// Rules a run of a company's train of a kind, as it is written out place by place. It is `Ok`
+/// exactly where the run is legal over the borders that are used: the answer is what it earns, in
+/// dollars, and the borders that it crosses are used from then on, and no others. Else it is the
+/// first rule that the run breaks, and `used` is as it was.
 pub fn check_run<N: Network>(
     network: &N,
     company: Company,
@@ -22,15 +25,20 @@ pub fn check_run<N: Network>(
     run: &Run,
     used: &mut Used,
 ) -> Result<Money, RunFault>
+    ensures exact { let name_legal = NameLegalRun (N.position network.now) company kind in
+        IsOk result ↔ name_legal (borders_used used.old) run.now }
     ensures first_fault { let found = run_fault (N.position network.now) company kind in
-        IfErr result (λ fault. found used.old run.now ≡ Some fault) }
+        IfErr result (λ fault. found (borders_used used.old) run.now ≡ Some fault) }
     ensures kept { IfErr result (λ fault. used.new ≡ used.old) }
     ensures no_fault { let found = run_fault (N.position network.now) company kind in
-        IfOk result (λ earns. found used.old run.now ≡ None) }
+        IfOk result (λ earns. found (borders_used used.old) run.now ≡ None) }
     ensures earns { let steps = named_steps (N.position network.now) run.now in
         IfOk result (λ earns. earns ≡ pos (earned (N.position network.now) steps)) }
     ensures crosses { let steps = named_steps (N.position network.now) run.now in
         IfOk result (λ earns. used.new ≡ marked used.old (crossed steps)) }
+    ensures added { let steps = named_steps (N.position network.now) run.now in
+        let old = borders_used used.old in
+        IfOk result (λ earns. AreAdded (crossed steps) old (borders_used used.new)) }
 {
     let Some(tally) = tally_of(network, company, run, used) else {
         return Err(RunFault::NoTrack);

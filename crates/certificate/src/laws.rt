@@ -3,6 +3,7 @@ ghost use Rattle.certificate.specs.Law.{
   BordersAreToldApart,
   CrossedBordersAreUsed,
   EachLegalRunIsNamed,
+  LegalByMarks,
   LegalWhereNoRuleIsBroken,
   RunsEarnByBorders,
   RunsShareNoBorder,
@@ -24,9 +25,15 @@ pub fn borders_are_told_apart()
     neighbours_pair();
 }
 
-/// After a run those borders are used that were used before it, and those that it crosses.
+/// After a run those borders are used that were used before it, and those that it crosses: its
+/// borders are marked, and no others.
 pub fn crossed_borders_are_used()
     ensures { CrossedBordersAreUsed }
+{}
+
+/// A run is legal by the marks of the used borders exactly where it is legal over these borders.
+pub fn legal_by_marks()
+    ensures { LegalByMarks }
 {}
 
 /// A run that is legal once the borders of another are used shares no border with it.
@@ -40,8 +47,7 @@ pub fn runs_earn_by_borders()
     ensures { RunsEarnByBorders }
 {}
 
-/// Each legal run can be written out: some places name it, from 2 to 280. A hex that is a part of
-/// another's stop must have that stop alone, as it has on the map.
+/// Each legal run can be written out: some places name it, from 2 to 280.
 pub fn each_legal_run_is_named()
     ensures { EachLegalRunIsNamed }
 {}

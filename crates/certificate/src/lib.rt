@@ -7,7 +7,8 @@
 //! The definitions, in `specs/`: `Legal` says which stops a walk visits, which borders it crosses
 //! and what a legal run is, and knows nothing of places; `Named` says which walk a list of places
 //! names; `Fault` is the table of the rules. `Law` joins them: what the places name is a legal run
-//! exactly where they break no rule. `Tally` is what the check keeps of the steps that it has gone
+//! exactly where they break no rule. `Marks` is how the borders are told that earlier runs crossed.
+//! `Tally` is what the check keeps of the steps that it has gone
 //! over.
 //!
 //! Reading order: `check` (the public call), `run_fault`, `used`, `leg` (from place to place),
@@ -23,7 +24,7 @@ mod used;
 
 pub use check::check_run;
 pub use laws::{
-    borders_are_told_apart, crossed_borders_are_used, each_legal_run_is_named,
+    borders_are_told_apart, crossed_borders_are_used, each_legal_run_is_named, legal_by_marks,
     legal_where_no_rule_is_broken, runs_earn_by_borders, runs_share_no_border,
 };
 pub use run_fault::RunFault;

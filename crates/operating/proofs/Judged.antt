@@ -7,13 +7,15 @@ use mir.Syntax.{w128}
 use mir.Val.{of_z, to_z}
 use Rattle.certificate.proofs.Kept.{length_marked}
 use Rattle.certificate.proofs.Lawful.{legal_where_unbroken}
-use Rattle.certificate.specs.Fault.{marked, named_steps, run_fault, steps_of}
+use Rattle.certificate.specs.Fault.{named_steps, run_fault, steps_of}
 use Rattle.certificate.specs.Law.{NameLegalRun, RunsEarnByBorders, unused}
 use Rattle.certificate.specs.Legal.{IsLegalRun, crossed, earned}
+use Rattle.certificate.specs.Marks.{borders_used, marked}
 use Rattle.history.specs.declared.ruling.RunRule.{RunRule}
 use Rattle.map_tables.specs.declared.place.Place.{Place}
 use Rattle.operating.specs.Done.{Done, IsBounded}
-use Rattle.operating.specs.Runs.{IsCounted, ObeyedRunsAreLegal, has_run, position_now, ran_by, ran_unless, rule_of_run, rules_of_turn, run_judgement, runs_most}
+use Rattle.operating.specs.InTurn.{InTurn}
+use Rattle.operating.specs.Runs.{IsCounted, has_run, judged_run, position_now, ran_by, ran_unless, rule_of_run, rules_of_turn, run_judgement, runs_most, steps_now}
 use Rattle.operating.specs.declared.runs.Ran.{Ran}
 use Rattle.reach.specs.Lawful.{IsLawful}
 use Rattle.reach.specs.Position.{Position}
@@ -37,15 +39,26 @@ none_made : {A B : Type 0} (make : A → B) (found : Option A) → option_map ma
 none_made make None none = refl
 none_made make (Some thing) none = absurd (cc)
 
-pub obeyed_legal : ObeyedRunsAreLegal
-obeyed_legal turn company kind run ran is =
+-- a run that is done is legal by the marks of the used borders
+pub judged_legal : (turn : InTurn) (company : Company) (kind : Kind) (run : List Place) (ran : Ran) → judged_run turn company kind run ≡ Ok ran → IsLegalRun (position_now turn.game.events) company kind (borders_used turn.progress.runs.borders) (steps_now turn.game.events run)
+judged_legal turn company kind run ran is =
     let position = position_now turn.game.events in
-    let used = turn.progress.runs.borders in
+    let used = borders_used turn.progress.runs.borders in
     let fault = run_fault position company kind used run in
-    let judged : run_judgement turn company kind run ≡ None = none_broken (ran_by position kind used run) ran (run_judgement turn company kind run) is in
+    let judged : run_judgement turn company kind run ≡ None = none_broken (ran_by position kind turn.progress.runs.borders run) ran (run_judgement turn company kind run) is in
     let unbroken : fault ≡ None = none_made rule_of_run fault (second_none (first_broken (rules_of_turn turn.game company turn.progress kind)) (option_map rule_of_run fault) judged) in
     let legal : NameLegalRun position company kind used run = (legal_where_unbroken position company kind used run).0 unbroken in
     subst (λ (steps : List Step). IsLegalRun position company kind used steps) (sym (ap steps_of legal.1)) legal.2
+
+-- what is done is what the run does
+done_is : (ran done : Ran) (found : Option RunRule) → ran_unless ran found ≡ Ok done → done ≡ ran
+done_is ran done None is = cc
+done_is ran done (Some rule) is = absurd (cc)
+
+-- the borders that are marked then
+pub judged_borders : (turn : InTurn) (company : Company) (kind : Kind) (run : List Place) (ran : Ran) → judged_run turn company kind run ≡ Ok ran → ran.borders ≡ marked turn.progress.runs.borders (crossed (steps_now turn.game.events run))
+judged_borders turn company kind run ran is =
+    ap (λ (r : Ran). r.borders) (done_is (ran_by (position_now turn.game.events) kind turn.progress.runs.borders run) ran (run_judgement turn company kind run) is)
 
 -- a sum that a run earns is kept whole
 sum_kept : (money : ℤ) (sum : ℕ) → money ≡ pos sum → sum ≤ 44640 → unsigned_abs (to_z w128 (of_z w128 money)) ≡ sum
@@ -54,7 +67,7 @@ sum_kept money sum is small =
     ap unsigned_abs kept
 
 -- a run that breaks no rule of runs may be done
-pub run_counted : (position : Position) (company : Company) (kind : Kind) (done seen : Done) (run : List Place) (borders : List Bool) (money : ℤ) → done ≡ seen → IsBounded done.trains done.borders done.revenue → IsLawful position → RunsEarnByBorders → run_fault position company kind done.borders run ≡ None → money ≡ pos (earned position (named_steps position run)) → borders ≡ marked done.borders (crossed (named_steps position run)) → has_run seen kind ≤ℤ runs_most → IsCounted seen (record { kind = kind; earned = unsigned_abs (to_z w128 (of_z w128 money)); borders = borders })
+pub run_counted : (position : Position) (company : Company) (kind : Kind) (done seen : Done) (run : List Place) (borders : List Bool) (money : ℤ) → done ≡ seen → IsBounded done.trains done.borders done.revenue → IsLawful position → RunsEarnByBorders → run_fault position company kind (borders_used done.borders) run ≡ None → money ≡ pos (earned position (named_steps position run)) → borders ≡ marked done.borders (crossed (named_steps position run)) → has_run seen kind ≤ℤ runs_most → IsCounted seen (record { kind = kind; earned = unsigned_abs (to_z w128 (of_z w128 money)); borders = borders })
 run_counted position company kind done seen run borders money view within lawful law unbroken earns crosses few =
     let sum : ℕ = earned position (named_steps position run) in
     let after : List Bool = marked done.borders (crossed (named_steps position run)) in

@@ -15,6 +15,7 @@ pub mod Played
 pub mod Dividends
 pub mod PaidOut
 pub mod Judged
+pub mod LegalRuns
 pub mod Folding
 pub mod PhaseLemmas
 pub mod DiscardLemmas

@@ -10,5 +10,6 @@ pub mod Discards
 pub mod Phases
 pub mod Standing
 pub mod Turn
+pub mod LegalRuns
 pub mod Laws
 pub mod TrainLaws

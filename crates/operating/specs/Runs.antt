@@ -8,9 +8,10 @@ use lib.Signed.{le_z}
 use Rattle.board.specs.Ground.{position_of}
 use Rattle.board.specs.Turn.{place_of_step}
 use Rattle.board.specs.declared.asker.TurnStep.TheVariants as step
-use Rattle.certificate.specs.Fault.{marked, named_steps, run_fault}
-use Rattle.certificate.specs.Legal.{IsLegalRun, crossed, earned}
+use Rattle.certificate.specs.Fault.{named_steps, run_fault}
+use Rattle.certificate.specs.Legal.{crossed, earned}
 use Rattle.certificate.specs.Law.{unused}
+use Rattle.certificate.specs.Marks.{borders_used, marked}
 use Rattle.certificate.specs.declared.run_fault.RunFault.{RunFault}
 use Rattle.certificate.specs.declared.run_fault.RunFault.TheVariants as fault
 use Rattle.history.specs.LookBack.{Game, with_event}
@@ -74,7 +75,7 @@ rule_of_run fault.PassesFull = run_rule.PassesFull
 rule_of_run fault.NoToken = run_rule.NoToken
 rule_of_run fault.RedInside = run_rule.RedInside
 
--- what a run over a position does, where these borders are used: what it earns, and the borders that are used
+-- what a run over a position does, where the borders are used that are marked so: what it earns, and the borders that are used
 -- once it is run
 abbrev pub ran_by : Position → Kind → List Bool → List Place → Ran
 ran_by position kind used run = record {
@@ -90,7 +91,7 @@ ran_unless ran (Some rule) = Err rule
 
 -- the first rule of runs that a run breaks
 abbrev pub broken_by : Position → Company → Kind → List Bool → List Place → Option RunRule
-broken_by position company kind used run = option_map rule_of_run (run_fault position company kind used run)
+broken_by position company kind used run = option_map rule_of_run (run_fault position company kind (borders_used used) run)
 
 -- what a run does, or the first rule of runs that it breaks
 abbrev pub ran_unless_fault : Position → Company → Kind → List Bool → List Place → Result Ran RunRule
@@ -141,10 +142,3 @@ run_ruled by turn number order (Ok ran) =
 -- after an order in the line with this number that a train of a kind runs
 abbrev pub after_run : Operator → InTurn → ℕ → Order → Kind → List Place → InTurn
 after_run by turn number order kind run = run_ruled by turn number order (judged_run turn by.company kind run)
-
--- a run that is obeyed is legal: it shares no border with the runs before it in the turn
-abbrev pub ObeyedRunsAreLegal : Type 0
-ObeyedRunsAreLegal =
-    (turn : InTurn) (company : Company) (kind : Kind) (run : List Place) (ran : Ran) →
-    judged_run turn company kind run ≡ Ok ran →
-    IsLegalRun (position_now turn.game.events) company kind turn.progress.runs.borders (steps_now turn.game.events run)

@@ -1,7 +1,7 @@
 //! Laws of the definitions, each the contract of a function that does nothing.
 ghost use Rattle.operating.specs.Dividend.{NoMoreIsPaid};
 ghost use Rattle.operating.specs.Laws.{CompanyOperates, CompanyTurnEnds, OneCompanyTurn, TurnOnlyAdds};
-ghost use Rattle.operating.specs.Runs.{ObeyedRunsAreLegal};
+ghost use Rattle.operating.specs.LegalRuns.{ObeyedRunsAreLegal};
 
 use map_tables::{
     laid_links_are_in_order, neighbours_pair, printed_links_are_in_order, values_are_at_most_80,
@@ -32,7 +32,8 @@ pub fn company_turn_ends()
     values_are_at_most_80();
 }
 
-/// A run that is obeyed is legal, so that the runs of a turn share no border.
+/// A run that is obeyed is legal where the borders are used that the runs obeyed before it in the
+/// turn have crossed: the runs of a turn share no border.
 pub fn obeyed_runs_are_legal()
     ensures { ObeyedRunsAreLegal }
 {}

@@ -1,4 +1,4 @@
-use Rattle.operating.proofs.Judged.{obeyed_legal}
+use Rattle.operating.proofs.LegalRuns.{obeyed_legal}
 use Rattle.operating.proofs.laws.obeyed_runs_are_legal.Goals as goal
 
 pub returns : goal.returns

@@ -5,4 +5,4 @@ use Rattle.reach.specs.Position.{InHex}
 use Rattle.board.proofs.network.BoardNetwork.links.Goals as goal
 
 pub returns : goal.returns
-returns c = c.links_on.ensures ∙ sym (ap (λ (h : InHex). h.links) (in_hex_is c.args.self.now c.args.hex))
+returns c = c.track_in.ensures ∙ sym (ap (λ (h : InHex). h.links) (in_hex_is c.args.self.now c.args.hex))

@@ -1,0 +1,46 @@
+-- The runs of a company's turn share no border. Line by line the walks of the runs that are obeyed are set down, the
+-- latest in front; a run that is obeyed is legal where the borders are used that these walks cross.
+use Rattle.std.specs.Prelude.{◌≡◌, List, [], ◌∷◌, ◌++◌, Result, Ok, Err}
+use Rattle.certificate.specs.Legal.{IsLegalRun, all_crossed}
+use Rattle.history.specs.LookBack.{Game}
+use Rattle.history.specs.declared.ruling.RunRule.{RunRule}
+use Rattle.map_tables.specs.declared.place.Place.{Place}
+use Rattle.operating.specs.InTurn.{InTurn}
+use Rattle.operating.specs.Runs.{judged_run, position_now, steps_now}
+use Rattle.operating.specs.Turn.{LineLeads, begun}
+use Rattle.operating.specs.declared.operator.Operator.{Operator}
+use Rattle.operating.specs.declared.runs.Ran.{Ran}
+use Rattle.order_grammar.specs.declared.fault.Fault.{Fault}
+use Rattle.order_grammar.specs.declared.order.Order.{Order}
+use Rattle.order_grammar.specs.declared.order.Order.TheVariants as order
+use Rattle.reach.specs.declared.walk.Step.{Step}
+use Rattle.sheets.specs.Part.{Numbered}
+use Rattle.tables.specs.declared.rolling_stock.Kind.{Kind}
+use Rattle.tables.specs.declared.roster.Company.{Company}
+
+-- the walk of a run, if it is obeyed
+abbrev pub walk_if_ran : List Step → Result Ran RunRule → List (List Step)
+walk_if_ran steps (Ok ran) = steps ∷ []
+walk_if_ran steps (Err rule) = []
+
+-- the walk of the run that a line orders, if it orders one and is obeyed
+abbrev pub walk_obeyed : Company → InTurn → Result Order Fault → List (List Step)
+walk_obeyed company turn (Ok (order.Run kind run)) =
+    walk_if_ran (steps_now turn.game.events run) (judged_run turn company kind run)
+walk_obeyed company turn other = []
+
+-- lines of a block lead from a turn to new, one after another; to the walks before them those of their obeyed runs
+-- come, which makes all
+abbrev pub LinesRun : Operator → InTurn → List (List Step) → List Numbered → InTurn → List (List Step) → Type 0
+LinesRun by turn before [] new all = (new ≡ turn) × (all ≡ before)
+LinesRun by turn before (line ∷ lines) new all =
+    (next : InTurn) × LineLeads by turn line next × LinesRun by next (walk_obeyed by.company turn line.reading ++ before) lines new all
+
+-- A run that is obeyed, once some lines of the company's turn have been ruled, is legal where the borders are used
+-- that the walks of the runs cross which were obeyed before it in the turn.
+abbrev pub ObeyedRunsAreLegal : Type 0
+ObeyedRunsAreLegal =
+    (by : Operator) (game : Game) (lines : List Numbered) (turn : InTurn) (before : List (List Step)) (kind : Kind) (run : List Place) (ran : Ran) →
+    LinesRun by (begun game by.company) [] lines turn before →
+    judged_run turn by.company kind run ≡ Ok ran →
+    IsLegalRun (position_now turn.game.events) by.company kind (all_crossed before) (steps_now turn.game.events run)
