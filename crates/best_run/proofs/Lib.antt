@@ -1,3 +1,10 @@
 pub mod Marks
 pub mod Tried
 pub mod Places
+pub mod Advance
+pub mod Prefix
+pub mod Complete
+pub mod Sets
+pub mod Few
+pub mod Runs
+pub mod Sound

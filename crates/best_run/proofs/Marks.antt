@@ -51,12 +51,12 @@ set_most (mark ∷ marks) zero = omega arith
 set_most (mark ∷ marks) (suc border) = let rest = set_most marks border in omega arith
 
 -- a new mark leaves one fewer
-set_fewer : (marks : List Bool) (border : ℕ) → border < length marks → get_or marks border false ≡ false → unused (set marks border true) + 1 ≡ unused marks
+pub set_fewer : (marks : List Bool) (border : ℕ) → border < length marks → get_or marks border false ≡ false → unused (set marks border true) + 1 ≡ unused marks
 set_fewer [] border low free = absurd (omega arith)
 set_fewer (mark ∷ marks) zero low free = let counts : if_unset mark ≡ 1 = ap if_unset free in omega arith
 set_fewer (mark ∷ marks) (suc border) low free = let rest = set_fewer marks border (omega arith) free in omega arith
 
-marked_most : (used : List Bool) (borders : List ℕ) → unused (marked_all used borders) ≤ unused used
+pub marked_most : (used : List Bool) (borders : List ℕ) → unused (marked_all used borders) ≤ unused used
 marked_most used [] = omega arith
 marked_most used (border ∷ borders) =
     omega (arith, marked_most (set used border true) borders, set_most used border)

@@ -1,10 +1,10 @@
 -- What has been tried: moves of one sort after those of another, a piece as a move, and all moves of a state.
-use Rattle.std.proofs.Common.{◌≡◌, ℕ, suc, ◌+◌, ◌<◌, ◌≤◌, Bool, true, false, ◌⊎◌, inl, inr, Some, List, [], ◌∷◌, length, slice_get, refl, sym, ap, subst, ◌∙◌, arith, le_trans}
+use Rattle.std.proofs.Common.{◌≡◌, ℕ, suc, ◌+◌, ◌<◌, ◌≤◌, Bool, true, false, ◌&&◌, ◌⊎◌, inl, inr, Some, List, [], ◌∷◌, length, slice_get, refl, sym, ap, subst, ◌∙◌, arith, le_trans}
 use Rattle.best_run.specs.declared.task.Piece.{Piece}
 use Rattle.best_run.specs.declared.task.Task.{Task}
 use Rattle.best_run.specs.declared.state.Settled.{Settled}
 use Rattle.best_run.specs.declared.state.Standing.{Standing}
-use Rattle.best_run.specs.Moves.{Allows, Any, CanEarn, Completes, Explores, IsBegin, IsBeginAt, IsGo, IsOpen, IsTurn, LeadsFrom, Move, State, Takes, Tries, along, begin, begun, between, can_take, ends_in, go, node_at, own_in, pass, passed, pieces_in, settle, settling, standing, total_after, turn, turned, using}
+use Rattle.best_run.specs.Moves.{Allows, Any, CanEarn, Completes, Explores, IsBegin, IsBeginAt, IsGo, IsOpen, LeadsFrom, Move, State, Takes, Tries, along, begin, begun, between, can_take, ends_in, go, node_at, own_in, pass, passed, pieces_in, settle, settling, standing, stop_in, total_after, using}
 
 -- nothing has been tried
 pub tries_none : (task : Task) (state : State) (P : Move → Type 0) (best : ℕ) → ((move : Move) → P move → Allows task state move → ⊥) → Tries task state P best best
@@ -51,7 +51,6 @@ go_most task settled run index piece new leads most pass moves is completes = ab
 go_most task settled run index piece new leads most (begin token i found) moves is completes = absurd is
 go_most task settled run index piece new leads most (go i found) moves is completes =
     subst (MostBy task settled run new) (same_piece task run.head index i piece found leads completes.0.leads is) most completes.0.taken moves completes.1
-go_most task settled run index piece new leads most (turn i found) moves is completes = absurd is
 go_most task settled run index piece new leads most settle moves is completes = absurd is
 
 -- a piece from where the run stands has been tried
@@ -63,43 +62,23 @@ take_go task settled run index piece old new passes leads takes =
       most = go_most task settled run index piece new leads takes.most;
     }
 
-turn_most : (task : Task) (settled : Settled) (run : Standing) (index : ℕ) (piece : Piece) (new : ℕ) → LeadsFrom task run.token index piece → MostBy task settled (turned run) new piece → (move : Move) (moves : List Move) → IsTurn (λ i. i ≡ index) move → Completes task (standing settled run) (move ∷ moves) → total_after task (standing settled run) (move ∷ moves) ≤ new
-turn_most task settled run index piece new leads most pass moves is completes = absurd is
-turn_most task settled run index piece new leads most (begin token i found) moves is completes = absurd is
-turn_most task settled run index piece new leads most (go i found) moves is completes = absurd is
-turn_most task settled run index piece new leads most (turn i found) moves is completes =
-    subst (MostBy task settled (turned run) new) (same_piece task run.token index i piece found leads completes.0.leads is) most completes.0.taken moves completes.1
-turn_most task settled run index piece new leads most settle moves is completes = absurd is
+begin_most : (task : Task) (settled : Settled) (there index : ℕ) (piece : Piece) (new : ℕ) → LeadsFrom task there index piece → MostBy task settled (begun task settled there) new piece → (move : Move) (moves : List Move) → IsBeginAt there (λ i. i ≡ index) move → Completes task (between settled) (move ∷ moves) → total_after task (between settled) (move ∷ moves) ≤ new
+begin_most task settled there index piece new leads most pass moves is completes = absurd is
+begin_most task settled there index piece new leads most (begin stop i found) moves is completes =
+    let finds : LeadsFrom task there i found = subst (λ (t : ℕ). LeadsFrom task t i found) is.0 completes.0.leads in
+    let most_found : MostBy task settled (begun task settled there) new found = subst (MostBy task settled (begun task settled there) new) (same_piece task there index i piece found leads finds is.1) most in
+    let most_there : MostBy task settled (begun task settled stop) new found = subst (λ (t : ℕ). MostBy task settled (begun task settled t) new found) (sym is.0) most_found in
+    most_there completes.0.taken moves completes.1
+begin_most task settled there index piece new leads most (go i found) moves is completes = absurd is
+begin_most task settled there index piece new leads most settle moves is completes = absurd is
 
--- a second piece from the token has been tried
-pub take_turn : (task : Task) (settled : Settled) (run : Standing) (index : ℕ) (piece : Piece) (old new : ℕ) → run.second ≡ false → run.first < index → ends_in (node_at task run.token) ≡ false → LeadsFrom task run.token index piece → Takes task settled (turned run) piece old new → Tries task (standing settled run) (IsTurn (λ i. i ≡ index)) old new
-take_turn task settled run index piece old new first later passes leads takes =
+-- a first piece from a stop has been tried
+pub take_begin : (task : Task) (settled : Settled) (there index : ℕ) (piece : Piece) (old new : ℕ) → settled.next < length task.trains.items → stop_in (node_at task there) ≡ true → LeadsFrom task there index piece → Takes task settled (begun task settled there) piece old new → Tries task (between settled) (IsBeginAt there (λ i. i ≡ index)) old new
+take_begin task settled there index piece old new train begins leads takes =
     record {
       grows = takes.grows;
-      earned = λ possible. takes.earned (λ taken moves completes. possible (turn index piece ∷ moves) (record { first = first; later = later; passes = passes; leads = leads; taken = taken }, completes));
-      most = turn_most task settled run index piece new leads takes.most;
-    }
-
-begin_most : (task : Task) (settled : Settled) (stop index : ℕ) (piece : Piece) (new : ℕ) → LeadsFrom task stop index piece → MostBy task settled (begun task settled stop index) new piece → (move : Move) (moves : List Move) → IsBeginAt stop (λ i. i ≡ index) move → Completes task (between settled) (move ∷ moves) → total_after task (between settled) (move ∷ moves) ≤ new
-begin_most task settled stop index piece new leads most pass moves is completes = absurd is
-begin_most task settled stop index piece new leads most (begin token i found) moves is completes =
-    let P : ℕ → ℕ → Type 0 = λ t k. LeadsFrom task t k found in
-    let finds : LeadsFrom task stop i found = subst (λ (t : ℕ). LeadsFrom task t i found) is.0 completes.0.leads in
-    let most_found : MostBy task settled (begun task settled stop index) new found = subst (MostBy task settled (begun task settled stop index) new) (same_piece task stop index i piece found leads finds is.1) most in
-    let most_there : MostBy task settled (begun task settled token index) new found = subst (λ (t : ℕ). MostBy task settled (begun task settled t index) new found) (sym is.0) most_found in
-    let most_by : MostBy task settled (begun task settled token i) new found = subst (λ (k : ℕ). MostBy task settled (begun task settled token k) new found) (sym is.1) most_there in
-    most_by completes.0.taken moves completes.1
-begin_most task settled stop index piece new leads most (go i found) moves is completes = absurd is
-begin_most task settled stop index piece new leads most (turn i found) moves is completes = absurd is
-begin_most task settled stop index piece new leads most settle moves is completes = absurd is
-
--- a first piece from a token has been tried
-pub take_begin : (task : Task) (settled : Settled) (stop index : ℕ) (piece : Piece) (old new : ℕ) → settled.next < length task.trains.items → own_in (node_at task stop) ≡ true → LeadsFrom task stop index piece → Takes task settled (begun task settled stop index) piece old new → Tries task (between settled) (IsBeginAt stop (λ i. i ≡ index)) old new
-take_begin task settled stop index piece old new train own leads takes =
-    record {
-      grows = takes.grows;
-      earned = λ possible. takes.earned (λ taken moves completes. possible (begin stop index piece ∷ moves) (record { train = train; own = own; leads = leads; taken = taken }, completes));
-      most = begin_most task settled stop index piece new leads takes.most;
+      earned = λ possible. takes.earned (λ taken moves completes. possible (begin there index piece ∷ moves) (record { train = train; begins = begins; leads = leads; taken = taken }, completes));
+      most = begin_most task settled there index piece new leads takes.most;
     }
 
 -- all trains are settled, and the best is kept
@@ -108,7 +87,6 @@ over_most task settled new over low [] completes = low
 over_most task settled new over low (pass ∷ moves) completes = let before : settled.next < length task.trains.items = completes.0 in absurd (omega arith)
 over_most task settled new over low (begin token i found ∷ moves) completes = absurd (omega (arith, completes.0.train))
 over_most task settled new over low (go i found ∷ moves) completes = absurd completes.0
-over_most task settled new over low (turn i found ∷ moves) completes = absurd completes.0
 over_most task settled new over low (settle ∷ moves) completes = absurd completes.0
 
 pub over_better : (task : Task) (settled : Settled) (old : ℕ) → length task.trains.items ≤ settled.next → old ≤ settled.total → Explores task (between settled) old settled.total
@@ -141,22 +119,35 @@ explores_between task settled old middle new before first second =
     by_moves (pass ∷ moves) completes = le_trans (first.most moves completes.1) second.grows
     by_moves (begin token i found ∷ moves) completes = second.most (begin token i found) moves tt completes
     by_moves (go i found ∷ moves) completes = absurd completes.0
-    by_moves (turn i found ∷ moves) completes = absurd completes.0
     by_moves (settle ∷ moves) completes = absurd completes.0
 
--- the run has been settled, has gone on and has turned
-pub explores_standing : (task : Task) (settled : Settled) (run : Standing) (old a b new : ℕ) → Explores task (between (settling settled run)) old a → Tries task (standing settled run) (IsGo Any) a b → Tries task (standing settled run) (IsTurn Any) b new → Explores task (standing settled run) old new
-explores_standing task settled run old a b new first second third =
+-- the run has been settled, if it may be, and has gone on
+pub explores_standing : (task : Task) (settled : Settled) (run : Standing) (old middle new : ℕ) → (run.own && stop_in (node_at task run.head)) ≡ true → Explores task (between (settling settled run)) old middle → Tries task (standing settled run) (IsGo Any) middle new → Explores task (standing settled run) old new
+explores_standing task settled run old middle new own first second =
     record {
-      grows = le_trans first.grows (le_trans second.grows third.grows);
-      earned = λ possible earned. third.earned possible (second.earned possible (first.earned (λ moves completes. possible (settle ∷ moves) (tt, completes)) earned));
+      grows = le_trans first.grows second.grows;
+      earned = λ possible earned. second.earned possible (first.earned (λ moves completes. possible (settle ∷ moves) (own, completes)) earned);
       most = by_moves;
     }
   where
     by_moves : (moves : List Move) → Completes task (standing settled run) moves → total_after task (standing settled run) moves ≤ new
     by_moves [] completes = absurd completes
     by_moves (pass ∷ moves) completes = absurd completes.0
-    by_moves (begin token i found ∷ moves) completes = absurd completes.0
-    by_moves (go i found ∷ moves) completes = le_trans (second.most (go i found) moves tt completes) third.grows
-    by_moves (turn i found ∷ moves) completes = third.most (turn i found) moves tt completes
-    by_moves (settle ∷ moves) completes = le_trans (first.most moves completes.1) (le_trans second.grows third.grows)
+    by_moves (begin stop i found ∷ moves) completes = absurd completes.0
+    by_moves (go i found ∷ moves) completes = second.most (go i found) moves tt completes
+    by_moves (settle ∷ moves) completes = le_trans (first.most moves completes.1) second.grows
+
+pub explores_on : (task : Task) (settled : Settled) (run : Standing) (old new : ℕ) → (run.own && stop_in (node_at task run.head)) ≡ false → Tries task (standing settled run) (IsGo Any) old new → Explores task (standing settled run) old new
+explores_on task settled run old new none second =
+    record {
+      grows = second.grows;
+      earned = second.earned;
+      most = by_moves;
+    }
+  where
+    by_moves : (moves : List Move) → Completes task (standing settled run) moves → total_after task (standing settled run) moves ≤ new
+    by_moves [] completes = absurd completes
+    by_moves (pass ∷ moves) completes = absurd completes.0
+    by_moves (begin stop i found ∷ moves) completes = absurd completes.0
+    by_moves (go i found ∷ moves) completes = second.most (go i found) moves tt completes
+    by_moves (settle ∷ moves) completes = absurd (let wrong : true ≡ false = sym completes.0 ∙ none in cc)

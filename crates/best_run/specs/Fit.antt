@@ -5,28 +5,34 @@ use Rattle.std.specs.List.{AllByRecursion}
 use Rattle.best_run.specs.declared.task.Node.{Node}
 use Rattle.best_run.specs.declared.task.Piece.{Piece}
 use Rattle.best_run.specs.declared.task.Task.{Task}
-use Rattle.best_run.specs.declared.state.Settled.{Settled}
+use Rattle.best_run.specs.Moves.{node_at, stop_in}
 
 -- borders by their numbers
 abbrev pub BordersFit : List ℕ → Type 0
 BordersFit borders = AllByRecursion (λ border. border < 279) borders
 
--- a piece leads to a stop of the map, over at least one border
-pub record PieceFits (piece : Piece) : Type 0 where
-  pub to : piece.to < 186
+-- a piece leads from a stop to a side, or from a side over at least one border
+pub record PieceFits (task : Task) (from_stop : Bool) (piece : Piece) : Type 0 where
+  pub to : piece.to < 744
   pub borders : BordersFit piece.borders.items
-  pub some : 0 < length piece.borders.items
+  pub to_side : from_stop ≡ true → stop_in (node_at task piece.to) ≡ false
+  pub over : from_stop ≡ false → 0 < length piece.borders.items
 
--- a stop is worth at most 80 dollars
-pub record NodeFits (node : Node) : Type 0 where
+-- a stop is worth at most 80 dollars, a side nothing
+pub record NodeFits (task : Task) (node : Node) : Type 0 where
   pub value : node.value ≤ 80
-  pub pieces : (index : ℕ) (piece : Piece) → slice_get node.pieces.items index ≡ Some piece → PieceFits piece
+  pub side : node.stop ≡ false → node.value ≡ 0
+  pub pieces : (index : ℕ) (piece : Piece) → slice_get node.pieces.items index ≡ Some piece → PieceFits task node.stop piece
 
--- all stops of the map are there, each fit
+-- all spots of the map are there, each fit
 pub record IsFit (task : Task) : Type 0 where
-  pub all : length task.stops.items ≡ 186
-  pub nodes : (stop : ℕ) (node : Node) → slice_get task.stops.items stop ≡ Some node → NodeFits node
-  pub trains : (index : ℕ) (most : ℕ) → slice_get task.trains.items index ≡ Some most → most ≤ 186
+  pub all : length task.spots.items ≡ 744
+  pub nodes : (spot : ℕ) (node : Node) → slice_get task.spots.items spot ≡ Some node → NodeFits task node
+
+-- a run at a stop has room for one stop less
+abbrev pub credit : Bool → ℕ
+credit true = 80
+credit false = 0
 
 -- how many of some marks are not set
 abbrev pub if_unset : Bool → ℕ

@@ -1,7 +1,7 @@
 -- What the search goes over: from nothing settled, move by move, to all trains settled. The next train passes, or
--- begins a run at a token by a piece of plain track; a run that has begun goes on from where it stands, or turns,
--- which is to leave its token by a later piece, or is settled.
-use Rattle.std.specs.Prelude.{◌≡◌, ℕ, ◌+◌, ◌-◌, ◌<◌, ◌≤◌, Bool, true, false, not, ◌&&◌, nat_lt, Option, Some, None, List, [], ◌∷◌, length, get_or, set, slice_get, replicate}
+-- begins a run at a stop by a piece of plain track; a run that has begun goes on from where it stands, or is
+-- settled, if it has come by a token of the company.
+use Rattle.std.specs.Prelude.{◌≡◌, ℕ, ◌+◌, ◌-◌, ◌<◌, ◌≤◌, Bool, true, false, not, ◌&&◌, ◌||◌, nat_lt, Option, Some, None, List, [], ◌∷◌, length, get_or, set, slice_get, replicate}
 use Rattle.std.specs.List.{list_any}
 use Rattle.best_run.specs.declared.task.Node.{Node}
 use Rattle.best_run.specs.declared.task.Piece.{Piece}
@@ -9,7 +9,7 @@ use Rattle.best_run.specs.declared.task.Task.{Task}
 use Rattle.best_run.specs.declared.state.Settled.{Settled}
 use Rattle.best_run.specs.declared.state.Standing.{Standing}
 
--- what is known of a stop, by its number
+-- what is known of a spot, by its number
 abbrev pub value_in : Option Node → ℕ
 value_in (Some node) = node.value
 value_in None = 0
@@ -22,12 +22,16 @@ abbrev pub ends_in : Option Node → Bool
 ends_in (Some node) = node.ends
 ends_in None = true
 
+abbrev pub stop_in : Option Node → Bool
+stop_in (Some node) = node.stop
+stop_in None = false
+
 abbrev pub pieces_in : Option Node → List Piece
 pieces_in (Some node) = node.pieces.items
 pieces_in None = []
 
 abbrev pub node_at : Task → ℕ → Option Node
-node_at task stop = slice_get task.stops.items stop
+node_at task stop = slice_get task.spots.items stop
 
 -- a piece leads from a stop, at a place among its pieces
 abbrev pub LeadsFrom : Task → ℕ → ℕ → Piece → Type 0
@@ -42,39 +46,39 @@ abbrev pub marked_all : List Bool → List ℕ → List Bool
 marked_all used [] = used
 marked_all used (border ∷ borders) = marked_all (set used border true) borders
 
--- a run may visit a stop: it has not, and it is no own token before the one where it began
-abbrev pub may_visit : Task → Standing → ℕ → Bool
-may_visit task run stop =
-    not (get_or run.visited stop false) && not (own_in (node_at task stop) && nat_lt stop run.token)
+-- a run may come to a spot: it is no stop, or one that it has not visited, and it may visit one more
+abbrev pub may_come : Bool → Standing → ℕ → Bool
+may_come true run spot = nat_lt 0 run.left && not (get_or run.visited spot false)
+may_come false run spot = true
 
 -- a run may take a piece
 abbrev pub can_take : Task → Standing → List Bool → Piece → Bool
-can_take task run used piece = nat_lt 0 run.left && (may_visit task run piece.to && misses used piece.borders.items)
+can_take task run used piece = may_come (stop_in (node_at task piece.to)) run piece.to && misses used piece.borders.items
 
--- a run that stands at a token, and is to leave it by a piece
-abbrev pub begun : Task → Settled → ℕ → ℕ → Standing
-begun task settled token index =
+-- how many stops are left after a spot
+abbrev pub left_after : Bool → ℕ → ℕ
+left_after true left = left - 1
+left_after false left = left
+
+-- a run that stands at the stop where it begins
+abbrev pub begun : Task → Settled → ℕ → Standing
+begun task settled stop =
     record {
-      token = token;
-      first = index;
-      second = false;
-      head = token;
+      head = stop;
       left = get_or task.trains.items settled.next 0 - 1;
-      value = value_in (node_at task token);
-      visited = set (replicate 186 false) token true;
+      value = value_in (node_at task stop);
+      own = own_in (node_at task stop);
+      visited = set (replicate 744 false) stop true;
     }
-
--- a run that is to leave its token by a second piece
-abbrev pub turned : Standing → Standing
-turned run = record run { second = true }
 
 -- a run after a piece
 abbrev pub along : Task → Standing → Piece → Standing
 along task run piece =
     record run {
       head = piece.to;
-      left = run.left - 1;
+      left = left_after (stop_in (node_at task piece.to)) run.left;
       value = run.value + value_in (node_at task piece.to);
+      own = run.own || own_in (node_at task piece.to);
       visited = set run.visited piece.to true;
     }
 
@@ -100,52 +104,40 @@ pub data Move : Type 0 where
   pass : Move
   begin : ℕ → ℕ → Piece → Move
   go : ℕ → Piece → Move
-  turn : ℕ → Piece → Move
   settle : Move
 
-pub record MayBegin (task : Task) (settled : Settled) (token index : ℕ) (piece : Piece) : Type 0 where
+pub record MayBegin (task : Task) (settled : Settled) (stop index : ℕ) (piece : Piece) : Type 0 where
   pub train : settled.next < length task.trains.items
-  pub own : own_in (node_at task token) ≡ true
-  pub leads : LeadsFrom task token index piece
-  pub taken : can_take task (begun task settled token index) settled.used piece ≡ true
+  pub begins : stop_in (node_at task stop) ≡ true
+  pub leads : LeadsFrom task stop index piece
+  pub taken : can_take task (begun task settled stop) settled.used piece ≡ true
 
 pub record MayGo (task : Task) (settled : Settled) (run : Standing) (index : ℕ) (piece : Piece) : Type 0 where
   pub passes : ends_in (node_at task run.head) ≡ false
   pub leads : LeadsFrom task run.head index piece
   pub taken : can_take task run settled.used piece ≡ true
 
-pub record MayTurn (task : Task) (settled : Settled) (run : Standing) (index : ℕ) (piece : Piece) : Type 0 where
-  pub first : run.second ≡ false
-  pub later : run.first < index
-  pub passes : ends_in (node_at task run.token) ≡ false
-  pub leads : LeadsFrom task run.token index piece
-  pub taken : can_take task (turned run) settled.used piece ≡ true
-
 -- a move may be made in a state
 abbrev pub Allows : Task → State → Move → Type 0
 Allows task (between settled) pass = settled.next < length task.trains.items
-Allows task (between settled) (begin token index piece) = MayBegin task settled token index piece
+Allows task (between settled) (begin stop index piece) = MayBegin task settled stop index piece
 Allows task (between settled) (go index piece) = ⊥
-Allows task (between settled) (turn index piece) = ⊥
 Allows task (between settled) settle = ⊥
 Allows task (standing settled run) pass = ⊥
-Allows task (standing settled run) (begin token index piece) = ⊥
+Allows task (standing settled run) (begin stop index piece) = ⊥
 Allows task (standing settled run) (go index piece) = MayGo task settled run index piece
-Allows task (standing settled run) (turn index piece) = MayTurn task settled run index piece
-Allows task (standing settled run) settle = Unit {0}
+Allows task (standing settled run) settle = (run.own && stop_in (node_at task run.head)) ≡ true
 
 -- the state after a move
 abbrev pub after : Task → State → Move → State
 after task (between settled) pass = between (passed settled)
-after task (between settled) (begin token index piece) =
-    standing (using settled piece) (along task (begun task settled token index) piece)
+after task (between settled) (begin stop index piece) =
+    standing (using settled piece) (along task (begun task settled stop) piece)
 after task (between settled) (go index piece) = between settled
-after task (between settled) (turn index piece) = between settled
 after task (between settled) settle = between settled
 after task (standing settled run) pass = between settled
-after task (standing settled run) (begin token index piece) = between settled
+after task (standing settled run) (begin stop index piece) = between settled
 after task (standing settled run) (go index piece) = standing (using settled piece) (along task run piece)
-after task (standing settled run) (turn index piece) = standing (using settled piece) (along task (turned run) piece)
 after task (standing settled run) settle = between (settling settled run)
 
 -- all trains are settled
@@ -202,31 +194,21 @@ pub record Takes (task : Task) (settled : Settled) (run : Standing) (piece : Pie
 -- moves by their sort
 abbrev pub IsBegin : (ℕ → Type 0) → Move → Type 0
 IsBegin P pass = ⊥
-IsBegin P (begin token index piece) = P token
+IsBegin P (begin stop index piece) = P stop
 IsBegin P (go index piece) = ⊥
-IsBegin P (turn index piece) = ⊥
 IsBegin P settle = ⊥
 
 abbrev pub IsBeginAt : ℕ → (ℕ → Type 0) → Move → Type 0
-IsBeginAt stop P pass = ⊥
-IsBeginAt stop P (begin token index piece) = (token ≡ stop) × P index
-IsBeginAt stop P (go index piece) = ⊥
-IsBeginAt stop P (turn index piece) = ⊥
-IsBeginAt stop P settle = ⊥
+IsBeginAt there P pass = ⊥
+IsBeginAt there P (begin stop index piece) = (stop ≡ there) × P index
+IsBeginAt there P (go index piece) = ⊥
+IsBeginAt there P settle = ⊥
 
 abbrev pub IsGo : (ℕ → Type 0) → Move → Type 0
 IsGo P pass = ⊥
-IsGo P (begin token index piece) = ⊥
+IsGo P (begin stop index piece) = ⊥
 IsGo P (go index piece) = P index
-IsGo P (turn index piece) = ⊥
 IsGo P settle = ⊥
-
-abbrev pub IsTurn : (ℕ → Type 0) → Move → Type 0
-IsTurn P pass = ⊥
-IsTurn P (begin token index piece) = ⊥
-IsTurn P (go index piece) = ⊥
-IsTurn P (turn index piece) = P index
-IsTurn P settle = ⊥
 
 -- any number
 abbrev pub Any : ℕ → Type 0

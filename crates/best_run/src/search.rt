@@ -1,6 +1,6 @@
 ghost use Rattle.std.specs.Prelude.{◌≡◌, ◌+◌, ◌<◌, ◌≤◌, true, length};
-ghost use Rattle.best_run.specs.Fit.{HasRoom, IsFit, PieceFits};
-ghost use Rattle.best_run.specs.Moves.{Any, Explores, IsBegin, IsBeginAt, IsGo, IsTurn, Takes, Tries, between, own_in, node_at, standing};
+ghost use Rattle.best_run.specs.Fit.{HasRoom, IsFit, PieceFits, credit};
+ghost use Rattle.best_run.specs.Moves.{Any, Explores, IsBegin, IsBeginAt, IsGo, Takes, Tries, between, node_at, standing, stop_in};
 
 use crate::state::{Settled, Standing};
 use crate::task::{Piece, Task};
@@ -26,7 +26,7 @@ impl Task {
         self.begin_runs(settled, best);
     }
 
-    /// Tries all runs of the next train, from each token.
+    /// Tries all runs of the next train, from each stop.
     #[cycle(explore)]
     fn begin_runs(&self, settled: &Settled, best: &mut Amount)
         requires fit { IsFit self.now }
@@ -34,27 +34,27 @@ impl Task {
         requires room { HasRoom settled.now.used settled.now.total 44640 }
         ensures { Tries self.now (between settled.now) (IsBegin Any) best.old best.new }
     {
-        for token in 0..self.stops.len() {
-            if self.stops[token].own {
-                self.begin_at(settled, token, best);
+        for stop in 0..self.spots.len() {
+            if self.spots[stop].stop {
+                self.begin_at(settled, stop, best);
             }
         }
     }
 
-    /// Tries all runs of the next train whose first own token is at a stop.
+    /// Tries all runs of the next train that begin at a stop.
     #[cycle(explore)]
-    fn begin_at(&self, settled: &Settled, token: usize, best: &mut Amount)
+    fn begin_at(&self, settled: &Settled, stop: usize, best: &mut Amount)
         requires fit { IsFit self.now }
         requires next { settled.now.next < length self.now.trains.items }
         requires room { HasRoom settled.now.used settled.now.total 44640 }
-        requires token { token < 186 }
-        requires own { own_in (node_at self.now token) ≡ true }
-        ensures { Tries self.now (between settled.now) (IsBeginAt token Any) best.old best.new }
+        requires stop { stop < 744 }
+        requires begins { stop_in (node_at self.now stop) ≡ true }
+        ensures { Tries self.now (between settled.now) (IsBeginAt stop Any) best.old best.new }
     {
-        let pieces = &self.stops[token].pieces;
-        for index in 0..pieces.len() {
-            let run = self.begun(settled, token, index);
-            self.take(settled, &run, &pieces[index], best);
+        let node = &self.spots[stop];
+        let run = self.begun(settled, stop);
+        for index in 0..node.pieces.len() {
+            self.take(settled, &run, &node.pieces[index], best);
         }
     }
 
@@ -63,8 +63,8 @@ impl Task {
     fn take(&self, settled: &Settled, run: &Standing, piece: &Piece, best: &mut Amount)
         requires fit { IsFit self.now }
         requires next { settled.now.next < length self.now.trains.items }
-        requires token { run.now.token < 186 }
-        requires piece { PieceFits piece.now }
+        requires piece { let from = stop_in (node_at self.now run.now.head) in
+            PieceFits self.now from piece.now }
         requires room { HasRoom settled.now.used (settled.now.total + run.now.value) 44720 }
         ensures { Takes self.now settled.now run.now piece.now best.old best.new }
     {
@@ -80,15 +80,16 @@ impl Task {
     fn stand(&self, settled: &Settled, run: &Standing, best: &mut Amount)
         requires fit { IsFit self.now }
         requires next { settled.now.next < length self.now.trains.items }
-        requires token { run.now.token < 186 }
-        requires head { run.now.head < 186 }
-        requires room { HasRoom settled.now.used (settled.now.total + run.now.value) 44640 }
+        requires head { run.now.head < 744 }
+        requires room { let more = credit (stop_in (node_at self.now run.now.head)) in
+            HasRoom settled.now.used (settled.now.total + (run.now.value + more)) 44720 }
         ensures { Explores self.now (standing settled.now run.now) best.old best.new }
     {
-        let settling = settled.settling(run);
-        self.settle_next(&settling, best);
+        if self.may_settle(run) {
+            let settling = settled.settling(run);
+            self.settle_next(&settling, best);
+        }
         self.go_on(settled, run, best);
-        self.turn_back(settled, run, best);
     }
 
     /// Tries all ways on from where a run stands.
@@ -96,12 +97,12 @@ impl Task {
     fn go_on(&self, settled: &Settled, run: &Standing, best: &mut Amount)
         requires fit { IsFit self.now }
         requires next { settled.now.next < length self.now.trains.items }
-        requires token { run.now.token < 186 }
-        requires head { run.now.head < 186 }
-        requires room { HasRoom settled.now.used (settled.now.total + run.now.value) 44640 }
+        requires head { run.now.head < 744 }
+        requires room { let more = credit (stop_in (node_at self.now run.now.head)) in
+            HasRoom settled.now.used (settled.now.total + (run.now.value + more)) 44720 }
         ensures { Tries self.now (standing settled.now run.now) (IsGo Any) best.old best.new }
     {
-        let head = &self.stops[run.head];
+        let head = &self.spots[run.head];
         if head.ends {
             return;
         }
@@ -110,25 +111,4 @@ impl Task {
         }
     }
 
-    /// Tries all second arms of a run.
-    #[cycle(explore)]
-    fn turn_back(&self, settled: &Settled, run: &Standing, best: &mut Amount)
-        requires fit { IsFit self.now }
-        requires next { settled.now.next < length self.now.trains.items }
-        requires token { run.now.token < 186 }
-        requires head { run.now.head < 186 }
-        requires room { HasRoom settled.now.used (settled.now.total + run.now.value) 44640 }
-        ensures { Tries self.now (standing settled.now run.now) (IsTurn Any) best.old best.new }
-    {
-        let token = &self.stops[run.token];
-        if run.second || token.ends {
-            return;
-        }
-        let turned = run.turned();
-        for index in 0..token.pieces.len() {
-            if run.first < index {
-                self.take(settled, &turned, &token.pieces[index], best);
-            }
-        }
-    }
 }

@@ -1,12 +1,12 @@
-ghost use Rattle.std.specs.Prelude.{◌≡◌, ◌+◌, ◌-◌, ◌*◌, ◌^◌, ◌<◌, ◌≤◌, false, length};
-ghost use Rattle.best_run.specs.Fit.{BordersFit, HasRoom, IsFit, PieceFits};
-ghost use Rattle.best_run.specs.Moves.{along, begun, can_take, marked_all, may_visit, misses, passed, settling, turned, using};
+ghost use Rattle.std.specs.Prelude.{◌≡◌, ◌+◌, ◌-◌, ◌*◌, ◌^◌, ◌<◌, ◌≤◌, ◌&&◌, false, length};
+ghost use Rattle.best_run.specs.Fit.{BordersFit, IsFit};
+ghost use Rattle.best_run.specs.Moves.{along, begun, can_take, left_after, marked_all, may_come, misses, node_at, passed, settling, stop_in, using};
 
 use crate::task::{Piece, Task};
 use tables::Amount;
 
-/// How many stops the hexes of the map may have.
-pub(crate) const STOPS: usize = 186;
+/// How many ends the hexes of the map have: six sides and two stops each.
+pub(crate) const SPOTS: usize = 744;
 
 /// How many borders the hexes of the map have.
 pub(crate) const BORDERS: usize = 279;
@@ -22,23 +22,19 @@ pub(crate) struct Settled {
     pub(crate) used: [bool; BORDERS],
 }
 
-/// A run that has begun, from a token of the company.
+/// A run that has begun.
 #[derive(Clone, Copy)]
 pub(crate) struct Standing {
-    /// The stop with the token: the first own one that it visits.
-    pub(crate) token: usize,
-    /// The piece by which it left the token first, by its place among the pieces there.
-    pub(crate) first: usize,
-    /// It has left the token by a second piece.
-    pub(crate) second: bool,
     /// Where it stands.
     pub(crate) head: usize,
     /// How many more stops it may visit.
     pub(crate) left: usize,
     /// What its stops are worth, in dollars.
     pub(crate) value: Amount,
+    /// It has come by a token of the company.
+    pub(crate) own: bool,
     /// The stops that it visits.
-    pub(crate) visited: [bool; STOPS],
+    pub(crate) visited: [bool; SPOTS],
 }
 
 impl Settled {
@@ -108,79 +104,78 @@ fn misses(used: &[bool; BORDERS], borders: &[usize]) -> bool
 }
 
 impl Standing {
-    /// The run is to leave its token by a second piece.
-    pub(crate) fn turned(&self) -> Standing
-        ensures { result ≡ turned self.now }
+    /// Whether the run may come to a spot, which may be a stop.
+    fn may_come(&self, stop: bool, spot: usize) -> bool
+        requires { spot < 744 }
+        ensures { result ≡ may_come stop self.now spot }
     {
-        Standing {
-            token: self.token,
-            first: self.first,
-            second: true,
-            head: self.head,
-            left: self.left,
-            value: self.value,
-            visited: self.visited,
+        if stop {
+            self.left > 0 && !self.visited[spot]
+        } else {
+            true
         }
     }
 }
 
+/// How many stops are left after a spot, which may be a stop.
+fn left_after(stop: bool, left: usize) -> usize
+    ensures { result ≡ left_after stop left }
+{
+    if stop { left.saturating_sub(1) } else { left }
+}
+
 impl Task {
-    /// A run that stands at a token, and is to leave it by a piece.
-    pub(crate) fn begun(&self, settled: &Settled, token: usize, index: usize) -> Standing
+    /// Whether a run may take a piece.
+    pub(crate) fn can_take(&self, run: &Standing, settled: &Settled, piece: &Piece) -> bool
         requires fit { IsFit self.now }
-        requires token { token < 186 }
-        requires next { settled.now.next < length self.now.trains.items }
-        ensures { result ≡ begun self.now settled.now token index }
+        requires to { piece.now.to < 744 }
+        requires borders { BordersFit piece.now.borders.items }
+        ensures { result ≡ can_take self.now run.now settled.now.used piece.now }
     {
-        let mut visited = [false; STOPS];
-        visited[token] = true;
+        run.may_come(self.spots[piece.to].stop, piece.to) && misses(&settled.used, &piece.borders)
+    }
+
+    /// A run that stands at the stop where it begins.
+    pub(crate) fn begun(&self, settled: &Settled, stop: usize) -> Standing
+        requires fit { IsFit self.now }
+        requires stop { stop < 744 }
+        requires next { settled.now.next < length self.now.trains.items }
+        ensures { result ≡ begun self.now settled.now stop }
+    {
+        let mut visited = [false; SPOTS];
+        visited[stop] = true;
         Standing {
-            token,
-            first: index,
-            second: false,
-            head: token,
+            head: stop,
             left: self.trains[settled.next].saturating_sub(1),
-            value: self.stops[token].value,
+            value: self.spots[stop].value,
+            own: self.spots[stop].own,
             visited,
         }
     }
 
-    /// Whether a run may visit a stop: it has not, and the stop is no own token before the one
-    /// where it began.
-    fn may_visit(&self, run: &Standing, stop: usize) -> bool
+    /// Whether a run may be settled.
+    pub(crate) fn may_settle(&self, run: &Standing) -> bool
         requires fit { IsFit self.now }
-        requires stop { stop < 186 }
-        ensures { result ≡ may_visit self.now run.now stop }
+        requires head { run.now.head < 744 }
+        ensures { result ≡ (run.now.own && stop_in (node_at self.now run.now.head)) }
     {
-        !run.visited[stop] && !(self.stops[stop].own && stop < run.token)
-    }
-
-    /// Whether a run may take a piece.
-    pub(crate) fn can_take(&self, run: &Standing, settled: &Settled, piece: &Piece) -> bool
-        requires fit { IsFit self.now }
-        requires piece { PieceFits piece.now }
-        ensures { result ≡ can_take self.now run.now settled.now.used piece.now }
-    {
-        run.left > 0 && self.may_visit(run, piece.to) && misses(&settled.used, &piece.borders)
+        run.own && self.spots[run.head].stop
     }
 
     /// A run after a piece.
     pub(crate) fn along(&self, run: &Standing, piece: &Piece) -> Standing
         requires fit { IsFit self.now }
-        requires piece { PieceFits piece.now }
-        requires left { 0 < run.now.left }
+        requires to { piece.now.to < 744 }
         requires room { run.now.value ≤ 50000 }
         ensures { result ≡ along self.now run.now piece.now }
     {
         let mut visited = run.visited;
         visited[piece.to] = true;
         Standing {
-            token: run.token,
-            first: run.first,
-            second: run.second,
             head: piece.to,
-            left: run.left - 1,
-            value: run.value + self.stops[piece.to].value,
+            left: left_after(self.spots[piece.to].stop, run.left),
+            value: run.value + self.spots[piece.to].value,
+            own: run.own || self.spots[piece.to].own,
             visited,
         }
     }

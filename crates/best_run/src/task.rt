@@ -2,33 +2,35 @@ ghost use Rattle.std.specs.Prelude.{◌≡◌};
 
 use tables::Amount;
 
-/// A piece of plain track that leads from a stop to the next one.
+/// A piece of track that leads from a spot to the next one.
 #[derive(Drop)]
 pub(crate) struct Piece {
-    /// The stop to which it leads, by its number.
+    /// The spot to which it leads, by its number.
     pub(crate) to: usize,
     /// The borders that it crosses, by their numbers.
     pub(crate) borders: Vec<usize>,
 }
 
-/// A stop, to a company.
+/// A spot, to a company: an end of a hex.
 #[derive(Drop)]
 pub(crate) struct Node {
+    /// It is a stop.
+    pub(crate) stop: bool,
     /// What it is worth, in dollars.
     pub(crate) value: Amount,
     /// The company has a token there.
     pub(crate) own: bool,
     /// No run passes it: it is red, or full for the company.
     pub(crate) ends: bool,
-    /// The pieces of plain track that lead from it.
+    /// The pieces of track that lead from it.
     pub(crate) pieces: Vec<Piece>,
 }
 
-/// What is searched: the stops of the map, and how many stops each train may visit.
+/// What is searched: the spots of the map, and how many stops each train may visit.
 #[derive(Drop)]
 pub(crate) struct Task {
-    /// The stops, by their numbers.
-    pub(crate) stops: Vec<Node>,
+    /// The spots, by their numbers.
+    pub(crate) spots: Vec<Node>,
     /// For each train, the most stops of a run.
     pub(crate) trains: Vec<usize>,
 }

@@ -46,7 +46,7 @@ later_step hex (AtStop n) (AtSide to) stops borders apart few = omega arith
 later_step hex (AtStop n) (AtStop m) stops borders apart few = absurd (apart n m refl refl)
 
 -- so a walk visits at most one stop more than it crosses borders
-few_visited : (position : Position) → IsLawful position → (steps : List Step) → IsWalk position steps → length (visited steps) ≤ length (crossed steps) + 1
+pub few_visited : (position : Position) → IsLawful position → (steps : List Step) → IsWalk position steps → length (visited steps) ≤ length (crossed steps) + 1
 few_visited position lawful [] walk = omega arith
 few_visited position lawful (step ∷ []) walk =
     first_step step.link.hex (entered_at step).end (left_at step).end (λ n m enters leaves. stop_to_stop step.link step.turned n m (ordered position lawful step walk.0) enters leaves)

@@ -4,5 +4,7 @@ pub mod Named
 pub mod Fault
 pub mod Code
 pub mod Set
+pub mod Claim
+pub mod Greatest
 pub mod Tally
 pub mod Law

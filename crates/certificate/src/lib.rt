@@ -16,16 +16,20 @@
 #![tactic(auto)]
 
 mod check;
+mod claim;
 mod laws;
 mod leg;
 mod run_fault;
+mod runner;
 mod tally;
 mod used;
 
 pub use check::check_run;
+pub use claim::{Claim, ClaimedRun, ClaimedRuns};
 pub use laws::{
     borders_are_told_apart, crossed_borders_are_used, each_legal_run_is_named, legal_by_marks,
     legal_where_no_rule_is_broken, runs_earn_by_borders, runs_share_no_border,
 };
 pub use run_fault::RunFault;
+pub use runner::{Runner, RunnerFault};
 pub use used::Used;

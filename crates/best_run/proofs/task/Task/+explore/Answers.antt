@@ -1,36 +1,36 @@
 -- Each loop adds the next move to those tried, and together they are all moves of the state.
-use Rattle.std.proofs.Common.{◌≡◌, ℕ, ◌+◌, ◌-◌, ◌<◌, ◌≤◌, true, false, inl, inr, Some, length, get_or, sym, ap, subst, ◌∙◌, arith}
+use Rattle.std.proofs.Common.{◌≡◌, ℕ, ◌+◌, ◌-◌, ◌<◌, ◌≤◌, Bool, true, false, inl, inr, Some, length, get_or, sym, ap, subst, ◌∙◌, arith}
 use Rattle.best_run.specs.declared.task.Node.{Node}
 use Rattle.best_run.specs.declared.task.Piece.{Piece}
 use Rattle.best_run.specs.declared.state.Settled.{Settled}
 use Rattle.best_run.specs.declared.state.Standing.{Standing}
 use Rattle.best_run.specs.Fit.{HasRoom, IsFit, PieceFits}
-use Rattle.best_run.specs.Moves.{Any, Below, Explores, IsBegin, IsBeginAt, IsGo, IsTurn, Takes, Tries, along, begun, between, can_take, ends_in, node_at, own_in, passed, settling, standing, turned, using}
-use Rattle.best_run.proofs.Places.{begin_all, begin_next, go_all, go_next, leads_at, node_is, room_after, take_left, turn_all, turn_next, turn_passed}
-use Rattle.best_run.proofs.Tried.{explores_between, explores_standing, over_better, over_no_better, take_begin, take_go, take_turn, tries_both, tries_fewer}
+use Rattle.best_run.specs.Moves.{Any, Below, Explores, IsBegin, IsBeginAt, IsGo, Takes, Tries, along, begun, between, can_take, ends_in, node_at, passed, settling, standing, stop_in, using}
+use Rattle.best_run.proofs.Places.{begin_all, begin_next, go_all, go_next, leads_at, less_after, node_is, one_low, piece_fits, room_after, value_low}
+use Rattle.best_run.proofs.Tried.{explores_between, explores_on, explores_standing, over_better, over_no_better, take_begin, take_go, tries_both, tries_fewer}
 use Rattle.best_run.proofs.task.Task.+explore.Goals as goal
-use Rattle.best_run.proofs.task.Task.+explore.Goals.{turn_back-then-run-index, turn_back-else-run-index}
+use Rattle.best_run.proofs.task.Task.+explore.Goals.{stand-then-may_settle, stand-else-may_settle}
 
 pub begin_at-loop-index-preserved : goal.begin_at-loop-index-preserved
 begin_at-loop-index-preserved t c =
     let task = c.args.self.now in
     let settled = c.args.settled.now in
     let index = c.loop-index.index in
-    let node = c.index.result.now in
-    let piece = c.index-in-loop-index.result.now in
-    let there : node_at task c.args.token ≡ Some node = node_is task c.requires.fit c.args.token node c.requires.token c.index.ensures in
-    tries_both task (between settled) (IsBeginAt c.args.token (Below index)) (IsBeginAt c.args.token (λ i. i ≡ index)) (IsBeginAt c.args.token (Below (index + 1))) _ _ _ c.loop-index.invariant
-    (take_begin task settled c.args.token index piece _ _ c.requires.next c.requires.own
-    (leads_at task c.args.token node there index piece (omega arith) c.index-in-loop-index.ensures)
+    let node = c.index-node.result.now in
+    let piece = c.index.result.now in
+    let there : node_at task c.args.stop ≡ Some node = node_is task c.requires.fit c.args.stop node c.requires.stop c.index-node.ensures in
+    tries_both task (between settled) (IsBeginAt c.args.stop (Below index)) (IsBeginAt c.args.stop (λ i. i ≡ index)) (IsBeginAt c.args.stop (Below (index + 1))) _ _ _ c.loop-index.invariant
+    (take_begin task settled c.args.stop index piece _ _ c.requires.next c.requires.begins
+    (leads_at task c.args.stop node there index piece (omega arith) c.index.ensures)
     (subst (λ (r : Standing). Takes task settled r piece c.loop-index.best c.take.new.best) c.begun-run.ensures c.take.ensures))
-    (λ move is may. begin_next c.args.token index move is)
+    (λ move is may. begin_next c.args.stop index move is)
 
 pub begin_at-returns : goal.begin_at-returns
 begin_at-returns t c =
     let task = c.args.self.now in
-    let node = c.index.result.now in
-    tries_fewer task (between c.args.settled.now) (IsBeginAt c.args.token (Below c.loop-index.index)) (IsBeginAt c.args.token Any) _ _ c.loop-index.invariant
-    (begin_all task c.args.settled.now c.args.token node c.loop-index.index (node_is task c.requires.fit c.args.token node c.requires.token c.index.ensures) (omega arith))
+    let node = c.index-node.result.now in
+    tries_fewer task (between c.args.settled.now) (IsBeginAt c.args.stop (Below c.loop-index.index)) (IsBeginAt c.args.stop Any) _ _ c.loop-index.invariant
+    (begin_all task c.args.settled.now c.args.stop node c.loop-index.index (node_is task c.requires.fit c.args.stop node c.requires.stop c.index-node.ensures) (omega arith))
 
 pub go_on-loop-index-preserved : goal.go_on-loop-index-preserved
 go_on-loop-index-preserved t c =
@@ -72,9 +72,17 @@ settle_next-returns t c =
 pub stand-returns : goal.stand-returns
 stand-returns t c =
     let task = c.args.self.now in
-    explores_standing task c.args.settled.now c.args.run.now c.args.best.now c.settle_next.new.best c.go_on.new.best c.turn_back.new.best
-    (subst (λ (s : Settled). Explores task (between s) c.args.best.now c.settle_next.new.best) c.settling-settling.ensures c.settle_next.ensures)
-    c.go_on.ensures c.turn_back.ensures
+    let settled = c.args.settled.now in
+    let run = c.args.run.now in
+    elim c.if-may_settle.branch [
+      | stand-then-may_settle w ↦
+          explores_standing task settled run c.args.best.now w.settle_next.new.best c.go_on.new.best (sym c.may_settle.ensures ∙ w.if-may_settle.true)
+          (subst (λ (s : Settled). Explores task (between s) c.args.best.now w.settle_next.new.best) w.settling-settling.ensures w.settle_next.ensures)
+          (subst (λ (b : ℕ). Tries task (standing settled run) (IsGo Any) b c.go_on.new.best) w.best-is c.go_on.ensures)
+      | stand-else-may_settle w ↦
+          explores_on task settled run c.args.best.now c.go_on.new.best (sym c.may_settle.ensures ∙ w.if-may_settle.false)
+          (subst (λ (b : ℕ). Tries task (standing settled run) (IsGo Any) b c.go_on.new.best) w.best-is c.go_on.ensures)
+    ]
 
 pub take-stand-requires : goal.take-stand-requires
 take-stand-requires t c =
@@ -83,41 +91,31 @@ take-stand-requires t c =
     let run = c.args.run.now in
     let piece = c.args.piece.now in
     let taken : can_take task run settled.used piece ≡ true = sym c.can_take.ensures ∙ c.if-can_take.true in
-    let some : 0 < run.left = take_left task run settled.used piece taken in
-    let left : c.along-next.result.left ≡ run.left - 1 = ap (λ (s : Standing). s.left) c.along-next.ensures in
-    let token : c.along-next.result.token ≡ run.token = ap (λ (s : Standing). s.token) c.along-next.ensures in
-    let head : c.along-next.result.head ≡ piece.to = ap (λ (s : Standing). s.head) c.along-next.ensures in
-    let next : c.using-using.result.next ≡ settled.next = ap (λ (s : Settled). s.next) c.using-using.ensures.using in
-    (omega arith, (c.requires.fit, (omega arith, (omega arith, (omega (arith, c.requires.piece.to),
-    subst (λ (u : Settled). HasRoom u.used (u.total + c.along-next.result.value) 44640) (sym c.using-using.ensures.using)
-    (subst (λ (n : Standing). HasRoom (using settled piece).used ((using settled piece).total + n.value) 44640) (sym c.along-next.ensures)
-    (room_after task settled run piece c.requires.fit c.requires.piece c.using-using.ensures.whole c.requires.room taken)))))))
+    let whole : length settled.used ≡ 279 = c.using-using.ensures.whole in
+    let less = less_after task settled run piece whole taken c.requires.piece in
+    rw (c.using-using.ensures.using, c.along-next.ensures)
+    (omega arith, (c.requires.fit, (c.requires.next, (c.requires.piece.to,
+    room_after task settled run piece c.requires.fit whole taken c.requires.piece c.requires.room))))
 
-pub turn_back-loop-index-preserved : goal.turn_back-loop-index-preserved
-turn_back-loop-index-preserved t c =
+pub begin_at-take-requires : goal.begin_at-take-requires
+begin_at-take-requires t c =
     let task = c.args.self.now in
     let settled = c.args.settled.now in
-    let run = c.args.run.now in
-    let index = c.loop-index.index in
-    let node = c.index-token.result.now in
-    let there : node_at task run.token ≡ Some node = node_is task c.requires.fit run.token node c.requires.token c.index-token.ensures in
-    elim c.if-run-index.branch [
-      | turn_back-then-run-index w ↦
-          rw w.best-is
-          (tries_both task (standing settled run) (IsTurn (Below index)) (IsTurn (λ i. i ≡ index)) (IsTurn (Below (index + 1))) _ _ _ c.loop-index.invariant
-          (take_turn task settled run index w.index.result.now _ _ c.if-run.false w.if-run-index.true (ap ends_in there ∙ c.if-token.false)
-          (leads_at task run.token node there index w.index.result.now (omega arith) w.index.ensures)
-          (subst (λ (r : Standing). Takes task settled r w.index.result.now c.loop-index.best w.take.new.best) c.turned-turned.ensures w.take.ensures))
-          (λ move is may. turn_next index move is))
-      | turn_back-else-run-index w ↦
-          rw w.best-is
-          (tries_fewer task (standing settled run) (IsTurn (Below index)) (IsTurn (Below (index + 1))) _ _ c.loop-index.invariant
-          (turn_passed task settled run index w.if-run-index.false))
-    ]
+    let node = c.index-node.result.now in
+    let piece = c.index.result.now in
+    let there : node_at task c.args.stop ≡ Some node = node_is task c.requires.fit c.args.stop node c.requires.stop c.index-node.ensures in
+    let fits : PieceFits task (stop_in (node_at task c.args.stop)) piece = subst (λ (b : Bool). PieceFits task b piece) (sym (ap stop_in there)) (piece_fits task c.requires.fit c.args.stop node there c.loop-index.index piece (omega arith) c.index.ensures) in
+    let one = one_low (stop_in (node_at task c.args.stop)) in
+    let value = value_low task c.requires.fit c.args.stop in
+    rw c.begun-run.ensures
+    (omega arith, (c.requires.fit, (c.requires.next, (fits, omega arith))))
 
-pub turn_back-returns : goal.turn_back-returns
-turn_back-returns t c =
+pub go_on-take-requires : goal.go_on-take-requires
+go_on-take-requires t c =
     let task = c.args.self.now in
-    let node = c.index-token.result.now in
-    tries_fewer task (standing c.args.settled.now c.args.run.now) (IsTurn (Below c.loop-index.index)) (IsTurn Any) _ _ c.loop-index.invariant
-    (turn_all task c.args.settled.now c.args.run.now node c.loop-index.index (node_is task c.requires.fit c.args.run.now.token node c.requires.token c.index-token.ensures) (omega arith))
+    let run = c.args.run.now in
+    let node = c.index-head.result.now in
+    let piece = c.index.result.now in
+    let there : node_at task run.head ≡ Some node = node_is task c.requires.fit run.head node c.requires.head c.index-head.ensures in
+    let fits : PieceFits task (stop_in (node_at task run.head)) piece = subst (λ (b : Bool). PieceFits task b piece) (sym (ap stop_in there)) (piece_fits task c.requires.fit run.head node there c.loop-index.index piece (omega arith) c.index.ensures) in
+    (omega arith, (c.requires.fit, (c.requires.next, (fits, omega arith))))

@@ -1,38 +1,34 @@
 -- The search ends: each call has fewer trains left, or fewer stops for the run begun. What has been tried grows with
 -- each token and each piece.
 use Rattle.std.proofs.Common.{◌≡◌, ◌+◌, ◌-◌, ◌*◌, ◌<◌, ◌≤◌, length, ℕ}
-use Rattle.best_run.specs.Moves.{Below, IsBegin, IsBeginAt, IsGo, IsTurn, Tries, between, standing}
+use Rattle.best_run.specs.Moves.{Below, IsBegin, IsBeginAt, IsGo, Tries, between, node_at, standing, stop_in}
+use Rattle.best_run.specs.Fit.{unused}
+use Rattle.best_run.proofs.Places.{one_if}
 use Rattle.best_run.proofs.task.Task.+explore.Given as goal
 
 abbrev pub decreases-settle_next : goal.decreases-settle_next
-decreases-settle_next l = 2000 * (length l.self.now.trains.items - l.settled.now.next)
+decreases-settle_next l = 4000 * (length l.self.now.trains.items - l.settled.now.next)
 
 abbrev pub decreases-begin_runs : goal.decreases-begin_runs
-decreases-begin_runs l = 2000 * (length l.self.now.trains.items - l.settled.now.next) - 1
+decreases-begin_runs l = 4000 * (length l.self.now.trains.items - l.settled.now.next) - 1
 
 abbrev pub decreases-begin_at : goal.decreases-begin_at
-decreases-begin_at l = 2000 * (length l.self.now.trains.items - l.settled.now.next) - 2
+decreases-begin_at l = 4000 * (length l.self.now.trains.items - l.settled.now.next) - 2
 
 abbrev pub decreases-take : goal.decreases-take
-decreases-take l = 2000 * (length l.self.now.trains.items - l.settled.now.next - 1) + 4 * l.run.now.left + 1
+decreases-take l = 4000 * (length l.self.now.trains.items - l.settled.now.next - 1) + 4 * (3 * unused l.settled.now.used + one_if (stop_in (node_at l.self.now l.run.now.head))) + 1
 
 abbrev pub decreases-stand : goal.decreases-stand
-decreases-stand l = 2000 * (length l.self.now.trains.items - l.settled.now.next - 1) + 4 * l.run.now.left + 3
+decreases-stand l = 4000 * (length l.self.now.trains.items - l.settled.now.next - 1) + 4 * (3 * unused l.settled.now.used + one_if (stop_in (node_at l.self.now l.run.now.head))) + 3
 
 abbrev pub decreases-go_on : goal.decreases-go_on
-decreases-go_on l = 2000 * (length l.self.now.trains.items - l.settled.now.next - 1) + 4 * l.run.now.left + 2
+decreases-go_on l = 4000 * (length l.self.now.trains.items - l.settled.now.next - 1) + 4 * (3 * unused l.settled.now.used + one_if (stop_in (node_at l.self.now l.run.now.head))) + 2
 
-abbrev pub decreases-turn_back : goal.decreases-turn_back
-decreases-turn_back l = 2000 * (length l.self.now.trains.items - l.settled.now.next - 1) + 4 * l.run.now.left + 2
-
-abbrev pub invariant-begin_runs-loop-token : goal.invariant-begin_runs-loop-token
-invariant-begin_runs-loop-token l = Tries l.self (between l.settled) (IsBegin (Below l.token)) l.initial.best l.best
+abbrev pub invariant-begin_runs-loop-stop : goal.invariant-begin_runs-loop-stop
+invariant-begin_runs-loop-stop l = Tries l.self (between l.settled) (IsBegin (Below l.stop)) l.initial.best l.best
 
 abbrev pub invariant-begin_at-loop-index : goal.invariant-begin_at-loop-index
-invariant-begin_at-loop-index l = Tries l.self (between l.settled) (IsBeginAt l.token (Below l.index)) l.initial.best l.best
+invariant-begin_at-loop-index l = Tries l.self (between l.settled) (IsBeginAt l.stop (Below l.index)) l.initial.best l.best
 
 abbrev pub invariant-go_on-loop-index : goal.invariant-go_on-loop-index
 invariant-go_on-loop-index l = Tries l.self (standing l.settled l.run) (IsGo (Below l.index)) l.initial.best l.best
-
-abbrev pub invariant-turn_back-loop-index : goal.invariant-turn_back-loop-index
-invariant-turn_back-loop-index l = Tries l.self (standing l.settled l.run) (IsTurn (Below l.index)) l.initial.best l.best

@@ -1,0 +1,180 @@
+-- A run from its first step on, and all runs of a set, one train after another.
+use Rattle.std.proofs.Common.{◌≡◌, ◌↔◌, ℕ, zero, suc, ◌+◌, ◌-◌, ◌*◌, ◌<◌, ◌≤◌, Bool, true, false, ◌⊎◌, inl, inr, Option, Some, None, List, [], ◌∷◌, ◌++◌, length, get_or, set, drop, replicate, refl, sym, ap, subst, ◌∙◌, arith, add_assoc, length-append, length-set, add-one}
+use Rattle.std.specs.List.{AllByRecursion}
+use Rattle.map_tables.specs.declared.place.Stop.{Stop}
+use Rattle.reach.specs.Position.{Position, HasToken, IsAmong}
+use Rattle.reach.specs.Search.{spot_number}
+use Rattle.reach.specs.Walk.{BeginsAt, entered_at, left_at, stop_of}
+use Rattle.reach.specs.declared.walk.Spot.{Spot}
+use Rattle.reach.specs.declared.walk.Step.{Step}
+use Rattle.reach.proofs.Collected.{none_marked}
+use Rattle.reach.specs.Lawful.{IsLawful}
+use Rattle.tables.specs.Train.{stops_of}
+use Rattle.tables.specs.declared.rolling_stock.Kind.{Kind}
+use Rattle.tables.specs.declared.roster.Company.{Company}
+use Rattle.certificate.specs.Legal.{AreAtMost, AreDistinct, EndsAtStop, HasSuch, IsLegalRun, crossed, earned, listed, visited}
+use Rattle.certificate.specs.Set.{AreApart, AreTakenFrom, RunsLegally, ShareNoBorder, TrainRun, revenue_of, trains_that_run}
+use Rattle.certificate.proofs.Marks.{among_both}
+use Rattle.best_run.specs.declared.task.Task.{Task}
+use Rattle.best_run.specs.declared.state.Settled.{Settled}
+use Rattle.best_run.specs.declared.state.Standing.{Standing}
+use Rattle.best_run.specs.Described.{Describes, GoesFrom, IsStopNode, most_of, most_of_all}
+use Rattle.best_run.specs.Moves.{Completes, along, begin, begun, between, node_at, own_in, pass, passed, settling, standing, stop_in, total_after, using, value_in}
+use Rattle.best_run.proofs.Advance.{IsMarked, Tells, mark_more, node_left, one_number, same_spot, spot_low}
+use Rattle.best_run.proofs.Complete.{CanFinish, CanGo, can_go, finish_run}
+use Rattle.best_run.proofs.Few.{few_stops, length_replicate}
+use Rattle.best_run.proofs.Prefix.{Holds, holds_first, onto, onto_back}
+use Rattle.best_run.proofs.Sets.{Avoids, HasRun, IsSetFor, all_out, apart_out, find_run, none_left, revenue_out, with_first, without_first}
+
+-- what is settled, with the borders that are used
+pub record Used (others : List ℕ) (settled : Settled) : Type 0 where
+  pub used : (border : ℕ) → IsMarked settled.used border ↔ IsAmong border others
+  pub whole : length settled.used ≡ 279
+
+-- of a list from a place on, what stands there, and what comes after it
+drop_suc : (xs : List ℕ) (n x : ℕ) (later : List ℕ) → drop n xs ≡ x ∷ later → (n < length xs) × (get_or xs n 0 ≡ x) × (drop (suc n) xs ≡ later)
+drop_suc [] zero x later is = cc
+drop_suc [] (suc n) x later is = cc
+drop_suc (y ∷ xs) zero x later is =
+    let same : y ≡ x = cc in
+    let rest : xs ≡ later = cc in
+    (omega arith, same, rest)
+drop_suc (y ∷ xs) (suc n) x later is =
+    let rest : (n < length xs) × (get_or xs n 0 ≡ x) × (drop (suc n) xs ≡ later) = drop_suc xs n x later is in
+    (omega (arith, rest.0), rest.1, rest.2)
+
+pub drop_first : (xs : List ℕ) (n x : ℕ) (later : List ℕ) → drop n xs ≡ x ∷ later → (n < length xs) × (get_or xs n 0 ≡ x) × (drop (n + 1) xs ≡ later)
+drop_first xs n x later is =
+    let parts : (n < length xs) × (get_or xs n 0 ≡ x) × (drop (suc n) xs ≡ later) = drop_suc xs n x later is in
+    (parts.0, parts.1, rw add-one parts.2)
+
+pub drop_none : (xs : List ℕ) (n : ℕ) → drop n xs ≡ [] → length xs ≤ n
+drop_none [] n is = omega arith
+drop_none (y ∷ xs) zero is = cc
+drop_none (y ∷ xs) (suc n) is = let rest : length xs ≤ n = drop_none xs n is in omega arith
+
+all_both : {A : Type 0} (P Q R : A → Type 0) → ((x : A) → P x → Q x → R x) → (xs : List A) → AllByRecursion P xs → AllByRecursion Q xs → AllByRecursion R xs
+all_both P Q R makes [] first second = tt
+all_both P Q R makes (x ∷ xs) first second = (makes x first.0 second.0, all_both P Q R makes xs first.1 second.1)
+
+module _ (position : Position) (company : Company) (kinds : List Kind) (task : Task) (describes : Describes position company kinds task) where
+  -- a run that is to begin
+  pub begun_tells : (others : List ℕ) (settled : Settled) → Used others settled → (most : ℕ) → get_or task.trains.items settled.next 0 ≡ most → 0 < most → (at : Spot) (stop : Stop) → stop_of at ≡ Some stop → Tells position company most others at (stop ∷ []) [] settled (begun task settled (spot_number at))
+  begun_tells others settled used most most_is some at stop there =
+      let node : IsStopNode position company stop (node_at task (spot_number at)) = node_left position company kinds task describes at (Some stop) there in
+      let low : spot_number at < length (replicate 744 false) = omega (arith, length_replicate 744 false, spot_low at) in
+      record {
+        head = refl;
+        left = omega arith;
+        value = omega (arith, node.value);
+        own = (λ own. inl (node.own.0 own), λ has. elim has [ inl here ↦ node.own.1 here | inr none ↦ absurd none ]);
+        visited = λ spot other other_is.
+            let one : IsMarked (set (replicate 744 false) (spot_number at) true) (spot_number spot) ↔ ((spot_number spot ≡ spot_number at) ⊎ IsMarked (replicate 744 false) (spot_number spot)) = mark_more (replicate 744 false) (spot_number at) (spot_number spot) low in
+            (λ marked. elim (one.0 marked) [
+              | inl same ↦ inl (sym (same_spot spot at other stop other_is there same))
+              | inr before ↦ absurd (let wrong : true ≡ false = sym before ∙ none_marked 744 (spot_number spot) in cc)
+            ],
+            λ among. elim among [
+              | inl same ↦ one.1 (inl (one_number spot at other other_is (there ∙ ap (λ (s : Stop). Some s) same)))
+              | inr none ↦ absurd none
+            ]);
+        used = λ border. (λ marked. inr ((used.used border).0 marked), λ among. elim among [ inl none ↦ absurd none | inr other ↦ (used.used border).1 other ]);
+        spots = length-set (replicate 744 false) (spot_number at) true ∙ length_replicate 744 false;
+        whole = used.whole;
+      }
+
+  -- a run of the next train, if what comes after it can be finished
+  begin_run : (others : List ℕ) (settled : Settled) → Used others settled → (most total : ℕ) → settled.next < length task.trains.items → get_or task.trains.items settled.next 0 ≡ most → (later : List Step) (step : Step) → Holds position company most others (onto later (step ∷ [])) → EndsAtStop (onto later (step ∷ [])) → HasSuch (λ stop. HasToken position stop company) (visited (onto later (step ∷ []))) → ((after : Settled) → after.next ≡ settled.next + 1 → after.total ≡ settled.total + earned position (onto later (step ∷ [])) → Used (crossed (onto later (step ∷ [])) ++ others) after → CanFinish task (between after) total) → CanFinish task (between settled) total
+  begin_run others settled used most total train most_is later step holds ends own done =
+      let first : Holds position company most others (step ∷ []) = holds_first position company most others later step [] holds in
+      let at = entered_at step in
+      let stop = first.begins.0 in
+      let there : stop_of at ≡ Some stop = first.begins.1 in
+      let node : IsStopNode position company stop (node_at task (spot_number at)) = node_left position company kinds task describes at (Some stop) there in
+      let visits : visited (step ∷ []) ≡ listed (stop_of (left_at step)) ++ (stop ∷ []) = ap (λ o. listed (stop_of (left_at step)) ++ (listed o ++ [])) there in
+      let some : 0 < most = omega (arith, first.few, ap length visits, length-append (listed (stop_of (left_at step))) (stop ∷ [])) in
+      let tells = begun_tells others settled used most most_is some at stop there in
+      let goes : GoesFrom (spot_number at) step = record { spot = at; number_is = refl; joined = inl (stop, there, there) } in
+      let can : CanGo position company kinds task describes most others at (stop ∷ []) [] settled (begun task settled (spot_number at)) step =
+      can_go position company kinds task describes most others at (stop ∷ []) [] settled (begun task settled (spot_number at)) tells step (describes.complete (spot_number at) step first.walk.0 goes)
+      (subst AreDistinct visits first.stops) (subst (λ vs. length vs ≤ most) visits first.few) first.borders first.free
+      in
+      let told = subst (λ vs. Tells position company most others (left_at step) vs (crossed (step ∷ [])) (using settled can.piece) (along task (begun task settled (spot_number at)) can.piece)) (sym visits) can.told in
+      let rest : CanFinish task (standing (using settled can.piece) (along task (begun task settled (spot_number at)) can.piece)) total =
+      finish_run position company kinds task describes most others later step [] (using settled can.piece) (along task (begun task settled (spot_number at)) can.piece) total told holds ends own
+      (λ last after run next_is total_is tells_last.
+        done (settling after run) (omega (arith, next_is)) (omega (arith, total_is, tells_last.value))
+        (record {
+          used = λ border. let all : IsAmong border (crossed (onto later (step ∷ [])) ++ others) ↔ (IsAmong border (crossed (onto later (step ∷ []))) ⊎ IsAmong border others) = among_both border (crossed (onto later (step ∷ []))) others in
+              (λ marked. all.1 ((tells_last.used border).0 marked), λ among. (tells_last.used border).1 (all.0 among));
+          whole = tells_last.whole;
+        }))
+      in
+      (begin (spot_number at) can.index can.piece ∷ rest.0, (record { train = train; begins = node.stops; leads = can.leads; taken = can.taken }, rest.1), rest.2)
+
+  -- a legal run holds
+  legal_holds : IsLawful position → (kind : Kind) (others : List ℕ) (run : TrainRun) → RunsLegally position company run → run.kind ≡ kind → Avoids others run → Holds position company (most_of (stops_of kind)) others run.steps
+  legal_holds lawful kind others run legal is avoids =
+      record {
+        walk = legal.walk;
+        begins = legal.begins;
+        few = few_stops position lawful kind run.steps legal.walk legal.no_border_twice (subst (λ k. AreAtMost (stops_of k) (length (visited run.steps))) is legal.most);
+        stops = legal.no_stop_twice;
+        borders = legal.no_border_twice;
+        free = avoids;
+        red = legal.no_red_inside;
+        full = legal.no_full_inside;
+      }
+
+  -- what is left of a set avoids the borders of the run taken out, and those of others
+  avoid_both : (others : List ℕ) (run : TrainRun) (other : TrainRun) → ShareNoBorder run.steps other.steps → Avoids others other → Avoids (crossed run.steps ++ others) other
+  avoid_both others run other share avoids border here there =
+      elim ((among_both border (crossed run.steps) others).0 there) [ inl own ↦ share border own here | inr used ↦ avoids border here used ]
+
+  -- a run of the next train, step by step
+  run_first : IsLawful position → (kind : Kind) (others : List ℕ) (settled : Settled) → Used others settled → (total : ℕ) → settled.next < length task.trains.items → get_or task.trains.items settled.next 0 ≡ most_of (stops_of kind) → (run : TrainRun) → RunsLegally position company run → run.kind ≡ kind → Avoids others run → ((after : Settled) → after.next ≡ settled.next + 1 → after.total ≡ settled.total + earned position run.steps → Used (crossed run.steps ++ others) after → CanFinish task (between after) total) → CanFinish task (between settled) total
+  run_first lawful kind others settled used total train most_is run legal is avoids done =
+      by_steps (onto run.steps []) (onto_back run.steps)
+    where
+      by_steps : (forward : List Step) → onto forward [] ≡ run.steps → CanFinish task (between settled) total
+      by_steps [] back = absurd (subst (λ steps. BeginsAt (λ stop. Unit {0}) steps) (sym back) legal.begins)
+      by_steps (step ∷ later) back =
+          let Done : List Step → Type 0 = λ steps. (after : Settled) → after.next ≡ settled.next + 1 → after.total ≡ settled.total + earned position steps → Used (crossed steps ++ others) after → CanFinish task (between after) total in
+          begin_run others settled used (most_of (stops_of kind)) total train most_is later step
+          (subst (Holds position company (most_of (stops_of kind)) others) (sym back) (legal_holds lawful kind others run legal is avoids))
+          (subst EndsAtStop (sym back) legal.ends)
+          (subst (λ steps. HasSuch (λ stop. HasToken position stop company) (visited steps)) (sym back) legal.own_token)
+          (subst Done (sym back) done)
+
+  -- all runs of a set, train by train
+  pub finish_set : IsLawful position → (left : List Kind) (runs : List TrainRun) (others : List ℕ) (settled : Settled) → Used others settled → drop settled.next task.trains.items ≡ most_of_all left → IsSetFor position company left others runs → CanFinish task (between settled) (settled.total + revenue_of position runs)
+  finish_set lawful [] runs others settled used trains set =
+      let none : runs ≡ [] = none_left runs set.each_once in
+      let earns : revenue_of position runs ≡ 0 = ap (revenue_of position) none in
+      ([], drop_none task.trains.items settled.next trains, omega arith)
+  finish_set lawful (kind ∷ left) runs others settled used trains set =
+      let next : (settled.next < length task.trains.items) × (get_or task.trains.items settled.next 0 ≡ most_of (stops_of kind)) × (drop (settled.next + 1) task.trains.items ≡ most_of_all left) = drop_first task.trains.items settled.next (most_of (stops_of kind)) (most_of_all left) trains in
+      elim (find_run kind runs) [
+        | inl has ↦
+            let whole : IsSetFor position company (kind ∷ left) others (has.front ++ has.run ∷ has.later) = subst (IsSetFor position company (kind ∷ left) others) has.is set in
+            let legal : RunsLegally position company has.run × AllByRecursion (RunsLegally position company) (has.front ++ has.later) = all_out (RunsLegally position company) has.front has.run has.later whole.legal in
+            let avoid : Avoids others has.run × AllByRecursion (Avoids others) (has.front ++ has.later) = all_out (Avoids others) has.front has.run has.later whole.avoid in
+            let apart : AllByRecursion (λ other. ShareNoBorder has.run.steps other.steps) (has.front ++ has.later) × AreApart (has.front ++ has.later) = apart_out has.front has.run has.later whole.apart in
+            let earns : revenue_of position runs ≡ earned position has.run.steps + revenue_of position (has.front ++ has.later) = ap (revenue_of position) has.is ∙ revenue_out position has.front has.run has.later in
+            run_first lawful kind others settled used (settled.total + revenue_of position runs) next.0 next.1 has.run legal.0 has.kind_is avoid.0
+            (λ after next_is total_is used_after.
+              let rest : CanFinish task (between after) (after.total + revenue_of position (has.front ++ has.later)) =
+              finish_set lawful left (has.front ++ has.later) (crossed has.run.steps ++ others) after used_after (ap (λ n. drop n task.trains.items) next_is ∙ next.2)
+              (record {
+                legal = legal.1;
+                each_once = with_first kind left has.front has.run has.later has.kind_is whole.each_once;
+                apart = apart.1;
+                avoid = all_both (λ other. ShareNoBorder has.run.steps other.steps) (Avoids others) (Avoids (crossed has.run.steps ++ others)) (avoid_both others has.run) (has.front ++ has.later) apart.0 avoid.1;
+              })
+              in (rest.0, rest.1, let total = rest.2 in omega arith))
+        | inr none ↦
+            let rest : CanFinish task (between (passed settled)) (settled.total + revenue_of position runs) =
+            finish_set lawful left runs others (passed settled) (record { used = used.used; whole = used.whole }) next.2
+            (record { legal = set.legal; each_once = without_first kind left runs none set.each_once; apart = set.apart; avoid = set.avoid })
+            in (pass ∷ rest.0, (next.0, rest.1), rest.2)
+      ]

@@ -1,0 +1,334 @@
+-- Whatever moves lead to the end, they are the runs of a legal set, and earn what the set earns.
+use Rattle.std.proofs.Common.{◌≡◌, ◌↔◌, ℕ, zero, suc, ◌+◌, ◌-◌, ◌*◌, ◌<◌, ◌≤◌, Bool, true, false, not, ◌&&◌, ltb, if◌then◌else◌, ◌⊎◌, inl, inr, Option, Some, None, IfSome, List, [], ◌∷◌, ◌++◌, length, get_or, drop, refl, sym, ap, subst, ◌∙◌, arith, length-append}
+use Rattle.std.specs.List.{AllByRecursion}
+use Rattle.std.proofs.lemmas.Bool.{ltb-true}
+use Rattle.map_tables.specs.declared.hex.Hex.{Hex}
+use Rattle.map_tables.specs.declared.place.Stop.{Stop}
+use Rattle.map_tables.specs.declared.track.End.{End}
+use Rattle.map_tables.specs.declared.track.End.TheVariants.{Side as AtSide, Stop as AtStop}
+use Rattle.reach.specs.Lawful.{IsLawful}
+use Rattle.reach.specs.Position.{Position, HasToken, IsAmong, IsFull, is_red}
+use Rattle.reach.specs.Search.{spot_number}
+use Rattle.reach.specs.Walk.{AreJoined, BeginsAt, IsTrack, across, entered_at, left_at, stop_of}
+use Rattle.reach.specs.declared.walk.Spot.{Spot}
+use Rattle.reach.specs.declared.walk.Step.{Step}
+use Rattle.reach.proofs.Spots.{are_one, back}
+use Rattle.tables.specs.Train.{same_kind, stops_of}
+use Rattle.tables.specs.declared.rolling_stock.Kind.{Kind}
+use Rattle.tables.specs.declared.rolling_stock.Kind.TheVariants.{Two, Three, Four, Five, Six, Diesel}
+use Rattle.tables.specs.declared.roster.Company.{Company}
+use Rattle.certificate.specs.Legal.{AreAtMost, AreDistinct, EndsAtStop, HasSuch, IsLegalRun, border_at, border_of, crossed, earned, first_stop, listed, visited}
+use Rattle.certificate.specs.Set.{AreApart, AreTakenFrom, RunsLegally, ShareNoBorder, TrainRun, in_number, revenue_of, trains_that_run}
+use Rattle.certificate.proofs.Marks.{among_both}
+use Rattle.best_run.specs.declared.task.Piece.{Piece}
+use Rattle.best_run.specs.declared.task.Task.{Task}
+use Rattle.best_run.specs.declared.state.Settled.{Settled}
+use Rattle.best_run.specs.declared.state.Standing.{Standing}
+use Rattle.best_run.specs.Described.{Describes, IsPieceOf, IsSideNode, IsStepFrom, IsStopNode, most_of, most_of_all}
+use Rattle.best_run.specs.Moves.{Allows, Completes, Move, State, along, begin, begun, between, can_take, ends_in, go, may_come, misses, node_at, own_in, pass, passed, settle, settling, standing, stop_in, total_after, using}
+use Rattle.best_run.proofs.Advance.{IsMarked, Tells, misses_free, node_left, one_number, to_side, to_stop}
+use Rattle.best_run.proofs.Complete.{next_stop}
+use Rattle.best_run.proofs.Prefix.{Holds}
+use Rattle.best_run.proofs.Runs.{Used, begun_tells, drop_first, drop_none}
+use Rattle.best_run.proofs.Sets.{Avoids, IsSetFor, same_itself}
+
+first_true : (a b : Bool) → (a && b) ≡ true → a ≡ true
+first_true true b is = refl
+first_true false b is = absurd cc
+
+second_true : (a b : Bool) → (a && b) ≡ true → b ≡ true
+second_true true b is = is
+second_true false b is = absurd cc
+
+not_set : (b : Bool) → not b ≡ true → b ≡ true → ⊥
+not_set true fails is = let wrong : false ≡ true = fails in cc
+not_set false fails is = cc
+
+-- one border at most stands at an end
+end_once : (hex : Hex) (end : End) → AreDistinct (border_at hex end ++ [])
+end_once hex (AtSide side) = ((λ none. none), tt)
+end_once hex (AtStop number) = tt
+
+-- a border at an end before others that it is none of
+end_before : (hex : Hex) (end : End) (borders : List ℕ) → ((border : ℕ) → IsAmong border (border_at hex end) → ¬ IsAmong border borders) → AreDistinct borders → AreDistinct (border_at hex end ++ borders)
+end_before hex (AtSide side) borders new once = ((λ among. new (border_of hex side) (inl refl) among), once)
+end_before hex (AtStop number) borders new once = once
+
+-- a walk from a stop visits one
+some_visited : (step : Step) (before : List Step) → BeginsAt (λ stop. Unit {0}) (step ∷ before) → 1 ≤ length (first_stop before step ++ visited before)
+some_visited step [] begins =
+    let one : listed (stop_of (entered_at step)) ++ [] ≡ begins.0 ∷ [] = ap (λ o. listed o ++ []) begins.1 in
+    omega (arith, ap length one)
+some_visited step (earlier ∷ before) begins =
+    let rest : 1 ≤ length (first_stop before earlier ++ visited before) = some_visited earlier before begins in
+    omega (arith, length-append (listed (stop_of (left_at earlier))) (first_stop before earlier ++ visited before))
+
+at_most : (most : Option ℕ) (count : ℕ) → count ≤ most_of most → AreAtMost most count
+at_most (Some most) count few = few
+at_most None count few = tt
+
+-- no border is among none
+none_of : (borders : List ℕ) → AllByRecursion (λ border. ¬ IsAmong border []) borders
+none_of [] = tt
+none_of (border ∷ borders) = ((λ none. none), none_of borders)
+
+-- each train may visit at least two stops
+two_at_least : (kind : Kind) → 0 < most_of (stops_of kind)
+two_at_least Two = omega arith
+two_at_least Three = omega arith
+two_at_least Four = omega arith
+two_at_least Five = omega arith
+two_at_least Six = omega arith
+two_at_least Diesel = omega arith
+
+module _ (position : Position) (company : Company) (lawful : IsLawful position) (kinds : List Kind) (task : Task) (describes : Describes position company kinds task) where
+  abbrev Told : ℕ → List ℕ → Spot → List Stop → List ℕ → Settled → Standing → Type 0
+  Told most others at stops borders settled run = Tells position company most others at stops borders settled run
+
+  -- what a piece that is taken tells of its step
+  record Went (most : ℕ) (others : List ℕ) (stops : List Stop) (borders : List ℕ) (settled : Settled) (run : Standing) (step : Step) (piece : Piece) : Type 0 where
+    pub told : Told most others (left_at step) (listed (stop_of (left_at step)) ++ stops) (border_at (entered_at step).hex (entered_at step).end ++ borders) (using settled piece) (along task run piece)
+    pub stops_once : AreDistinct stops → AreDistinct (listed (stop_of (left_at step)) ++ stops)
+    pub few : length (listed (stop_of (left_at step)) ++ stops) ≤ most
+    pub new : (border : ℕ) → IsAmong border (border_at (entered_at step).hex (entered_at step).end) → ¬ IsAmong border borders
+    pub free : (border : ℕ) → IsAmong border (border_at (entered_at step).hex (entered_at step).end) → ¬ IsAmong border others
+
+  went_by : (most : ℕ) (others : List ℕ) (at : Spot) (stops : List Stop) (borders : List ℕ) (settled : Settled) (run : Standing) → Told most others at stops borders settled run → (step : Step) (piece : Piece) → IsPieceOf step piece → can_take task run settled.used piece ≡ true → (found : Option Stop) → stop_of (left_at step) ≡ found → Went most others stops borders settled run step piece
+  went_by most others at stops borders settled run tells step piece is taken None side =
+      let free : misses settled.used piece.borders.items ≡ true = second_true (may_come (stop_in (node_at task piece.to)) run piece.to) (misses settled.used piece.borders.items) taken in
+      record {
+        told = subst (λ o. Told most others (left_at step) (listed o ++ stops) (border_at (entered_at step).hex (entered_at step).end ++ borders) (using settled piece) (along task run piece)) (sym side)
+            (to_side position company kinds task describes most others at stops borders settled run tells step piece is side);
+        stops_once = λ once. subst (λ o. AreDistinct (listed o ++ stops)) (sym side) once;
+        few = subst (λ o. length (listed o ++ stops) ≤ most) (sym side) (omega (arith, tells.left));
+        new = λ border here before. misses_free settled.used piece.borders.items free border (subst (IsAmong border) (sym is.borders) here) ((tells.used border).1 (inl before));
+        free = λ border here other. misses_free settled.used piece.borders.items free border (subst (IsAmong border) (sym is.borders) here) ((tells.used border).1 (inr other));
+      }
+  went_by most others at stops borders settled run tells step piece is taken (Some stop) there =
+      let node : IsStopNode position company stop (node_at task piece.to) = subst (λ (n : ℕ). IsStopNode position company stop (node_at task n)) (sym is.to) (node_left position company kinds task describes (left_at step) (Some stop) there) in
+      let free : misses settled.used piece.borders.items ≡ true = second_true (may_come (stop_in (node_at task piece.to)) run piece.to) (misses settled.used piece.borders.items) taken in
+      let come : may_come true run piece.to ≡ true = ap (λ b. may_come b run piece.to) (sym node.stops) ∙ first_true (may_come (stop_in (node_at task piece.to)) run piece.to) (misses settled.used piece.borders.items) taken in
+      let left : 0 < run.left = ltb-true 0 run.left (first_true (ltb 0 run.left) (not (get_or run.visited piece.to false)) come) in
+      let fresh : IsMarked run.visited piece.to → ⊥ = not_set (get_or run.visited piece.to false) (second_true (ltb 0 run.left) (not (get_or run.visited piece.to false)) come) in
+      record {
+        told = subst (λ o. Told most others (left_at step) (listed o ++ stops) (border_at (entered_at step).hex (entered_at step).end ++ borders) (using settled piece) (along task run piece)) (sym there)
+            (to_stop position company kinds task describes most others at stops borders settled run tells step piece is stop there left);
+        stops_once = λ once. subst (λ o. AreDistinct (listed o ++ stops)) (sym there)
+            ((λ among. fresh (subst (IsMarked run.visited) (sym is.to) ((tells.visited (left_at step) stop there).1 among))), once);
+        few = subst (λ o. length (listed o ++ stops) ≤ most) (sym there) (omega (arith, tells.left));
+        new = λ border here before. misses_free settled.used piece.borders.items free border (subst (IsAmong border) (sym is.borders) here) ((tells.used border).1 (inl before));
+        free = λ border here other. misses_free settled.used piece.borders.items free border (subst (IsAmong border) (sym is.borders) here) ((tells.used border).1 (inr other));
+      }
+
+  -- a run goes on only where it may pass
+  may_pass : (at : Spot) (found : Option Stop) → stop_of at ≡ found → (next : Spot) → AreJoined at next → ends_in (node_at task (spot_number at)) ≡ false → IfSome (stop_of next) (λ stop. ¬ (is_red position stop ≡ true)) × IfSome (stop_of next) (λ stop. ¬ IsFull position stop company)
+  may_pass at (Some stop) there next joined passes =
+      let node : IsStopNode position company stop (node_at task (spot_number at)) = node_left position company kinds task describes at (Some stop) there in
+      let both : (¬ (is_red position stop ≡ true)) × (¬ IsFull position stop company) = node.passes.0 passes in
+      let same : stop_of next ≡ Some stop = next_stop at next stop there joined in
+      (subst (λ o. IfSome o (λ s. ¬ (is_red position s ≡ true))) (sym same) both.0, subst (λ o. IfSome o (λ s. ¬ IsFull position s company)) (sym same) both.1)
+  may_pass at None side next joined passes =
+      elim joined [
+        | inl one ↦ absurd (let wrong : None ≡ Some one.0 = sym side ∙ one.1 in cc)
+        | inr over ↦
+            let none : stop_of next ≡ None = (back position lawful at next over).1 in
+            (subst (λ o. IfSome o (λ s. ¬ (is_red position s ≡ true))) (sym none) tt, subst (λ o. IfSome o (λ s. ¬ IsFull position s company)) (sym none) tt)
+      ]
+
+  -- a step from a spot with this number goes on from here
+  joined_here : (at : Spot) (number : ℕ) → number ≡ spot_number at → (spot next : Spot) → spot_number spot ≡ number → AreJoined spot next → AreJoined at next
+  joined_here at number is spot next number_is joined =
+      let one : (stop_of spot ≡ stop_of at) × (across spot ≡ across at) = are_one spot at (number_is ∙ is) in
+      elim joined [
+        | inl same ↦ inl (same.0, sym one.0 ∙ same.1, same.2)
+        | inr over ↦ inr (sym one.1 ∙ over)
+      ]
+
+  -- what runs are made of some moves, from a state on
+  record RunsTold (others : List ℕ) (left : List Kind) (settled : Settled) (total : ℕ) : Type 0 where
+    pub runs : List TrainRun
+    pub set : IsSetFor position company left others runs
+    pub earns : settled.total + revenue_of position runs ≡ total
+
+  record RunTold (others : List ℕ) (kind : Kind) (left : List Kind) (settled : Settled) (total : ℕ) : Type 0 where
+    pub steps : List Step
+    pub legal : RunsLegally position company (record { kind = kind; steps = steps })
+    pub avoids : Avoids others (record { kind = kind; steps = steps })
+    pub runs : List TrainRun
+    pub set : IsSetFor position company left (crossed steps ++ others) runs
+    pub earns : settled.total + (earned position steps + revenue_of position runs) ≡ total
+
+  -- the borders of a piece change nothing in what the others earn
+  keep_settled : (others : List ℕ) (kind : Kind) (left : List Kind) (settled : Settled) (piece : Piece) (total : ℕ) → RunTold others kind left (using settled piece) total → RunTold others kind left settled total
+  keep_settled others kind left settled piece total told =
+      record { steps = told.steps; legal = told.legal; avoids = told.avoids; runs = told.runs; set = told.set; earns = told.earns }
+
+  abbrev SoundFrom : State → ℕ → Type 0
+  SoundFrom (between settled) total =
+      (others : List ℕ) (left : List Kind) → Used others settled → drop settled.next task.trains.items ≡ most_of_all left → RunsTold others left settled total
+  SoundFrom (standing settled run) total =
+      (others : List ℕ) (kind : Kind) (left : List Kind) (step : Step) (before : List Step) → Told (most_of (stops_of kind)) others (left_at step) (visited (step ∷ before)) (crossed (step ∷ before)) settled run → Holds position company (most_of (stops_of kind)) others (step ∷ before) → drop (settled.next + 1) task.trains.items ≡ most_of_all left → RunTold others kind left settled total
+
+  -- the end: all trains are settled
+  at_end : (settled : Settled) → length task.trains.items ≤ settled.next → SoundFrom (between settled) settled.total
+  at_end settled over others [] used trains =
+      record { runs = []; set = record { legal = tt; each_once = λ kind. omega arith; apart = tt; avoid = tt }; earns = omega arith }
+  at_end settled over others (kind ∷ left) used trains =
+      absurd (omega (arith, (drop_first task.trains.items settled.next (most_of (stops_of kind)) (most_of_all left) trains).0))
+
+  -- the next train does not run
+  has_passed : (settled : Settled) (total : ℕ) → settled.next < length task.trains.items → SoundFrom (between (passed settled)) total → SoundFrom (between settled) total
+  has_passed settled total before rest others [] used trains = absurd (omega (arith, drop_none task.trains.items settled.next trains))
+  has_passed settled total before rest others (kind ∷ left) used trains =
+      let next = drop_first task.trains.items settled.next (most_of (stops_of kind)) (most_of_all left) trains in
+      let told : RunsTold others left (passed settled) total = rest others left (record { used = used.used; whole = used.whole }) next.2 in
+      record {
+        runs = told.runs;
+        set = record { legal = told.set.legal; each_once = λ k. omega (arith, told.set.each_once k); apart = told.set.apart; avoid = told.set.avoid };
+        earns = told.earns;
+      }
+
+  -- a run is settled
+  has_settled : (settled : Settled) (run : Standing) (total : ℕ) → (run.own && stop_in (node_at task run.head)) ≡ true → SoundFrom (between (settling settled run)) total → SoundFrom (standing settled run) total
+  has_settled settled run total may rest others kind left step before tells holds trains =
+      ends_by (stop_of (left_at step)) refl
+    where
+      ends_by : (found : Option Stop) → stop_of (left_at step) ≡ found → RunTold others kind left settled total
+      ends_by None side =
+          let node : IsSideNode (node_at task (spot_number (left_at step))) = node_left position company kinds task describes (left_at step) None side in
+          let stops : stop_in (node_at task (spot_number (left_at step))) ≡ true = subst (λ (n : ℕ). stop_in (node_at task n) ≡ true) tells.head (second_true run.own (stop_in (node_at task run.head)) may) in
+          absurd (let wrong : true ≡ false = sym stops ∙ node.stops in cc)
+      ends_by (Some stop) there =
+          let told : RunsTold (crossed (step ∷ before) ++ others) left (settling settled run) total =
+          rest (crossed (step ∷ before) ++ others) left
+          (record {
+            used = λ border. let all : IsAmong border (crossed (step ∷ before) ++ others) ↔ (IsAmong border (crossed (step ∷ before)) ⊎ IsAmong border others) = among_both border (crossed (step ∷ before)) others in
+                (λ marked. all.1 ((tells.used border).0 marked), λ among. (tells.used border).1 (all.0 among));
+            whole = tells.whole;
+          })
+          trains
+          in
+          let two : 2 ≤ length (visited (step ∷ before)) = omega (arith, ap (λ o. length (listed o ++ (first_stop before step ++ visited before))) there, some_visited step before holds.begins) in
+          record {
+            steps = step ∷ before;
+            legal = record {
+              walk = holds.walk;
+              begins = holds.begins;
+              ends = (stop, there);
+              two = two;
+              most = at_most (stops_of kind) (length (visited (step ∷ before))) holds.few;
+              no_stop_twice = holds.stops;
+              own_token = tells.own.0 (first_true run.own (stop_in (node_at task run.head)) may);
+              no_border_twice = holds.borders;
+              no_used_border = none_of (crossed (step ∷ before));
+              no_red_inside = holds.red;
+              no_full_inside = holds.full;
+            };
+            avoids = holds.free;
+            runs = told.runs;
+            set = told.set;
+            earns = let total = told.earns in omega (arith, tells.value);
+          }
+
+  -- a run goes on
+  has_gone : (settled : Settled) (run : Standing) (index : ℕ) (piece : Piece) (total : ℕ) → Allows task (standing settled run) (go index piece) → SoundFrom (standing (using settled piece) (along task run piece)) total → SoundFrom (standing settled run) total
+  has_gone settled run index piece total may rest others kind left step before tells holds trains =
+      let from : IsStepFrom position run.head piece = describes.sound run.head index piece may.leads in
+      let next = from.step in
+      let joined : AreJoined (left_at step) (entered_at next) = joined_here (left_at step) run.head tells.head from.goes.spot (entered_at next) from.goes.number_is from.goes.joined in
+      let went : Went (most_of (stops_of kind)) others (visited (step ∷ before)) (crossed (step ∷ before)) settled run next piece = went_by (most_of (stops_of kind)) others (left_at step) (visited (step ∷ before)) (crossed (step ∷ before)) settled run tells next piece from.piece_is may.taken (stop_of (left_at next)) refl in
+      let passes = may_pass (left_at step) (stop_of (left_at step)) refl (entered_at next) joined (subst (λ (n : ℕ). ends_in (node_at task n) ≡ false) tells.head may.passes) in
+      let told : RunTold others kind left (using settled piece) total =
+      rest others kind left next (step ∷ before) went.told
+      (record {
+        walk = (from.track, joined, holds.walk);
+        begins = holds.begins;
+        few = went.few;
+        stops = went.stops_once holds.stops;
+        borders = end_before (entered_at next).hex (entered_at next).end (crossed (step ∷ before)) went.new holds.borders;
+        free = λ border among. elim ((among_both border (border_at (entered_at next).hex (entered_at next).end) (crossed (step ∷ before))).0 among) [ inl here ↦ went.free border here | inr old ↦ holds.free border old ];
+        red = (passes.0, holds.red);
+        full = (passes.1, holds.full);
+      })
+      trains
+      in keep_settled others kind left settled piece total told
+
+  -- a step leads from a stop with this number
+  enters_stop : (number : ℕ) → stop_in (node_at task number) ≡ true → (spot next : Spot) → spot_number spot ≡ number → AreJoined spot next → (found : Option Stop) → stop_of spot ≡ found → (stop : Stop) × (stop_of next ≡ Some stop) × (number ≡ spot_number next)
+  enters_stop number stops spot next number_is joined None side =
+      let node : IsSideNode (node_at task (spot_number spot)) = node_left position company kinds task describes spot None side in
+      absurd (let wrong : false ≡ true = sym node.stops ∙ (ap (λ (n : ℕ). stop_in (node_at task n)) number_is ∙ stops) in cc)
+  enters_stop number stops spot next number_is joined (Some stop) there =
+      let same : stop_of next ≡ Some stop = next_stop spot next stop there joined in
+      (stop, same, sym number_is ∙ one_number spot next stop there same)
+
+  -- the first step of a run holds
+  first_holds : (most : ℕ) (others : List ℕ) (settled : Settled) (run : Standing) (step : Step) (piece : Piece) (stop : Stop) → stop_of (entered_at step) ≡ Some stop → IsTrack position step → Went most others (stop ∷ []) [] settled run step piece → Holds position company most others (step ∷ [])
+  first_holds most others settled run step piece stop there track went =
+      let visits : visited (step ∷ []) ≡ listed (stop_of (left_at step)) ++ (stop ∷ []) = ap (λ o. listed (stop_of (left_at step)) ++ (listed o ++ [])) there in
+      record {
+        walk = (track, tt, tt);
+        begins = (stop, there, tt);
+        few = subst (λ vs. length vs ≤ most) (sym visits) went.few;
+        stops = subst AreDistinct (sym visits) (went.stops_once ((λ none. none), tt));
+        borders = end_once (entered_at step).hex (entered_at step).end;
+        free = λ border among. elim ((among_both border (border_at (entered_at step).hex (entered_at step).end) []).0 among) [ inl here ↦ went.free border here | inr none ↦ absurd none ];
+        red = (tt, tt);
+        full = (tt, tt);
+      }
+
+  -- a run of the first train before those of the others is a set
+  set_more : (others : List ℕ) (kind : Kind) (left : List Kind) (settled : Settled) (total : ℕ) → RunTold others kind left settled total → RunsTold others (kind ∷ left) settled total
+  set_more others kind left settled total told =
+      let run : TrainRun = record { kind = kind; steps = told.steps } in
+      record {
+        runs = run ∷ told.runs;
+        set = record {
+          legal = (told.legal, told.set.legal);
+          each_once = λ k. omega (arith, told.set.each_once k);
+          apart = (apart_by told.runs told.set.avoid, told.set.apart);
+          avoid = (told.avoids, avoid_by told.runs told.set.avoid);
+        };
+        earns = told.earns;
+      }
+    where
+      apart_by : (runs : List TrainRun) → AllByRecursion (Avoids (crossed told.steps ++ others)) runs → AllByRecursion (λ other. ShareNoBorder told.steps other.steps) runs
+      apart_by [] avoid = tt
+      apart_by (run ∷ runs) avoid = ((λ border here there. avoid.0 border there ((among_both border (crossed told.steps) others).1 (inl here))), apart_by runs avoid.1)
+      avoid_by : (runs : List TrainRun) → AllByRecursion (Avoids (crossed told.steps ++ others)) runs → AllByRecursion (Avoids others) runs
+      avoid_by [] avoid = tt
+      avoid_by (run ∷ runs) avoid = ((λ border here there. avoid.0 border here ((among_both border (crossed told.steps) others).1 (inr there))), avoid_by runs avoid.1)
+
+  -- a run begins
+  has_begun : (settled : Settled) (number index : ℕ) (piece : Piece) (total : ℕ) → Allows task (between settled) (begin number index piece) → SoundFrom (standing (using settled piece) (along task (begun task settled number) piece)) total → SoundFrom (between settled) total
+  has_begun settled number index piece total may rest others [] used trains = absurd (omega (arith, may.train, drop_none task.trains.items settled.next trains))
+  has_begun settled number index piece total may rest others (kind ∷ left) used trains =
+      let most = most_of (stops_of kind) in
+      let next = drop_first task.trains.items settled.next most (most_of_all left) trains in
+      let from : IsStepFrom position number piece = describes.sound number index piece may.leads in
+      let step = from.step in
+      let entered = enters_stop number may.begins from.goes.spot (entered_at step) from.goes.number_is from.goes.joined (stop_of from.goes.spot) refl in
+      let stop = entered.0 in
+      let some : 0 < most = two_at_least kind in
+      let tells = begun_tells position company kinds task describes others settled used most next.1 some (entered_at step) stop entered.1 in
+      let here : Tells position company most others (entered_at step) (stop ∷ []) [] settled (begun task settled number) = subst (λ (n : ℕ). Tells position company most others (entered_at step) (stop ∷ []) [] settled (begun task settled n)) (sym entered.2) tells in
+      let went : Went most others (stop ∷ []) [] settled (begun task settled number) step piece = went_by most others (entered_at step) (stop ∷ []) [] settled (begun task settled number) here step piece from.piece_is may.taken (stop_of (left_at step)) refl in
+      let visits : visited (step ∷ []) ≡ listed (stop_of (left_at step)) ++ (stop ∷ []) = ap (λ o. listed (stop_of (left_at step)) ++ (listed o ++ [])) entered.1 in
+      let told = subst (λ vs. Tells position company most others (left_at step) vs (crossed (step ∷ [])) (using settled piece) (along task (begun task settled number) piece)) (sym visits) went.told in
+      set_more others kind left settled total
+      (keep_settled others kind left settled piece total (rest others kind left step [] told (first_holds most others settled (begun task settled number) step piece stop entered.1 from.track went) next.2))
+
+  sound_from : (moves : List Move) (state : State) → Completes task state moves → SoundFrom state (total_after task state moves)
+  sound_from [] (between settled) completes = at_end settled completes
+  sound_from [] (standing settled run) completes = absurd completes
+  sound_from (pass ∷ moves) (between settled) completes = has_passed settled (total_after task (between (passed settled)) moves) completes.0 (sound_from moves (between (passed settled)) completes.1)
+  sound_from (pass ∷ moves) (standing settled run) completes = absurd completes.0
+  sound_from (begin number index piece ∷ moves) (between settled) completes =
+      has_begun settled number index piece (total_after task (standing (using settled piece) (along task (begun task settled number) piece)) moves) completes.0 (sound_from moves (standing (using settled piece) (along task (begun task settled number) piece)) completes.1)
+  sound_from (begin number index piece ∷ moves) (standing settled run) completes = absurd completes.0
+  sound_from (go index piece ∷ moves) (between settled) completes = absurd completes.0
+  sound_from (go index piece ∷ moves) (standing settled run) completes =
+      has_gone settled run index piece (total_after task (standing (using settled piece) (along task run piece)) moves) completes.0 (sound_from moves (standing (using settled piece) (along task run piece)) completes.1)
+  sound_from (settle ∷ moves) (between settled) completes = absurd completes.0
+  sound_from (settle ∷ moves) (standing settled run) completes =
+      has_settled settled run (total_after task (between (settling settled run)) moves) completes.0 (sound_from moves (between (settling settled run)) completes.1)

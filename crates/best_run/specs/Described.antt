@@ -1,0 +1,76 @@
+-- What a search goes over, on a position: its spots are the ends of the hexes, by their numbers, with what the stops
+-- are to a company; the pieces that lead from a spot are the steps of walks that may be taken from there.
+use Rattle.std.specs.Prelude.{◌≡◌, ◌↔◌, ℕ, Bool, true, false, Option, Some, None, List, [], ◌∷◌}
+use Rattle.map_tables.specs.declared.place.Stop.{Stop}
+use Rattle.reach.specs.Position.{Position, HasToken, IsFull, is_red, value_of}
+use Rattle.reach.specs.Search.{spot_number}
+use Rattle.reach.specs.Walk.{AreJoined, IsTrack, entered_at, left_at, stop_of}
+use Rattle.reach.specs.declared.walk.Spot.{Spot}
+use Rattle.reach.specs.declared.walk.Step.{Step}
+use Rattle.tables.specs.Train.{stops_of}
+use Rattle.tables.specs.declared.rolling_stock.Kind.{Kind}
+use Rattle.tables.specs.declared.roster.Company.{Company}
+use Rattle.certificate.specs.Legal.{border_at}
+use Rattle.best_run.specs.declared.task.Node.{Node}
+use Rattle.best_run.specs.declared.task.Piece.{Piece}
+use Rattle.best_run.specs.declared.task.Task.{Task}
+use Rattle.best_run.specs.Moves.{LeadsFrom, ends_in, node_at, own_in, stop_in, value_in}
+
+-- a step may be taken from a spot, by its number
+pub record GoesFrom (number : ℕ) (step : Step) : Type 0 where
+  pub spot : Spot
+  pub number_is : spot_number spot ≡ number
+  pub joined : AreJoined spot (entered_at step)
+
+-- a piece is that of a step: it leads to where the step is left, over the border at which it is entered
+pub record IsPieceOf (step : Step) (piece : Piece) : Type 0 where
+  pub to : piece.to ≡ spot_number (left_at step)
+  pub borders : piece.borders.items ≡ border_at (entered_at step).hex (entered_at step).end
+
+-- what a stop is to the company
+pub record IsStopNode (position : Position) (company : Company) (stop : Stop) (node : Option Node) : Type 0 where
+  pub stops : stop_in node ≡ true
+  pub value : value_in node ≡ value_of position stop
+  pub own : (own_in node ≡ true) ↔ HasToken position stop company
+  pub passes : (ends_in node ≡ false) ↔ ((¬ (is_red position stop ≡ true)) × (¬ IsFull position stop company))
+
+-- a side, which is nothing to it
+pub record IsSideNode (node : Option Node) : Type 0 where
+  pub stops : stop_in node ≡ false
+  pub value : value_in node ≡ 0
+  pub own : own_in node ≡ false
+  pub passes : ends_in node ≡ false
+
+abbrev pub IsNodeAt : Position → Company → Option Stop → Option Node → Type 0
+IsNodeAt position company (Some stop) node = IsStopNode position company stop node
+IsNodeAt position company None node = IsSideNode node
+
+-- the most stops of a run: the borders allow no more than 280
+abbrev pub most_of : Option ℕ → ℕ
+most_of (Some most) = most
+most_of None = 280
+
+abbrev pub most_of_all : List Kind → List ℕ
+most_of_all [] = []
+most_of_all (kind ∷ kinds) = most_of (stops_of kind) ∷ most_of_all kinds
+
+-- a piece is that of a step which may be taken from a spot
+pub record IsStepFrom (position : Position) (number : ℕ) (piece : Piece) : Type 0 where
+  pub step : Step
+  pub track : IsTrack position step
+  pub goes : GoesFrom number step
+  pub piece_is : IsPieceOf step piece
+
+-- the piece of a step is among those that lead from a spot
+pub record HasPieceOf (task : Task) (number : ℕ) (step : Step) : Type 0 where
+  pub index : ℕ
+  pub piece : Piece
+  pub leads : LeadsFrom task number index piece
+  pub piece_is : IsPieceOf step piece
+
+-- what is searched is the position, for these trains of a company
+pub record Describes (position : Position) (company : Company) (kinds : List Kind) (task : Task) : Type 0 where
+  pub spots : (spot : Spot) → IsNodeAt position company (stop_of spot) (node_at task (spot_number spot))
+  pub sound : (number index : ℕ) (piece : Piece) → LeadsFrom task number index piece → IsStepFrom position number piece
+  pub complete : (number : ℕ) (step : Step) → IsTrack position step → GoesFrom number step → HasPieceOf task number step
+  pub trains : task.trains.items ≡ most_of_all kinds
