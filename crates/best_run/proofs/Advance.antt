@@ -50,9 +50,10 @@ pub mark_more : (marks : List Bool) (n m : ℕ) → n < length marks → IsMarke
 mark_more marks n m low =
     elim (cases_eq m n) [
       | inl same ↦ (λ is. inl same, λ is. ap (λ k. get_or (set marks n true) k false) same ∙ get_or-set_same marks n true false low)
-      | inr other ↦
-          (λ is. inr (sym (get_or-set_other marks n m true false other) ∙ is),
-          λ is. elim is [ inl same ↦ absurd (other same) | inr before ↦ get_or-set_other marks n m true false other ∙ before ])
+      | inr other ↦ (
+        λ is. inr (sym (get_or-set_other marks n m true false other) ∙ is),
+        λ is. elim is [ inl same ↦ absurd (other same) | inr before ↦ get_or-set_other marks n m true false other ∙ before ],
+      )
     ]
 
 -- more borders are marked
@@ -60,12 +61,13 @@ pub marks_more : (used : List Bool) (borders : List ℕ) → BordersFit borders 
 marks_more used [] fit whole border = (λ is. inr is, λ is. elim is [ inl none ↦ absurd none | inr marked ↦ marked ])
 marks_more used (first ∷ borders) fit whole border =
     let rest : IsMarked (marked_all (set used first true) borders) border ↔ (IsAmong border borders ⊎ IsMarked (set used first true) border) = marks_more (set used first true) borders fit.1 (length-set used first true ∙ whole) border in
-    let one : IsMarked (set used first true) border ↔ ((border ≡ first) ⊎ IsMarked used border) = mark_more used first border (omega (arith, fit.0)) in
-    (λ is. elim (rest.0 is) [ inl later ↦ inl (inr later) | inr marked ↦ elim (one.0 marked) [ inl here ↦ inl (inl (sym here)) | inr before ↦ inr before ] ],
-    λ is. elim is [
-      | inl among ↦ elim among [ inl here ↦ rest.1 (inr (one.1 (inl (sym here)))) | inr later ↦ rest.1 (inl later) ]
-      | inr before ↦ rest.1 (inr (one.1 (inr before)))
-    ])
+    let one : IsMarked (set used first true) border ↔ ((border ≡ first) ⊎ IsMarked used border) = mark_more used first border (omega (arith, fit.0)) in (
+      λ is. elim (rest.0 is) [ inl later ↦ inl (inr later) | inr marked ↦ elim (one.0 marked) [ inl here ↦ inl (inl (sym here)) | inr before ↦ inr before ] ],
+      λ is. elim is [
+        | inl among ↦ elim among [ inl here ↦ rest.1 (inr (one.1 (inl (sym here)))) | inr later ↦ rest.1 (inl later) ]
+        | inr before ↦ rest.1 (inr (one.1 (inr before)))
+      ],
+    )
 
 or_left : (a b : Bool) → a ≡ true → (a || b) ≡ true
 or_left true b is = refl
@@ -108,7 +110,7 @@ pub free_misses : (used : List Bool) (borders : List ℕ) → ((border : ℕ) �
 free_misses used borders none = ap not (none_marked used borders none)
 
 -- the border of an end has a number below 279
-border_fits : (hex : Hex) (end : End) → BordersFit (border_at hex end)
+pub border_fits : (hex : Hex) (end : End) → BordersFit (border_at hex end)
 border_fits hex (AtSide side) = (border_low hex side, tt)
 border_fits hex (AtStop number) = tt
 
@@ -139,18 +141,19 @@ module _ (position : Position) (company : Company) (kinds : List Kind) (task : T
       let fits : BordersFit piece.borders.items = subst BordersFit (sym is.borders) (border_fits (entered_at step).hex (entered_at step).end) in
       let marks : IsMarked (marked_all settled.used piece.borders.items) border ↔ (IsAmong border piece.borders.items ⊎ IsMarked settled.used border) = marks_more settled.used piece.borders.items fits tells.whole border in
       let both : IsAmong border (new ++ borders) ↔ (IsAmong border new ⊎ IsAmong border borders) = among_both border new borders in
-      let old = tells.used border in
-      (λ marked. elim (marks.0 marked) [
-        | inl among ↦ inl (both.1 (inl (subst (IsAmong border) is.borders among)))
-        | inr before ↦ elim (old.0 before) [ inl own ↦ inl (both.1 (inr own)) | inr other ↦ inr other ]
-      ],
-      λ among. elim among [
-        | inl own ↦ elim (both.0 own) [
-          | inl here ↦ marks.1 (inl (subst (IsAmong border) (sym is.borders) here))
-          | inr before ↦ marks.1 (inr (old.1 (inl before)))
-        ]
-        | inr other ↦ marks.1 (inr (old.1 (inr other)))
-      ])
+      let old = tells.used border in (
+        λ marked. elim (marks.0 marked) [
+          | inl among ↦ inl (both.1 (inl (subst (IsAmong border) is.borders among)))
+          | inr before ↦ elim (old.0 before) [ inl own ↦ inl (both.1 (inr own)) | inr other ↦ inr other ]
+        ],
+        λ among. elim among [
+          | inl own ↦ elim (both.0 own) [
+            | inl here ↦ marks.1 (inl (subst (IsAmong border) (sym is.borders) here))
+            | inr before ↦ marks.1 (inr (old.1 (inl before)))
+          ]
+          | inr other ↦ marks.1 (inr (old.1 (inr other)))
+        ],
+      )
 
   -- a step to a stop
   pub to_stop : (most : ℕ) (others : List ℕ) (at : Spot) (stops : List Stop) (borders : List ℕ) (settled : Settled) (run : Standing) → Tells position company most others at stops borders settled run → (step : Step) (piece : Piece) → IsPieceOf step piece → (stop : Stop) → stop_of (left_at step) ≡ Some stop → 0 < run.left → Tells position company most others (left_at step) (stop ∷ stops) (border_at (entered_at step).hex (entered_at step).end ++ borders) (using settled piece) (along task run piece)
@@ -163,20 +166,22 @@ module _ (position : Position) (company : Company) (kinds : List Kind) (task : T
         head = is.to;
         left = omega (arith, tells.left);
         value = omega (arith, tells.value, here.value);
-        own =
-            (λ own. elim (or_cases run.own (own_in (node_at task piece.to)) own) [ inl before ↦ inr (tells.own.0 before) | inr now ↦ inl (here.own.0 now) ],
-            λ has. elim has [ inl now ↦ or_right run.own (own_in (node_at task piece.to)) (here.own.1 now) | inr before ↦ or_left run.own (own_in (node_at task piece.to)) (tells.own.1 before) ]);
+        own = (
+          λ own. elim (or_cases run.own (own_in (node_at task piece.to)) own) [ inl before ↦ inr (tells.own.0 before) | inr now ↦ inl (here.own.0 now) ],
+          λ has. elim has [ inl now ↦ or_right run.own (own_in (node_at task piece.to)) (here.own.1 now) | inr before ↦ or_left run.own (own_in (node_at task piece.to)) (tells.own.1 before) ],
+        );
         visited = λ spot other other_is.
             let one : IsMarked (set run.visited piece.to true) (spot_number spot) ↔ ((spot_number spot ≡ piece.to) ⊎ IsMarked run.visited (spot_number spot)) = mark_more run.visited piece.to (spot_number spot) low in
-            let old = tells.visited spot other other_is in
-            (λ marked. elim (one.0 marked) [
-              | inl same ↦ inl (sym (same_spot spot (left_at step) other stop other_is there (same ∙ is.to)))
-              | inr before ↦ inr (old.0 before)
-            ],
-            λ among. elim among [
-              | inl same ↦ one.1 (inl (one_number spot (left_at step) other other_is (there ∙ ap (λ (s : Stop). Some s) same) ∙ sym is.to))
-              | inr before ↦ one.1 (inr (old.1 before))
-            ]);
+            let old = tells.visited spot other other_is in (
+              λ marked. elim (one.0 marked) [
+                | inl same ↦ inl (sym (same_spot spot (left_at step) other stop other_is there (same ∙ is.to)))
+                | inr before ↦ inr (old.0 before)
+              ],
+              λ among. elim among [
+                | inl same ↦ one.1 (inl (one_number spot (left_at step) other other_is (there ∙ ap (λ (s : Stop). Some s) same) ∙ sym is.to))
+                | inr before ↦ one.1 (inr (old.1 before))
+              ],
+            );
         used = used_more most others at stops borders settled run tells step piece is;
         spots = length-set run.visited piece.to true ∙ tells.spots;
         whole = length_marked settled.used piece.borders.items ∙ tells.whole;
@@ -193,17 +198,19 @@ module _ (position : Position) (company : Company) (kinds : List Kind) (task : T
         head = is.to;
         left = omega (arith, tells.left);
         value = omega (arith, tells.value, here.value);
-        own =
-            (λ own. elim (or_cases run.own (own_in (node_at task piece.to)) own) [ inl before ↦ tells.own.0 before | inr now ↦ absurd (let wrong : true ≡ false = sym now ∙ here.own in cc) ],
-            λ has. or_left run.own (own_in (node_at task piece.to)) (tells.own.1 has));
+        own = (
+          λ own. elim (or_cases run.own (own_in (node_at task piece.to)) own) [ inl before ↦ tells.own.0 before | inr now ↦ absurd (let wrong : true ≡ false = sym now ∙ here.own in cc) ],
+          λ has. or_left run.own (own_in (node_at task piece.to)) (tells.own.1 has),
+        );
         visited = λ spot other other_is.
             let one : IsMarked (set run.visited piece.to true) (spot_number spot) ↔ ((spot_number spot ≡ piece.to) ⊎ IsMarked run.visited (spot_number spot)) = mark_more run.visited piece.to (spot_number spot) low in
-            let old = tells.visited spot other other_is in
-            (λ marked. elim (one.0 marked) [
-              | inl same ↦ absurd (let wrong : Some other ≡ None = sym other_is ∙ ((are_one spot (left_at step) (same ∙ is.to)).0 ∙ side) in cc)
-              | inr before ↦ old.0 before
-            ],
-            λ among. one.1 (inr (old.1 among)));
+            let old = tells.visited spot other other_is in (
+              λ marked. elim (one.0 marked) [
+                | inl same ↦ absurd (let wrong : Some other ≡ None = sym other_is ∙ ((are_one spot (left_at step) (same ∙ is.to)).0 ∙ side) in cc)
+                | inr before ↦ old.0 before
+              ],
+              λ among. one.1 (inr (old.1 among)),
+            );
         used = used_more most others at stops borders settled run tells step piece is;
         spots = length-set run.visited piece.to true ∙ tells.spots;
         whole = length_marked settled.used piece.borders.items ∙ tells.whole;

@@ -67,11 +67,11 @@ module _ (position : Position) (company : Company) (kinds : List Kind) (task : T
       let new = border_at (entered_at step).hex (entered_at step).end in
       free_misses settled.used piece.borders.items
       (λ border among marked.
-        let here : IsAmong border new = subst (IsAmong border) is.borders among in
-        elim ((tells.used border).0 marked) [
-          | inl own ↦ distinct_apart new borders distinct border here own
-          | inr other ↦ free border ((among_both border new borders).1 (inl here)) other
-        ])
+      let here : IsAmong border new = subst (IsAmong border) is.borders among in
+      elim ((tells.used border).0 marked) [
+        | inl own ↦ distinct_apart new borders distinct border here own
+        | inr other ↦ free border ((among_both border new borders).1 (inl here)) other
+      ])
 
   -- so the step can be taken
   by_left : (at : Spot) (stops : List Stop) (borders : List ℕ) (settled : Settled) (run : Standing) → Told at stops borders settled run → (step : Step) (index : ℕ) (piece : Piece) → LeadsFrom task run.head index piece → IsPieceOf step piece → misses settled.used piece.borders.items ≡ true → (found : Option Stop) → stop_of (left_at step) ≡ found → AreDistinct (listed found ++ stops) → length (listed found ++ stops) ≤ most → CanGo at stops borders settled run step

@@ -8,3 +8,6 @@ pub mod Sets
 pub mod Few
 pub mod Runs
 pub mod Sound
+pub mod Greatest
+pub mod Laid
+pub mod Described

@@ -69,15 +69,16 @@ module _ (position : Position) (company : Company) (kinds : List Kind) (task : T
         value = omega (arith, node.value);
         own = (λ own. inl (node.own.0 own), λ has. elim has [ inl here ↦ node.own.1 here | inr none ↦ absurd none ]);
         visited = λ spot other other_is.
-            let one : IsMarked (set (replicate 744 false) (spot_number at) true) (spot_number spot) ↔ ((spot_number spot ≡ spot_number at) ⊎ IsMarked (replicate 744 false) (spot_number spot)) = mark_more (replicate 744 false) (spot_number at) (spot_number spot) low in
-            (λ marked. elim (one.0 marked) [
-              | inl same ↦ inl (sym (same_spot spot at other stop other_is there same))
-              | inr before ↦ absurd (let wrong : true ≡ false = sym before ∙ none_marked 744 (spot_number spot) in cc)
-            ],
-            λ among. elim among [
-              | inl same ↦ one.1 (inl (one_number spot at other other_is (there ∙ ap (λ (s : Stop). Some s) same)))
-              | inr none ↦ absurd none
-            ]);
+            let one : IsMarked (set (replicate 744 false) (spot_number at) true) (spot_number spot) ↔ ((spot_number spot ≡ spot_number at) ⊎ IsMarked (replicate 744 false) (spot_number spot)) = mark_more (replicate 744 false) (spot_number at) (spot_number spot) low in (
+              λ marked. elim (one.0 marked) [
+                | inl same ↦ inl (sym (same_spot spot at other stop other_is there same))
+                | inr before ↦ absurd (let wrong : true ≡ false = sym before ∙ none_marked 744 (spot_number spot) in cc)
+              ],
+              λ among. elim among [
+                | inl same ↦ one.1 (inl (one_number spot at other other_is (there ∙ ap (λ (s : Stop). Some s) same)))
+                | inr none ↦ absurd none
+              ],
+            );
         used = λ border. (λ marked. inr ((used.used border).0 marked), λ among. elim among [ inl none ↦ absurd none | inr other ↦ (used.used border).1 other ]);
         spots = length-set (replicate 744 false) (spot_number at) true ∙ length_replicate 744 false;
         whole = used.whole;
@@ -103,12 +104,12 @@ module _ (position : Position) (company : Company) (kinds : List Kind) (task : T
       let rest : CanFinish task (standing (using settled can.piece) (along task (begun task settled (spot_number at)) can.piece)) total =
       finish_run position company kinds task describes most others later step [] (using settled can.piece) (along task (begun task settled (spot_number at)) can.piece) total told holds ends own
       (λ last after run next_is total_is tells_last.
-        done (settling after run) (omega (arith, next_is)) (omega (arith, total_is, tells_last.value))
-        (record {
-          used = λ border. let all : IsAmong border (crossed (onto later (step ∷ [])) ++ others) ↔ (IsAmong border (crossed (onto later (step ∷ []))) ⊎ IsAmong border others) = among_both border (crossed (onto later (step ∷ []))) others in
-              (λ marked. all.1 ((tells_last.used border).0 marked), λ among. (tells_last.used border).1 (all.0 among));
-          whole = tells_last.whole;
-        }))
+      done (settling after run) (omega (arith, next_is)) (omega (arith, total_is, tells_last.value))
+      (record {
+        used = λ border. let all : IsAmong border (crossed (onto later (step ∷ [])) ++ others) ↔ (IsAmong border (crossed (onto later (step ∷ []))) ⊎ IsAmong border others) = among_both border (crossed (onto later (step ∷ []))) others in
+            (λ marked. all.1 ((tells_last.used border).0 marked), λ among. (tells_last.used border).1 (all.0 among));
+        whole = tells_last.whole;
+      }))
       in
       (begin (spot_number at) can.index can.piece ∷ rest.0, (record { train = train; begins = node.stops; leads = can.leads; taken = can.taken }, rest.1), rest.2)
 
@@ -163,15 +164,15 @@ module _ (position : Position) (company : Company) (kinds : List Kind) (task : T
             let earns : revenue_of position runs ≡ earned position has.run.steps + revenue_of position (has.front ++ has.later) = ap (revenue_of position) has.is ∙ revenue_out position has.front has.run has.later in
             run_first lawful kind others settled used (settled.total + revenue_of position runs) next.0 next.1 has.run legal.0 has.kind_is avoid.0
             (λ after next_is total_is used_after.
-              let rest : CanFinish task (between after) (after.total + revenue_of position (has.front ++ has.later)) =
-              finish_set lawful left (has.front ++ has.later) (crossed has.run.steps ++ others) after used_after (ap (λ n. drop n task.trains.items) next_is ∙ next.2)
-              (record {
-                legal = legal.1;
-                each_once = with_first kind left has.front has.run has.later has.kind_is whole.each_once;
-                apart = apart.1;
-                avoid = all_both (λ other. ShareNoBorder has.run.steps other.steps) (Avoids others) (Avoids (crossed has.run.steps ++ others)) (avoid_both others has.run) (has.front ++ has.later) apart.0 avoid.1;
-              })
-              in (rest.0, rest.1, let total = rest.2 in omega arith))
+            let rest : CanFinish task (between after) (after.total + revenue_of position (has.front ++ has.later)) =
+            finish_set lawful left (has.front ++ has.later) (crossed has.run.steps ++ others) after used_after (ap (λ n. drop n task.trains.items) next_is ∙ next.2)
+            (record {
+              legal = legal.1;
+              each_once = with_first kind left has.front has.run has.later has.kind_is whole.each_once;
+              apart = apart.1;
+              avoid = all_both (λ other. ShareNoBorder has.run.steps other.steps) (Avoids others) (Avoids (crossed has.run.steps ++ others)) (avoid_both others has.run) (has.front ++ has.later) apart.0 avoid.1;
+            })
+            in (rest.0, rest.1, let total = rest.2 in omega arith))
         | inr none ↦
             let rest : CanFinish task (between (passed settled)) (settled.total + revenue_of position runs) =
             finish_set lawful left runs others (passed settled) (record { used = used.used; whole = used.whole }) next.2

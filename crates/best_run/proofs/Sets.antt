@@ -88,11 +88,12 @@ find_run kind (first ∷ runs) = by_test (find_run kind runs) (same_kind first.k
     by_rest : same_kind first.kind kind ≡ false → HasRun kind runs ⊎ (in_number kind (trains_that_run runs) ≡ 0) → HasRun kind (first ∷ runs) ⊎ (in_number kind (trains_that_run (first ∷ runs)) ≡ 0)
     by_rest fails (inl has) = inl (record { front = first ∷ has.front; run = has.run; later = has.later; is = ap (λ rs. first ∷ rs) has.is; kind_is = has.kind_is })
     by_rest fails (inr none) = inr (one_or_none (same_kind first.kind kind) (in_number kind (trains_that_run runs)) fails none)
+
     by_test : HasRun kind runs ⊎ (in_number kind (trains_that_run runs) ≡ 0) → (test : Bool) → same_kind first.kind kind ≡ test → HasRun kind (first ∷ runs) ⊎ (in_number kind (trains_that_run (first ∷ runs)) ≡ 0)
     by_test rest true is = inl (record { front = []; run = first; later = runs; is = refl; kind_is = kind_is first.kind kind is })
     by_test rest false is = by_rest is rest
 
-if_one : (test : Bool) → test ≡ true → (if test then 1 else 0) ≡ 1
+if_one : (test : Bool) → test ≡ true → ◌≡◌ {A = ℕ} (if test then 1 else 0) 1
 if_one true is = refl
 if_one false is = absurd cc
 

@@ -145,12 +145,12 @@ module _ (position : Position) (company : Company) (lawful : IsLawful position) 
       ]
 
   -- what runs are made of some moves, from a state on
-  record RunsTold (others : List ℕ) (left : List Kind) (settled : Settled) (total : ℕ) : Type 0 where
+  pub record RunsTold (others : List ℕ) (left : List Kind) (settled : Settled) (total : ℕ) : Type 0 where
     pub runs : List TrainRun
     pub set : IsSetFor position company left others runs
     pub earns : settled.total + revenue_of position runs ≡ total
 
-  record RunTold (others : List ℕ) (kind : Kind) (left : List Kind) (settled : Settled) (total : ℕ) : Type 0 where
+  pub record RunTold (others : List ℕ) (kind : Kind) (left : List Kind) (settled : Settled) (total : ℕ) : Type 0 where
     pub steps : List Step
     pub legal : RunsLegally position company (record { kind = kind; steps = steps })
     pub avoids : Avoids others (record { kind = kind; steps = steps })
@@ -163,7 +163,7 @@ module _ (position : Position) (company : Company) (lawful : IsLawful position) 
   keep_settled others kind left settled piece total told =
       record { steps = told.steps; legal = told.legal; avoids = told.avoids; runs = told.runs; set = told.set; earns = told.earns }
 
-  abbrev SoundFrom : State → ℕ → Type 0
+  abbrev pub SoundFrom : State → ℕ → Type 0
   SoundFrom (between settled) total =
       (others : List ℕ) (left : List Kind) → Used others settled → drop settled.next task.trains.items ≡ most_of_all left → RunsTold others left settled total
   SoundFrom (standing settled run) total =
@@ -295,6 +295,7 @@ module _ (position : Position) (company : Company) (lawful : IsLawful position) 
       apart_by : (runs : List TrainRun) → AllByRecursion (Avoids (crossed told.steps ++ others)) runs → AllByRecursion (λ other. ShareNoBorder told.steps other.steps) runs
       apart_by [] avoid = tt
       apart_by (run ∷ runs) avoid = ((λ border here there. avoid.0 border there ((among_both border (crossed told.steps) others).1 (inl here))), apart_by runs avoid.1)
+
       avoid_by : (runs : List TrainRun) → AllByRecursion (Avoids (crossed told.steps ++ others)) runs → AllByRecursion (Avoids others) runs
       avoid_by [] avoid = tt
       avoid_by (run ∷ runs) avoid = ((λ border here there. avoid.0 border here ((among_both border (crossed told.steps) others).1 (inr there))), avoid_by runs avoid.1)
@@ -318,7 +319,7 @@ module _ (position : Position) (company : Company) (lawful : IsLawful position) 
       set_more others kind left settled total
       (keep_settled others kind left settled piece total (rest others kind left step [] told (first_holds most others settled (begun task settled number) step piece stop entered.1 from.track went) next.2))
 
-  sound_from : (moves : List Move) (state : State) → Completes task state moves → SoundFrom state (total_after task state moves)
+  pub sound_from : (moves : List Move) (state : State) → Completes task state moves → SoundFrom state (total_after task state moves)
   sound_from [] (between settled) completes = at_end settled completes
   sound_from [] (standing settled run) completes = absurd completes
   sound_from (pass ∷ moves) (between settled) completes = has_passed settled (total_after task (between (passed settled)) moves) completes.0 (sound_from moves (between (passed settled)) completes.1)

@@ -1,10 +1,14 @@
 -- What a search goes over, on a position: its spots are the ends of the hexes, by their numbers, with what the stops
 -- are to a company; the pieces that lead from a spot are the steps of walks that may be taken from there.
-use Rattle.std.specs.Prelude.{◌≡◌, ◌↔◌, ℕ, Bool, true, false, Option, Some, None, List, [], ◌∷◌}
+use Rattle.std.specs.Prelude.{◌≡◌, ◌↔◌, ℕ, ◌≤◌, Bool, true, false, ◌⊎◌, Option, Some, None, option_map, List, [], ◌∷◌, length, slice_get}
+use Rattle.map_tables.specs.declared.hex.Hex.{Hex}
 use Rattle.map_tables.specs.declared.place.Stop.{Stop}
-use Rattle.reach.specs.Position.{Position, HasToken, IsFull, is_red, value_of}
+use Rattle.map_tables.specs.declared.track.End.{End}
+use Rattle.map_tables.specs.declared.track.End.TheVariants.{Side as AtSide, Stop as AtStop}
+use Rattle.map_tables.specs.declared.track.Link.{Link}
+use Rattle.reach.specs.Position.{Position, HasToken, IsAmong, IsFull, is_red, value_of}
 use Rattle.reach.specs.Search.{spot_number}
-use Rattle.reach.specs.Walk.{AreJoined, IsTrack, entered_at, left_at, stop_of}
+use Rattle.reach.specs.Walk.{AreJoined, IsTrack, across_end, entered_at, left_at, spot_at, stop_of}
 use Rattle.reach.specs.declared.walk.Spot.{Spot}
 use Rattle.reach.specs.declared.walk.Step.{Step}
 use Rattle.tables.specs.Train.{stops_of}
@@ -74,3 +78,52 @@ pub record Describes (position : Position) (company : Company) (kinds : List Kin
   pub sound : (number index : ℕ) (piece : Piece) → LeadsFrom task number index piece → IsStepFrom position number piece
   pub complete : (number : ℕ) (step : Step) → IsTrack position step → GoesFrom number step → HasPieceOf task number step
   pub trains : task.trains.items ≡ most_of_all kinds
+
+-- the number of the spot from which a step is taken that is entered at an end of a hex
+abbrev pub number_before : Hex → End → Option ℕ
+number_before hex (AtSide side) = option_map spot_number (across_end hex (AtSide side))
+number_before hex (AtStop number) = Some (spot_number (spot_at hex (AtStop number)))
+
+-- a step may be taken from a spot with this number
+abbrev pub ComesFrom : ℕ → Step → Type 0
+ComesFrom number step = number_before (entered_at step).hex (entered_at step).end ≡ Some number
+
+-- these are all steps of a position
+abbrev pub AreSteps : Position → List Step → Type 0
+AreSteps position steps = (step : Step) → IsAmong step steps ↔ IsTrack position step
+
+-- the steps of such links are added
+pub record Adds (P : Link → Type 0) (old new : List Step) : Type 0 where
+  pub kept : (step : Step) → IsAmong step old → IsAmong step new
+  pub added : (step : Step) → P step.link → IsAmong step new
+  pub only : (step : Step) → IsAmong step new → IsAmong step old ⊎ P step.link
+
+-- a piece is that of one of some steps
+pub record IsOfStep (number : ℕ) (steps : List Step) (piece : Piece) : Type 0 where
+  pub step : Step
+  pub among : IsAmong step steps
+  pub comes : ComesFrom number step
+  pub piece_is : IsPieceOf step piece
+
+-- the piece of a step is one of some
+pub record HasIts (pieces : List Piece) (step : Step) : Type 0 where
+  pub piece : Piece
+  pub among : IsAmong piece pieces
+  pub piece_is : IsPieceOf step piece
+
+-- these are the pieces of those steps that may be taken from a spot with this number
+pub record ArePiecesFrom (number : ℕ) (steps : List Step) (pieces : List Piece) : Type 0 where
+  pub sound : (piece : Piece) → IsAmong piece pieces → IsOfStep number steps piece
+  pub complete : (step : Step) → IsAmong step steps → ComesFrom number step → HasIts pieces step
+
+-- what stands at a number: the spot with this number, and the pieces from there
+pub record IsNumbered (position : Position) (company : Company) (steps : List Step) (number : ℕ) (node : Node) : Type 0 where
+  pub spot : (spot : Spot) → spot_number spot ≡ number → IsNodeAt position company (stop_of spot) (Some node)
+  pub value : node.value ≤ 80
+  pub side : node.stop ≡ false → node.value ≡ 0
+  pub pieces : ArePiecesFrom number steps node.pieces.items
+
+-- the first spots by their numbers
+pub record AreNumbered (position : Position) (company : Company) (steps : List Step) (count : ℕ) (nodes : List Node) : Type 0 where
+  pub all : length nodes ≡ count
+  pub each : (number : ℕ) (node : Node) → slice_get nodes number ≡ Some node → IsNumbered position company steps number node

@@ -1,9 +1,20 @@
-//! The greatest revenue of a company's trains.
+//! The greatest revenue of a company's trains: `greatest_revenue` answers what the best legal set of
+//! runs earns, on any `reach::Network`.
 //!
-//! Reading order: `task` (the stops with the pieces of track between them), `state` (the trains
-//! settled so far, and the run begun), `search`.
+//! The definitions of a legal set and of the greatest revenue are those of `certificate`. Those of this
+//! crate, in `specs/`, are of the search alone: `Moves` says what it goes over, move by move, `Described`
+//! how a position is laid out for it, `Fit` what keeps its numbers within their bounds.
+//!
+//! Reading order: `best` (the public call), `spots` (the spots of a position with the pieces of track
+//! between them), `task`, `state` (the trains settled so far, and the run begun), `search`.
 #![tactic(auto)]
 
+mod best;
+mod runner;
 mod search;
+mod spots;
 mod state;
 mod task;
+
+pub use best::greatest_revenue;
+pub use runner::Search;

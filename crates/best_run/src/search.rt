@@ -110,5 +110,4 @@ impl Task {
             self.take(settled, run, &head.pieces[index], best);
         }
     }
-
 }

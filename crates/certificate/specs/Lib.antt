@@ -5,6 +5,5 @@ pub mod Fault
 pub mod Code
 pub mod Set
 pub mod Claim
-pub mod Greatest
 pub mod Tally
 pub mod Law

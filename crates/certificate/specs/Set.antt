@@ -3,7 +3,7 @@
 -- crossed by two of the walks, though they may meet at stops. A set earns what its runs earn; the empty set is
 -- legal, and earns nothing. The greatest revenue is what some legal set earns and no legal set exceeds. Nothing
 -- here knows of how it is looked for.
-use Rattle.std.specs.Prelude.{◌≡◌, ℕ, ◌+◌, ◌≤◌, Bool, true, false, if◌then◌else◌, List, [], ◌∷◌}
+use Rattle.std.specs.Prelude.{◌≡◌, ℕ, ◌+◌, ◌≤◌, ℤ, pos, if◌then◌else◌, List, [], ◌∷◌}
 use Rattle.std.specs.List.{AllByRecursion}
 use Rattle.reach.specs.Position.{Position, IsAmong}
 use Rattle.reach.specs.declared.walk.Step.{Step}
@@ -69,3 +69,8 @@ IsMost position company trains revenue =
 pub record IsGreatest (position : Position) (company : Company) (trains : List Kind) (revenue : ℕ) : Type 0 where
   pub earned : IsEarned position company trains revenue
   pub most : IsMost position company trains revenue
+
+-- a sum of money is the greatest revenue
+abbrev pub IsGreatestMoney : Position → Company → List Kind → ℤ → Type 0
+IsGreatestMoney position company trains money =
+    (revenue : ℕ) × (money ≡ pos revenue) × IsGreatest position company trains revenue

@@ -7,12 +7,14 @@
 //! The definitions, in `specs/`: `Legal` says which stops a walk visits, which borders it crosses
 //! and what a legal run is, and knows nothing of places; `Named` says which walk a list of places
 //! names; `Fault` is the table of the rules. `Law` joins them: what the places name is a legal run
-//! exactly where they break no rule. `Marks` is how the borders are told that earlier runs crossed.
-//! `Tally` is what the check keeps of the steps that it has gone
+//! exactly where they break no rule. `Set` says what a legal set of runs is, what it earns, and what
+//! the greatest revenue is; `Claim` says when a claim of runs holds. `Marks` is how the borders are
+//! told that earlier runs crossed. `Tally` is what the check keeps of the steps that it has gone
 //! over.
 //!
 //! Reading order: `check` (the public call), `run_fault`, `used`, `leg` (from place to place),
-//! `tally`, `laws`.
+//! `tally`, `laws`; `claim` (a revenue with runs that earn it), `runner` (what tells the greatest
+//! revenue).
 #![tactic(auto)]
 
 mod check;

@@ -1,5 +1,5 @@
 ghost use Rattle.std.specs.Prelude.{◌≡◌, Bool, true, List, Result, IfOk, IfErr, ℤ};
-ghost use Rattle.certificate.specs.Greatest.{IsGreatestMoney};
+ghost use Rattle.certificate.specs.Set.{IsGreatestMoney};
 ghost use Rattle.certificate.specs.declared.runner.RunnerFault.{RunnerFault};
 ghost use Rattle.certificate.specs.declared.runner.RunnerFault.TheVariants.{Refused};
 ghost use Rattle.reach.specs.Position.{Position};

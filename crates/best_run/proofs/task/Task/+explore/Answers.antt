@@ -93,9 +93,19 @@ take-stand-requires t c =
     let taken : can_take task run settled.used piece ≡ true = sym c.can_take.ensures ∙ c.if-can_take.true in
     let whole : length settled.used ≡ 279 = c.using-using.ensures.whole in
     let less = less_after task settled run piece whole taken c.requires.piece in
-    rw (c.using-using.ensures.using, c.along-next.ensures)
-    (omega arith, (c.requires.fit, (c.requires.next, (c.requires.piece.to,
-    room_after task settled run piece c.requires.fit whole taken c.requires.piece c.requires.room))))
+    rw (c.using-using.ensures.using, c.along-next.ensures) (
+      omega arith,
+      (
+        c.requires.fit,
+        (
+          c.requires.next,
+          (
+            c.requires.piece.to,
+            room_after task settled run piece c.requires.fit whole taken c.requires.piece c.requires.room,
+          ),
+        ),
+      ),
+    )
 
 pub begin_at-take-requires : goal.begin_at-take-requires
 begin_at-take-requires t c =

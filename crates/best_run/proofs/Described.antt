@@ -1,0 +1,186 @@
+-- A position as it is laid out: what leads from each spot are the steps of walks, and all numbers are within bounds.
+use Rattle.std.proofs.Common.{◌≡◌, ◌↔◌, ℕ, zero, suc, ◌+◌, ◌<◌, ◌≤◌, Bool, true, false, ◌⊎◌, inl, inr, Option, Some, None, List, [], ◌∷◌, ◌++◌, length, get_or, slice_get, refl, sym, ap, subst, ◌∙◌, arith, option_map}
+use Rattle.std.proofs.lemmas.Option.{slice_get-get_or, slice_get_within}
+use Rattle.map_tables.specs.Place.{joined_stop_of, stop_at}
+use Rattle.map_tables.specs.declared.hex.Hex.{Hex}
+use Rattle.map_tables.specs.declared.place.Stop.{Stop}
+use Rattle.map_tables.specs.declared.place.StopNumber.{StopNumber}
+use Rattle.map_tables.specs.declared.track.End.{End}
+use Rattle.map_tables.specs.declared.track.End.TheVariants.{Side as AtSide, Stop as AtStop}
+use Rattle.reach.specs.Lawful.{IsLawful}
+use Rattle.reach.specs.Position.{Position, IsAmong}
+use Rattle.reach.specs.Search.{number_at, spot_number}
+use Rattle.reach.specs.Walk.{AreJoined, IsTrack, across, across_end, entered_at, left_at, spot_at, stop_at_end, stop_of}
+use Rattle.reach.specs.declared.walk.Spot.{Spot}
+use Rattle.reach.specs.declared.walk.Step.{Step}
+use Rattle.reach.proofs.Spots.{back}
+use Rattle.tables.specs.declared.rolling_stock.Kind.{Kind}
+use Rattle.tables.specs.declared.roster.Company.{Company}
+use Rattle.certificate.specs.Legal.{border_at}
+use Rattle.certificate.proofs.Written.{ordered, stop_to_stop}
+use Rattle.best_run.specs.declared.task.Node.{Node}
+use Rattle.best_run.specs.declared.task.Piece.{Piece}
+use Rattle.best_run.specs.declared.task.Task.{Task}
+use Rattle.best_run.specs.Described.{AreNumbered, ArePiecesFrom, AreSteps, ComesFrom, Describes, GoesFrom, HasPieceOf, IsNodeAt, IsNumbered, IsOfStep, IsPieceOf, IsSideNode, IsStepFrom, IsStopNode, most_of_all, number_before}
+use Rattle.best_run.specs.Fit.{BordersFit, IsFit, NodeFits, PieceFits}
+use Rattle.best_run.specs.Moves.{LeadsFrom, node_at, pieces_in, stop_in}
+use Rattle.best_run.proofs.Advance.{border_fits, one_number, spot_low}
+use Rattle.best_run.proofs.Complete.{next_stop}
+
+-- what stands at a place is among a list
+among_place : {A : Type 0} (xs : List A) (i : ℕ) (x : A) → slice_get xs i ≡ Some x → IsAmong x xs
+among_place [] i x is = absurd (omega (arith, slice_get_within [] i x is))
+among_place (y ∷ ys) zero x is = inl (let same : y ≡ x = cc in same)
+among_place (y ∷ ys) (suc i) x is = inr (among_place ys i x is)
+
+-- what is among a list has a place
+place_among : {A : Type 0} (xs : List A) (x : A) → IsAmong x xs → (i : ℕ) × (slice_get xs i ≡ Some x)
+place_among [] x among = absurd among
+place_among (y ∷ ys) x (inl is) = (0, ap (λ z. Some z) is)
+place_among (y ∷ ys) x (inr later) = let rest = place_among ys x later in (suc rest.0, rest.1)
+
+-- the spot from which a step is taken
+from_end : (hex : Hex) (end : End) (number : ℕ) → number_before hex end ≡ Some number → (position : Position) → IsLawful position → (spot : Spot) × (spot_number spot ≡ number) × AreJoined spot (spot_at hex end)
+from_end hex (AtStop place) number is position lawful =
+    let same : spot_number (spot_at hex (AtStop place)) ≡ number = cc in
+    (spot_at hex (AtStop place), same, inl (joined_stop_of (stop_at hex place), refl, refl))
+from_end hex (AtSide side) number is position lawful = by_across (across_end hex (AtSide side)) refl is
+  where
+    by_across : (found : Option Spot) → across_end hex (AtSide side) ≡ found → option_map spot_number found ≡ Some number → (spot : Spot) × (spot_number spot ≡ number) × AreJoined spot (spot_at hex (AtSide side))
+    by_across None there same = absurd cc
+    by_across (Some from) there same =
+        let number_is : spot_number from ≡ number = cc in
+        (from, number_is, inr (back position lawful (spot_at hex (AtSide side)) from there).0)
+
+to_end : (position : Position) → IsLawful position → (hex : Hex) (end : End) (spot : Spot) → AreJoined spot (spot_at hex end) → number_before hex end ≡ Some (spot_number spot)
+to_end position lawful hex (AtStop place) spot joined =
+    elim joined [
+      | inl same ↦ ap (λ n. Some n) (one_number (spot_at hex (AtStop place)) spot same.0 same.2 same.1)
+      | inr over ↦ absurd (let none : Some (joined_stop_of (stop_at hex place)) ≡ None = (back position lawful spot (spot_at hex (AtStop place)) over).1 in cc)
+    ]
+to_end position lawful hex (AtSide side) spot joined =
+    elim joined [
+      | inl same ↦ absurd (let wrong : None ≡ Some same.0 = same.2 in cc)
+      | inr over ↦ ap (option_map spot_number) (back position lawful spot (spot_at hex (AtSide side)) over).0
+    ]
+
+module _ (position : Position) (company : Company) (lawful : IsLawful position) (kinds : List Kind) (steps : List Step) (are_steps : AreSteps position steps) (task : Task) (numbered : AreNumbered position company steps 744 task.spots.items) where
+  -- the node at a number, and what it is
+  node_there : (number : ℕ) → number < 744 → (node : Node) × (node_at task number ≡ Some node) × IsNumbered position company steps number node
+  node_there number low = by_found (node_at task number) refl
+    where
+      none_there : (nodes : List Node) (i : ℕ) → i < length nodes → slice_get nodes i ≡ None → ⊥
+      none_there [] i less is = absurd (omega arith)
+      none_there (node ∷ nodes) zero less is = cc
+      none_there (node ∷ nodes) (suc i) less is = none_there nodes i (omega arith) is
+      by_found : (found : Option Node) → node_at task number ≡ found → (node : Node) × (node_at task number ≡ Some node) × IsNumbered position company steps number node
+      by_found (Some node) is = (node, is, numbered.each number node is)
+      by_found None is = absurd (none_there task.spots.items number (omega (arith, numbered.all)) is)
+
+  -- each spot is at its number
+  spot_there : (spot : Spot) → IsNodeAt position company (stop_of spot) (node_at task (spot_number spot))
+  spot_there spot =
+      let there = node_there (spot_number spot) (spot_low spot) in
+      subst (IsNodeAt position company (stop_of spot)) (sym there.1) (there.2.spot spot refl)
+
+  sound_there : (number index : ℕ) (piece : Piece) → LeadsFrom task number index piece → IsStepFrom position number piece
+  sound_there number index piece leads = by_found (node_at task number) refl leads
+    where
+      by_found : (found : Option Node) → node_at task number ≡ found → slice_get (pieces_in found) index ≡ Some piece → IsStepFrom position number piece
+      by_found None is at = absurd (omega (arith, slice_get_within [] index piece at))
+      by_found (Some node) is at =
+          let of : IsOfStep number steps piece = (numbered.each number node is).pieces.sound piece (among_place node.pieces.items index piece at) in
+          let from = from_end (entered_at of.step).hex (entered_at of.step).end number of.comes position lawful in
+          record {
+            step = of.step;
+            track = (are_steps of.step).0 of.among;
+            goes = record { spot = from.0; number_is = from.1; joined = from.2 };
+            piece_is = of.piece_is;
+          }
+
+  complete_there : (number : ℕ) (step : Step) → IsTrack position step → GoesFrom number step → HasPieceOf task number step
+  complete_there number step track goes =
+      let there = node_there number (subst (λ n. n < 744) goes.number_is (spot_low goes.spot)) in
+      let comes : ComesFrom number step = to_end position lawful (entered_at step).hex (entered_at step).end goes.spot goes.joined ∙ ap (λ n. Some n) goes.number_is in
+      let has = there.2.pieces.complete step ((are_steps step).1 track) comes in
+      let place = place_among there.0.pieces.items has.piece has.among in
+      record {
+        index = place.0;
+        piece = has.piece;
+        leads = ap (λ n. slice_get (pieces_in n) place.0) there.1 ∙ place.1;
+        piece_is = has.piece_is;
+      }
+
+  pub describes_it : task.trains.items ≡ most_of_all kinds → Describes position company kinds task
+  describes_it trains = record { spots = spot_there; sound = sound_there; complete = complete_there; trains = trains }
+
+  -- an end that is left is a side where a stop is entered
+  side_left : (step : Step) → IsTrack position step → (stop : Stop) → stop_of (entered_at step) ≡ Some stop → stop_of (left_at step) ≡ None
+  side_left step track stop there = by_ends (entered_at step).end (left_at step).end (λ n m enters leaves. stop_to_stop step.link step.turned n m (ordered position lawful step track) enters leaves) there
+    where
+      by_ends : (enters leaves : End) → ((n m : StopNumber) → enters ≡ AtStop n → leaves ≡ AtStop m → ⊥) → stop_at_end step.link.hex enters ≡ Some stop → stop_at_end step.link.hex leaves ≡ None
+      by_ends (AtSide side) leaves apart is = absurd cc
+      by_ends (AtStop n) (AtSide side) apart is = refl
+      by_ends (AtStop n) (AtStop m) apart is = absurd (apart n m refl refl)
+
+  -- a step that is entered at a side crosses a border
+  over_border : (hex : Hex) (end : End) → stop_at_end hex end ≡ None → 0 < length (border_at hex end)
+  over_border hex (AtSide side) none = omega arith
+  over_border hex (AtStop place) none = absurd cc
+
+  -- where a spot is a stop, it is one to the search too
+  stop_found : (spot : Spot) (found : Option Stop) → stop_of spot ≡ found → stop_in (node_at task (spot_number spot)) ≡ true → (stop : Stop) × (stop_of spot ≡ Some stop)
+  stop_found spot (Some stop) is stops = (stop, is)
+  stop_found spot None is stops =
+      let node : IsSideNode (node_at task (spot_number spot)) = subst (λ o. IsNodeAt position company o (node_at task (spot_number spot))) is (spot_there spot) in
+      absurd (let wrong : false ≡ true = sym node.stops ∙ stops in cc)
+
+  side_found : (spot : Spot) (found : Option Stop) → stop_of spot ≡ found → stop_in (node_at task (spot_number spot)) ≡ false → stop_of spot ≡ None
+  side_found spot None is side = is
+  side_found spot (Some stop) is side =
+      let node : IsStopNode position company stop (node_at task (spot_number spot)) = subst (λ o. IsNodeAt position company o (node_at task (spot_number spot))) is (spot_there spot) in
+      absurd (let wrong : true ≡ false = sym node.stops ∙ side in cc)
+
+  to_side_there : (spot : Spot) → stop_of spot ≡ None → stop_in (node_at task (spot_number spot)) ≡ false
+  to_side_there spot is =
+      let node : IsSideNode (node_at task (spot_number spot)) = subst (λ o. IsNodeAt position company o (node_at task (spot_number spot))) is (spot_there spot) in node.stops
+
+  -- a spot from which a step is entered at a stop is that stop, and else a side
+  enters : (spot next : Spot) → AreJoined spot next → stop_of spot ≡ stop_of next
+  enters spot next joined =
+      elim joined [
+        | inl same ↦ same.1 ∙ sym same.2
+        | inr over ↦ across_none spot.hex spot.end next over ∙ sym (back position lawful spot next over).1
+      ]
+    where
+      across_none : (hex : Hex) (end : End) (to : Spot) → across_end hex end ≡ Some to → stop_at_end hex end ≡ None
+      across_none hex (AtSide side) to is = refl
+      across_none hex (AtStop place) to is = absurd cc
+
+  piece_fits_there : (number index : ℕ) (node : Node) (piece : Piece) → node_at task number ≡ Some node → slice_get node.pieces.items index ≡ Some piece → PieceFits task node.stop piece
+  piece_fits_there number index node piece there at =
+      let from : IsStepFrom position number piece = sound_there number index piece (ap (λ n. slice_get (pieces_in n) index) there ∙ at) in
+      let step = from.step in
+      let node_stop : stop_in (node_at task (spot_number from.goes.spot)) ≡ node.stop = ap (λ (n : ℕ). stop_in (node_at task n)) from.goes.number_is ∙ ap stop_in there in
+      let same : stop_of from.goes.spot ≡ stop_of (entered_at step) = enters from.goes.spot (entered_at step) from.goes.joined in
+      record {
+        to = subst (λ n. n < 744) (sym from.piece_is.to) (spot_low (left_at step));
+        borders = subst BordersFit (sym from.piece_is.borders) (border_fits (entered_at step).hex (entered_at step).end);
+        to_side = λ stops.
+            let stop = stop_found from.goes.spot (stop_of from.goes.spot) refl (node_stop ∙ stops) in
+            ap (λ (n : ℕ). stop_in (node_at task n)) from.piece_is.to ∙ to_side_there (left_at step) (side_left step from.track stop.0 (sym same ∙ stop.1));
+        over = λ side.
+            let none : stop_of (entered_at step) ≡ None = sym same ∙ side_found from.goes.spot (stop_of from.goes.spot) refl (node_stop ∙ side) in
+            subst (λ bs. 0 < length bs) (sym from.piece_is.borders) (over_border (entered_at step).hex (entered_at step).end none);
+      }
+
+  pub fits_it : IsFit task
+  fits_it =
+      record {
+        all = numbered.all;
+        nodes = λ number node there. record {
+          value = (numbered.each number node there).value;
+          side = (numbered.each number node there).side;
+          pieces = λ index piece at. piece_fits_there number index node piece there at;
+        };
+      }

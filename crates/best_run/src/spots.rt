@@ -1,0 +1,294 @@
+//! The spots of a position, with the pieces of track that lead from them.
+ghost use Rattle.std.specs.Prelude.{◌≡◌, ◌+◌, ◌<◌, ◌≤◌, ◌/◌, ◌%◌, ◌↔◌, length, IfOk, IsTrue, OnOk, Some};
+ghost use Rattle.best_run.specs.Described.{Adds, ArePiecesFrom, AreNumbered, AreSteps, ComesFrom, Describes, IsNumbered, IsPieceOf, IsSideNode, IsStopNode, most_of, most_of_all, number_before};
+ghost use Rattle.best_run.specs.Fit.{IsFit};
+ghost use Rattle.certificate.specs.Legal.{border_of};
+ghost use Rattle.map_tables.specs.Hex.{index_of};
+ghost use Rattle.map_tables.specs.Place.{stop_index_of};
+ghost use Rattle.reach.specs.Lawful.{IsLawful};
+ghost use Rattle.reach.specs.Position.{IsAmong, links_of};
+ghost use Rattle.reach.specs.Search.{spot_number};
+ghost use Rattle.tables.specs.Train.{stops_of};
+
+use crate::task::{Node, Piece, Task};
+use map_tables::{End, HEXES, Hex, Link, Side, Stop, StopNumber, joined_stop, neighbour};
+use reach::{Network, Spot, Step};
+use std::alloc::{AllocError, Global};
+use tables::{Company, Kind};
+
+/// The number of a spot: eight for each hex. A stop that lies in two hexes has one number.
+fn number_of(spot: Spot) -> usize
+    ensures value { result ≡ spot_number spot }
+    ensures bound { result < 744 }
+{
+    match spot.end {
+        End::Side(side) => 8 * spot.hex.index() + side.number(),
+        End::Stop(number) => {
+            let stop = joined_stop(Stop {
+                hex: spot.hex,
+                number,
+            });
+            8 * stop.hex.index() + 6 + stop.number.index()
+        }
+    }
+}
+
+/// The number of the spot from which a step that is entered at a spot may be taken: the stop
+/// there, or the other side of the border.
+fn number_before(spot: Spot) -> Option<usize>
+    ensures { result ≡ number_before spot.hex spot.end }
+{
+    match spot.end {
+        End::Side(_) => {
+            let from = spot.across()?;
+            Some(number_of(from))
+        }
+        End::Stop(_) => Some(number_of(spot)),
+    }
+}
+
+/// How many of its borders a hex numbers: those at its sides 0, 1 and 2.
+const NUMBERED: usize = 3;
+
+/// The number of the border at a side of a hex.
+#[tactic(auto, unfolding(certificate::specs::Legal::border_of))]
+fn border(hex: Hex, side: Side) -> usize
+    ensures { result ≡ border_of hex side }
+{
+    let number = side.number();
+    if number < NUMBERED {
+        return NUMBERED * hex.index() + number;
+    }
+    match neighbour(hex, side) {
+        Some(other) => NUMBERED * other.index() + (number - NUMBERED),
+        None => number - NUMBERED,
+    }
+}
+
+/// The piece of a step.
+fn piece_of(alloc: Global, step: Step) -> Result<Piece, AllocError>
+    ensures { IfOk result (IsPieceOf step) }
+{
+    let spot = step.entered();
+    let mut borders = Vec::new(alloc);
+    if let End::Side(side) = spot.end {
+        borders.push(border(spot.hex, side))?;
+    }
+    Ok(Piece {
+        to: number_of(step.left()),
+        borders,
+    })
+}
+
+/// The hex at a place in the order of the map.
+fn hex_at(index: usize) -> Hex
+    requires { index < 93 }
+    ensures { index_of result ≡ index }
+{
+    Hex::ALL[index]
+}
+
+/// All steps of a position, each link in both directions.
+pub(crate) fn all_steps<N: Network>(alloc: Global, network: &N) -> Result<Vec<Step>, AllocError>
+    requires { IsLawful (N.position network.now) }
+    ensures { let position = N.position network.now in
+        IfOk result (λ steps. AreSteps position steps.items) }
+{
+    let mut steps = Vec::new(alloc);
+    for index in 0..HEXES {
+        push_steps(network, hex_at(index), &mut steps)?;
+    }
+    Ok(steps)
+}
+
+/// Appends the steps of a hex.
+fn push_steps<N: Network>(network: &N, hex: Hex, steps: &mut Vec<Step>) -> Result<(), AllocError>
+    ensures { let here = λ link. IsAmong link (links_of (N.position network.now) hex) in
+        OnOk result (Adds here steps.old.items steps.new.items) }
+{
+    let links = network.links(hex);
+    for link in links.as_slice() {
+        push_both(*link, steps)?;
+    }
+    Ok(())
+}
+
+/// Appends the two steps of a link.
+fn push_both(link: Link, steps: &mut Vec<Step>) -> Result<(), AllocError>
+    ensures { OnOk result (Adds (λ other. other ≡ link) steps.old.items steps.new.items) }
+{
+    steps.push(Step {
+        link,
+        turned: false,
+    })?;
+    steps.push(Step { link, turned: true })?;
+    Ok(())
+}
+
+/// Whether a step may be taken from the spot with a number.
+fn comes_from(step: Step, number: usize) -> bool
+    ensures { IsTrue result ↔ ComesFrom number step }
+{
+    match number_before(step.entered()) {
+        Some(from) => from == number,
+        None => false,
+    }
+}
+
+/// The pieces of those steps that may be taken from a spot.
+pub(crate) fn pieces_from(
+    alloc: Global,
+    steps: &[Step],
+    number: usize,
+) -> Result<Vec<Piece>, AllocError>
+    ensures { IfOk result (λ pieces. ArePiecesFrom number steps.now pieces.items) }
+{
+    let mut pieces = Vec::new(alloc);
+    for step in steps {
+        if comes_from(*step, number) {
+            pieces.push(piece_of(alloc, *step)?)?;
+        }
+    }
+    Ok(pieces)
+}
+
+/// A side, which is nothing to a company.
+fn side_node(pieces: Vec<Piece>) -> Node
+    ensures node { IsSideNode (Some result) }
+    ensures pieces { result.pieces.items ≡ pieces.items }
+    ensures value { result.value ≤ 80 }
+{
+    Node {
+        stop: false,
+        value: 0,
+        own: false,
+        ends: false,
+        pieces,
+    }
+}
+
+/// What a stop is to a company.
+fn stop_node<N: Network>(network: &N, company: Company, stop: Stop, pieces: Vec<Piece>) -> Node
+    ensures node { IsStopNode (N.position network.now) company stop (Some result) }
+    ensures pieces { result.pieces.items ≡ pieces.items }
+    ensures value { result.value ≤ 80 }
+{
+    network.keeps_laws();
+    Node {
+        stop: true,
+        value: network.value(stop),
+        own: network.token(stop, company),
+        ends: network.red(stop) || network.full(stop, company),
+        pieces,
+    }
+}
+
+/// How many ends of a hex have numbers of their own.
+const ENDS: usize = 8;
+
+/// How many of these are sides.
+const SIDES: usize = 6;
+
+/// Whether a number is that of a side.
+fn is_side(number: usize) -> bool
+    ensures { IsTrue result ↔ (number % 8 < 6) }
+{
+    number % ENDS < SIDES
+}
+
+/// The number of a stop, by its place among the ends of its hex.
+fn stop_numbered(place: usize) -> StopNumber
+    requires least { 6 ≤ place }
+    requires most { place < 8 }
+    ensures { 6 + stop_index_of result ≡ place }
+{
+    if place == SIDES {
+        StopNumber::First
+    } else {
+        StopNumber::Second
+    }
+}
+
+/// The spot with a number, with the pieces from there.
+fn node_of<N: Network>(
+    alloc: Global,
+    network: &N,
+    company: Company,
+    steps: &[Step],
+    number: usize,
+) -> Result<Node, AllocError>
+    requires { number < 744 }
+    ensures { let position = N.position network.now in
+        IfOk result (IsNumbered position company steps.now number) }
+{
+    let pieces = pieces_from(alloc, steps, number)?;
+    if is_side(number) {
+        return Ok(side_node(pieces));
+    }
+    let stop = Stop {
+        hex: hex_at(number / ENDS),
+        number: stop_numbered(number % ENDS),
+    };
+    Ok(stop_node(network, company, stop, pieces))
+}
+
+/// How many numbers the spots of the map have.
+const SPOTS: usize = 744;
+
+/// All spots, by their numbers.
+fn all_spots<N: Network>(
+    alloc: Global,
+    network: &N,
+    company: Company,
+    steps: &[Step],
+) -> Result<Vec<Node>, AllocError>
+    ensures { let position = N.position network.now in
+        IfOk result (λ nodes. AreNumbered position company steps.now 744 nodes.items) }
+{
+    let mut nodes = Vec::new(alloc);
+    for number in 0..SPOTS {
+        nodes.push(node_of(alloc, network, company, steps, number)?)?;
+    }
+    Ok(nodes)
+}
+
+/// The most stops of a run of a train: the borders allow no more than 280.
+fn most_of(kind: Kind) -> usize
+    ensures { result ≡ most_of (stops_of kind) }
+{
+    match kind.stops() {
+        Some(most) => most,
+        None => 280,
+    }
+}
+
+/// For each train, the most stops of a run.
+fn most_of_all(alloc: Global, kinds: &[Kind]) -> Result<Vec<usize>, AllocError>
+    ensures { IfOk result (λ most. most.items ≡ most_of_all kinds.now) }
+{
+    let mut most = Vec::new(alloc);
+    for kind in kinds {
+        most.push(most_of(*kind))?;
+    }
+    Ok(most)
+}
+
+impl Task {
+    /// What is searched for the trains of a company. The only error is want of memory.
+    pub(crate) fn of<N: Network>(
+        alloc: Global,
+        network: &N,
+        company: Company,
+        kinds: &[Kind],
+    ) -> Result<Task, AllocError>
+        requires { IsLawful (N.position network.now) }
+        ensures described { let position = N.position network.now in
+            IfOk result (Describes position company kinds.now) }
+        ensures fit { IfOk result IsFit }
+    {
+        let steps = all_steps(alloc, network)?;
+        let spots = all_spots(alloc, network, company, &steps)?;
+        let trains = most_of_all(alloc, kinds)?;
+        Ok(Task { spots, trains })
+    }
+}
