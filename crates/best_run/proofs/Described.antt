@@ -73,6 +73,7 @@ module _ (position : Position) (company : Company) (lawful : IsLawful position) 
       none_there [] i less is = absurd (omega arith)
       none_there (node ∷ nodes) zero less is = cc
       none_there (node ∷ nodes) (suc i) less is = none_there nodes i (omega arith) is
+
       by_found : (found : Option Node) → node_at task number ≡ found → (node : Node) × (node_at task number ≡ Some node) × IsNumbered position company steps number node
       by_found (Some node) is = (node, is, numbered.each number node is)
       by_found None is = absurd (none_there task.spots.items number (omega (arith, numbered.all)) is)

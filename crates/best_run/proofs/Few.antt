@@ -35,7 +35,7 @@ marked_count used (first ∷ borders) whole fit distinct free =
     not_true true none = absurd (none refl)
     not_true false none = refl
 
-unused_none : (n : ℕ) → unused (replicate n false) ≡ n
+pub unused_none : (n : ℕ) → unused (replicate n false) ≡ n
 unused_none zero = refl
 unused_none (suc n) = let rest = unused_none n in omega arith
 

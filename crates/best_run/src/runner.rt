@@ -1,10 +1,11 @@
-ghost use Rattle.std.specs.Prelude.{◌≡◌, false};
+ghost use Rattle.std.specs.Prelude.{◌≡◌, IfOk, false, pos};
+ghost use Rattle.certificate.specs.Set.{IsGreatestMoney};
 
 use crate::best::greatest_revenue;
 use certificate::{Runner, RunnerFault};
 use reach::Network;
-use std::alloc::Global;
-use tables::{Company, Kind, Money, Round};
+use std::alloc::{AllocError, Global};
+use tables::{Amount, Company, Kind, Money, Round};
 
 /// What searches for the greatest revenue. It keeps nothing from one call to the next, and never
 /// refuses to answer.
@@ -32,9 +33,30 @@ impl Runner for Search {
         company: Company,
         trains: &[Kind],
     ) -> Result<Money, RunnerFault> {
-        match greatest_revenue(self.alloc, network, company, trains) {
-            Ok(revenue) => Ok(revenue as Money),
+        match greatest_money(self.alloc, network, company, trains) {
+            Ok(money) => Ok(money),
             Err(_) => Err(RunnerFault::Memory),
         }
     }
+}
+
+/// The greatest revenue, as a sum of money.
+fn greatest_money<N: Network>(
+    alloc: Global,
+    network: &N,
+    company: Company,
+    trains: &[Kind],
+) -> Result<Money, AllocError>
+    ensures { let position = N.position network.now in
+        IfOk result (IsGreatestMoney position company trains.now) }
+{
+    let revenue = greatest_revenue(alloc, network, company, trains)?;
+    Ok(money(revenue))
+}
+
+/// A sum of dollars.
+fn money(amount: Amount) -> Money
+    ensures { result ≡ pos amount }
+{
+    amount as Money
 }

@@ -5,6 +5,7 @@ ghost use Rattle.best_run.specs.Fit.{IsFit};
 ghost use Rattle.certificate.specs.Legal.{border_of};
 ghost use Rattle.map_tables.specs.Hex.{index_of};
 ghost use Rattle.map_tables.specs.Place.{stop_index_of};
+ghost use Rattle.map_tables.specs.declared.track.Link.{Link};
 ghost use Rattle.reach.specs.Lawful.{IsLawful};
 ghost use Rattle.reach.specs.Position.{IsAmong, links_of};
 ghost use Rattle.reach.specs.Search.{spot_number};
@@ -103,7 +104,7 @@ pub(crate) fn all_steps<N: Network>(alloc: Global, network: &N) -> Result<Vec<St
 
 /// Appends the steps of a hex.
 fn push_steps<N: Network>(network: &N, hex: Hex, steps: &mut Vec<Step>) -> Result<(), AllocError>
-    ensures { let here = λ link. IsAmong link (links_of (N.position network.now) hex) in
+    ensures { let here = λ (link : Link). IsAmong link (links_of (N.position network.now) hex) in
         OnOk result (Adds here steps.old.items steps.new.items) }
 {
     let links = network.links(hex);
