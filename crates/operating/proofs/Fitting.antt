@@ -1,9 +1,7 @@
 -- What lies on the map by a list still fits after a lay, a token or a home token of a company's turn; so these
 -- keep a list sound, and so does what a company withholds.
-use Rattle.std.proofs.Common.{◌≡◌, ℕ, ◌+◌, ◌<◌, Bool, true, false, ◌&&◌, ◌||◌, if◌then◌else◌, List, [], ◌∷◌, ◌++◌, length, take, get_or, Option, None, unwrap_or, refl, sym, subst, ap, ◌∙◌, arith}
+use Rattle.std.proofs.Common.{◌≡◌, ℕ, ◌+◌, ◌<◌, Bool, true, false, if◌then◌else◌, List, [], ◌∷◌, ◌++◌, length, take, get_or, Option, None, unwrap_or, refl, sym, subst, ap, ◌∙◌}
 use Rattle.std.proofs.lemmas.List.{append-nil, take_more}
-use Rattle.std.proofs.lemmas.List.Sums.{sum_by-cons}
-use Rattle.std.specs.List.{count_by}
 use Rattle.board.proofs.FitLaws.{home_keeps_fit, lay_keeps_fit, token_keeps_fit}
 use Rattle.board.specs.Ground.{ground_of}
 use Rattle.board.specs.Homes.{Fits}
@@ -17,7 +15,7 @@ use Rattle.history.proofs.Settled.{broken_quiet}
 use Rattle.history.proofs.Soundness.{quiet_sound}
 use Rattle.history.specs.Event.{phase_set, tile_laid, token_placed}
 use Rattle.history.specs.LookBack.{Game, with_event}
-use Rattle.history.specs.Operating.{lays_of, tokens_of, tokens_placed}
+use Rattle.history.specs.Operating.{lays_of, tokens_of}
 use Rattle.history.specs.Sound.{IsSound, LiesFit}
 use Rattle.history.specs.Tell.{breaks, broken_told}
 use Rattle.history.specs.Trains.{phase_of}
@@ -25,7 +23,6 @@ use Rattle.history.specs.declared.event.Event.{Event}
 use Rattle.history.specs.declared.event.Event.TheVariants as event
 use Rattle.map_tables.specs.Fit.{AreFitWithHomes}
 use Rattle.map_tables.specs.Home.{home_of}
-use Rattle.map_tables.specs.Lying.{has_token, names}
 use Rattle.map_tables.specs.Place.{place_of}
 use Rattle.map_tables.specs.declared.lay.Lay.{Lay}
 use Rattle.map_tables.specs.declared.place.Place.{Place}
@@ -33,9 +30,8 @@ use Rattle.map_tables.specs.declared.place.Stop.{Stop}
 use Rattle.market.proofs.Tokens.{move_sound as token_moves}
 use Rattle.market.specs.Moves.{left_of}
 use Rattle.market.specs.Token.{with_move}
-use Rattle.operating.specs.Act.{moved_left, withheld}
+use Rattle.operating.specs.Act.{has_home_token, moved_left, withheld}
 use Rattle.operating.specs.Ground.{ground_now}
-use Rattle.tables.specs.Roster.{same_company}
 use Rattle.tables.specs.Rules.{first_broken}
 use Rattle.tables.specs.declared.roster.Company.{Company}
 use Rattle.tables.specs.declared.rolling_stock.Kind.{Kind}
@@ -85,33 +81,14 @@ token_fits events asker place cost allowed fit =
     fit_then events (event.Token asker.company place cost)
     (subst (λ (lays : List Lay). AreFitWithHomes lays (tokens_of events ++ (place, asker.company) ∷ [])) (sym (append-nil (lays_of events))) (token_keeps_fit (ground_now events) asker place (fits_now events fit) allowed))
 
--- nothing is both
-and_false : (b : Bool) → (b && false) ≡ false
-and_false true = refl
-and_false false = refl
-
--- the count of a company's tokens, one token after another
-count_cons : (token : Place × Company) (tokens : List (Place × Company)) (company : Company) → (if same_company token.1 company then 1 else 0) + count_by (λ token. same_company token.1 company) tokens ≡ count_by (λ token. same_company token.1 company) (token ∷ tokens)
-count_cons token tokens company = sym (sum_by-cons (λ (token : Place × Company). if same_company token.1 company then 1 else 0) token tokens)
-
--- a company with no token has none at a stop
-no_token_there : (tokens : List (Place × Company)) (stop : Stop) (company : Company) → count_by (λ token. same_company token.1 company) tokens ≡ 0 → has_token tokens stop company ≡ false
-no_token_there [] stop company none = refl
-no_token_there (token ∷ tokens) stop company none =
-    elim (same_company token.1 company) as (λ (b : Bool). (if b then 1 else 0) + count_by (λ token. same_company token.1 company) tokens ≡ 0 → ((names stop token.0 && b) || has_token tokens stop company) ≡ false) [
-      | true ↦ λ none. absurd (omega (arith, none))
-      | false ↦ λ none. ap (λ (b : Bool). b || has_token tokens stop company) (and_false (names stop token.0)) ∙ no_token_there tokens stop company (omega (arith, none))
-    ]
-    (count_cons token tokens company ∙ none)
-
--- the home token of a company that has placed none
-home_fits : (events : List Event) (company : Company) → tokens_placed events company ≡ 0 → LiesFit events → LiesFit (events ++ event.Home company (place_of (home_of company)) ∷ [])
+-- the home token of a company that has none at its home
+home_fits : (events : List Event) (company : Company) → has_home_token events company ≡ false → LiesFit events → LiesFit (events ++ event.Home company (place_of (home_of company)) ∷ [])
 home_fits events company none fit =
     fit_then events (event.Home company (place_of (home_of company)))
-    (subst (λ (lays : List Lay). AreFitWithHomes lays (tokens_of events ++ (place_of (home_of company), company) ∷ [])) (sym (append-nil (lays_of events))) (home_keeps_fit (ground_now events) company (fits_now events fit) (no_token_there (tokens_of events) (home_of company) company none)))
+    (subst (λ (lays : List Lay). AreFitWithHomes lays (tokens_of events ++ (place_of (home_of company), company) ∷ [])) (sym (append-nil (lays_of events))) (home_keeps_fit (ground_now events) company (fits_now events fit) none))
 
 -- it keeps a list sound
-pub home_sound_after : (game new : Game) (company : Company) (stop : Stop) (place : Place) → stop ≡ home_of company → place ≡ place_of stop → new ≡ with_event game (event.Home company place) → tokens_placed game.events company ≡ 0 → IsSound game → IsSound new
+pub home_sound_after : (game new : Game) (company : Company) (stop : Stop) (place : Place) → stop ≡ home_of company → place ≡ place_of stop → new ≡ with_event game (event.Home company place) → has_home_token game.events company ≡ false → IsSound game → IsSound new
 home_sound_after game new company stop place is_home is_place told none sound =
     subst IsSound (sym (told ∙ ap (λ (at : Place). with_event game (event.Home company at)) (is_place ∙ ap place_of is_home)))
     (home_sound game company (place_of (home_of company)) (home_fits game.events company none sound.fit) sound)

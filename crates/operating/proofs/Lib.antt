@@ -25,5 +25,6 @@ pub mod TurnEvents
 pub mod TurnSteps
 pub mod TurnGames
 pub mod TurnLaws
+pub mod HomeToken
 pub mod Tiles
 pub mod Operated

@@ -4,7 +4,6 @@ use Rattle.board.specs.LayRules.{ground_rules}
 use Rattle.board.specs.declared.asker.Asker.{Asker}
 use Rattle.history.specs.Event.{phase_set, tile_laid, train_moved}
 use Rattle.history.specs.LookBack.{Game, with_event}
-use Rattle.history.specs.Operating.{tokens_placed}
 use Rattle.history.specs.Shares.{square_of}
 use Rattle.history.specs.Tell.{breaks, broken_told}
 use Rattle.history.specs.declared.event.Event.TheVariants as event
@@ -20,7 +19,7 @@ use Rattle.market.specs.Token.{moved_from, same_square, with_move}
 use Rattle.operating.proofs.TrainSteps.{IsPassedOn, OfClosings, of_bop, of_choice, of_next, of_phase, of_stable, of_trade}
 use Rattle.operating.proofs.TurnEvents.{IsOfTurn}
 use Rattle.operating.proofs.TurnSteps.{OfSteps, of_turn}
-use Rattle.operating.specs.Act.{with_home, withheld}
+use Rattle.operating.specs.Act.{has_home_token, with_home, withheld}
 use Rattle.operating.specs.Dividend.{all_paid, paid_for, paid_out, paid_to, paid_to_seats}
 use Rattle.operating.specs.Ground.{ground_now}
 use Rattle.operating.specs.InTurn.{InTurn}
@@ -139,7 +138,7 @@ module _ (company : Company) (R : Game → Game → Type 0) (of : OfEvents compa
   pub of_home : (game : Game) → R game (with_home game company)
   of_home game =
       let home = event.Home company (place_of (home_of company)) in
-      of_choice R (tokens_placed game.events company == 0) game (with_event game home) game (of.others game home tt refl refl refl) (of.on.same game)
+      of_choice R (has_home_token game.events company) game game (with_event game home) (of.on.same game) (of.others game home tt refl refl refl)
 
   -- so of the steps of its turn
   pub of_steps : OfSteps company (λ (old new : InTurn). R old.game new.game)

@@ -47,7 +47,7 @@ adds_on =
     }
 
 -- so it holds of each event of a turn
-adds_by : (company : Company) → OfEvents company OnlyAdds
+pub adds_by : (company : Company) → OfEvents company OnlyAdds
 adds_by company =
     by_each company OnlyAdds adds_on
     (λ game its is. record { more = its ∷ []; added = refl; no_round = ap (λ (b : Bool). b || false) (begins_none company its is) })

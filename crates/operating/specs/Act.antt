@@ -1,12 +1,15 @@
--- What a company does in its turn, each on the list that was before: its home token, for nothing, where it has
--- placed none yet; a tile; a further token; and that it withholds what it earned, which the bank pays it, so
--- that its token on the chart moves left.
-use Rattle.std.specs.Prelude.{ℕ, ◌==◌, if◌then◌else◌}
+-- What a company does in its turn, each on the list that was before: its home token, for nothing, where no token of
+-- it lies at its home; a tile; a further token; and that it withholds what it earned, which the bank pays it, so
+-- that its token on the chart moves left. The first token that a company places in play is that of its home: it has
+-- placed none where none lies there.
+use Rattle.std.specs.Prelude.{ℕ, Bool, if◌then◌else◌, List}
 use Rattle.history.specs.LookBack.{Game, with_event}
-use Rattle.history.specs.Operating.{tokens_placed}
+use Rattle.history.specs.Operating.{tokens_of}
 use Rattle.history.specs.Tell.{broken_told}
+use Rattle.history.specs.declared.event.Event.{Event}
 use Rattle.history.specs.declared.event.Event.TheVariants as event
 use Rattle.map_tables.specs.Home.{home_of}
+use Rattle.map_tables.specs.Lying.{has_token}
 use Rattle.map_tables.specs.Place.{place_of}
 use Rattle.map_tables.specs.declared.lay.Lay.{Lay}
 use Rattle.map_tables.specs.declared.place.Place.{Place}
@@ -14,10 +17,14 @@ use Rattle.market.specs.Moves.{left_of}
 use Rattle.market.specs.Token.{with_move}
 use Rattle.tables.specs.declared.roster.Company.{Company}
 
--- with HOME, where the company has placed no token yet
+-- a token of the company lies at its home
+abbrev pub has_home_token : List Event → Company → Bool
+has_home_token events company = has_token (tokens_of events) (home_of company) company
+
+-- with HOME, where none lies there
 abbrev pub with_home : Game → Company → Game
 with_home game company =
-    if tokens_placed game.events company == 0 then with_event game (event.Home company (place_of (home_of company))) else game
+    if has_home_token game.events company then game else with_event game (event.Home company (place_of (home_of company)))
 
 -- after a lay at this cost
 abbrev pub after_lay : Game → Company → Lay → ℕ → Game

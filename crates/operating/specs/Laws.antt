@@ -1,10 +1,11 @@
 -- Laws of company turns.
-use Rattle.std.specs.Prelude.{◌≡◌, ℕ, false, ◌||◌, List, ◌++◌, is_some}
+use Rattle.std.specs.Prelude.{◌≡◌, ℕ, true, false, ◌||◌, List, ◌++◌, is_some}
 use Rattle.std.specs.List.{list_any}
 use Rattle.history.specs.Event.{round_of as round_begun}
 use Rattle.history.specs.LookBack.{Game}
 use Rattle.history.specs.Operating.{has_operated}
 use Rattle.history.specs.declared.event.Event.{Event}
+use Rattle.operating.specs.Act.{has_home_token}
 use Rattle.operating.specs.Turn.{IsCompanyTurn}
 use Rattle.tables.specs.Roster.{same_company}
 use Rattle.tables.specs.declared.roster.Company.{Company}
@@ -30,6 +31,12 @@ pub record OnlyAdds (before after : Game) : Type 0 where
 abbrev pub TurnOnlyAdds : Type 0
 TurnOnlyAdds =
     (file : List ℕ) (round : Round) (company : Company) (old new : Game) → IsCompanyTurn file round company old new → OnlyAdds old new
+
+-- after its turn a token of the company lies at its home, whatever events come after: no turn places another there for nothing
+abbrev pub HomeTokenLies : Type 0
+HomeTokenLies =
+    (file : List ℕ) (round : Round) (company : Company) (old new : Game) →
+    IsCompanyTurn file round company old new → (more : List Event) → has_home_token (new.events ++ more) company ≡ true
 
 -- a turn has at most one outcome
 abbrev pub OneCompanyTurn : Type 0

@@ -1,6 +1,6 @@
 //! Laws of the definitions, each the contract of a function that does nothing.
 ghost use Rattle.operating.specs.Dividend.{NoMoreIsPaid};
-ghost use Rattle.operating.specs.Laws.{CompanyOperates, CompanyTurnEnds, OneCompanyTurn, TurnOnlyAdds};
+ghost use Rattle.operating.specs.Laws.{CompanyOperates, CompanyTurnEnds, HomeTokenLies, OneCompanyTurn, TurnOnlyAdds};
 ghost use Rattle.operating.specs.LegalRuns.{ObeyedRunsAreLegal};
 
 use map_tables::{
@@ -15,6 +15,12 @@ pub fn company_operates()
 /// A company's turn adds events to the list, and begins no round.
 pub fn turn_only_adds()
     ensures { TurnOnlyAdds }
+{}
+
+/// After a company's turn a token of it lies at its home, whatever comes after: it places no second
+/// one there for nothing.
+pub fn home_token_lies()
+    ensures { HomeTokenLies }
 {}
 
 /// A company's turn has at most one outcome.

@@ -39,8 +39,8 @@ mod turn;
 mod withholding;
 
 pub use laws::{
-    company_operates, company_turn_ends, no_more_is_paid, obeyed_runs_are_legal, one_company_turn,
-    turn_only_adds,
+    company_operates, company_turn_ends, home_token_lies, no_more_is_paid, obeyed_runs_are_legal,
+    one_company_turn, turn_only_adds,
 };
 pub use playing::play_company;
 pub use standing::rule_standing_lines;
