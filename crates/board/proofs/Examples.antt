@@ -5,6 +5,7 @@ use Rattle.map_tables.specs.Fit.{has_bad_side, is_wrong_kind}
 use Rattle.board.specs.Ground.{position_of, with_lay}
 use Rattle.map_tables.specs.Lying.{tile_on}
 use Rattle.board.specs.LayRules.{IsConnected, cost_or, ground_rules, is_blocked, is_colour_closed, is_lay_used, is_none_left, is_wrong_colour, lay_cost_of, lay_rules, loses_track, lying_of}
+use Rattle.board.specs.Powers.{is_cs_lay, is_dh_lay, is_dh_token}
 use Rattle.board.specs.TokenRules.{IsReachedPlace, has_none_left, has_token_in, is_no_free_slot, is_token_used, kept_at, laid_by, token_cost_of, token_rules}
 use Rattle.board.specs.declared.fault.LayFault.TheVariants.{ColourClosed}
 use Rattle.board.specs.declared.fault.TokenFault.TheVariants.{CashTooSmall}
@@ -27,12 +28,12 @@ use Rattle.tables.specs.declared.rolling_stock.Kind.TheVariants.{Two, Three}
 
 -- in phase 2 no green tile is laid
 early : Some ColourClosed ≡ first_broken (ground_rules (erie_at_home Two) (beginner Erie (pos 0)) (tile_59 false))
-unfolding is_lay_used is_none_left lying_of is_colour_closed tile_on index_of groups plain_hexes print_of printed tile_index_of hexes
+unfolding is_cs_lay is_dh_lay is_lay_used is_none_left lying_of is_colour_closed tile_on index_of groups plain_hexes print_of printed tile_index_of hexes
 early = refl
 
 -- the lay with its stops swapped breaks no rule, and costs nothing
 allowed : Ok (pos 0) ≡ cost_or (lay_cost_of (erie_at_home Three).lays E11) (first_broken (lay_rules (erie_at_home Three) (beginner Erie (pos 0)) (tile_59 true) true))
-unfolding is_lay_used is_none_left lying_of is_colour_closed is_wrong_colour is_wrong_kind loses_track has_bad_side is_blocked lay_cost_of tile_on index_of groups plain_hexes print_of printed_links_of printed tile_index_of hexes laid_links_of laid_track_of neighbour_of adjacent hex_at site_of
+unfolding is_cs_lay is_dh_lay is_lay_used is_none_left lying_of is_colour_closed is_wrong_colour is_wrong_kind loses_track has_bad_side is_blocked lay_cost_of tile_on index_of groups plain_hexes print_of printed_links_of printed tile_index_of hexes laid_links_of laid_track_of neighbour_of adjacent hex_at site_of
 allowed = refl
 
 -- the Erie's own token is reached
@@ -67,13 +68,15 @@ reaches =
     }
 
 -- with 39 the token there is too dear
-too_dear : Err CashTooSmall ≡ cost_or (token_cost_of pennsylvania_at_home.tokens Pennsylvania) (first_broken (token_rules pennsylvania_at_home (beginner Pennsylvania (pos 39)) city_beside true))
-unfolding is_token_used has_none_left has_token_in is_no_free_slot kept_at laid_by token_cost_of tile_on index_of groups plain_hexes print_of printed
+too_dear : Err CashTooSmall ≡ cost_or (token_cost_of pennsylvania_at_home.tokens (beginner Pennsylvania (pos 39)) H10)
+    (first_broken (token_rules pennsylvania_at_home (beginner Pennsylvania (pos 39)) city_beside true))
+unfolding is_dh_token is_token_used has_none_left has_token_in is_no_free_slot kept_at laid_by token_cost_of tile_on index_of groups plain_hexes print_of printed
 too_dear = refl
 
 -- with 40 it is not
-placed : Ok (pos 40) ≡ cost_or (token_cost_of pennsylvania_at_home.tokens Pennsylvania) (first_broken (token_rules pennsylvania_at_home (beginner Pennsylvania (pos 40)) city_beside true))
-unfolding is_token_used has_none_left has_token_in is_no_free_slot kept_at laid_by token_cost_of tile_on index_of groups plain_hexes print_of printed
+placed : Ok (pos 40) ≡ cost_or (token_cost_of pennsylvania_at_home.tokens (beginner Pennsylvania (pos 40)) H10)
+    (first_broken (token_rules pennsylvania_at_home (beginner Pennsylvania (pos 40)) city_beside true))
+unfolding is_dh_token is_token_used has_none_left has_token_in is_no_free_slot kept_at laid_by token_cost_of tile_on index_of groups plain_hexes print_of printed
 placed = refl
 
 pub worked_examples : WorkedExamples

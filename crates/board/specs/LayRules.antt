@@ -1,14 +1,16 @@
--- The rules of a lay. It needs the first step of the turn and the turn's one lay; a hex that is not grey or
--- red; a tile in the stock; a colour that has come, green with phase 3 and brown with phase 5; the hex's kind
--- and its next colour, the stops swapped only where there are two; all old track of the hex; no bad side; a
--- hex of no private that a player owns; some piece of the tile reached in the position after the lay; and the
--- cash for the terrain, which is paid with the first tile of a hex.
+-- The rules of a lay. It needs the first step of the turn and the turn's one lay, which CS's lay does not use; a
+-- hex that is not grey or red; a tile in the stock; a colour that has come, green with phase 3 and brown with
+-- phase 5; the hex's kind and its next colour, the stops swapped only where there are two; all old track of the
+-- hex; no bad side; a hex of no private that a player owns; some piece of the tile reached in the position after
+-- the lay, which CS's lay and DH's do not need; and the cash for the terrain, which is paid with the first tile
+-- of a hex.
 use Rattle.std.specs.Prelude.{◌≡◌, ℕ, ◌+◌, ◌==◌, ◌&&◌, ◌||◌, ◌⊎◌, ◌↔◌, Bool, false, not, nat_lt, nat_le, IsTrue, List, [], ◌∷◌, ◌++◌, Option, Some, None, Result, Ok, Err, ℤ, pos, slice_index_or, count_by}
 use Rattle.std.specs.Int.Signed.{lt_z}
 use Rattle.std.specs.List.{list_any}
 use Rattle.map_tables.specs.Fit.{has_bad_side, is_open, is_wrong_kind}
 use Rattle.board.specs.Ground.{Ground, position_of, with_lay}
 use Rattle.map_tables.specs.Lying.{by_tile, colour_on, links_on, tile_on}
+use Rattle.board.specs.Powers.{is_cs_lay, is_dh_lay}
 use Rattle.board.specs.Turn.{place_of_step}
 use Rattle.board.specs.declared.asker.Asker.{Asker}
 use Rattle.board.specs.declared.asker.TurnStep.TheVariants as step
@@ -38,9 +40,14 @@ use Rattle.tables.specs.declared.roster.Company.{Company}
 use Rattle.tables.specs.declared.rolling_stock.Kind.{Kind}
 use Rattle.tables.specs.declared.rolling_stock.Kind.TheVariants.{Three, Five}
 
--- whether the turn is past its lay, or its lay is used
-unfoldable pub is_lay_used : Asker → Bool
-is_lay_used asker = not (place_of_step asker.pointer == place_of_step step.Lay) || asker.lay_used
+-- whether the turn is past its lay, or its lay is used, which CS's lay does not ask
+unfoldable pub is_lay_used : List Lay → Asker → Hex → Bool
+is_lay_used lays asker hex =
+    not (place_of_step asker.pointer == place_of_step step.Lay) || (asker.lay_used && not (is_cs_lay lays asker hex))
+
+-- whether a lay needs no connection: it is CS's, or DH's
+abbrev pub needs_no_track : List Lay → Asker → Lay → Bool
+needs_no_track lays asker lay = is_cs_lay lays asker lay.hex || is_dh_lay asker lay
 
 -- whether a tile that lies is one of this number
 abbrev pub is_tile : TileNo → Option Lay → Bool
@@ -105,7 +112,7 @@ HaveStopIn hex stops = (number : StopNumber) × IsAmong (stop_at hex number) sto
 -- the rules that ask nothing of what is reached
 abbrev pub ground_rules : Ground → Asker → Lay → List (Rule LayFault)
 ground_rules laid asker lay =
-    record { code = fault.StepUsed; broken = is_lay_used asker }
+    record { code = fault.StepUsed; broken = is_lay_used laid.lays asker lay.hex }
     ∷ record { code = fault.GreyOrRed; broken = not (is_open (print_of lay.hex).kind) }
     ∷ record { code = fault.NoneLeft; broken = is_none_left laid.lays lay.tile }
     ∷ record { code = fault.ColourClosed; broken = is_colour_closed laid.phase (entry_of lay.tile).colour }
@@ -118,7 +125,7 @@ ground_rules laid asker lay =
 -- the rules that are looked at once it is known whether some piece of the tile is reached
 abbrev pub reach_rules : Ground → Asker → Lay → Bool → List (Rule LayFault)
 reach_rules laid asker lay reached =
-    record { code = fault.NotReached; broken = not reached }
+    record { code = fault.NotReached; broken = not (needs_no_track laid.lays asker lay || reached) }
     ∷ record { code = fault.CashTooSmall; broken = lt_z asker.cash (pos (lay_cost_of laid.lays lay.hex)) }
     ∷ []
 

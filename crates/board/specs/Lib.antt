@@ -1,6 +1,7 @@
 pub mod Ground
 pub mod Fit
 pub mod Turn
+pub mod Powers
 pub mod LayRules
 pub mod TokenRules
 pub mod Homes

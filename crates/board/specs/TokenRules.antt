@@ -1,13 +1,14 @@
 -- The rules of a token. It needs the second step of the turn or the first; a token that the company has not
 -- placed; a free slot of a city, where a slot that is kept for a company counts as taken; a hex without a
--- token of the company; a stop that is reached; and its price, which goes by how many tokens of the company
--- lie. One slot of each company's home is kept for it until its token lies there.
-use Rattle.std.specs.Prelude.{◌≡◌, ℕ, ◌+◌, ◌&&◌, ◌↔◌, Bool, true, not, nat_lt, nat_le, IsTrue, List, [], ◌∷◌, ◌++◌, Option, Some, None, Result, ℤ, pos, count_by}
+-- token of the company; a stop that is reached, which DH's token does not need; and its price, which goes by how
+-- many tokens of the company lie, and is nothing for DH's. One slot of each company's home is kept for it until its token lies there.
+use Rattle.std.specs.Prelude.{◌≡◌, ℕ, ◌+◌, ◌&&◌, ◌||◌, if◌then◌else◌, ◌↔◌, Bool, true, not, nat_lt, nat_le, IsTrue, List, [], ◌∷◌, ◌++◌, Option, Some, None, Result, ℤ, pos, count_by}
 use Rattle.std.specs.Int.Signed.{lt_z}
 use Rattle.std.specs.List.{list_any}
 use Rattle.board.specs.Ground.{Ground, position_of}
 use Rattle.map_tables.specs.Lying.{has_token, same_stop, slots_at, taken_at}
 use Rattle.board.specs.LayRules.{cost_or}
+use Rattle.board.specs.Powers.{is_dh_token}
 use Rattle.board.specs.Turn.{place_of_step}
 use Rattle.board.specs.declared.asker.Asker.{Asker}
 use Rattle.board.specs.declared.asker.TurnStep.TheVariants as step
@@ -58,9 +59,9 @@ is_no_free_slot laid place = is_full_at laid (stop_of place)
 unfoldable pub has_token_in : List (Place × Company) → Hex → Company → Bool
 has_token_in tokens hex company = list_any (λ token. same_hex token.0.hex hex && same_company token.1 company) tokens
 
--- what the company's next token costs
-unfoldable pub token_cost_of : List (Place × Company) → Company → ℕ
-token_cost_of tokens company = token_price_of (laid_by tokens company)
+-- what the company's next token costs on a hex: its price, but nothing where it is DH's
+unfoldable pub token_cost_of : List (Place × Company) → Asker → Hex → ℕ
+token_cost_of tokens asker hex = if is_dh_token asker hex then 0 else token_price_of (laid_by tokens asker.company)
 
 -- a company reaches the stop that a place names
 pub record IsReachedPlace (position : Position) (company : Company) (place : Place) : Type 0 where
@@ -78,20 +79,20 @@ slot_rules laid asker place =
     ∷ []
 
 -- the rules that are looked at once it is known whether the stop is reached
-abbrev pub reach_rules : Ground → Asker → Bool → List (Rule TokenFault)
-reach_rules laid asker reached =
-    record { code = fault.NotReached; broken = not reached }
-    ∷ record { code = fault.CashTooSmall; broken = lt_z asker.cash (pos (token_cost_of laid.tokens asker.company)) }
+abbrev pub reach_rules : Ground → Asker → Place → Bool → List (Rule TokenFault)
+reach_rules laid asker place reached =
+    record { code = fault.NotReached; broken = not (is_dh_token asker place.hex || reached) }
+    ∷ record { code = fault.CashTooSmall; broken = lt_z asker.cash (pos (token_cost_of laid.tokens asker place.hex)) }
     ∷ []
 
 -- all rules of a token
 abbrev pub token_rules : Ground → Asker → Place → Bool → List (Rule TokenFault)
-token_rules laid asker place reached = slot_rules laid asker place ++ reach_rules laid asker reached
+token_rules laid asker place reached = slot_rules laid asker place ++ reach_rules laid asker place reached
 
 -- the cost of a token, or the first rule that it breaks, where it is known whether the stop is reached
 abbrev pub token_answer_of : Ground → Asker → Place → Bool → Result ℤ TokenFault
 token_answer_of laid asker place reached =
-    cost_or (token_cost_of laid.tokens asker.company) (first_broken (token_rules laid asker place reached))
+    cost_or (token_cost_of laid.tokens asker place.hex) (first_broken (token_rules laid asker place reached))
 
 -- the answer to a token: its cost, or the first rule that it breaks. Where the rules before it are kept, what
 -- is reached is looked at.

@@ -38,9 +38,9 @@ pub struct Asker {
     pub pointer: TurnStep,
     /// Whether it has used its lay in this turn.
     pub lay_used: bool,
-    /// Whether that was DH's lay. No rule asks this yet.
+    /// Whether that was DH's lay: 57 on F16, by the company that owns DH.
     pub dh_laid: bool,
-    /// The privates that it owns, by their places in the roster. No rule asks this yet.
+    /// The privates that it owns, by their places in the roster.
     pub own_privates: [bool; 6],
     /// The privates that players own, by their places in the roster.
     pub player_privates: [bool; 6],

@@ -2,7 +2,7 @@ ghost use Rattle.std.specs.Prelude.{◌≡◌, ◌⊎◌, ◌↔◌, ◌≤◌, 
 ghost use Rattle.std.specs.List.{list_any};
 ghost use Rattle.board.specs.Ground.{position_of, with_lay};
 ghost use Rattle.map_tables.specs.Lying.{tile_on};
-ghost use Rattle.board.specs.LayRules.{HaveStopIn, IsConnected, IsLayAnswer, ShareLink, ground_rules, is_blocked, is_colour_closed, is_kept, is_lay_used, is_none_left, is_tile, is_wrong_colour, lay_answer_of, lay_cost_of, loses_track, lying_of, place_of_colour};
+ghost use Rattle.board.specs.LayRules.{HaveStopIn, IsConnected, IsLayAnswer, ShareLink, ground_rules, is_blocked, is_colour_closed, is_kept, is_lay_used, is_none_left, is_tile, is_wrong_colour, lay_answer_of, lay_cost_of, loses_track, lying_of, needs_no_track, place_of_colour};
 ghost use Rattle.map_tables.specs.Hex.{same_hex};
 ghost use Rattle.map_tables.specs.Laws.{link_order};
 ghost use Rattle.map_tables.specs.Track.{end_order};
@@ -14,6 +14,7 @@ use crate::asker::{Asker, TurnStep};
 use crate::board::Board;
 use crate::fault::LayFault;
 use crate::fit::{has_bad_side, is_open, is_wrong_kind};
+use crate::powers::is_dh_lay;
 use crate::shown::same_hex;
 use map_tables::{
     Colour, End, Hex, Lay, Link, Stop, TileNo, hex_kind, hexes_stand_once, laid_links,
@@ -46,7 +47,7 @@ impl Board {
         requires { first_broken (ground_rules self.now asker.now lay) ≡ None }
         ensures { result ≡ lay_answer_of self.now asker.now lay reached }
     {
-        if !reached {
+        if !(self.needs_no_track(asker, lay) || reached) {
             return Err(LayFault::NotReached);
         }
         let cost = Money::from(self.lay_cost(lay.hex));
@@ -61,7 +62,7 @@ impl Board {
         ensures { result ≡ first_broken (ground_rules self.now asker.now lay) }
     {
         let entry = tile(lay.tile);
-        if is_lay_used(asker) {
+        if self.is_lay_used(asker, lay.hex) {
             return Some(LayFault::StepUsed);
         }
         if !is_open(hex_kind(lay.hex)) {
@@ -129,6 +130,22 @@ impl Board {
         }
     }
 
+    /// Whether the turn is past its lay, or its lay is used, which CS's lay does not ask.
+    #[tactic(auto, unfolding(crate::specs::LayRules::is_lay_used))]
+    fn is_lay_used(&self, asker: &Asker, hex: Hex) -> bool
+        ensures { result ≡ is_lay_used self.now.lays asker.now hex }
+    {
+        asker.pointer.number() != TurnStep::Lay.number()
+            || (asker.lay_used && !self.is_cs_lay(asker, hex))
+    }
+
+    /// Whether a lay needs no connection: it is CS's, or DH's.
+    fn needs_no_track(&self, asker: &Asker, lay: Lay) -> bool
+        ensures { result ≡ needs_no_track self.now.lays asker.now lay }
+    {
+        self.is_cs_lay(asker, lay.hex) || is_dh_lay(asker, lay)
+    }
+
     /// Whether the stock has none left of a tile.
     #[tactic(auto, unfolding(crate::specs::LayRules::is_none_left))]
     fn is_none_left(&self, number: TileNo) -> bool
@@ -184,14 +201,6 @@ impl Board {
             .iter()
             .any(|old| !is_kept(links.as_slice(), *old))
     }
-}
-
-/// Whether the turn is past its lay, or its lay is used.
-#[tactic(auto, unfolding(crate::specs::LayRules::is_lay_used))]
-fn is_lay_used(asker: &Asker) -> bool
-    ensures { result ≡ is_lay_used asker.now }
-{
-    asker.pointer.number() != TurnStep::Lay.number() || asker.lay_used
 }
 
 /// Whether a colour has not come yet.

@@ -8,12 +8,12 @@
 //! and change nothing; `put_lay` and `put_token` lay it.
 //!
 //! The definitions, in `specs/`: `Ground` (what lies, and the position), `Fit` (what may lie at
-//! all), `LayRules` and `TokenRules` (each rule beside its code, in order), `Homes` and `Stock`
+//! all), `LayRules` and `TokenRules` (each rule beside its code, in order), `Powers` (of CS and DH), `Homes` and `Stock`
 //! (what the rules keep: a slot for each home token, and no more tiles than there are), and two
 //! small examples, `Example`.
 //!
 //! Reading order: `board`, `fault`, `fit` (what may lie at all), `shown` (what shows at a hex or a
-//! stop), `network` (the position that is kept), `asker`, `lay`, `token`, `laws`.
+//! stop), `network` (the position that is kept), `asker`, `powers` (of CS and DH), `lay`, `token`, `laws`.
 #![tactic(auto)]
 
 mod asker;
@@ -23,6 +23,7 @@ mod fit;
 mod laws;
 mod lay;
 mod network;
+mod powers;
 mod shown;
 mod token;
 
@@ -33,3 +34,4 @@ pub use laws::{
     faultless_are_fit, fits_without_homes, home_keeps_fit, lay_keeps_fit, lay_keeps_stock,
     token_keeps_fit, worked_examples,
 };
+pub use powers::is_dh_lay;

@@ -7,6 +7,7 @@ ghost use Rattle.tables.specs.Rules.{first_broken};
 use crate::asker::{Asker, TurnStep};
 use crate::board::Board;
 use crate::fault::TokenFault;
+use crate::powers::is_dh_token;
 use crate::shown::{same_company, same_hex, same_stop};
 use map_tables::{Hex, Place, Stop, home, joined_stop};
 use std::alloc::AllocError;
@@ -34,10 +35,10 @@ impl Board {
         requires { first_broken (slot_rules self.now asker.now place) ≡ None }
         ensures { result ≡ token_answer_of self.now asker.now place reached }
     {
-        if !reached {
+        if !(is_dh_token(asker, place.hex) || reached) {
             return Err(TokenFault::NotReached);
         }
-        let cost = Money::from(self.token_cost(asker.company));
+        let cost = Money::from(self.token_cost(asker, place.hex));
         if asker.cash < cost {
             return Err(TokenFault::CashTooSmall);
         }
@@ -86,12 +87,15 @@ impl Board {
             .count()
     }
 
-    /// What the company's next token costs.
+    /// What the company's next token costs on a hex: its price, but nothing where it is DH's.
     #[tactic(auto, unfolding(crate::specs::TokenRules::token_cost_of))]
-    fn token_cost(&self, company: Company) -> Amount
-        ensures { result ≡ token_cost_of self.now.tokens company }
+    fn token_cost(&self, asker: &Asker, hex: Hex) -> Amount
+        ensures { result ≡ token_cost_of self.now.tokens asker.now hex }
     {
-        token_price(self.laid_by(company))
+        if is_dh_token(asker, hex) {
+            return 0;
+        }
+        token_price(self.laid_by(asker.company))
     }
 
     /// Whether a company has no token left.

@@ -22,6 +22,7 @@ pub mod AllTrains
 pub mod Stables
 pub mod Payments
 pub mod TrainActs
+pub mod PrivateActs
 pub mod InOrder
 pub mod Revenues
 pub mod Cheapest

@@ -6,11 +6,12 @@ use Rattle.history.specs.Laws.{OwnersAreParties}
 use Rattle.history.specs.LookBack.{last_said, owner_said}
 use Rattle.history.specs.Money.{AreWithin, IsParty, IsWithin}
 use Rattle.history.specs.declared.event.Event.{Event}
-use Rattle.history.specs.declared.event.Event.TheVariants.{Closed, Exchanged, Sold}
+use Rattle.history.specs.declared.event.Event.TheVariants.{Closed, Exchanged, PrivateBought, Sold}
 use Rattle.history.specs.declared.event.Holder.{Holder}
 use Rattle.history.specs.declared.event.Holder.TheVariants as holder
 use Rattle.history.specs.declared.event.Party.TheVariants as party
 use Rattle.tables.specs.Roster.{same_private}
+use Rattle.tables.specs.declared.roster.Company.{Company}
 use Rattle.tables.specs.declared.roster.Private.{Private}
 use Rattle.tables.specs.declared.roster.Private.TheVariants.{MohawkHudson}
 use Rattle.tables.specs.declared.seat.Seat.{Seat}
@@ -22,6 +23,15 @@ sold_within true seats seat owner seated names =
     subst (λ (one : Holder). IsParty seats (party.Holder one)) is seated
 sold_within false seats seat owner seated names = absurd (cc)
 
+-- one that a company bought is owned by a party
+bought_within : (same : Bool) (seats : ℕ) (company : Company) (owner : Holder) →
+    ◌≡◌ {A = Option (Option Holder)} (if same then Some (Some (holder.Company company)) else None) (Some (Some owner)) →
+    IsParty seats (party.Holder owner)
+bought_within true seats company owner names =
+    let is : holder.Company company ≡ owner = cc in
+    subst (λ (one : Holder). IsParty seats (party.Holder one)) is tt
+bought_within false seats company owner names = absurd (cc)
+
 -- an event that says that nobody owns a private names no owner
 none_named : (same : Bool) (owner : Holder) → ◌≡◌ {A = Option (Option Holder)} (if same then Some None else None) (Some (Some owner)) → ⊥
 none_named true owner names = absurd (cc)
@@ -32,6 +42,8 @@ named_is_party : (seats : ℕ) (event : Event) (private : Private) (owner : Hold
 named_is_party seats (Sold sold seat price) private owner pays names = sold_within (same_private sold private) seats seat owner pays.0 names
 named_is_party seats (Exchanged seat from) private owner pays names = absurd (none_named (same_private MohawkHudson private) owner names)
 named_is_party seats (Closed closed) private owner pays names = absurd (none_named (same_private closed private) owner names)
+named_is_party seats (PrivateBought bought company seller price) private owner pays names =
+    bought_within (same_private bought private) seats company owner names
 named_is_party seats other private owner pays names = absurd (cc)
 
 -- the last word is the later one, or the earlier

@@ -8,9 +8,10 @@ use Rattle.history.proofs.EventAtEnd.{last_said_at_end, shares_of_before, square
 use Rattle.history.proofs.Payments.{can_pay, payment_sound}
 use Rattle.history.proofs.Rolling.{trains_after_move, trains_after_sale, trains_kept}
 use Rattle.history.proofs.Soundness.{companies_kept, differ_kept, fit_kept, floated_kept, held_kept, led_kept, price_kept, quiet_sound, seated_kept, small_kept, solvent_kept, ten_kept, within_kept}
-use Rattle.history.specs.Event.{ownership_of}
+use Rattle.history.specs.Event.{ownership_of, party_of_seller}
 use Rattle.history.specs.Laws.{ClosingKeepsSound, DiscardKeepsSound, DividendKeepsSound, PhaseKeepsSound, RunKeepsSound, RustingKeepsSound, TradeKeepsSound, TrainPurchaseKeepsSound}
 use Rattle.history.specs.LookBack.{is_closed, is_sold, last_said, owner_said}
+use Rattle.history.specs.Money.{IsParty}
 use Rattle.history.specs.Sound.{AreOffered, IsGivenAway, least_offered}
 use Rattle.history.specs.Trains.{IsThere, TrainsAreHeld}
 use Rattle.history.specs.declared.event.Event.{Event}
@@ -48,11 +49,19 @@ came_held events company kind seller.Bank price there held =
     trains_after_sale events (Train company kind seller.Bank price) kind (place.Company company) refl there held
 came_held events company kind seller.BankPool price there held =
     trains_after_move events (Train company kind seller.BankPool price) None kind (place.Company company) refl there held
+came_held events company kind (seller.Company from) price there held =
+    trains_after_move events (Train company kind (seller.Company from) price) (Some from) kind (place.Company company) refl there held
+
+-- who sells a train is a party of the game
+seller_is_party : (seats : ℕ) (from : TrainSeller) → IsParty seats (party_of_seller from)
+seller_is_party seats seller.Bank = tt
+seller_is_party seats seller.BankPool = tt
+seller_is_party seats (seller.Company from) = tt
 
 -- the purchase of a train
 pub train_purchase_sound : TrainPurchaseKeepsSound
 train_purchase_sound game company kind from price there enough sound =
-    payment_sound game (Train company kind from price) (record { no_owner = refl; no_bid = refl; no_transfer = refl; no_par = refl; no_square = refl; no_office = refl; no_float = refl; no_price = refl }) (λ seat. refl) (λ other. can_pay game company other price enough sound.companies) (tt, tt) (came_held game.events company kind from price there sound.trains) (fit_kept game.events (Train company kind from price) refl refl sound.fit) sound
+    payment_sound game (Train company kind from price) (record { no_owner = refl; no_bid = refl; no_transfer = refl; no_par = refl; no_square = refl; no_office = refl; no_float = refl; no_price = refl }) (λ seat. refl) (λ other. can_pay game company other price enough sound.companies) (tt, seller_is_party game.seats from) (came_held game.events company kind from price there sound.trains) (fit_kept game.events (Train company kind from price) refl refl sound.fit) sound
 
 -- a train that is traded in
 pub trade_sound : TradeKeepsSound

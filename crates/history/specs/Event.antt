@@ -12,7 +12,7 @@ use Rattle.order_grammar.specs.declared.order.ShareSource.TheVariants as source
 use Rattle.history.specs.declared.event.Bidding.{Bidding}
 use Rattle.history.specs.declared.event.Bidding.TheVariants.{Made, Ended}
 use Rattle.history.specs.declared.event.Event.{Event}
-use Rattle.history.specs.declared.event.Event.TheVariants.{Round, Ruled, Bids, Sold, Price, Revenue, Given, Par, President, Bought, Sells, Exchanged, Floats, Moves, Home, Laid, Token, Withheld, Runs, Dividend, Traded, Train, Phase, Rusted, Discarded, Closed, Broken}
+use Rattle.history.specs.declared.event.Event.TheVariants.{Round, Ruled, Bids, Sold, Price, Revenue, Given, Par, President, Bought, Sells, Exchanged, Floats, Moves, Home, Laid, Token, Withheld, Runs, Dividend, Traded, Train, Phase, Rusted, Discarded, Closed, PrivateBought, Broken}
 use Rattle.history.specs.declared.event.Holder.TheVariants as holder
 use Rattle.history.specs.declared.event.Office.{Office}
 use Rattle.history.specs.declared.event.Ownership.{Ownership}
@@ -35,6 +35,8 @@ use Rattle.history.specs.declared.ruling.OpeningRule.{OpeningRule}
 use Rattle.history.specs.declared.ruling.OpeningRule.TheVariants as opening
 use Rattle.history.specs.declared.ruling.PayRule.{PayRule}
 use Rattle.history.specs.declared.ruling.PayRule.TheVariants as pay_rule
+use Rattle.history.specs.declared.ruling.PrivateRule.{PrivateRule}
+use Rattle.history.specs.declared.ruling.PrivateRule.TheVariants as private_rule
 use Rattle.history.specs.declared.ruling.Refusal.{Refusal}
 use Rattle.history.specs.declared.ruling.Refusal.TheVariants as refusal
 use Rattle.history.specs.declared.ruling.Ruling.{Ruling}
@@ -75,15 +77,22 @@ place_of_source source.BankPool = place.BankPool
 abbrev pub place_of_seller : TrainSeller → TrainPlace
 place_of_seller seller.Bank = train_place.Bank
 place_of_seller seller.BankPool = train_place.BankPool
+place_of_seller (seller.Company company) = train_place.Company company
+
+-- who is paid for a train that is bought there
+abbrev pub party_of_seller : TrainSeller → Party
+party_of_seller seller.Bank = party.Bank
+party_of_seller seller.BankPool = party.Bank
+party_of_seller (seller.Company company) = party_of_company company
 
 -- where the trains of a company lie, or those of the bank pool where there is none
 abbrev pub stable_of : Option Company → TrainPlace
 stable_of None = train_place.BankPool
 stable_of (Some company) = train_place.Company company
 
--- the money that an event moves: a seat pays the bank for a private or for tenths, and a company for a lay,
--- a token or a train; the bank pays a revenue, a dividend, a seat for tenths, a company that floats, and one
--- that withholds
+-- the money that an event moves: a seat pays the bank for a private or for tenths, and a company for a lay or
+-- a token; a company pays whoever sells it a train, and a seat for its private; the bank pays a revenue, a
+-- dividend, a seat for tenths, a company that floats, and one that withholds
 abbrev pub payment_of : Event → Option Payment
 payment_of (Sold private seat price) = Some (record { from = party_at seat; to = party.Bank; amount = price })
 payment_of (Revenue private owner amount) = Some (record { from = party.Bank; to = party.Holder owner; amount = amount })
@@ -94,7 +103,10 @@ payment_of (Laid company lay cost) = Some (record { from = party_of_company comp
 payment_of (Token company place cost) = Some (record { from = party_of_company company; to = party.Bank; amount = cost })
 payment_of (Withheld company amount) = Some (record { from = party.Bank; to = party_of_company company; amount = amount })
 payment_of (Dividend company holder amount) = Some (record { from = party.Bank; to = party.Holder holder; amount = amount })
-payment_of (Train company kind from price) = Some (record { from = party_of_company company; to = party.Bank; amount = price })
+payment_of (Train company kind from price) =
+    Some (record { from = party_of_company company; to = party_of_seller from; amount = price })
+payment_of (PrivateBought private company seller price) =
+    Some (record { from = party_of_company company; to = party_at seller; amount = price })
 payment_of other = None
 
 -- the sum of money that an event names, or 0
@@ -113,6 +125,7 @@ sum_of (Withheld company amount) = amount
 sum_of (Runs company revenue) = revenue
 sum_of (Dividend company holder amount) = amount
 sum_of (Train company kind from price) = price
+sum_of (PrivateBought private company seller price) = price
 sum_of other = 0
 
 -- what an event says of a private: that this holder owns it from then on, or nobody
@@ -120,6 +133,8 @@ abbrev pub ownership_of : Event → Option Ownership
 ownership_of (Sold private seat price) = Some (record { private = private; owner = Some (holder.Seat seat) })
 ownership_of (Exchanged seat from) = Some (record { private = MohawkHudson; owner = None })
 ownership_of (Closed private) = Some (record { private = private; owner = None })
+ownership_of (PrivateBought private company seller price) =
+    Some (record { private = private; owner = Some (holder.Company company) })
 ownership_of other = None
 
 -- what an event says of the bids on a private: a seat bids on it, or its sale ends them
@@ -333,8 +348,18 @@ abbrev pub code_of_train_rule : TrainRule → List ℕ
 code_of_train_rule train_rule.NotOnSale = codes "T1"
 code_of_train_rule train_rule.TrainLimit = codes "T2"
 code_of_train_rule train_rule.CashTooSmall = codes "T3"
+code_of_train_rule train_rule.NoConsent = codes "T4"
+code_of_train_rule train_rule.NotSellers = codes "T5"
 code_of_train_rule train_rule.NoTradeIn = codes "T6"
 code_of_train_rule train_rule.NoDiscard = codes "T7"
+
+-- the code of a rule of privates that companies buy
+abbrev pub code_of_private_rule : PrivateRule → List ℕ
+code_of_private_rule private_rule.TooEarly = codes "P1"
+code_of_private_rule private_rule.WrongPrice = codes "P2"
+code_of_private_rule private_rule.NoConsent = codes "P3"
+code_of_private_rule private_rule.NeverSold = codes "P4"
+code_of_private_rule private_rule.CashTooSmall = codes "P5"
 
 -- the code of a rule of play
 abbrev pub code_of_refusal : Refusal → List ℕ
@@ -345,3 +370,4 @@ code_of_refusal (refusal.Token rule) = code_of_token_rule rule
 code_of_refusal (refusal.Run rule) = code_of_run_rule rule
 code_of_refusal (refusal.Pay rule) = code_of_pay_rule rule
 code_of_refusal (refusal.Train rule) = code_of_train_rule rule
+code_of_refusal (refusal.Private rule) = code_of_private_rule rule

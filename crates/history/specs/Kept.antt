@@ -29,6 +29,8 @@ order_in_short short.Pay = order.Pay
 order_in_short short.Withhold = order.Withhold
 order_in_short (short.BuyTrain kind from) = order.BuyTrain kind from
 order_in_short (short.Discard company kind) = order.Discard company kind
+order_in_short (short.BuyOwnedPrivate private price) = order.BuyOwnedPrivate private price
+order_in_short (short.Offer offer) = order.Offer offer
 
 -- an order of play, but no run: its form takes few bytes
 abbrev pub has_short_form : Order → Bool
@@ -45,6 +47,8 @@ has_short_form order.Pay = true
 has_short_form order.Withhold = true
 has_short_form (order.BuyTrain kind from) = true
 has_short_form (order.Discard company kind) = true
+has_short_form (order.BuyOwnedPrivate private price) = true
+has_short_form (order.Offer offer) = true
 has_short_form other = false
 
 -- an order that is kept behind a box: a run of over five places, or an order of no play

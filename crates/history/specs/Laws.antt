@@ -10,7 +10,7 @@ use Rattle.history.specs.Shares.{arrival_of, is_floated, is_par_value, par_of, p
 use Rattle.history.specs.Sound.{IsSound, IsSvPrice, LiesFit, least_offered}
 use Rattle.history.specs.Tell.{broken_told}
 use Rattle.history.specs.declared.event.Event.{Event}
-use Rattle.history.specs.declared.event.Event.TheVariants.{Bids, Sold, Price, Revenue, Given, Par, President, Bought, Sells, Exchanged, Floats, Moves, Home, Laid, Token, Withheld, Runs, Dividend, Traded, Train, Phase, Rusted, Discarded, Closed}
+use Rattle.history.specs.declared.event.Event.TheVariants.{Bids, Sold, Price, Revenue, Given, Par, President, Bought, Sells, Exchanged, Floats, Moves, Home, Laid, Token, Withheld, Runs, Dividend, Traded, Train, Phase, Rusted, Discarded, Closed, PrivateBought}
 use Rattle.history.specs.declared.event.Holder.{Holder}
 use Rattle.history.specs.declared.event.Holder.TheVariants as holder
 use Rattle.history.specs.declared.event.Party.{Party}
@@ -254,6 +254,13 @@ PhaseKeepsSound = (game : Game) (kind : Kind) → IsSound game → IsSound (with
 -- and a private that closes
 abbrev pub ClosingKeepsSound : Type 0
 ClosingKeepsSound = (game : Game) (private : Private) → IsSound game → IsSound (with_event game (Closed private))
+
+-- and so does one that a company buys from the seat that owns it, where the company can pay it
+abbrev pub PrivateKeepsSound : Type 0
+PrivateKeepsSound =
+    (game : Game) (private : Private) (company : Company) (seller : Seat) (price : ℕ) →
+    owner_of game.events private ≡ Some (holder.Seat seller) → pos price ≤ℤ cash_of game.seats game.events (party_of_company company) →
+    IsSound game → IsSound (with_event game (PrivateBought private company seller price))
 
 -- a tile that the event at the end lays is the last
 abbrev pub LaysGrow : Type 0

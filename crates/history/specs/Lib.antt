@@ -9,6 +9,7 @@ pub mod Shares
 pub mod Operating
 pub mod Trains
 pub mod Orders
+pub mod Offers
 pub mod Tell
 pub mod Sound
 pub mod Laws

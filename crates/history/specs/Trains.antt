@@ -108,8 +108,9 @@ pub record TrainsAreHeld (events : List Event) : Type 0 where
   pub held : (owner : Option Company) (kind : Kind) → pos 0 ≤ℤ trains_held events owner kind
   pub sold : (kind : Kind) (number : ℕ) → (manifest_of kind).number ≡ Some number → trains_sold events kind ≤ number
 
--- a train of the kind is there to be bought: one that the bank has not sold, or one of the pool
+-- a train of the kind is there to be bought: one that the bank has not sold, one of the pool, or one of a company
 abbrev pub IsThere : List Event → TrainSeller → Kind → Type 0
 IsThere events seller.Bank kind =
     (number : ℕ) → (manifest_of kind).number ≡ Some number → trains_sold events kind < number
 IsThere events seller.BankPool kind = pos 1 ≤ℤ trains_held events None kind
+IsThere events (seller.Company company) kind = pos 1 ≤ℤ trains_held events (Some company) kind

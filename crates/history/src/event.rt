@@ -1,5 +1,5 @@
 ghost use Rattle.std.specs.Prelude.{◌≡◌};
-ghost use Rattle.history.specs.Event.{bidding_of, floated_by, office_of, operated_by, ownership_of, par_set, party_at, party_of_company, payment_of, phase_set, place_of_seller, place_of_source, round_of, ruled_by, square_set, stable_of, sum_of, sv_price_set, tile_laid, token_placed, train_moved, transfer_of};
+ghost use Rattle.history.specs.Event.{bidding_of, floated_by, office_of, operated_by, ownership_of, par_set, party_at, party_of_company, party_of_seller, payment_of, phase_set, place_of_seller, place_of_source, round_of, ruled_by, square_set, stable_of, sum_of, sv_price_set, tile_laid, token_placed, train_moved, transfer_of};
 ghost use Rattle.history.specs.LookBack.{actor_of};
 ghost use Rattle.history.specs.declared.event.Party.TheVariants.{Bank};
 ghost use Rattle.tables.specs.Seat.{seat_at};
@@ -43,6 +43,16 @@ impl Party {
         ensures { result ≡ party_of_company company }
     {
         Party::Holder(Holder::Company(company))
+    }
+
+    /// Who is paid for a train that is bought there.
+    fn of_seller(seller: TrainSeller) -> Party
+        ensures { result ≡ party_of_seller seller }
+    {
+        match seller {
+            TrainSeller::Bank | TrainSeller::BankPool => Party::Bank,
+            TrainSeller::Company(company) => Party::of_company(company),
+        }
     }
 }
 
@@ -174,7 +184,8 @@ pub enum Event {
         company: Company,
         kind: Kind,
     },
-    /// A company pays the bank for a train, which comes from there or from the bank pool.
+    /// A company pays for a train: the bank, from which it comes or from whose pool, or the company
+    /// that sells it.
     Train {
         company: Company,
         kind: Kind,
@@ -195,6 +206,13 @@ pub enum Event {
     },
     /// Nobody owns a private from then on.
     Closed(Private),
+    /// A company pays a seat for a private, and owns it from then on.
+    PrivateBought {
+        private: Private,
+        company: Company,
+        seller: Seat,
+        price: Amount,
+    },
     /// The bank's cash came to 0 or less.
     Broken,
 }
@@ -202,13 +220,15 @@ pub enum Event {
 // An event is small, since a game keeps each one that ever happened.
 const _: () = prove!(size_of::<Event>() <= 24);
 
-/// Where a company buys a train that is no other company's.
+/// Where a company buys a train.
 #[derive(Clone, Copy, Debug, PartialEq, Eq)]
 pub enum TrainSeller {
     /// The bank, which sells it for the first time.
     Bank,
     /// The bank pool, to which a company gave it back.
     BankPool,
+    /// A company.
+    Company(Company),
 }
 
 /// Money that an event moves.
@@ -368,6 +388,7 @@ impl TrainPlace {
         match seller {
             TrainSeller::Bank => TrainPlace::Bank,
             TrainSeller::BankPool => TrainPlace::BankPool,
+            TrainSeller::Company(company) => TrainPlace::Company(company),
         }
     }
 
@@ -405,9 +426,26 @@ impl Event {
             Event::Laid { company, cost, .. } | Event::Token { company, cost, .. } => {
                 Some(Payment::to_bank(Party::of_company(*company), *cost))
             }
-            Event::Train { company, price, .. } => {
-                Some(Payment::to_bank(Party::of_company(*company), *price))
-            }
+            Event::Train {
+                company,
+                from,
+                price,
+                ..
+            } => Some(Payment {
+                from: Party::of_company(*company),
+                to: Party::of_seller(*from),
+                amount: *price,
+            }),
+            Event::PrivateBought {
+                company,
+                seller,
+                price,
+                ..
+            } => Some(Payment {
+                from: Party::of_company(*company),
+                to: Party::of_seat(*seller),
+                amount: *price,
+            }),
             Event::Revenue { owner, amount, .. } => {
                 Some(Payment::of_bank(Party::Holder(*owner), *amount))
             }
@@ -436,7 +474,7 @@ impl Event {
             Event::Laid { cost, .. } | Event::Token { cost, .. } => *cost,
             Event::Runs { revenue, .. } => *revenue,
             Event::Dividend { amount, .. } => *amount,
-            Event::Train { price, .. } => *price,
+            Event::Train { price, .. } | Event::PrivateBought { price, .. } => *price,
             _ => 0,
         }
     }
@@ -462,6 +500,16 @@ impl Event {
             Some(Ownership {
                 private: *private,
                 owner: None,
+            })
+        } else if let Event::PrivateBought {
+            private,
+            company,
+            ..
+        } = self
+        {
+            Some(Ownership {
+                private: *private,
+                owner: Some(Holder::Company(*company)),
             })
         } else {
             None

@@ -2,6 +2,7 @@
 ghost use Rattle.std.specs.Prelude.{◌≡◌, false, MatchOption, MatchResult};
 ghost use Rattle.history.specs.Event.{acts};
 ghost use Rattle.history.specs.Kept.{TakesBox, has_short_form, order_in_short, ruling_by};
+ghost use Rattle.history.specs.Offers.{offer_obeyed, offered_in, same_offer, same_terms};
 ghost use Rattle.history.specs.Orders.{limit_obeyed, par_of_baltimore_in, par_of_baltimore_obeyed};
 ghost use Rattle.history.specs.declared.ruling.Ruling.TheVariants.{Faulty, Obeyed, Refused};
 ghost use Rattle.order_grammar.specs.declared.order.Order.TheVariants as order;
@@ -9,7 +10,7 @@ ghost use Rattle.order_grammar.specs.declared.order.Order.TheVariants as order;
 use crate::kept_run::{LongRun, ShortRun};
 use crate::ruling::{Refusal, Ruling};
 use map_tables::{Lay, Place};
-use order_grammar::{Fault, Order, ShareSource, TrainSource};
+use order_grammar::{Fault, Offer, Order, ShareSource, TrainSource};
 use std::alloc::{AllocError, Global};
 use std::marker::Model;
 use tables::{Amount, Company, Kind, Private, par_square};
@@ -30,6 +31,8 @@ enum ShortOrder {
     Withhold,
     BuyTrain { kind: Kind, from: TrainSource },
     Discard { company: Company, kind: Kind },
+    BuyOwnedPrivate { private: Private, price: Amount },
+    Offer(Offer),
 }
 
 impl ShortOrder {
@@ -52,6 +55,10 @@ impl ShortOrder {
             Order::Withhold => ShortOrder::Withhold,
             Order::BuyTrain { kind, from } => ShortOrder::BuyTrain { kind, from },
             Order::Discard { company, kind } => ShortOrder::Discard { company, kind },
+            Order::BuyOwnedPrivate { private, price } => {
+                ShortOrder::BuyOwnedPrivate { private, price }
+            }
+            Order::Offer(offer) => ShortOrder::Offer(offer),
             _ => return None,
         };
         Some(short)
@@ -75,6 +82,10 @@ impl ShortOrder {
             ShortOrder::Withhold => Order::Withhold,
             ShortOrder::BuyTrain { kind, from } => Order::BuyTrain { kind, from },
             ShortOrder::Discard { company, kind } => Order::Discard { company, kind },
+            ShortOrder::BuyOwnedPrivate { private, price } => {
+                Order::BuyOwnedPrivate { private, price }
+            }
+            ShortOrder::Offer(offer) => Order::Offer(offer),
         }
     }
 }
@@ -282,6 +293,23 @@ impl KeptRuling {
         }
     }
 
+    /// A sale, if the order that it obeys offers it.
+    pub(crate) fn offer_of(&self, sale: Offer) -> Option<Offer>
+        ensures { result ≡ offer_obeyed sale self.now }
+    {
+        match &self.kept {
+            RulingKept::Short {
+                verdict: Verdict::Obeyed,
+                order: ShortOrder::Offer(other),
+            } if is_offer(*other, sale) => Some(*other),
+            RulingKept::Boxed {
+                verdict: Verdict::Obeyed,
+                order,
+            } => offer_in(&**order, sale),
+            _ => None,
+        }
+    }
+
     /// The par value that the order that it obeys says BO is to have, if it does.
     pub(crate) fn par_of_baltimore(&self) -> Option<Amount>
         ensures { result ≡ par_of_baltimore_obeyed self.now }
@@ -301,6 +329,57 @@ impl KeptRuling {
             _ => None,
         }
     }
+}
+
+/// A sale, if an order offers it.
+fn offer_in(order: &Order, sale: Offer) -> Option<Offer>
+    ensures { result ≡ offered_in sale order.now }
+{
+    match order {
+        Order::Offer(other) if is_offer(*other, sale) => Some(*other),
+        _ => None,
+    }
+}
+
+/// Whether two sales that are offered are the same.
+fn is_offer(one: Offer, sale: Offer) -> bool
+    ensures { result ≡ same_offer one sale }
+{
+    match one {
+        Offer::Private {
+            private,
+            buyer,
+            price,
+        } => match sale {
+            Offer::Private {
+                private: of,
+                buyer: to,
+                price: sum,
+            } => private == of && is_on_terms(buyer, price, to, sum),
+            Offer::Train { .. } => false,
+        },
+        Offer::Train {
+            kind,
+            seller,
+            buyer,
+            price,
+        } => match sale {
+            Offer::Private { .. } => false,
+            Offer::Train {
+                kind: of,
+                seller: from,
+                buyer: to,
+                price: sum,
+            } => kind == of && seller == from && is_on_terms(buyer, price, to, sum),
+        },
+    }
+}
+
+/// Whether two sales are to the same buyer at the same price.
+fn is_on_terms(buyer: Company, price: Amount, to: Company, sum: Amount) -> bool
+    ensures { result ≡ same_terms buyer price to sum }
+{
+    buyer == to && price == sum
 }
 
 /// The ruling of an order.

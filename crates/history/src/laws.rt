@@ -1,7 +1,7 @@
 //! Laws of games: each function does nothing, and its contract is the law.
 
 ghost use Rattle.history.specs.Money.{AllMoneyStays};
-ghost use Rattle.history.specs.Laws.{ArrivalIsLast, ArrivalsDiffer, BidKeepsSound, BlockKeepsSound, BlockWithSuccessionKeepsSound, CaIsSoldWithItsGift, CashMoves, ClosingKeepsSound, DiscardKeepsSound, DividendKeepsSound, ExchangeKeepsSound, FirstIsCheapest, FloatKeepsSound, GiftKeepsSound, HomeKeepsSound, LastWordIsLast, LayKeepsSound, LaysGrow, MoveKeepsSound, OwnersAreParties, PhaseKeepsSound, PriceKeepsSound, PurchaseKeepsSound, QuietKeepsSound, QuietSaysTheSame, RevenueKeepsSound, RulingsAreCounted, RunKeepsSound, RustingKeepsSound, SaleKeepsSound, SoundMoneyStays, StartByPurchaseKeepsSound, StartKeepsSound, SuccessionKeepsSound, SvIsGivenAway, TokenKeepsSound, TokensGrow, TradeKeepsSound, TrainPurchaseKeepsSound, WithholdingKeepsSound};
+ghost use Rattle.history.specs.Laws.{ArrivalIsLast, ArrivalsDiffer, BidKeepsSound, BlockKeepsSound, BlockWithSuccessionKeepsSound, CaIsSoldWithItsGift, CashMoves, ClosingKeepsSound, DiscardKeepsSound, DividendKeepsSound, ExchangeKeepsSound, FirstIsCheapest, FloatKeepsSound, GiftKeepsSound, HomeKeepsSound, LastWordIsLast, LayKeepsSound, LaysGrow, MoveKeepsSound, OwnersAreParties, PhaseKeepsSound, PriceKeepsSound, PrivateKeepsSound, PurchaseKeepsSound, QuietKeepsSound, QuietSaysTheSame, RevenueKeepsSound, RulingsAreCounted, RunKeepsSound, RustingKeepsSound, SaleKeepsSound, SoundMoneyStays, StartByPurchaseKeepsSound, StartKeepsSound, SuccessionKeepsSound, SvIsGivenAway, TokenKeepsSound, TokensGrow, TradeKeepsSound, TrainPurchaseKeepsSound, WithholdingKeepsSound};
 ghost use Rattle.history.specs.Trains.{AllTrainsStay};
 
 /// What was said last of a thing is what the last event says, or else what was said before it.
@@ -153,6 +153,12 @@ pub fn phase_keeps_sound()
     ensures rusting { RustingKeepsSound }
     ensures closing { ClosingKeepsSound }
     ensures discard { DiscardKeepsSound }
+{}
+
+/// The purchase of a private from the seat that owns it keeps a list sound, where the company can
+/// pay it.
+pub fn private_keeps_sound()
+    ensures { PrivateKeepsSound }
 {}
 
 /// A tile that is laid is the last of those that were, and a token that is placed is the last.

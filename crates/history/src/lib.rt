@@ -12,8 +12,8 @@
 //!
 //! Reading order: `event` (events and their aspects), `ruling` (what became of a line), `kept_place`,
 //! `kept_run` and `kept` (how an event keeps that), `aspect` (the ways of looking back), `topics`
-//! (what is looked for), `look_back`, `owners`, `bids`, `shares`, `operating` and `trains` (the
-//! readers of `Past`), `list` (`History`), `tell` (events that follow from the list alone), `laws`.
+//! (what is looked for), `look_back`, `owners`, `bids`, `offers`, `shares`, `operating` and `trains`
+//! (the readers of `Past`), `list` (`History`), `tell` (events that follow from the list alone), `laws`.
 #![tactic(auto)]
 
 mod aspect;
@@ -25,6 +25,7 @@ mod kept_run;
 mod laws;
 mod list;
 mod look_back;
+mod offers;
 mod operating;
 mod owners;
 mod ruling;
@@ -43,16 +44,17 @@ pub use laws::{
     all_money_stays, all_trains_stay, arrivals_differ, bid_keeps_sound, block_keeps_sound,
     cash_moves, dividend_keeps_sound, exchange_keeps_sound, first_is_cheapest, float_keeps_sound,
     gift_keeps_sound, ground_grows, last_word_is_last, lay_keeps_sound, money_of_sound_lists,
-    move_keeps_sound, phase_keeps_sound, price_keeps_sound, purchase_keeps_sound,
-    quiet_keeps_sound, quiet_says_the_same, revenue_keeps_sound, rulings_are_counted,
-    sale_keeps_sound, start_keeps_sound, succession_keeps_sound, token_keeps_sound,
-    train_purchase_keeps_sound, withholding_keeps_sound,
+    move_keeps_sound, phase_keeps_sound, price_keeps_sound, private_keeps_sound,
+    purchase_keeps_sound, quiet_keeps_sound, quiet_says_the_same, revenue_keeps_sound,
+    rulings_are_counted, sale_keeps_sound, start_keeps_sound, succession_keeps_sound,
+    token_keeps_sound, train_purchase_keeps_sound, withholding_keeps_sound,
 };
 pub use list::History;
 pub use look_back::Past;
 pub use owners::Owners;
 pub use ruling::{
-    LayRule, OpeningRule, PayRule, Refusal, Ruling, RunRule, StockRule, TokenRule, TrainRule,
+    LayRule, OpeningRule, PayRule, PrivateRule, Refusal, Ruling, RunRule, StockRule, TokenRule,
+    TrainRule,
 };
 pub use shares::Tenths;
 pub use trains::so_many;

@@ -1,5 +1,5 @@
 ghost use Rattle.std.specs.Prelude.{◌≡◌};
-ghost use Rattle.history.specs.Event.{code_of_lay_rule, code_of_opening_rule, code_of_pay_rule, code_of_refusal, code_of_run_rule, code_of_stock_rule, code_of_token_rule, code_of_train_rule};
+ghost use Rattle.history.specs.Event.{code_of_lay_rule, code_of_opening_rule, code_of_pay_rule, code_of_private_rule, code_of_refusal, code_of_run_rule, code_of_stock_rule, code_of_token_rule, code_of_train_rule};
 
 use order_grammar::{Fault, Order};
 use thiserror::Error;
@@ -21,6 +21,8 @@ pub enum Refusal {
     Pay(PayRule),
     /// A rule of trains.
     Train(TrainRule),
+    /// A rule of privates that companies buy.
+    Private(PrivateRule),
 }
 
 impl Refusal {
@@ -36,6 +38,7 @@ impl Refusal {
             Refusal::Run(rule) => rule.code(),
             Refusal::Pay(rule) => rule.code(),
             Refusal::Train(rule) => rule.code(),
+            Refusal::Private(rule) => rule.code(),
         }
     }
 }
@@ -306,6 +309,11 @@ pub enum TrainRule {
     TrainLimit,
     /// T3: the train costs more than the company has.
     CashTooSmall,
+    /// T4: the price is 0, or the seller's president is not the buyer's and has not offered exactly
+    /// this sale in this round; an offer is at price 0, or not of the seller's president.
+    NoConsent,
+    /// T5: the seller has no such train, or is the buyer.
+    NotSellers,
     /// T6: the train to be traded in is none that the company has, or none that may be traded in.
     NoTradeIn,
     /// T7: the seat is not the president of the company that is to discard, or the company has no
@@ -322,8 +330,41 @@ impl TrainRule {
             TrainRule::NotOnSale => "T1",
             TrainRule::TrainLimit => "T2",
             TrainRule::CashTooSmall => "T3",
+            TrainRule::NoConsent => "T4",
+            TrainRule::NotSellers => "T5",
             TrainRule::NoTradeIn => "T6",
             TrainRule::NoDiscard => "T7",
+        }
+    }
+}
+
+/// A rule that the purchase of a private by a company may break.
+#[derive(Clone, Copy, Debug, PartialEq, Eq)]
+pub enum PrivateRule {
+    /// P1: phase 3 has not begun.
+    TooEarly,
+    /// P2: the price is under half of the face value or over twice that.
+    WrongPrice,
+    /// P3: no player owns the private, or its owner is not the company's president and has not
+    /// offered exactly this sale in this round; an offer is not of the private's owner.
+    NoConsent,
+    /// P4: BOP is never sold to a company.
+    NeverSold,
+    /// P5: the company has less than the price.
+    CashTooSmall,
+}
+
+impl PrivateRule {
+    /// The code that a report prints.
+    pub fn code(self) -> &'static str
+        ensures { result.now ≡ code_of_private_rule self }
+    {
+        match self {
+            PrivateRule::TooEarly => "P1",
+            PrivateRule::WrongPrice => "P2",
+            PrivateRule::NoConsent => "P3",
+            PrivateRule::NeverSold => "P4",
+            PrivateRule::CashTooSmall => "P5",
         }
     }
 }

@@ -3,6 +3,7 @@ ghost use Rattle.history.specs.Bids.{bid_said};
 ghost use Rattle.history.specs.Event.{bidding_of, floated_by, obeyed_of, office_of, operated_by, ownership_of, par_set, payment_of, phase_set, round_of as round_begun, square_set, sv_price_set, tile_laid, token_placed, train_moved, transfer_of};
 ghost use Rattle.history.specs.LookBack.{actor_of, owner_said, paid_by, paid_to};
 ghost use Rattle.history.specs.Operating.{turn_said};
+ghost use Rattle.history.specs.Offers.{offered_in};
 ghost use Rattle.history.specs.Orders.{limit_in, par_of_baltimore_in, said_by};
 ghost use Rattle.history.specs.Shares.{brought_to, float_said, par_said, president_said, sale_said, square_said, taken_from};
 ghost use Rattle.history.specs.Trains.{any_comes, any_goes, train_comes, train_goes};
@@ -10,6 +11,7 @@ ghost use Rattle.history.specs.Trains.{any_comes, any_goes, train_comes, train_g
 use crate::aspect::{Account, Stable, Topic};
 use crate::event::{Bidding, Event, Holder, Party, Shareholder, TrainPlace};
 use map_tables::{Lay, Place};
+use order_grammar::Offer;
 use tables::{Amount, Company, Kind, Private, Round, Seat, Square};
 
 /// The cash of a party.
@@ -130,6 +132,23 @@ impl Topic for ParOrdered {
     fn word(&self, event: &Event) -> Option<Amount> {
         match event {
             Event::Ruled { seat, ruling, .. } if *seat == self.0 => ruling.par_of_baltimore(),
+            _ => None,
+        }
+    }
+}
+
+/// A sale that a seat offers.
+#[derive(Clone, Copy)]
+pub(crate) struct OfferBy(pub Offer, pub Seat);
+
+impl Topic for OfferBy {
+    type Word = Offer;
+
+    ghost word = { λ a event. said_by a.1 (offered_in a.0) (obeyed_of event) };
+
+    fn word(&self, event: &Event) -> Option<Offer> {
+        match event {
+            Event::Ruled { seat, ruling, .. } if *seat == self.1 => ruling.offer_of(self.0),
             _ => None,
         }
     }

@@ -11,6 +11,7 @@ use Rattle.board.proofs.RuleTables.{earlier, kept}
 use Rattle.board.specs.Ground.{Ground}
 use Rattle.map_tables.specs.Lying.{by_tile, tile_on}
 use Rattle.board.specs.LayRules.{IsLayAnswer, cost_or, ground_rules, lay_cost_of, reach_rules as lay_reach_rules}
+use Rattle.board.specs.Powers.{is_dh_token}
 use Rattle.board.specs.TokenRules.{IsTokenAnswer, laid_by, reach_rules as token_reach_rules, slot_rules, token_cost_of}
 use Rattle.board.specs.declared.asker.Asker.{Asker}
 use Rattle.map_tables.specs.Hex.{index_of}
@@ -90,10 +91,11 @@ lay_small lays hex =
     ]
 
 -- nor a token
-token_price_test : (none one : Bool) → (if none then 0 else if one then 40 else 100) ≤ 120
-token_price_test true one = omega arith
-token_price_test false true = omega arith
-token_price_test false false = omega arith
+token_price_test : (dhs none one : Bool) → (if dhs then 0 else if none then 0 else if one then 40 else 100) ≤ 120
+token_price_test true none one = omega arith
+token_price_test false true one = omega arith
+token_price_test false false true = omega arith
+token_price_test false false false = omega arith
 
 -- a lay that is allowed
 pub lay_allowed : (laid : Ground) (asker : Asker) (lay : Lay) (cost : ℤ) → IsLayAnswer laid asker lay (Ok cost) → IsAllowed (first_broken (ground_rules laid asker lay) ≡ None) cost asker.cash (lay_cost_of laid.lays lay.hex)
@@ -107,13 +109,13 @@ lay_allowed laid asker lay cost answer =
     priced_well cost asker.cash priced first is.1 both.1.0 (lay_small laid.lays lay.hex)
 
 -- a token that is allowed
-pub token_allowed : (laid : Ground) (asker : Asker) (place : Place) (cost : ℤ) → IsTokenAnswer laid asker place (Ok cost) → IsAllowed (first_broken (slot_rules laid asker place) ≡ None) cost asker.cash (token_cost_of laid.tokens asker.company)
+pub token_allowed : (laid : Ground) (asker : Asker) (place : Place) (cost : ℤ) → IsTokenAnswer laid asker place (Ok cost) → IsAllowed (first_broken (slot_rules laid asker place) ≡ None) cost asker.cash (token_cost_of laid.tokens asker place.hex)
 unfolding token_cost_of
 token_allowed laid asker place cost answer =
-    let priced = token_cost_of laid.tokens asker.company in
+    let priced = token_cost_of laid.tokens asker place.hex in
     let rules = slot_rules laid asker place in
-    let later = token_reach_rules laid asker answer.reached in
+    let later = token_reach_rules laid asker place answer.reached in
     let is = none_where_ok cost priced (first_broken (rules ++ later)) answer.given in
     let first : first_broken rules ≡ None = none_of_first rules later is.0 in
     let both = none_broken later (sym (kept rules later first) ∙ is.0) in
-    priced_well cost asker.cash priced first is.1 both.1.0 (token_price_test (laid_by laid.tokens asker.company == 0) (laid_by laid.tokens asker.company == 1))
+    priced_well cost asker.cash priced first is.1 both.1.0 (token_price_test (is_dh_token asker place.hex) (laid_by laid.tokens asker.company == 0) (laid_by laid.tokens asker.company == 1))

@@ -95,8 +95,14 @@ token_breaks fault rule is memory =
     let wrong : None ≡ Some rule = sym (ap rule_of_token same) ∙ is in
     let no : ⊥ = cc in no
 
+-- how far a turn has come once a tile is laid, by what lies and by who asks
+pub lay_done_by : (board laid : Ground) (asker its : Asker) (lay : Lay) (before after : Progress) → board ≡ laid → asker ≡ its →
+    after ≡ lay_done board.lays asker lay before → after ≡ lay_done laid.lays its lay before
+lay_done_by board laid asker its lay before after is_board is_asker is =
+    is ∙ ap (λ (g : Ground). lay_done g.lays asker lay before) is_board ∙ ap (λ (a : Asker). lay_done laid.lays a lay before) is_asker
+
 -- a lay that was obeyed, step by step
-pub laid_steps : (by : Operator) (turn : InTurn) (number : ℕ) (lay : Lay) (cost : ℤ) (ruled paid : Game) (kept : Order) (amount : ℕ) (progress : Progress) → ruled ≡ with_event turn.game (event.Ruled by.president number (Obeyed kept)) → kept ≡ order.Lay lay → paid ≡ with_event ruled (event.Laid by.company lay amount) → amount ≡ unsigned_abs cost → progress ≡ lay_done turn.progress → in_turn paid progress ≡ lay_answered by turn number lay (Ok cost)
+pub laid_steps : (by : Operator) (turn : InTurn) (number : ℕ) (lay : Lay) (cost : ℤ) (ruled paid : Game) (kept : Order) (amount : ℕ) (progress : Progress) → ruled ≡ with_event turn.game (event.Ruled by.president number (Obeyed kept)) → kept ≡ order.Lay lay → paid ≡ with_event ruled (event.Laid by.company lay amount) → amount ≡ unsigned_abs cost → progress ≡ lay_done (lays_of turn.game.events) (asker_of turn.game by.company turn.progress) lay turn.progress → in_turn paid progress ≡ lay_answered by turn number lay (Ok cost)
 laid_steps by turn number lay cost ruled paid kept amount progress is_ruled is_kept is_paid is_amount is_progress =
     ap (λ (g : Game). in_turn g progress) is_paid
     ∙ ap (λ (n : ℕ). in_turn (with_event ruled (event.Laid by.company lay n)) progress) is_amount

@@ -17,10 +17,12 @@ use Rattle.history.specs.declared.event.Party.{Party}
 use Rattle.history.specs.declared.event.TrainPlace.TheVariants as place
 use Rattle.history.specs.declared.event.TrainSeller.{TrainSeller}
 use Rattle.history.specs.declared.event.TrainSeller.TheVariants as seller
+use Rattle.operating.specs.Discards.{has_train}
 use Rattle.operating.specs.Phases.{with_trade}
-use Rattle.operating.specs.Trains.{are_left, first_left_of, is_kind, is_left, is_on_sale, is_no_trade_in, may_be_traded, may_trade, numbered_kinds, price_of_train, purchase_rules, train_judgement}
+use Rattle.operating.specs.Trains.{are_left, first_left_of, is_kind, is_left, is_not_sellers, is_on_sale, is_no_trade_in, may_be_traded, may_trade, numbered_kinds, cost_of, purchase_rules, train_judgement}
 use Rattle.operating.specs.declared.purchase.Purchase.{Purchase}
 use Rattle.tables.proofs.Rules.{none_broken}
+use Rattle.tables.specs.Roster.{same_company}
 use Rattle.tables.specs.Train.{same_kind, trains_of as manifest_of}
 use Rattle.tables.specs.declared.rolling_stock.Kind.{Kind}
 use Rattle.tables.specs.declared.rolling_stock.Kind.TheVariants.{Six, Diesel}
@@ -42,6 +44,11 @@ pub both : (a b : Bool) → (a && b) ≡ true → (a ≡ true) × (b ≡ true)
 both true true is = (refl, refl)
 both true false is = absurd (cc)
 both false b is = absurd (cc)
+
+-- neither of two tests
+pub neither : (a b : Bool) → (a || b) ≡ false → (a ≡ false) × (b ≡ false)
+neither true b is = absurd (cc)
+neither false b is = (refl, is)
 
 -- the first kind that is left is left
 first_is_left : (events : List Event) (some : List Kind) (kind : Kind) → is_kind (first_left_of events some) kind ≡ true → is_left events kind ≡ true
@@ -66,13 +73,17 @@ no_number kind n same is =
     let none : None ≡ Some n = sym (ap (λ (k : Kind). (manifest_of k).number) (same_kind_is kind Diesel same)) ∙ is in absurd (cc)
 
 -- what is on sale is there
-on_sale_there : (events : List Event) (from : TrainSeller) (kind : Kind) → is_on_sale events from kind ≡ true → IsThere events from kind
-on_sale_there events seller.Bank kind on = λ n number.
+on_sale_there : (events : List Event) (buyer : Company) (from : TrainSeller) (kind : Kind) → is_on_sale events from kind ≡ true →
+    is_not_sellers events buyer kind from ≡ false → IsThere events from kind
+on_sale_there events buyer seller.Bank kind on has = λ n number.
     elim (either (is_kind (first_left_of events numbered_kinds) kind) (same_kind kind Diesel && nat_lt 0 (trains_sold events Six)) on) [
       | inl first ↦ fewer_sold (manifest_of kind).number (trains_sold events kind) n (first_is_left events numbered_kinds kind first) number
       | inr diesel ↦ absurd (no_number kind n (both (same_kind kind Diesel) (nat_lt 0 (trains_sold events Six)) diesel).0 number)
     ]
-on_sale_there events seller.BankPool kind has = grind (arith, ints, has)
+on_sale_there events buyer seller.BankPool kind on has = grind (arith, ints, on)
+on_sale_there events buyer (seller.Company company) kind on has =
+    let held = so (has_train events company kind) (neither (not (has_train events company kind)) (same_company buyer company) has).0 in
+    grind (arith, ints, held)
 
 -- a train that may be traded in is the company's
 traded_is_held : (events : List Event) (company : Company) (kind : Kind) (trade_in : Option Kind) (old : Kind) → is_no_trade_in events company kind trade_in ≡ false → trade_in ≡ Some old → pos 1 ≤ℤ trains_held events (Some company) old
@@ -88,10 +99,24 @@ traded_is_held events company kind (Some one) old kept is =
 not_less : (a b : ℤ) → lt_z a b ≡ false → b ≤ℤ a
 not_less a b is = grind (arith, ints)
 
+-- a company that sells is another than the buyer
+abbrev pub IsAnother : Company → TrainSeller → Type 0
+IsAnother buyer seller.Bank = Unit
+IsAnother buyer seller.BankPool = Unit
+IsAnother buyer (seller.Company company) = same_company buyer company ≡ false
+
+-- so it is where it is the seller
+is_another : (events : List Event) (buyer : Company) (from : TrainSeller) (kind : Kind) → is_not_sellers events buyer kind from ≡ false → IsAnother buyer from
+is_another events buyer seller.Bank kind has = tt
+is_another events buyer seller.BankPool kind has = tt
+is_another events buyer (seller.Company company) kind has =
+    (neither (not (has_train events company kind)) (same_company buyer company) has).1
+
 -- a purchase that breaks no rule
 pub record MayBuy (game : Game) (company : Company) (purchase : Purchase) : Type 0 where
   pub there : IsThere game.events purchase.from purchase.kind
-  pub pays : pos (price_of_train purchase.kind purchase.trade_in) ≤ℤ cash_of game.seats game.events (party_of_company company)
+  pub another : IsAnother company purchase.from
+  pub pays : pos (cost_of purchase) ≤ℤ cash_of game.seats game.events (party_of_company company)
   pub trades : (old : Kind) → purchase.trade_in ≡ Some old → pos 1 ≤ℤ trains_held game.events (Some company) old
 
 pub may_buy : (game : Game) (company : Company) (purchase : Purchase) → train_judgement game company purchase ≡ None → MayBuy game company purchase
@@ -99,9 +124,10 @@ may_buy game company purchase none =
     let kept = none_broken (purchase_rules game company purchase) none in
     let cheap = kept.1.1.0 in
     record {
-      there = on_sale_there game.events purchase.from purchase.kind (so (is_on_sale game.events purchase.from purchase.kind) kept.0);
-      pays = not_less (cash_of game.seats game.events (party_of_company company)) (pos (price_of_train purchase.kind purchase.trade_in)) cheap;
-      trades = λ old is. traded_is_held game.events company purchase.kind purchase.trade_in old kept.1.1.1.0 is;
+      there = on_sale_there game.events company purchase.from purchase.kind (so (is_on_sale game.events purchase.from purchase.kind) kept.0) kept.1.1.1.1.0;
+      another = is_another game.events company purchase.from purchase.kind kept.1.1.1.1.0;
+      pays = not_less (cash_of game.seats game.events (party_of_company company)) (pos (cost_of purchase)) cheap;
+      trades = λ old is. traded_is_held game.events company purchase.kind purchase.trade_in old kept.1.1.1.1.1.0 is;
     }
 
 -- a train that is traded in goes from the company
@@ -117,17 +143,29 @@ pool_keeps company old kind = grind arith
 bank_keeps : (company : Company) (old kind : Kind) → train_goes place.Bank kind (train_moved (event.Traded company old)) ≡ false
 bank_keeps company old kind = grind arith
 
+-- and none leaves another company
+seller_keeps : (company other : Company) (old kind : Kind) → same_company company other ≡ false →
+    train_goes (place.Company other) kind (train_moved (event.Traded company old)) ≡ false
+seller_keeps company other old kind apart =
+    elim (same_kind old kind) as (λ (b : Bool). (b && same_company company other) ≡ false) [
+      | true ↦ apart
+      | false ↦ refl
+    ]
+
 -- and the one that is to be bought is still there
-there_after_trade : (events : List Event) (company : Company) (old : Kind) (from : TrainSeller) (kind : Kind) → IsThere events from kind → IsThere (events ++ event.Traded company old ∷ []) from kind
-there_after_trade events company old seller.Bank kind there = λ n number.
+there_after_trade : (events : List Event) (company : Company) (old : Kind) (from : TrainSeller) (kind : Kind) → IsAnother company from → IsThere events from kind →
+    IsThere (events ++ event.Traded company old ∷ []) from kind
+there_after_trade events company old seller.Bank kind another there = λ n number.
     let fewer = there n number in
     omega (arith, sold_at_end events (event.Traded company old) kind, ap one_if (bank_keeps company old kind))
-there_after_trade events company old seller.BankPool kind there =
+there_after_trade events company old seller.BankPool kind another there =
     omega (arith, ints, trains_at_end events (event.Traded company old) place.BankPool kind, ap one_if (pool_keeps company old kind))
+there_after_trade events company old (seller.Company other) kind another there =
+    omega (arith, ints, trains_at_end events (event.Traded company old) (place.Company other) kind, ap one_if (seller_keeps company other old kind another))
 
-pub there_traded : (game : Game) (company : Company) (trade_in : Option Kind) (from : TrainSeller) (kind : Kind) → IsThere game.events from kind → IsThere (with_trade game company trade_in).events from kind
-there_traded game company None from kind there = there
-there_traded game company (Some old) from kind there = there_after_trade game.events company old from kind there
+pub there_traded : (game : Game) (company : Company) (trade_in : Option Kind) (from : TrainSeller) (kind : Kind) → IsAnother company from → IsThere game.events from kind → IsThere (with_trade game company trade_in).events from kind
+there_traded game company None from kind another there = there
+there_traded game company (Some old) from kind another there = there_after_trade game.events company old from kind another there
 
 -- and the cash is what it was
 cash_traded : (game : Game) (company : Company) (trade_in : Option Kind) (party : Party) → cash_of (with_trade game company trade_in).seats (with_trade game company trade_in).events party ≡ cash_of game.seats game.events party
@@ -135,10 +173,10 @@ cash_traded game company None party = refl
 cash_traded game company (Some old) party = cash_of_before game.seats game.events (event.Traded company old) party refl
 
 -- so the list is sound once the train has come to the company
-pub train_sound : (game : Game) (company : Company) (purchase : Purchase) → train_judgement game company purchase ≡ None → IsSound game → IsSound (with_event (with_trade game company purchase.trade_in) (event.Train company purchase.kind purchase.from (price_of_train purchase.kind purchase.trade_in)))
+pub train_sound : (game : Game) (company : Company) (purchase : Purchase) → train_judgement game company purchase ≡ None → IsSound game → IsSound (with_event (with_trade game company purchase.trade_in) (event.Train company purchase.kind purchase.from (cost_of purchase)))
 train_sound game company purchase none sound =
     let may = may_buy game company purchase none in
     let traded = with_trade game company purchase.trade_in in
-    let price = price_of_train purchase.kind purchase.trade_in in
+    let price = cost_of purchase in
     let enough : pos price ≤ℤ cash_of traded.seats traded.events (party_of_company company) = subst (λ cash. pos price ≤ℤ cash) (sym (cash_traded game company purchase.trade_in (party_of_company company))) may.pays in
-    train_purchase_sound traded company purchase.kind purchase.from price (there_traded game company purchase.trade_in purchase.from purchase.kind may.there) enough (traded_sound game company purchase.trade_in may.trades sound)
+    train_purchase_sound traded company purchase.kind purchase.from price (there_traded game company purchase.trade_in purchase.from purchase.kind may.another may.there) enough (traded_sound game company purchase.trade_in may.trades sound)

@@ -116,6 +116,7 @@ left_by : (events : List Event) (from : TrainSeller) (of kind : Kind) (number : 
 left_by events seller.Bank of kind number bank is has there =
     subst (λ (k : Kind). trains_sold events k < number) is (has number (ap (λ (k : Kind). (manifest_of k).number) is ∙ there))
 left_by events seller.BankPool of kind number bank is has there = absurd (cc)
+left_by events (seller.Company owner) of kind number bank is has there = absurd (cc)
 
 -- a kind of which one is sold had one left
 had_left : (game : Game) (buyer : Company) (purchase : Purchase) (kind : Kind) (number : ℕ) → IsFair game buyer purchase → purchase.from ≡ seller.Bank → purchase.kind ≡ kind → (manifest_of kind).number ≡ Some number → trains_sold game.events kind < number
@@ -203,6 +204,7 @@ never_come before after (Some kind) later stays = grind (arith, nat_tests, stays
 from_bank : (events : List Event) (from : TrainSeller) (kind : Kind) → begins_phase events from kind ≡ true → from ≡ seller.Bank
 from_bank events seller.Bank kind begins = refl
 from_bank events seller.BankPool kind begins = absurd (cc)
+from_bank events (seller.Company owner) kind begins = absurd (cc)
 
 one_by : (from : TrainSeller) (kind : Kind) (buyer : Company) → from ≡ seller.Bank → one_if (train_goes place.Bank kind (Some (record { kind = kind; from = place_of_seller from; to = place.Company buyer }))) ≡ 1
 one_by seller.Bank Two buyer bank = refl
@@ -212,6 +214,7 @@ one_by seller.Bank Five buyer bank = refl
 one_by seller.Bank Six buyer bank = refl
 one_by seller.Bank Diesel buyer bank = refl
 one_by seller.BankPool kind buyer bank = absurd (cc)
+one_by (seller.Company owner) kind buyer bank = absurd (cc)
 
 -- the bank sells one
 one_more : (game : Game) (buyer : Company) (purchase : Purchase) → purchase.from ≡ seller.Bank → one_sold buyer purchase purchase.kind ≡ 1

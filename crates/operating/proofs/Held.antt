@@ -14,7 +14,7 @@ use Rattle.operating.proofs.Rust.{so_many_less}
 use Rattle.operating.proofs.TrainSteps.{IsPassedOn, OfClosings, OfNextDiscards, OfStables, of_bop, of_choice, of_phase}
 use Rattle.operating.specs.Discards.{next_discard}
 use Rattle.operating.specs.Phases.{after_train, begins_phase, bought, with_discarded, with_one_rusted, with_phase, with_trade}
-use Rattle.operating.specs.Trains.{price_of_train, train_judgement}
+use Rattle.operating.specs.Trains.{cost_of, train_judgement}
 use Rattle.operating.specs.declared.purchase.Purchase.{Purchase}
 use Rattle.tables.specs.Steps.{iterate}
 use Rattle.tables.specs.Train.{kinds}
@@ -72,8 +72,8 @@ pub bought_held : (game : Game) (buyer : Company) (purchase : Purchase) → trai
 bought_held game buyer purchase none held =
     let may = may_buy game buyer purchase none in
     let traded = with_trade game buyer purchase.trade_in in
-    let price = price_of_train purchase.kind purchase.trade_in in
-    let there = there_traded game buyer purchase.trade_in purchase.from purchase.kind may.there in
+    let price = cost_of purchase in
+    let there = there_traded game buyer purchase.trade_in purchase.from purchase.kind may.another may.there in
     of_bop StillHeld held_on closing_held (with_event traded (event.Train buyer purchase.kind purchase.from price)) buyer
     (came_held traded.events buyer purchase.kind purchase.from price there (traded_held game buyer purchase.trade_in may.trades held))
 

@@ -10,6 +10,7 @@ use Rattle.certificate.specs.Marks.{IsUsed, MarksAre, borders_used, marked}
 use Rattle.history.specs.LookBack.{Game}
 use Rattle.history.specs.declared.ruling.LayRule.{LayRule}
 use Rattle.history.specs.declared.ruling.PayRule.{PayRule}
+use Rattle.history.specs.declared.ruling.PrivateRule.{PrivateRule}
 use Rattle.history.specs.declared.ruling.RunRule.{RunRule}
 use Rattle.history.specs.declared.ruling.TokenRule.{TokenRule}
 use Rattle.history.specs.declared.ruling.TrainRule.{TrainRule}
@@ -21,6 +22,7 @@ use Rattle.operating.specs.Dividend.{paid_out, pay_judgement, pay_ruled, withhol
 use Rattle.operating.specs.InTurn.{InTurn, at_start, in_turn, is_unpaid, no_runs, pay_done}
 use Rattle.operating.specs.Judgement.{rule_of_lay, rule_of_token}
 use Rattle.operating.specs.LegalRuns.{LinesRun, ObeyedRunsAreLegal, walk_if_ran, walk_obeyed}
+use Rattle.operating.specs.Privates.{private_judgement, private_ruled}
 use Rattle.operating.specs.Runs.{judged_run, run_ruled, steps_now}
 use Rattle.operating.specs.Trains.{train_judgement}
 use Rattle.operating.specs.Turn.{OrderLeads, ReadingLeads, begun, lay_answered, lay_refused, purchase_of, settled, token_answered, token_refused, train_ruled}
@@ -36,6 +38,7 @@ use Rattle.reach.specs.declared.walk.Step.{Step}
 use Rattle.sheets.specs.Part.{Numbered}
 use Rattle.tables.specs.declared.rolling_stock.Kind.{Kind}
 use Rattle.tables.specs.declared.roster.Company.{Company}
+use Rattle.tables.specs.declared.roster.Private.{Private}
 
 -- the borders that are marked in a turn
 abbrev marks_in : InTurn → List Bool
@@ -83,6 +86,12 @@ after_train :
 after_train by turn number its purchase None = refl
 after_train by turn number its purchase (Some rule) = refl
 
+after_private :
+    (by : Operator) (turn : InTurn) (number : ℕ) (private : Private) (price : ℕ) (rule : Option PrivateRule) →
+    marks_in (private_ruled by turn number private price rule) ≡ marks_in turn
+after_private by turn number private price None = refl
+after_private by turn number private price (Some rule) = refl
+
 -- these walks cross the borders that are marked
 abbrev AreWalks : List (List Step) → InTurn → Type 0
 AreWalks walks turn = MarksAre (all_crossed walks) (marks_in turn)
@@ -121,6 +130,9 @@ after_order by turn number before (order.BuyTrain kind from) new leads are =
     let purchase = purchase_of kind from in
     left_as before turn new
     (ap marks_in leads ∙ after_train by paid number (order.BuyTrain kind from) purchase (train_judgement paid.game by.company purchase) ∙ after_settling by.company turn) are
+after_order by turn number before (order.BuyOwnedPrivate private price) new leads are =
+    left_as before turn new
+    (ap marks_in leads ∙ after_private by turn number private price (private_judgement turn.game by.company private price)) are
 after_order by turn number before other new leads are = left_as before turn new (ap marks_in leads) are
 
 -- after a line

@@ -13,10 +13,12 @@ pub mod LegalRuns
 pub mod Folding
 pub mod PhaseLemmas
 pub mod DiscardLemmas
+pub mod Blocks
 pub mod Buying
 pub mod TrainSteps
 pub mod Rust
 pub mod Complete
+pub mod PrivateSales
 pub mod Sales
 pub mod Held
 pub mod Fleet
@@ -28,3 +30,4 @@ pub mod TurnLaws
 pub mod HomeToken
 pub mod Tiles
 pub mod Operated
+pub mod Consents

@@ -105,7 +105,7 @@ has_steps company =
       same = λ turn has. has;
       both = λ a b c one two has. two (one has);
       more = λ turn its is no_tile no_train no_phase has done. (on.more turn its is no_tile no_train no_phase).still company (has done);
-      laid = λ turn asker lay cost rules has done. (on.laid turn asker lay cost rules).still company (has done);
+      laid = λ turn lays asker lay cost rules has done. (on.laid turn lays asker lay cost rules).still company (has done);
       placed = λ turn asker at cost is rules has earned. (on.placed turn asker at cost is rules).still company
           (has (ap (λ (b : Bool). not (is_unpaid turn.progress) || b) earned ∙ or_true (not (is_unpaid turn.progress))));
       ran = λ turn ran has done. now_has company turn.game (event.Runs company ran.earned) refl refl;

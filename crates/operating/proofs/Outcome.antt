@@ -75,11 +75,11 @@ module _ (all : AllLawful) where
   one_token_answer laid asker place =
       let tested : IsTested (IsReachedPlace (position_of laid) asker.company place) = place_tested (position_of laid) asker.company (all laid) place in
       record {
-        it = cost_or (token_cost_of laid.tokens asker.company) (first_broken (token_rules laid asker place tested.test));
+        it = cost_or (token_cost_of laid.tokens asker place.hex) (first_broken (token_rules laid asker place tested.test));
         so = record { reached = tested.test; exact = λ none. tested.exact; given = refl };
         only = λ other its. its.given
-            ∙ ap (cost_or (token_cost_of laid.tokens asker.company))
-            (same_break (slot_rules laid asker place) (token_reach_rules laid asker) its.reached tested.test
+            ∙ ap (cost_or (token_cost_of laid.tokens asker place.hex))
+            (same_break (slot_rules laid asker place) (token_reach_rules laid asker place) its.reached tested.test
             (λ none. same_tests {P = IsReachedPlace (position_of laid) asker.company place} its.reached tested.test (its.exact none) tested.exact));
       }
 

@@ -20,7 +20,7 @@ use Rattle.operating.proofs.Complete.{Alike, alike_closed, alike_on, alike_trade
 use Rattle.operating.proofs.TrainSteps.{of_bop, of_trade}
 use Rattle.operating.specs.Phases.{bought, with_bop_closed, with_trade}
 use Rattle.operating.specs.TrainLaws.{TrainsAreAll}
-use Rattle.operating.specs.Trains.{are_left, first_left, is_kind, is_left, is_on_sale, price_of_train}
+use Rattle.operating.specs.Trains.{are_left, first_left, is_kind, is_left, is_on_sale, cost_of}
 use Rattle.operating.specs.declared.purchase.Purchase.{Purchase}
 use Rattle.tables.specs.Train.{place_of_kind, same_kind, trains_of as manifest_of}
 use Rattle.tables.specs.declared.rolling_stock.Kind.{Kind}
@@ -44,12 +44,13 @@ pub record IsBought (buyer : Company) (purchase : Purchase) (kind : Kind) (befor
 from_play : (from : TrainSeller) (kind of : Kind) (buyer : Company) → train_goes place.OutOfPlay kind (Some (record { kind = of; from = place_of_seller from; to = place.Company buyer })) ≡ false
 from_play seller.Bank kind of buyer = never (same_kind of kind)
 from_play seller.BankPool kind of buyer = never (same_kind of kind)
+from_play (seller.Company owner) kind of buyer = never (same_kind of kind)
 
 -- so it is
 pub is_bought : (game : Game) (buyer : Company) (purchase : Purchase) (kind : Kind) → IsBought buyer purchase kind game (bought game buyer purchase)
 is_bought game buyer purchase kind =
     let traded = with_trade game buyer purchase.trade_in in
-    let train = event.Train buyer purchase.kind purchase.from (price_of_train purchase.kind purchase.trade_in) in
+    let train = event.Train buyer purchase.kind purchase.from (cost_of purchase) in
     let came = with_event traded train in
     let trade : Alike kind game traded = of_trade (Alike kind) (alike_on kind) (alike_traded kind) game buyer purchase.trade_in in
     let close : Alike kind came (with_bop_closed came buyer) = of_bop (Alike kind) (alike_on kind) (alike_closed kind) came buyer in
@@ -66,6 +67,7 @@ by_seller seller.Bank of kind buyer =
       | inr apart ↦ inl (ap (λ (b : Bool). one_if (b && true)) apart)
     ]
 by_seller seller.BankPool of kind buyer = inl (ap one_if (never (same_kind of kind)))
+by_seller (seller.Company owner) of kind buyer = inl (ap one_if (never (same_kind of kind)))
 
 -- the kind that the bank sells by a purchase, if it sells one
 pub sold_or_not : (buyer : Company) (purchase : Purchase) (kind : Kind) → (one_sold buyer purchase kind ≡ 0) ⊎ ((purchase.from ≡ seller.Bank) × ((purchase.kind ≡ kind) × (one_sold buyer purchase kind ≡ 1)))

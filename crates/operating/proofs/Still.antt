@@ -1,11 +1,15 @@
 -- The rules of the purchase of a train say the same after a ruling, so a line that breaks none leads where its
 -- purchase does.
-use Rattle.std.proofs.Common.{◌≡◌, ℕ, ◌+◌, Bool, not, nat_lt, ◌||◌, ◌&&◌, cond, List, [], ◌∷◌, ◌++◌, Option, Some, None, ℤ, pos, ◌-ℤ◌, ◌+ℤ◌, unwrap_or, refl, sym, ap, ◌∙◌, arith}
+use Rattle.std.proofs.Common.{◌≡◌, ℕ, ◌+◌, Bool, true, false, not, nat_lt, ◌==◌, if◌then◌else◌, is_some, ◌||◌, ◌&&◌, cond, List, [], ◌∷◌, ◌++◌, Option, Some, None, ℤ, pos, ◌-ℤ◌, ◌+ℤ◌, unwrap_or, refl, sym, ap, ◌∙◌, arith}
 use Rattle.std.proofs.lemmas.List.Sums.{sum_by-append}
 use Rattle.std.specs.Int.Signed.{lt_z}
-use Rattle.history.proofs.EventAtEnd.{balance_before, cash_of_before, last_said_before}
-use Rattle.history.specs.Event.{party_of_company, phase_set, stable_of, train_moved}
-use Rattle.history.specs.LookBack.{Game, with_event}
+use Rattle.std.specs.Option.{option_flatten, option_map}
+use Rattle.history.proofs.EventAtEnd.{balance_before, cash_of_before, last_said_before, president_of_before}
+use Rattle.history.specs.Event.{obeyed_of, party_of_company, phase_set, stable_of, train_moved}
+use Rattle.history.specs.LookBack.{Game, in_round, with_event}
+use Rattle.history.specs.Offers.{has_consent, offered_in}
+use Rattle.history.specs.Orders.{said_by}
+use Rattle.history.specs.Shares.{president_of}
 use Rattle.history.specs.Trains.{one_if, phase_of, stable_size, train_comes, train_goes, trains_held, trains_of_kinds, trains_sold}
 use Rattle.history.specs.declared.event.Event.{Event}
 use Rattle.history.specs.declared.event.Event.TheVariants.{Ruled}
@@ -15,16 +19,19 @@ use Rattle.history.specs.declared.event.TrainSeller.TheVariants as seller
 use Rattle.history.specs.declared.ruling.Ruling.{Ruling}
 use Rattle.history.specs.declared.ruling.Ruling.TheVariants.{Obeyed}
 use Rattle.history.specs.declared.ruling.TrainRule.{TrainRule}
-use Rattle.history.specs.declared.ruling.TrainRule.TheVariants.{NotOnSale, TrainLimit, CashTooSmall, NoTradeIn}
-use Rattle.operating.specs.Trains.{are_left, first_left, first_left_of, is_full, is_kind, is_left, is_no_trade_in, is_on_sale, is_too_dear, may_be_traded, numbered_kinds, price_of_train, sells_diesels, traded_count, train_judgement}
+use Rattle.history.specs.declared.ruling.TrainRule.TheVariants.{NotOnSale, TrainLimit, CashTooSmall, NoConsent, NotSellers, NoTradeIn}
+use Rattle.operating.specs.Trains.{are_left, cost_of, first_left, first_left_of, is_full, is_kind, is_left, is_no_trade_in, is_not_given, is_not_sellers, is_on_sale, is_too_dear, lacks_consent, may_be_traded, numbered_kinds, presidents_agree, sells_diesels, traded_count, train_judgement}
 use Rattle.operating.specs.InTurn.{InTurn, in_turn, told}
 use Rattle.operating.specs.Phases.{after_train}
 use Rattle.operating.specs.Turn.{after_buying, purchase_of, train_ruled}
 use Rattle.operating.specs.declared.operator.Operator.{Operator}
 use Rattle.operating.specs.declared.purchase.Purchase.{Purchase}
+use Rattle.order_grammar.specs.declared.order.Offer.{Offer}
+use Rattle.order_grammar.specs.declared.order.Offer.TheVariants as offer
 use Rattle.order_grammar.specs.declared.order.Order.{Order}
 use Rattle.order_grammar.specs.declared.order.Order.TheVariants.{BuyTrain}
 use Rattle.order_grammar.specs.declared.order.TrainSource.{TrainSource}
+use Rattle.tables.specs.Roster.{same_company}
 use Rattle.tables.specs.Rules.{first_broken}
 use Rattle.tables.specs.Train.{kinds, limit_of, same_kind, trains_of as manifest_of}
 use Rattle.tables.specs.declared.rolling_stock.Kind.{Kind}
@@ -77,6 +84,7 @@ module _ (events : List Event) (seat : Seat) (number : ℕ) (ruling : Ruling) wh
       ap (λ (found : Option Kind). is_kind found kind || (same_kind kind Diesel && sells_diesels after)) (same_first numbered_kinds)
       ∙ ap (λ (sold : ℕ). is_kind (first_left events) kind || (same_kind kind Diesel && nat_lt 0 sold)) (same_sold Six)
   same_sale seller.BankPool kind = ap (lt_z (pos 0)) (same_held None kind)
+  same_sale (seller.Company company) kind = refl
 
   -- the same is full
   same_full : (company : Company) (trade_in : Option Kind) → is_full after company trade_in ≡ is_full events company trade_in
@@ -84,28 +92,89 @@ module _ (events : List Event) (seat : Seat) (number : ℕ) (ruling : Ruling) wh
       ap (λ (size : ℤ). not (lt_z (size -ℤ pos (traded_count trade_in)) (pos (limit_of (phase_of after))))) (same_kinds (Some company) kinds)
       ∙ ap (λ (phase : Kind). not (lt_z (stable_size events (Some company) -ℤ pos (traded_count trade_in)) (pos (limit_of phase)))) phase_stays
 
+  -- the same is the seller's
+  same_seller : (buyer : Company) (kind : Kind) (from : TrainSeller) → is_not_sellers after buyer kind from ≡ is_not_sellers events buyer kind from
+  same_seller buyer kind seller.Bank = refl
+  same_seller buyer kind seller.BankPool = refl
+  same_seller buyer kind (seller.Company company) =
+      ap (λ (held : ℤ). not (lt_z (pos 0) held) || same_company buyer company) (same_held (Some company) kind)
+
+  -- the same presides
+  same_president : (company : Company) → president_of after company ≡ president_of events company
+  same_president company = president_of_before events (Ruled seat number ruling) company refl
+
   -- the same may be traded in
   same_trade : (company : Company) (kind : Kind) (trade_in : Option Kind) → is_no_trade_in after company kind trade_in ≡ is_no_trade_in events company kind trade_in
   same_trade company kind None = refl
   same_trade company kind (Some trade_in) =
       ap (λ (held : ℤ). not (same_kind kind Diesel && (may_be_traded trade_in && lt_z (pos 0) held))) (same_held (Some company) trade_in)
 
+module _ (events : List Event) (seat : Seat) (number : ℕ) (kind : Kind) (from : TrainSource) where
+  -- a line TRAIN
+  abbrev line : Event
+  line = Ruled seat number (Obeyed (BuyTrain kind from))
+
+  -- it offers nothing
+  offers_none : (giver : Seat) (sale : Offer) → in_round (λ its. said_by giver (offered_in sale) (obeyed_of its)) line ≡ None
+  offers_none giver sale =
+      elim (seat.0 == giver.0) as (λ (b : Bool). option_map Some (if b then None else None) ≡ None) [
+        | true ↦ refl
+        | false ↦ refl
+      ]
+
+  -- so the same consent
+  same_consent : (giver taker : Seat) (sale : Offer) → has_consent (events ++ line ∷ []) giver taker sale ≡ has_consent events giver taker sale
+  same_consent giver taker sale =
+      ap (λ (said : Option (Option Offer)). giver.0 == taker.0 || is_some (option_flatten said))
+      (last_said_before (in_round (λ its. said_by giver (offered_in sale) (obeyed_of its))) (events ++ line ∷ []) events line refl (offers_none giver sale))
+
+  same_agreement : (giver taker : Option Seat) (sale : Offer) →
+      presidents_agree (events ++ line ∷ []) giver taker sale ≡ presidents_agree events giver taker sale
+  same_agreement (Some giver) (Some taker) sale = same_consent giver taker sale
+  same_agreement (Some giver) None sale = refl
+  same_agreement None taker sale = refl
+
+  -- and the same lacks it
+  same_lack : (buyer : Company) (purchase : Purchase) (of : TrainSeller) →
+      is_not_given (events ++ line ∷ []) buyer purchase of ≡ is_not_given events buyer purchase of
+  same_lack buyer purchase seller.Bank = refl
+  same_lack buyer purchase seller.BankPool = refl
+  same_lack buyer purchase (seller.Company company) =
+      let sale : Offer = offer.Train purchase.kind company buyer (cost_of purchase) in
+      let ruling : Ruling = Obeyed (BuyTrain kind from) in
+      ap (λ (agree : Bool). cost_of purchase == 0 || not agree)
+      (same_agreement (president_of (events ++ line ∷ []) company) (president_of (events ++ line ∷ []) buyer) sale
+      ∙ ap (λ (giver : Option Seat). presidents_agree events giver (president_of (events ++ line ∷ []) buyer) sale) (same_president events seat number ruling company)
+      ∙ ap (λ (taker : Option Seat). presidents_agree events (president_of events company) taker sale) (same_president events seat number ruling buyer))
+
 -- a table of the rules of a purchase
-abbrev table_of : Bool → Bool → Bool → Bool → Option TrainRule
-table_of sale full dear trade =
+abbrev table_of : Bool → Bool → Bool → Bool → Bool → Bool → Option TrainRule
+table_of sale full dear lacks other trade =
     first_broken
-    (record { code = NotOnSale; broken = not sale } ∷ record { code = TrainLimit; broken = full } ∷ record { code = CashTooSmall; broken = dear } ∷ record { code = NoTradeIn; broken = trade } ∷ [])
+    (record { code = NotOnSale; broken = not sale } ∷ record { code = TrainLimit; broken = full } ∷ record { code = CashTooSmall; broken = dear }
+    ∷ record { code = NoConsent; broken = lacks } ∷ record { code = NotSellers; broken = other } ∷ record { code = NoTradeIn; broken = trade } ∷ [])
 
 -- the rules say the same
-pub same_judgement : (game ruled : Game) (seat : Seat) (number : ℕ) (ruling : Ruling) (company : Company) (purchase : Purchase) → ruled ≡ with_event game (Ruled seat number ruling) → train_judgement ruled company purchase ≡ train_judgement game company purchase
-same_judgement game ruled seat number ruling company purchase is =
+pub same_judgement : (game ruled : Game) (seat : Seat) (number : ℕ) (kind : Kind) (from : TrainSource) (company : Company) (purchase : Purchase) →
+    ruled ≡ with_event game (Ruled seat number (Obeyed (BuyTrain kind from))) →
+    train_judgement ruled company purchase ≡ train_judgement game company purchase
+same_judgement game ruled seat number kind from company purchase is =
     let events = game.events in
+    let ruling : Ruling = Obeyed (BuyTrain kind from) in
     let after = with_event game (Ruled seat number ruling) in
+    let lacks = λ (now : List Event). lacks_consent now company purchase in
+    let other = λ (now : List Event). is_not_sellers now company purchase.kind purchase.from in
+    let trade = λ (now : List Event). is_no_trade_in now company purchase.kind purchase.trade_in in
+    let sale = is_on_sale events purchase.from purchase.kind in
+    let full = is_full events company purchase.trade_in in
+    let dear = is_too_dear game company purchase in
     ap (λ (g : Game). train_judgement g company purchase) is
-    ∙ ap (λ (sale : Bool). table_of sale (is_full after.events company purchase.trade_in) (is_too_dear after company purchase) (is_no_trade_in after.events company purchase.kind purchase.trade_in)) (same_sale events seat number ruling purchase.from purchase.kind)
-    ∙ ap (λ (full : Bool). table_of (is_on_sale events purchase.from purchase.kind) full (is_too_dear after company purchase) (is_no_trade_in after.events company purchase.kind purchase.trade_in)) (same_full events seat number ruling company purchase.trade_in)
-    ∙ ap (λ (cash : ℤ). table_of (is_on_sale events purchase.from purchase.kind) (is_full events company purchase.trade_in) (lt_z cash (pos (price_of_train purchase.kind purchase.trade_in))) (is_no_trade_in after.events company purchase.kind purchase.trade_in)) (cash_of_before game.seats events (Ruled seat number ruling) (party_of_company company) refl)
-    ∙ ap (λ (trade : Bool). table_of (is_on_sale events purchase.from purchase.kind) (is_full events company purchase.trade_in) (is_too_dear game company purchase) trade) (same_trade events seat number ruling company purchase.kind purchase.trade_in)
+    ∙ ap (λ (b : Bool). table_of b (is_full after.events company purchase.trade_in) (is_too_dear after company purchase) (lacks after.events) (other after.events) (trade after.events)) (same_sale events seat number ruling purchase.from purchase.kind)
+    ∙ ap (λ (b : Bool). table_of sale b (is_too_dear after company purchase) (lacks after.events) (other after.events) (trade after.events)) (same_full events seat number ruling company purchase.trade_in)
+    ∙ ap (λ (cash : ℤ). table_of sale full (lt_z cash (pos (cost_of purchase))) (lacks after.events) (other after.events) (trade after.events)) (cash_of_before game.seats events (Ruled seat number ruling) (party_of_company company) refl)
+    ∙ ap (λ (b : Bool). table_of sale full dear b (other after.events) (trade after.events)) (same_lack events seat number kind from company purchase purchase.from)
+    ∙ ap (λ (b : Bool). table_of sale full dear (lacks events) b (trade after.events)) (same_seller events seat number ruling company purchase.kind purchase.from)
+    ∙ ap (λ (b : Bool). table_of sale full dear (lacks events) (other events) b) (same_trade events seat number ruling company purchase.kind purchase.trade_in)
 
 -- a TRAIN that breaks no rule leads where its purchase does
 pub bought_steps : (by : Operator) (turn : InTurn) (number : ℕ) (kind : Kind) (from : TrainSource) (purchase : Purchase) (its : Order) (ruled new : Game) → purchase ≡ purchase_of kind from → its ≡ BuyTrain kind from → train_judgement turn.game by.company purchase ≡ None → ruled ≡ with_event turn.game (Ruled by.president number (Obeyed its)) → new ≡ after_train ruled by.company purchase → in_turn new turn.progress ≡ after_buying by turn number kind from

@@ -13,7 +13,7 @@ use Rattle.history.specs.declared.event.TrainSeller.TheVariants as seller
 use Rattle.operating.specs.Discards.{next_discard}
 use Rattle.operating.specs.Phases.{begins_phase, bought, excess_of, rusts_at, with_all_closed, with_bop_closed, with_closed, with_company_rusted, with_discarded, with_kind_rusted, with_kind_rusted_at, with_limit_kept, with_limits_kept, with_next_discarded, with_one_rusted, with_phase, with_privates_closed, with_rusted, with_stable_rusted, with_trade}
 use Rattle.operating.specs.TrainLaws.{PhasesGoOn}
-use Rattle.operating.specs.Trains.{price_of_train}
+use Rattle.operating.specs.Trains.{cost_of}
 use Rattle.operating.specs.declared.purchase.Purchase.{Purchase}
 use Rattle.tables.specs.Roster.{companies, privates, same_company}
 use Rattle.tables.specs.Steps.{iterate}
@@ -142,7 +142,7 @@ same_phase_on = record { same = λ game. refl; both = λ a b c first second. sec
 pub phase_bought : (game : Game) (buyer : Company) (purchase : Purchase) → SamePhase game (bought game buyer purchase)
 phase_bought game buyer purchase =
     let traded = with_trade game buyer purchase.trade_in in
-    let price = price_of_train purchase.kind purchase.trade_in in
+    let price = cost_of purchase in
     let came = with_event traded (event.Train buyer purchase.kind purchase.from price) in
     of_bop SamePhase same_phase_on (λ now private. phase_before now (event.Closed private) refl) came buyer
     ∙ phase_before traded (event.Train buyer purchase.kind purchase.from price) refl
@@ -171,6 +171,7 @@ later_begins events seller.Bank kind begins =
     let both_hold = both_of (trains_sold events kind == 0) (nat_lt (place_of_kind (phase_of events)) (place_of_kind kind)) begins in
     grind (arith, nat_tests, both_hold.1)
 later_begins events seller.BankPool kind begins = absurd (cc)
+later_begins events (seller.Company owner) kind begins = absurd (cc)
 
 -- the phase after a purchase
 phase_after : (game : Game) (buyer : Company) (purchase : Purchase) (begins : Bool) → begins_phase game.events purchase.from purchase.kind ≡ begins → place_of_kind (phase_of game.events) ≤ place_of_kind (phase_of (if begins then with_phase (bought game buyer purchase) purchase.kind else bought game buyer purchase).events)

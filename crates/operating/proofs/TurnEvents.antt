@@ -23,6 +23,7 @@ IsOfTurn company (event.Traded its kind) = Unit
 IsOfTurn company (event.Phase kind) = Unit
 IsOfTurn company (event.Rusted owner kind) = Unit
 IsOfTurn company (event.Closed private) = Unit
+IsOfTurn company (event.PrivateBought private its seller price) = Unit
 IsOfTurn company (event.Discarded its kind) = Unit
 IsOfTurn company other = ⊥
 

@@ -24,7 +24,7 @@ use Rattle.operating.specs.Dividend.{all_paid, paid_for, paid_out, paid_to, paid
 use Rattle.operating.specs.Ground.{ground_now}
 use Rattle.operating.specs.InTurn.{InTurn}
 use Rattle.operating.specs.Phases.{after_train, begins_phase, bought, with_phase, with_trade}
-use Rattle.operating.specs.Trains.{price_of_train, train_judgement}
+use Rattle.operating.specs.Trains.{cost_of, train_judgement}
 use Rattle.operating.specs.Turn.{IsCompanyTurn, begun, settled}
 use Rattle.operating.specs.declared.purchase.Purchase.{Purchase}
 use Rattle.std.proofs.Common.{◌≡◌, ℕ, ◌==◌, Bool, true, false, if◌then◌else◌, List, [], ◌∷◌, ◌++◌, Option, Some, None, refl, sym, subst}
@@ -52,7 +52,7 @@ pub of_purchase : (company : Company) (R : Game → Game → Type 0) → IsPasse
 of_purchase company R on each game purchase =
     let closes : OfClosings R = λ now private. each now (event.Closed private) tt refl in
     let traded = with_trade game company purchase.trade_in in
-    let train = event.Train company purchase.kind purchase.from (price_of_train purchase.kind purchase.trade_in) in
+    let train = event.Train company purchase.kind purchase.from (cost_of purchase) in
     let came = with_event traded train in
     let all = bought game company purchase in
     let phase = event.Phase purchase.kind in
@@ -147,7 +147,7 @@ module _ (company : Company) (R : Game → Game → Type 0) (of : OfEvents compa
         same = λ turn. of.on.same turn.game;
         both = λ a b c. of.on.both a.game b.game c.game;
         more = λ turn its is no_tile no_train no_phase. of.others turn.game its is no_tile no_train no_phase;
-        laid = λ turn asker lay cost rules. of.lays turn.game asker lay cost rules;
+        laid = λ turn lays asker lay cost rules. of.lays turn.game asker lay cost rules;
         placed = λ turn asker at cost is rules. of.others turn.game (event.Token company at cost) tt refl refl refl;
         ran = λ turn ran. of.others turn.game (event.Runs company ran.earned) refl refl refl refl;
         paid = λ turn rules. of_paid_out turn.game turn.progress.runs.revenue;

@@ -9,12 +9,16 @@ use Rattle.board.specs.declared.asker.Asker.{Asker}
 use Rattle.board.specs.declared.fault.LayFault.{LayFault}
 use Rattle.board.specs.declared.fault.TokenFault.{TokenFault}
 use Rattle.history.specs.Event.{phase_set, tile_laid, train_moved}
-use Rattle.history.specs.LookBack.{Game, with_event}
+use Rattle.history.specs.LookBack.{Game, owner_of, with_event}
+use Rattle.history.specs.Operating.{lays_of}
 use Rattle.history.specs.Shares.{president_of}
 use Rattle.history.specs.declared.event.Event.{Event}
 use Rattle.history.specs.declared.event.Event.TheVariants as event
+use Rattle.history.specs.declared.event.Holder.{Holder}
+use Rattle.history.specs.declared.event.Holder.TheVariants as holder
 use Rattle.history.specs.declared.ruling.LayRule.{LayRule}
 use Rattle.history.specs.declared.ruling.PayRule.{PayRule}
+use Rattle.history.specs.declared.ruling.PrivateRule.{PrivateRule}
 use Rattle.history.specs.declared.ruling.Ruling.{Ruling}
 use Rattle.history.specs.declared.ruling.Ruling.TheVariants.{Obeyed}
 use Rattle.history.specs.declared.ruling.RunRule.{RunRule}
@@ -32,6 +36,7 @@ use Rattle.operating.specs.Ground.{ground_now}
 use Rattle.operating.specs.InTurn.{InTurn, in_turn, is_unpaid, lay_done, pay_done, token_done, told}
 use Rattle.operating.specs.Judgement.{asker_of, rule_of_lay, rule_of_token}
 use Rattle.operating.specs.Phases.{after_train}
+use Rattle.operating.specs.Privates.{private_judgement, private_ruled, sold_by}
 use Rattle.operating.specs.Runs.{judged_run, run_done, run_ruled}
 use Rattle.operating.specs.Trains.{train_judgement}
 use Rattle.operating.specs.Turn.{BlockLeads, IsCompanyTurn, LinesLead, OrderLeads, ReadingLeads, begun, lay_answered, lay_refused, purchase_of}
@@ -42,10 +47,13 @@ use Rattle.operating.specs.declared.runs.Ran.{Ran}
 use Rattle.order_grammar.specs.declared.fault.Fault.{Fault}
 use Rattle.order_grammar.specs.declared.order.Order.{Order}
 use Rattle.order_grammar.specs.declared.order.Order.TheVariants as order
+use Rattle.order_grammar.specs.declared.order.TrainSource.{TrainSource}
 use Rattle.sheets.specs.Block.{block_for}
 use Rattle.sheets.specs.Part.{Numbered}
 use Rattle.tables.specs.Rules.{first_broken}
+use Rattle.tables.specs.declared.rolling_stock.Kind.{Kind}
 use Rattle.tables.specs.declared.roster.Company.{Company}
+use Rattle.tables.specs.declared.roster.Private.{Private}
 use Rattle.tables.specs.declared.round.Round.{Round}
 use Rattle.tables.specs.declared.seat.Seat.{Seat}
 
@@ -57,8 +65,9 @@ pub record OfSteps (company : Company) (R : InTurn → InTurn → Type 0) : Type
   pub both : (a b c : InTurn) → R a b → R b c → R a c
   pub more : (turn : InTurn) (its : Event) → IsOfTurn company its → tile_laid its ≡ None → train_moved its ≡ None → phase_set its ≡ None →
       R turn (in_turn (with_event turn.game its) turn.progress)
-  pub laid : (turn : InTurn) (asker : Asker) (lay : Lay) (cost : ℕ) → first_broken (ground_rules (ground_now turn.game.events) asker lay) ≡ None →
-      R turn (in_turn (after_lay turn.game company lay cost) (lay_done turn.progress))
+  pub laid : (turn : InTurn) (lays : List Lay) (asker : Asker) (lay : Lay) (cost : ℕ) →
+      first_broken (ground_rules (ground_now turn.game.events) asker lay) ≡ None →
+      R turn (in_turn (after_lay turn.game company lay cost) (lay_done lays asker lay turn.progress))
   pub placed : (turn : InTurn) (asker : Asker) (at : Place) (cost : ℕ) → asker.pointer ≡ turn.progress.pointer →
       first_broken (slot_rules (ground_now turn.game.events) asker at) ≡ None →
       R turn (in_turn (after_token turn.game company at cost) (token_done turn.progress))
@@ -102,7 +111,7 @@ module _ (by : Operator) (R : InTurn → InTurn → Type 0) (steps : OfSteps by.
       let ruled = told by turn number (Obeyed (order.Lay lay)) in
       let same = same_after_ruling turn.game ruled.game by.president number (Obeyed (order.Lay lay)) refl in
       after_ruling turn number (order.Lay lay) (lay_answered by turn number lay (Ok cost))
-      (steps.laid ruled asker lay (unsigned_abs cost)
+      (steps.laid ruled (lays_of turn.game.events) asker lay (unsigned_abs cost)
       (subst (λ (g : Ground). first_broken (ground_rules g asker lay) ≡ None) (sym same)
       (lay_allowed (ground_now turn.game.events) asker lay cost answered).allowed))
 
@@ -138,13 +147,30 @@ module _ (by : Operator) (R : InTurn → InTurn → Type 0) (steps : OfSteps by.
       after_ruling turn number its (pay_ruled by turn number its None after) (brings refl)
 
   -- of TRAIN
-  of_train : (turn : InTurn) (number : ℕ) (its : Order) (purchase : Purchase) (rule : Option TrainRule) →
-      train_judgement turn.game by.company purchase ≡ rule → R turn (train_ruled by turn number its purchase rule)
-  of_train turn number its purchase (Some rule) broken = of_ruling turn number _
-  of_train turn number its purchase None none =
+  of_train : (turn : InTurn) (number : ℕ) (kind : Kind) (from : TrainSource) (purchase : Purchase) (rule : Option TrainRule) →
+      train_judgement turn.game by.company purchase ≡ rule → R turn (train_ruled by turn number (order.BuyTrain kind from) purchase rule)
+  of_train turn number kind from purchase (Some rule) broken = of_ruling turn number _
+  of_train turn number kind from purchase None none =
+      let its = order.BuyTrain kind from in
       let ruled = told by turn number (Obeyed its) in
       after_ruling turn number its (train_ruled by turn number its purchase None)
-      (steps.bought ruled purchase (same_judgement turn.game ruled.game by.president number (Obeyed its) by.company purchase refl ∙ none))
+      (steps.bought ruled purchase (same_judgement turn.game ruled.game by.president number kind from by.company purchase refl ∙ none))
+
+  -- of PRIVATE
+  of_sale : (turn : InTurn) (private : Private) (price : ℕ) (owner : Option Holder) →
+      R turn (in_turn (sold_by turn.game by.company private price owner) turn.progress)
+  of_sale turn private price (Some (holder.Seat seller)) =
+      steps.more turn (event.PrivateBought private by.company seller price) tt refl refl refl
+  of_sale turn private price (Some (holder.Company owner)) = steps.same turn
+  of_sale turn private price None = steps.same turn
+
+  of_private : (turn : InTurn) (number : ℕ) (private : Private) (price : ℕ) (rule : Option PrivateRule) →
+      R turn (private_ruled by turn number private price rule)
+  of_private turn number private price (Some rule) = of_ruling turn number _
+  of_private turn number private price None =
+      let ruled = told by turn number (Obeyed (order.BuyOwnedPrivate private price)) in
+      after_ruling turn number (order.BuyOwnedPrivate private price) (private_ruled by turn number private price None)
+      (of_sale ruled private price (owner_of ruled.game.events private))
 
   -- of an order
   of_order : (turn : InTurn) (number : ℕ) (its : Order) (new : InTurn) → OrderLeads by turn number its new → R turn new
@@ -168,7 +194,9 @@ module _ (by : Operator) (R : InTurn → InTurn → Type 0) (steps : OfSteps by.
       let rule = train_judgement paid.game by.company purchase in
       subst (R turn) (sym leads)
       (steps.both turn paid (train_ruled by paid number (order.BuyTrain kind from) purchase rule) (of_settled by.company R steps turn)
-      (of_train paid number (order.BuyTrain kind from) purchase rule refl))
+      (of_train paid number kind from purchase rule refl))
+  of_order turn number (order.BuyOwnedPrivate private price) new leads =
+      subst (R turn) (sym leads) (of_private turn number private price (private_judgement turn.game by.company private price))
   of_order turn number other new leads = subst (R turn) (sym leads) (of_ruling turn number _)
 
   -- of a line

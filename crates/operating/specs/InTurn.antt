@@ -1,11 +1,14 @@
 -- In a company's turn: the game so far, how far the turn has come, and what its trains have done. The steps of the
 -- turn are lay, token, run, pay and trains, and a pointer goes over them.
-use Rattle.std.specs.Prelude.{ℕ, Bool, true, false, nat_lt, replicate, pos}
+use Rattle.std.specs.Prelude.{ℕ, Bool, false, not, ◌||◌, nat_lt, List, replicate, pos}
+use Rattle.board.specs.Powers.{is_cs_lay, is_dh_lay}
 use Rattle.board.specs.Turn.{place_of_step}
+use Rattle.board.specs.declared.asker.Asker.{Asker}
 use Rattle.board.specs.declared.asker.TurnStep.TheVariants as step
 use Rattle.history.specs.LookBack.{Game, with_event}
 use Rattle.history.specs.declared.event.Event.TheVariants as event
 use Rattle.history.specs.declared.ruling.Ruling.{Ruling}
+use Rattle.map_tables.specs.declared.lay.Lay.{Lay}
 use Rattle.operating.specs.declared.operator.Operator.{Operator}
 use Rattle.operating.specs.declared.progress.Progress.{Progress}
 use Rattle.operating.specs.declared.runs.Runs.{Runs}
@@ -16,11 +19,15 @@ no_runs = record { trains = replicate 6 (pos 0); borders = replicate 279 false; 
 
 -- how far a turn has come that has just begun
 abbrev pub at_start : Progress
-at_start = record { pointer = step.Lay; lay_used = false; runs = no_runs }
+at_start = record { pointer = step.Lay; lay_used = false; dh_laid = false; runs = no_runs }
 
--- once a tile is laid
-abbrev pub lay_done : Progress → Progress
-lay_done progress = record progress { lay_used = true }
+-- once a tile is laid: CS's lay leaves the lay of the turn as it is, and DH's is kept in mind for its token
+abbrev pub lay_done : List Lay → Asker → Lay → Progress → Progress
+lay_done lays asker lay progress =
+    record progress {
+      lay_used = progress.lay_used || not (is_cs_lay lays asker lay.hex);
+      dh_laid = progress.dh_laid || is_dh_lay asker lay;
+    }
 
 -- once a token is placed
 abbrev pub token_done : Progress → Progress

@@ -38,7 +38,7 @@ asker_of game company progress =
       cash = cash_of game.seats game.events (party_of_company company);
       pointer = progress.pointer;
       lay_used = progress.lay_used;
-      dh_laid = false;
+      dh_laid = progress.dh_laid;
       own_privates = map (λ private. is_companys company (owner_of game.events private)) privates;
       player_privates = map (λ private. is_players (owner_of game.events private)) privates;
     }

@@ -5,12 +5,15 @@ pub mod Done
 pub mod InTurn
 pub mod Runs
 pub mod Dividend
-pub mod Trains
 pub mod Discards
+pub mod Trains
 pub mod Phases
+pub mod Offers
 pub mod Standing
+pub mod Privates
 pub mod Turn
 pub mod LegalRuns
 pub mod Laws
 pub mod TrainLaws
 pub mod TileLaws
+pub mod ConsentLaws

@@ -12,7 +12,7 @@ use Rattle.history.specs.declared.event.Event.TheVariants as event
 use Rattle.history.specs.declared.event.TrainSeller.{TrainSeller}
 use Rattle.history.specs.declared.event.TrainSeller.TheVariants as seller
 use Rattle.operating.specs.Discards.{next_discard}
-use Rattle.operating.specs.Trains.{price_of_train}
+use Rattle.operating.specs.Trains.{cost_of}
 use Rattle.operating.specs.declared.purchase.Purchase.{Purchase}
 use Rattle.tables.specs.Roster.{companies, privates, same_company}
 use Rattle.tables.specs.Steps.{iterate}
@@ -107,12 +107,13 @@ abbrev pub begins_phase : List Event → TrainSeller → Kind → Bool
 begins_phase events seller.Bank kind =
     trains_sold events kind == 0 && nat_lt (place_of_kind (phase_of events)) (place_of_kind kind)
 begins_phase events seller.BankPool kind = false
+begins_phase events (seller.Company company) kind = false
 
 -- after the train has come to the company
 abbrev pub bought : Game → Company → Purchase → Game
 bought game company purchase =
     with_bop_closed
-    (with_event (with_trade game company purchase.trade_in) (event.Train company purchase.kind purchase.from (price_of_train purchase.kind purchase.trade_in)))
+    (with_event (with_trade game company purchase.trade_in) (event.Train company purchase.kind purchase.from (cost_of purchase)))
     company
 
 -- after a purchase by a company, and what follows from it

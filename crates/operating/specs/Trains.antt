@@ -1,22 +1,30 @@
 -- The purchase of a train. The bank sells the least kind of 2 to 6 of which some are left, and from the first 6
 -- that it has sold also a D, of which there is any number; the bank pool sells what lies in it. A 4, 5 or 6 that
--- the company has may be traded in for a D of the bank, which is cheaper then.
-use Rattle.std.specs.Prelude.{ℕ, Bool, true, false, not, ◌&&◌, ◌||◌, nat_lt, if◌then◌else◌, List, [], ◌∷◌, Option, Some, None, pos, ◌-ℤ◌}
+-- the company has may be traded in for a D of the bank, which is cheaper then. Another company sells a train that
+-- it has, at the price that the order names, which is at least 1, where its president consents.
+use Rattle.std.specs.Prelude.{ℕ, ◌==◌, ◌≤◌, unwrap_or, Bool, true, false, not, ◌&&◌, ◌||◌, nat_lt, if◌then◌else◌, List, [], ◌∷◌, Option, Some, None, pos, ◌-ℤ◌}
 use Rattle.std.specs.Int.Signed.{lt_z}
 use Rattle.history.specs.Event.{party_of_company}
 use Rattle.history.specs.LookBack.{Game, cash_of}
+use Rattle.history.specs.Offers.{has_consent}
+use Rattle.history.specs.Shares.{president_of}
 use Rattle.history.specs.Trains.{phase_of, stable_size, trains_held, trains_sold}
 use Rattle.history.specs.declared.event.Event.{Event}
 use Rattle.history.specs.declared.event.TrainSeller.{TrainSeller}
 use Rattle.history.specs.declared.event.TrainSeller.TheVariants as seller
 use Rattle.history.specs.declared.ruling.TrainRule.{TrainRule}
-use Rattle.history.specs.declared.ruling.TrainRule.TheVariants.{NotOnSale, TrainLimit, CashTooSmall, NoTradeIn}
+use Rattle.history.specs.declared.ruling.TrainRule.TheVariants.{NotOnSale, TrainLimit, CashTooSmall, NoConsent, NotSellers, NoTradeIn}
+use Rattle.operating.specs.Discards.{has_train}
 use Rattle.operating.specs.declared.purchase.Purchase.{Purchase}
+use Rattle.order_grammar.specs.declared.order.Offer.{Offer}
+use Rattle.order_grammar.specs.declared.order.Offer.TheVariants as offer
+use Rattle.tables.specs.Roster.{same_company}
 use Rattle.tables.specs.Rules.{Rule, first_broken}
 use Rattle.tables.specs.Train.{limit_of, same_kind, trains_of as manifest_of}
 use Rattle.tables.specs.declared.rolling_stock.Kind.{Kind}
 use Rattle.tables.specs.declared.rolling_stock.Kind.TheVariants.{Two, Three, Four, Five, Six, Diesel}
 use Rattle.tables.specs.declared.roster.Company.{Company}
+use Rattle.tables.specs.declared.seat.Seat.{Seat}
 
 -- some of so many are left, where so many are sold
 abbrev pub are_left : Option ℕ → ℕ → Bool
@@ -57,6 +65,7 @@ sells events kind = is_kind (first_left events) kind || (same_kind kind Diesel &
 abbrev pub is_on_sale : List Event → TrainSeller → Kind → Bool
 is_on_sale events seller.Bank kind = sells events kind
 is_on_sale events seller.BankPool kind = lt_z (pos 0) (trains_held events None kind)
+is_on_sale events (seller.Company company) kind = true
 
 -- how many are traded in
 abbrev pub traded_count : Option Kind → ℕ
@@ -83,15 +92,23 @@ may_be_traded Five = true
 may_be_traded Six = true
 may_be_traded Diesel = false
 
--- what a train costs
+-- what a train of the bank or the pool costs
 abbrev pub price_of_train : Kind → Option Kind → ℕ
 price_of_train kind None = (manifest_of kind).price
 price_of_train kind (Some trade_in) = price_for_trade kind
 
+-- the price that an order names is one that a line can spell
+abbrev pub IsSmallPurchase : Purchase → Type 0
+IsSmallPurchase purchase = unwrap_or purchase.asked 0 ≤ 99999
+
+-- what a train costs: one of a company what the order names
+abbrev pub cost_of : Purchase → ℕ
+cost_of purchase = unwrap_or purchase.asked (price_of_train purchase.kind purchase.trade_in)
+
 -- it costs more than the company has
 abbrev pub is_too_dear : Game → Company → Purchase → Bool
 is_too_dear game company purchase =
-    lt_z (cash_of game.seats game.events (party_of_company company)) (pos (price_of_train purchase.kind purchase.trade_in))
+    lt_z (cash_of game.seats game.events (party_of_company company)) (pos (cost_of purchase))
 
 -- a train that the company has may be traded in for one of this kind
 abbrev pub may_trade : List Event → Company → Kind → Kind → Bool
@@ -103,12 +120,38 @@ abbrev pub is_no_trade_in : List Event → Company → Kind → Option Kind → 
 is_no_trade_in events company kind None = false
 is_no_trade_in events company kind (Some trade_in) = not (may_trade events company kind trade_in)
 
+-- the one president consents to what the other takes, where there are both
+abbrev pub presidents_agree : List Event → Option Seat → Option Seat → Offer → Bool
+presidents_agree events (Some giver) (Some taker) sale = has_consent events giver taker sale
+presidents_agree events giver taker sale = false
+
+-- a company that is to sell a train has not consented, or the price is 0
+abbrev pub is_not_given : List Event → Company → Purchase → TrainSeller → Bool
+is_not_given events buyer purchase seller.Bank = false
+is_not_given events buyer purchase seller.BankPool = false
+is_not_given events buyer purchase (seller.Company company) =
+    cost_of purchase == 0
+    || not (presidents_agree events (president_of events company) (president_of events buyer)
+    (offer.Train purchase.kind company buyer (cost_of purchase)))
+
+abbrev pub lacks_consent : List Event → Company → Purchase → Bool
+lacks_consent events buyer purchase = is_not_given events buyer purchase purchase.from
+
+-- a company that is to sell a train has none of the kind, or is the buyer
+abbrev pub is_not_sellers : List Event → Company → Kind → TrainSeller → Bool
+is_not_sellers events buyer kind seller.Bank = false
+is_not_sellers events buyer kind seller.BankPool = false
+is_not_sellers events buyer kind (seller.Company company) =
+    not (has_train events company kind) || same_company buyer company
+
 -- the rules of a purchase by a company
 abbrev pub purchase_rules : Game → Company → Purchase → List (Rule TrainRule)
 purchase_rules game company purchase =
     record { code = NotOnSale; broken = not (is_on_sale game.events purchase.from purchase.kind) }
     ∷ record { code = TrainLimit; broken = is_full game.events company purchase.trade_in }
     ∷ record { code = CashTooSmall; broken = is_too_dear game company purchase }
+    ∷ record { code = NoConsent; broken = lacks_consent game.events company purchase }
+    ∷ record { code = NotSellers; broken = is_not_sellers game.events company purchase.kind purchase.from }
     ∷ record { code = NoTradeIn; broken = is_no_trade_in game.events company purchase.kind purchase.trade_in }
     ∷ []
 

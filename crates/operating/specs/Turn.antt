@@ -4,7 +4,8 @@
 -- goes over them: a lay needs the first step and is made once; a token needs one of the first two, and the
 -- turn is then past both; a run needs one of the first three, and the turn is then past its token; to pay or to
 -- withhold needs one of the first four, and the turn is then past them. A company whose turn is not past its pay
--- withholds by itself before a TRAIN line is ruled, whatever becomes of that, and when the block ends.
+-- withholds by itself before a TRAIN line is ruled, whatever becomes of that, and when the block ends. It buys a
+-- private anywhere in the block, which leaves the pointer.
 use Rattle.std.specs.Prelude.{◌≡◌, ℕ, if◌then◌else◌, List, [], ◌∷◌, Option, Some, None, Result, Ok, Err, ℤ}
 use Rattle.std.specs.Int.RustNames.{unsigned_abs}
 use Rattle.board.specs.LayRules.{IsLayAnswer}
@@ -12,6 +13,7 @@ use Rattle.board.specs.TokenRules.{IsTokenAnswer}
 use Rattle.board.specs.declared.fault.LayFault.{LayFault}
 use Rattle.board.specs.declared.fault.TokenFault.{TokenFault}
 use Rattle.history.specs.LookBack.{Game}
+use Rattle.history.specs.Operating.{lays_of}
 use Rattle.history.specs.Shares.{president_of}
 use Rattle.history.specs.declared.event.TrainSeller.TheVariants as seller
 use Rattle.history.specs.declared.ruling.LayRule.{LayRule}
@@ -27,6 +29,7 @@ use Rattle.operating.specs.Ground.{ground_now}
 use Rattle.operating.specs.InTurn.{InTurn, at_start, in_turn, is_unpaid, lay_done, pay_done, token_done, told}
 use Rattle.operating.specs.Judgement.{asker_of, rule_of_lay, rule_of_token}
 use Rattle.operating.specs.Phases.{after_train}
+use Rattle.operating.specs.Privates.{after_private}
 use Rattle.operating.specs.Runs.{after_run}
 use Rattle.operating.specs.Trains.{train_judgement}
 use Rattle.operating.specs.declared.operator.Operator.{Operator}
@@ -52,7 +55,7 @@ lay_refused by turn number lay (Some rule) = told by turn number (Refused (refus
 abbrev pub lay_answered : Operator → InTurn → ℕ → Lay → Result ℤ LayFault → InTurn
 lay_answered by turn number lay (Ok cost) =
     in_turn
-    (after_lay (told by turn number (Obeyed (order.Lay lay))).game by.company lay (unsigned_abs cost)) (lay_done turn.progress)
+    (after_lay (told by turn number (Obeyed (order.Lay lay))).game by.company lay (unsigned_abs cost)) (lay_done (lays_of turn.game.events) (asker_of turn.game by.company turn.progress) lay turn.progress)
 lay_answered by turn number lay (Err fault) = lay_refused by turn number lay (rule_of_lay fault)
 
 -- after a token with this number was obeyed, or refused by this rule
@@ -85,9 +88,11 @@ settled company turn =
 
 -- the purchase that a TRAIN line orders
 abbrev pub purchase_of : Kind → TrainSource → Purchase
-purchase_of kind source.Bank = record { kind = kind; from = seller.Bank; trade_in = None }
-purchase_of kind (source.Trade trade_in) = record { kind = kind; from = seller.Bank; trade_in = Some trade_in }
-purchase_of kind source.BankPool = record { kind = kind; from = seller.BankPool; trade_in = None }
+purchase_of kind source.Bank = record { kind = kind; from = seller.Bank; trade_in = None; asked = None }
+purchase_of kind (source.Trade trade_in) = record { kind = kind; from = seller.Bank; trade_in = Some trade_in; asked = None }
+purchase_of kind source.BankPool = record { kind = kind; from = seller.BankPool; trade_in = None; asked = None }
+purchase_of kind (source.Company company price) =
+    record { kind = kind; from = seller.Company company; trade_in = None; asked = Some price }
 
 -- after a TRAIN with this number that orders this purchase, where this rule refuses it, if one does
 abbrev pub train_ruled : Operator → InTurn → ℕ → Order → Purchase → Option TrainRule → InTurn
@@ -108,6 +113,7 @@ OrderLeads by turn number (order.Run kind run) new = new ≡ after_run by turn n
 OrderLeads by turn number order.Pay new = new ≡ after_pay by turn number order.Pay
 OrderLeads by turn number order.Withhold new = new ≡ after_withhold by turn number order.Withhold
 OrderLeads by turn number (order.BuyTrain kind from) new = new ≡ after_buying by (settled by.company turn) number kind from
+OrderLeads by turn number (order.BuyOwnedPrivate private price) new = new ≡ after_private by turn number private price
 OrderLeads by turn number other new = new ≡ told by turn number (Faulty OutOfPlace)
 
 -- a line of the block with this number and this reading leads to new

@@ -18,7 +18,7 @@ pub(crate) fn asker(history: &History, company: Company, progress: Progress) -> 
         cash: history.cash(Party::of_company(company)),
         pointer: progress.pointer,
         lay_used: progress.lay_used,
-        dh_laid: false,
+        dh_laid: progress.dh_laid,
         own_privates: of_company(&owners, company),
         player_privates: of_players(&owners),
     }

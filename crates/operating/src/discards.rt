@@ -33,14 +33,14 @@ fn is_no_discard(past: &Past, seat: Seat, company: Company, kind: Kind) -> bool
 }
 
 /// Whether a seat presides.
-fn is_president(president: Option<Seat>, seat: Seat) -> bool
+pub(crate) fn is_president(president: Option<Seat>, seat: Seat) -> bool
     ensures { result ≡ is_the_president president seat }
 {
     matches!(president, Some(president) if president == seat)
 }
 
 /// Whether a company has a train of a kind.
-fn has_train(past: &Past, company: Company, kind: Kind) -> bool
+pub(crate) fn has_train(past: &Past, company: Company, kind: Kind) -> bool
     ensures { result ≡ company_has past.now.events.now company kind }
 {
     past.trains(Some(company), kind) > 0

@@ -33,13 +33,14 @@ pub(crate) fn rule_lay(
 {
     let board = board(alloc, history)?;
     let order = history.keep(&Order::Lay(lay))?;
-    match board.try_lay(&asker(history, by.company, progress), lay) {
+    let asker = asker(history, by.company, progress);
+    match board.try_lay(&asker, lay) {
         Ok(cost) => {
             tell_ruling(history, by.president, line, KeptRuling::obeyed(order))?;
             let company = by.company;
             let cost = amount_of(cost);
             history.append(Event::Laid { company, lay, cost })?;
-            Ok(progress.with_lay())
+            Ok(progress.with_lay(&board, &asker, lay))
         }
         Err(fault) => {
             let refusal = Refusal::Lay(lay_rule(fault)?);

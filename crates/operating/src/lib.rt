@@ -2,7 +2,7 @@
 //!
 //! At its first turn a company places its home token. Then the block is ruled that its president
 //! has for it: it may lay a tile, place a token, run its trains, pay out or withhold what they
-//! earned, and buy trains. The steps of the turn stand in order, and a pointer goes over them; an
+//! earned, and buy trains and privates. The steps of the turn stand in order, and a pointer goes over them; an
 //! order for a step that is past is refused. A company that has neither paid nor withheld does so
 //! by itself before it buys trains, and at the end; its token on the chart then moves left.
 //!
@@ -10,11 +10,13 @@
 //! (how far the turn has come), `ground` (what lies on the map), `asker` (the company as the rules
 //! of the board see it), `ruling`, `home`, `lay` and `token` (what orders do) with `cost`,
 //! `running`, `withholding`, `dividend`, `purchase` (the rules of trains), `discards`, `phases`
-//! (what a train brings), `train`, `turn` (the lines of a block), `playing`, `standing` (the lines
-//! before the first block), `laws` (what holds of every turn), `train_laws`, `tile_laws`.
+//! (what a train brings), `train`, `private` (that it buys), `turn` (the lines of a block), `playing`, `standing` (the lines
+//! before the first block) with `offers`, `laws` (what holds of every turn), `train_laws`, `tile_laws`,
+//! `consent_laws`.
 #![tactic(auto)]
 
 mod asker;
+mod consent_laws;
 mod cost;
 mod discards;
 mod dividend;
@@ -22,9 +24,11 @@ mod ground;
 mod home;
 mod laws;
 mod lay;
+mod offers;
 mod operator;
 mod phases;
 mod playing;
+mod private;
 mod progress;
 mod purchase;
 mod ruling;
@@ -38,6 +42,7 @@ mod train_laws;
 mod turn;
 mod withholding;
 
+pub use consent_laws::sellers_agree;
 pub use laws::{
     company_operates, company_turn_ends, home_token_lies, no_more_is_paid, obeyed_runs_are_legal,
     one_company_turn, turn_only_adds,

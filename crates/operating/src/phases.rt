@@ -3,7 +3,7 @@ ghost use Rattle.std.specs.Prelude.{◌≡◌, OnOk, None};
 ghost use Rattle.history.specs.Trains.{so_many};
 ghost use Rattle.history.specs.Sound.{IsSound};
 ghost use Rattle.operating.specs.Phases.{after_train, begins_phase as is_first_of_phase, bought, excess_of, rusts_at, with_all_closed, with_bop_closed, with_closed, with_company_rusted, with_kind_rusted, with_kind_rusted_at, with_limit_kept, with_limits_kept, with_next_discarded, with_phase, with_privates_closed, with_rusted, with_stable_rusted, with_trade};
-ghost use Rattle.operating.specs.Trains.{train_judgement};
+ghost use Rattle.operating.specs.Trains.{IsSmallPurchase, train_judgement};
 ghost use Rattle.std.specs.List.{fold};
 ghost use Rattle.tables.specs.Roster.{companies};
 ghost use Rattle.tables.specs.Train.{rusting_of};
@@ -21,6 +21,7 @@ pub(crate) fn buy_train(
     company: Company,
     purchase: Purchase,
 ) -> Result<(), AllocError>
+    requires small { IsSmallPurchase purchase }
     requires may { train_judgement history.old company purchase ≡ None }
     requires sound { IsSound history.old }
     ensures after { OnOk result (history.new ≡ after_train history.old company purchase) }
@@ -42,12 +43,13 @@ fn begins_phase(history: &History, from: TrainSeller, kind: Kind) -> bool
         TrainSeller::Bank => {
             history.trains_sold(kind) == 0 && history.phase().place() < kind.place()
         }
-        TrainSeller::BankPool => false,
+        TrainSeller::BankPool | TrainSeller::Company(_) => false,
     }
 }
 
 /// A train comes to a company, for its price and the train that is traded in.
 fn take_train(history: &mut History, company: Company, purchase: Purchase) -> Result<(), AllocError>
+    requires small { IsSmallPurchase purchase }
     requires may { train_judgement history.old company purchase ≡ None }
     requires sound { IsSound history.old }
     ensures after { OnOk result (history.new ≡ bought history.old company purchase) }

@@ -4,7 +4,8 @@ ghost use Rattle.operating.specs.Runs.{IsCounted, is_past_runs as past_runs, run
 ghost use Rattle.operating.specs.InTurn.{at_start, is_unpaid as not_past_pay, lay_done, pay_done, token_done};
 
 use crate::runs::{Ran, Runs};
-use board::TurnStep;
+use board::{Asker, Board, TurnStep, is_dh_lay};
+use map_tables::Lay;
 
 /// How far a company's turn has come.
 #[derive(Clone, Copy, Debug)]
@@ -13,6 +14,8 @@ pub(crate) struct Progress {
     pub(crate) pointer: TurnStep,
     /// Whether the company has used its lay.
     pub(crate) lay_used: bool,
+    /// Whether that was DH's lay, so that the turn's token may be DH's.
+    pub(crate) dh_laid: bool,
     /// What the trains of the company have done.
     pub(crate) runs: Runs,
 }
@@ -25,16 +28,19 @@ impl Progress {
         Progress {
             pointer: TurnStep::Lay,
             lay_used: false,
+            dh_laid: false,
             runs: Runs::none(),
         }
     }
 
-    /// Once a tile is laid.
-    pub(crate) fn with_lay(self) -> Progress
-        ensures { result ≡ lay_done self }
+    /// Once a tile is laid: CS's lay leaves the lay of the turn as it is, and DH's is kept in mind
+    /// for its token.
+    pub(crate) fn with_lay(self, board: &Board, asker: &Asker, lay: Lay) -> Progress
+        ensures { result ≡ lay_done board.now.lays asker.now lay self }
     {
         Progress {
-            lay_used: true,
+            lay_used: self.lay_used || !board.is_cs_lay(asker, lay.hex),
+            dh_laid: self.dh_laid || is_dh_lay(asker, lay),
             ..self
         }
     }

@@ -1,11 +1,13 @@
 //! The purchase of a train: what is on sale, what it costs, and the rules.
 ghost use Rattle.std.specs.Prelude.{◌≡◌, ◌≤◌, pos};
-ghost use Rattle.operating.specs.Trains.{first_left as the_first_left, first_left_of, is_full as would_be_full, is_left as has_left, is_no_trade_in as no_trade_in, is_on_sale as on_sale, is_too_dear as too_dear, may_be_traded as may_be_given, may_trade as may_be_had_for, price_for_trade as price_with_trade, price_of_train, sells as bank_sells, sells_diesels as bank_sells_diesels, traded_count as count_of_trade, train_judgement};
+ghost use Rattle.operating.specs.Trains.{first_left as the_first_left, first_left_of, is_full as would_be_full, is_left as has_left, is_no_trade_in as no_trade_in, is_on_sale as on_sale, is_too_dear as too_dear, may_be_traded as may_be_given, may_trade as may_be_had_for, price_for_trade as price_with_trade, lacks_consent as has_no_consent, is_not_sellers as none_of_sellers, presidents_agree, cost_of, IsSmallPurchase, price_of_train as the_price_of_train, sells as bank_sells, sells_diesels as bank_sells_diesels, traded_count as count_of_trade, train_judgement};
 
+use crate::discards::has_train;
 use history::{History, Party, Past, TrainRule, TrainSeller};
-use tables::{Amount, Company, Kind, Money, limit, train};
+use order_grammar::Offer;
+use tables::{Amount, Company, Kind, Money, Seat, limit, train};
 
-/// The purchase of a train that is no other company's.
+/// The purchase of a train.
 #[derive(Clone, Copy, Debug, PartialEq, Eq)]
 pub(crate) struct Purchase {
     /// Its kind.
@@ -14,18 +16,32 @@ pub(crate) struct Purchase {
     pub(crate) from: TrainSeller,
     /// The kind of a train that is traded in for it, if one is.
     pub(crate) trade_in: Option<Kind>,
+    /// The price that the order names, where another company sells it, in dollars.
+    pub(crate) asked: Option<Amount>,
 }
 
 impl Purchase {
     /// What it costs.
     pub(crate) fn price(&self) -> Amount
-        ensures price { result ≡ price_of_train self.now.kind self.now.trade_in }
-        ensures small { result ≤ 1100 }
+        requires { IsSmallPurchase self.now }
+        ensures price { result ≡ cost_of self.now }
+        ensures small { result ≤ 99999 }
     {
-        match self.trade_in {
-            None => train(self.kind).price,
-            Some(_) => price_for_trade(self.kind),
+        match self.asked {
+            Some(asked) => asked,
+            None => price_of_train(self.kind, self.trade_in),
         }
+    }
+}
+
+/// What a train of the bank or the pool costs.
+fn price_of_train(kind: Kind, trade_in: Option<Kind>) -> Amount
+    ensures price { result ≡ the_price_of_train kind trade_in }
+    ensures small { result ≤ 1100 }
+{
+    match trade_in {
+        None => train(kind).price,
+        Some(_) => price_for_trade(kind),
     }
 }
 
@@ -38,6 +54,7 @@ pub(crate) fn judge_purchase(
     company: Company,
     purchase: Purchase,
 ) -> Option<TrainRule>
+    requires { IsSmallPurchase purchase }
     ensures { result ≡ train_judgement history.now company purchase }
 {
     broken_by(&history.now(), company, purchase)
@@ -45,6 +62,7 @@ pub(crate) fn judge_purchase(
 
 /// The first rule that a purchase breaks.
 fn broken_by(past: &Past, company: Company, purchase: Purchase) -> Option<TrainRule>
+    requires { IsSmallPurchase purchase }
     ensures { result ≡ train_judgement
         (record { seats = past.now.seats; events = past.now.events.now }) company purchase }
 {
@@ -56,6 +74,12 @@ fn broken_by(past: &Past, company: Company, purchase: Purchase) -> Option<TrainR
     }
     if is_too_dear(past, company, purchase) {
         return Some(TrainRule::CashTooSmall);
+    }
+    if lacks_consent(past, company, purchase) {
+        return Some(TrainRule::NoConsent);
+    }
+    if is_not_sellers(past, company, purchase.kind, purchase.from) {
+        return Some(TrainRule::NotSellers);
     }
     if is_no_trade_in(past, company, purchase.kind, purchase.trade_in) {
         return Some(TrainRule::NoTradeIn);
@@ -70,6 +94,7 @@ fn is_on_sale(past: &Past, from: TrainSeller, kind: Kind) -> bool
     match from {
         TrainSeller::Bank => sells(past, kind),
         TrainSeller::BankPool => past.trains(None, kind) > 0,
+        TrainSeller::Company(_) => true,
     }
 }
 
@@ -155,10 +180,49 @@ fn traded_count(trade_in: Option<Kind>) -> Money
 
 /// Whether a train costs more than the company has.
 fn is_too_dear(past: &Past, company: Company, purchase: Purchase) -> bool
+    requires { IsSmallPurchase purchase }
     ensures { result ≡ too_dear
         (record { seats = past.now.seats; events = past.now.events.now }) company purchase }
 {
     past.cash(Party::of_company(company)) < Money::from(purchase.price())
+}
+
+/// Whether a company that is to sell a train has not consented, or the price is 0.
+fn lacks_consent(past: &Past, buyer: Company, purchase: Purchase) -> bool
+    requires { IsSmallPurchase purchase }
+    ensures { result ≡ has_no_consent past.now.events.now buyer purchase }
+{
+    let TrainSeller::Company(seller) = purchase.from else {
+        return false;
+    };
+    let (kind, price) = (purchase.kind, purchase.price());
+    let sale = Offer::Train {
+        kind,
+        seller,
+        buyer,
+        price,
+    };
+    price == 0 || !presidents_agree(past, past.president(seller), past.president(buyer), sale)
+}
+
+/// Whether the one president consents to what the other takes; not where there are not both.
+fn presidents_agree(past: &Past, giver: Option<Seat>, taker: Option<Seat>, sale: Offer) -> bool
+    ensures { result ≡ presidents_agree past.now.events.now giver taker sale }
+{
+    match (giver, taker) {
+        (Some(giver), Some(taker)) => past.has_consent(giver, taker, sale),
+        _ => false,
+    }
+}
+
+/// Whether a company that is to sell a train has none of the kind, or is the buyer.
+fn is_not_sellers(past: &Past, buyer: Company, kind: Kind, from: TrainSeller) -> bool
+    ensures { result ≡ none_of_sellers past.now.events.now buyer kind from }
+{
+    match from {
+        TrainSeller::Company(seller) => !has_train(past, seller, kind) || buyer == seller,
+        TrainSeller::Bank | TrainSeller::BankPool => false,
+    }
 }
 
 /// Whether a train is to be traded in that is not there, or that may not be.

@@ -1,14 +1,15 @@
 ghost use Rattle.std.specs.Prelude.{◌≡◌, IfOk, OnOk, length};
 ghost use Rattle.history.specs.Sound.{IsSound};
-ghost use Rattle.operating.specs.Standing.{after_standing, after_standing_line, standing_order_ruling, standing_ruling, train_judged as ruling_by};
-ghost use Rattle.order_grammar.specs.declared.order.Order.TheVariants.{Discard};
+ghost use Rattle.operating.specs.Standing.{after_standing, after_standing_line, judged, standing_order_ruling, standing_ruling, train_judged as ruling_by};
+ghost use Rattle.order_grammar.specs.declared.order.Order.TheVariants.{Discard, Offer as OfferOrder};
 ghost use Rattle.sheets.specs.File.{players_of};
 ghost use Rattle.sheets.specs.Part.{line_read};
 ghost use Rattle.sheets.specs.Taken.{after_each};
 
 use crate::discards::judge_discard;
+use crate::offers::judge_offer;
 use history::{Event, History, KeptOrder, KeptRuling, Refusal, TrainRule};
-use order_grammar::{Fault, Order};
+use order_grammar::{Fault, Offer, Order};
 use sheets::{NumberedLine, PartsLeft, Sheets};
 use std::alloc::AllocError;
 use tables::{Company, Kind, Round, Seat};
@@ -60,13 +61,14 @@ fn ruling_of(history: &History, seat: Seat, line: &NumberedLine) -> Result<KeptR
     }
 }
 
-/// What becomes of a standing order of a seat: no order has a place but DISCARD.
+/// What becomes of a standing order of a seat: no order has a place but DISCARD and OFFER.
 fn ruling_of_order(history: &History, seat: Seat, order: &Order) -> Result<KeptRuling, AllocError>
     ensures { IfOk result (λ ruling. ruling
         ≡ standing_order_ruling history.now.events seat order.now) }
 {
     match order {
         Order::Discard { company, kind } => ruling_of_discard(history, seat, *company, *kind),
+        Order::Offer(sale) => ruling_of_offer(history, seat, *sale),
         _ => Ok(KeptRuling::faulty(Fault::OutOfPlace)),
     }
 }
@@ -84,6 +86,26 @@ fn ruling_of_discard(
     let broken = judge_discard(history, seat, company, kind);
     let order = history.keep(&Order::Discard { company, kind })?;
     Ok(train_judged(order, broken))
+}
+
+/// What becomes of a seat's offer.
+fn ruling_of_offer(history: &History, seat: Seat, sale: Offer) -> Result<KeptRuling, AllocError>
+    ensures { IfOk result (λ ruling. ruling
+        ≡ standing_order_ruling history.now.events seat (OfferOrder sale)) }
+{
+    let broken = judge_offer(history, seat, sale);
+    let order = history.keep(&Order::Offer(sale))?;
+    Ok(judged(order, broken))
+}
+
+/// What becomes of an order that breaks this rule first, or none.
+fn judged(order: KeptOrder, broken: Option<Refusal>) -> KeptRuling
+    ensures { result ≡ judged order broken }
+{
+    match broken {
+        Some(rule) => KeptRuling::refused(rule, order),
+        None => KeptRuling::obeyed(order),
+    }
 }
 
 /// What becomes of an order that breaks this rule of trains first, or none.

@@ -1,6 +1,9 @@
 ghost use Rattle.std.specs.Prelude.{◌≡◌, IfOk, OnOk};
 ghost use Rattle.history.specs.Sound.{IsSound};
 ghost use Rattle.operating.specs.InTurn.{in_turn};
+ghost use Rattle.operating.specs.Trains.{IsSmallPurchase};
+ghost use Rattle.order_grammar.specs.declared.order.Order.TheVariants.{BuyTrain};
+ghost use Rattle.turns.specs.Small.{IsSmallOrder};
 ghost use Rattle.operating.specs.Turn.{after_buying, purchase_of as the_purchase_of};
 
 use crate::operator::Operator;
@@ -24,7 +27,8 @@ pub(crate) fn rule_train(
     from: TrainSource,
     progress: Progress,
 ) -> Result<Progress, AllocError>
-    requires { IsSound history.old }
+    requires small { IsSmallOrder (BuyTrain kind from) }
+    requires sound { IsSound history.old }
     ensures turn { IfOk result (λ now. in_turn history.new now
         ≡ after_buying by (in_turn history.old progress) line kind from) }
     ensures sound { OnOk result (IsSound history.new) }
@@ -44,16 +48,20 @@ pub(crate) fn rule_train(
 
 /// The purchase that a TRAIN line orders.
 fn purchase_of(kind: Kind, from: TrainSource) -> Purchase
-    ensures { result ≡ the_purchase_of kind from }
+    requires { IsSmallOrder (BuyTrain kind from) }
+    ensures purchase { result ≡ the_purchase_of kind from }
+    ensures small { IsSmallPurchase result }
 {
-    let (from, trade_in) = match from {
-        TrainSource::Bank => (TrainSeller::Bank, None),
-        TrainSource::Trade(trade_in) => (TrainSeller::Bank, Some(trade_in)),
-        TrainSource::BankPool => (TrainSeller::BankPool, None),
+    let (from, trade_in, asked) = match from {
+        TrainSource::Bank => (TrainSeller::Bank, None, None),
+        TrainSource::Trade(trade_in) => (TrainSeller::Bank, Some(trade_in), None),
+        TrainSource::BankPool => (TrainSeller::BankPool, None, None),
+        TrainSource::Company { seller, price } => (TrainSeller::Company(seller), None, Some(price)),
     };
     Purchase {
         kind,
         from,
         trade_in,
+        asked,
     }
 }

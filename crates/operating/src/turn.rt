@@ -4,10 +4,12 @@ ghost use Rattle.operating.specs.InTurn.{at_start, in_turn};
 ghost use Rattle.operating.specs.Runs.{after_run};
 ghost use Rattle.operating.specs.Turn.{LineLeads, LinesLead, OrderLeads};
 ghost use Rattle.sheets.specs.Part.{line_read};
+ghost use Rattle.turns.specs.Small.{AreSmall, IsSmallOrder, IsSmallReading};
 
 use crate::dividend::{rule_pay, rule_withhold};
 use crate::lay::rule_lay;
 use crate::operator::Operator;
+use crate::private::rule_private;
 use crate::progress::Progress;
 use crate::ruling::tell_ruling;
 use crate::running::{judge_run, rule_run};
@@ -29,6 +31,7 @@ pub(crate) fn rule_lines(
     block: &mut PartsLeft,
 ) -> Result<Progress, AllocError>
     requires few { history.old.seats ≤ 6 }
+    requires small { AreSmall block.old.before }
     requires sound { IsSound history.old }
     ensures turn { IfOk result (λ now. LinesLead by (in_turn history.old at_start)
         block.old.before (in_turn history.new now)) }
@@ -51,6 +54,7 @@ fn rule_line(
     progress: Progress,
 ) -> Result<Progress, AllocError>
     requires few { history.old.seats ≤ 6 }
+    requires small { IsSmallReading (line_read line.now).reading }
     requires sound { IsSound history.old }
     ensures turn { IfOk result (λ now. LineLeads by (in_turn history.old progress)
         (line_read line.now) (in_turn history.new now)) }
@@ -81,6 +85,7 @@ fn rule_order(
     progress: Progress,
 ) -> Result<Progress, AllocError>
     requires few { history.old.seats ≤ 6 }
+    requires small { IsSmallOrder order.now }
     requires sound { IsSound history.old }
     ensures turn { IfOk result (λ now. OrderLeads by (in_turn history.old progress) line
         order.now (in_turn history.new now)) }
@@ -97,6 +102,9 @@ fn rule_order(
         Order::BuyTrain { kind, from } => {
             let progress = settle(history, by.company, progress)?;
             rule_train(alloc, history, by, line, *kind, *from, progress)
+        }
+        Order::BuyOwnedPrivate { private, price } => {
+            rule_private(history, by, line, *private, *price, progress)
         }
         _ => {
             let fault = Fault::OutOfPlace;

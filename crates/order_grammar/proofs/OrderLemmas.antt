@@ -15,7 +15,8 @@ use Rattle.order_grammar.specs.Spells.{IsWord, IsNumber, IsName, IsRoundOfLine, 
 use Rattle.order_grammar.specs.declared.keyword.Keyword.{Keyword}
 use Rattle.order_grammar.specs.declared.keyword.Keyword.TheVariants as keyword
 use Rattle.order_grammar.specs.declared.order.Order.{Order}
-use Rattle.order_grammar.specs.declared.order.Order.TheVariants.{Blank, Game, Players, Sheet, Turn, BuyPrivate, Bid, Limit, Par, BuyShare, Sell, ExchangeMohawk, Company as CompanyTurn, Lay, Token, Run, Pay, Withhold, BuyTrain, Discard}
+use Rattle.order_grammar.specs.declared.order.Order.TheVariants.{Blank, Game, Players, Sheet, Turn, BuyPrivate, Bid, Limit, Par, BuyShare, Sell, ExchangeMohawk, Company as CompanyTurn, Lay, Token, Run, Pay, Withhold, BuyTrain, Discard, BuyOwnedPrivate, Offer}
+use Rattle.order_grammar.specs.declared.order.Offer.TheVariants as offer
 use Rattle.order_grammar.specs.declared.order.Parts.{Parts}
 use Rattle.order_grammar.specs.declared.order.ShareSource.TheVariants.{InitialOffering, BankPool}
 use Rattle.order_grammar.specs.declared.order.Tail.{Tail}
@@ -61,7 +62,15 @@ formed keyword.Train ((value.Kind kind) ∷ (value.Word keyword.Bank) ∷ (value
     record { order = BuyTrain kind (source.Trade other); made = refl; parts = refl }
 formed keyword.Train ((value.Kind kind) ∷ (value.Word keyword.Pool) ∷ []) tail.Nothing h =
     record { order = BuyTrain kind source.BankPool; made = refl; parts = refl }
+formed keyword.Train ((value.Kind kind) ∷ (value.Company seller) ∷ (value.Number price) ∷ []) tail.Nothing h =
+    record { order = BuyTrain kind (source.Company seller price); made = refl; parts = refl }
 formed keyword.Discard ((value.Company company) ∷ (value.Kind kind) ∷ []) tail.Nothing h = record { order = Discard company kind; made = refl; parts = refl }
+formed keyword.Private ((value.Private private) ∷ (value.Number price) ∷ []) tail.Nothing h =
+    record { order = BuyOwnedPrivate private price; made = refl; parts = refl }
+formed keyword.Offer ((value.Word keyword.Private) ∷ (value.Private private) ∷ (value.Company buyer) ∷ (value.Number price) ∷ []) tail.Nothing h =
+    record { order = Offer (offer.Private private buyer price); made = refl; parts = refl }
+formed keyword.Offer ((value.Word keyword.Train) ∷ (value.Kind kind) ∷ (value.Company seller) ∷ (value.Company buyer) ∷ (value.Number price) ∷ []) tail.Nothing h =
+    record { order = Offer (offer.Train kind seller buyer price); made = refl; parts = refl }
 formed k values t h = absurd (false≢true h)
 
 -- an order is made again of its parts
@@ -81,6 +90,9 @@ made_again (BuyShare company BankPool) = refl
 made_again (BuyTrain kind source.Bank) = refl
 made_again (BuyTrain kind (source.Trade other)) = refl
 made_again (BuyTrain kind source.BankPool) = refl
+made_again (BuyTrain kind (source.Company seller price)) = refl
+made_again (Offer (offer.Private private buyer price)) = refl
+made_again (Offer (offer.Train kind seller buyer price)) = refl
 made_again (Lay lay) = lay_made_again lay.tile lay.hex lay.rot lay.swap
 made_again other = refl
 
@@ -172,6 +184,9 @@ by_parts (Run kind run) words h = run_by_parts words kind run h
 by_parts (BuyTrain kind source.Bank) words h = (h, refl)
 by_parts (BuyTrain kind (source.Trade other)) words h = (h, refl)
 by_parts (BuyTrain kind source.BankPool) words h = (h, refl)
+by_parts (BuyTrain kind (source.Company seller price)) words h = (h, refl)
+by_parts (Offer (offer.Private private buyer price)) words h = (h, refl)
+by_parts (Offer (offer.Train kind seller buyer price)) words h = (h, refl)
 by_parts (Lay lay) words h = lay_by_parts lay.tile lay.hex lay.rot lay.swap words h
 by_parts other words h = (h, refl)
 
@@ -203,6 +218,9 @@ of_parts (Run kind run) words h = run_of_parts words kind run h
 of_parts (BuyTrain kind source.Bank) words h = h.0
 of_parts (BuyTrain kind (source.Trade other)) words h = h.0
 of_parts (BuyTrain kind source.BankPool) words h = h.0
+of_parts (BuyTrain kind (source.Company seller price)) words h = h.0
+of_parts (Offer (offer.Private private buyer price)) words h = h.0
+of_parts (Offer (offer.Train kind seller buyer price)) words h = h.0
 of_parts (Lay lay) words h = lay_of_parts lay.tile lay.hex lay.rot lay.swap words h
 of_parts other words h = h.0
 

@@ -7,8 +7,9 @@ use Rattle.tables.specs.declared.round.Round.{Round}
 use Rattle.tables.specs.declared.round.Round.TheVariants.{Opening, Stock, Operating}
 use Rattle.order_grammar.specs.Order.{parts_of, swap_values}
 use Rattle.order_grammar.specs.Spells.{HasSmallNumbers, IsSmallRound}
+use Rattle.order_grammar.specs.declared.order.Offer.TheVariants as offer
 use Rattle.order_grammar.specs.declared.order.Order.{Order}
-use Rattle.order_grammar.specs.declared.order.Order.TheVariants.{Game, Sheet, Bid, Limit, Par, Sell, Lay, BuyTrain}
+use Rattle.order_grammar.specs.declared.order.Order.TheVariants.{Game, Sheet, Bid, Limit, Par, Sell, Lay, BuyTrain, BuyOwnedPrivate, Offer}
 use Rattle.order_grammar.specs.declared.order.Parts.{Parts}
 use Rattle.order_grammar.specs.declared.order.TrainSource.TheVariants as source
 use Rattle.order_grammar.specs.declared.order.Value.{Value}
@@ -58,6 +59,10 @@ small_by_parts (Lay lay) small = swap_small lay.swap
 small_by_parts (BuyTrain kind source.Bank) small = refl
 small_by_parts (BuyTrain kind (source.Trade other)) small = refl
 small_by_parts (BuyTrain kind source.BankPool) small = refl
+small_by_parts (BuyTrain kind (source.Company seller price)) small = rw (le-leb price number_most small) refl
+small_by_parts (BuyOwnedPrivate private price) small = rw (le-leb price number_most small) refl
+small_by_parts (Offer (offer.Private private buyer price)) small = rw (le-leb price number_most small) refl
+small_by_parts (Offer (offer.Train kind seller buyer price)) small = rw (le-leb price number_most small) refl
 small_by_parts other small = refl
 
 -- an order whose parts are small has small numbers
@@ -70,4 +75,13 @@ small_of_parts (Bid private amount) small = leb-true amount number_most (and_par
 small_of_parts (Limit private amount) small = leb-true amount number_most (and_parts (nat_le amount number_most) true small).0
 small_of_parts (Par company price) small = leb-true price number_most (and_parts (nat_le price number_most) true small).0
 small_of_parts (Sell company tenths) small = leb-true tenths number_most (and_parts (nat_le tenths number_most) true small).0
+small_of_parts (BuyTrain kind source.Bank) small = tt
+small_of_parts (BuyTrain kind (source.Trade other)) small = tt
+small_of_parts (BuyTrain kind source.BankPool) small = tt
+small_of_parts (BuyTrain kind (source.Company seller price)) small = leb-true price number_most (and_parts (nat_le price number_most) true small).0
+small_of_parts (BuyOwnedPrivate private price) small = leb-true price number_most (and_parts (nat_le price number_most) true small).0
+small_of_parts (Offer (offer.Private private buyer price)) small =
+    leb-true price number_most (and_parts (nat_le price number_most) true small).0
+small_of_parts (Offer (offer.Train kind seller buyer price)) small =
+    leb-true price number_most (and_parts (nat_le price number_most) true small).0
 small_of_parts other small = tt

@@ -3,7 +3,7 @@ use Rattle.std.specs.Prelude.{⊤}
 use Rattle.order_grammar.specs.declared.keyword.Keyword.{Keyword}
 use Rattle.order_grammar.specs.declared.keyword.Keyword.TheVariants as keyword
 use Rattle.order_grammar.specs.declared.order.Order.{Order}
-use Rattle.order_grammar.specs.declared.order.Order.TheVariants.{Bid, Limit, Par, Sell}
+use Rattle.order_grammar.specs.declared.order.Order.TheVariants.{Bid, BuyOwnedPrivate, Limit, Par, Sell}
 
 -- a line of the file or a head of its sheets begins with it
 abbrev pub IsOfFile : Keyword → Type 0
@@ -19,6 +19,7 @@ IsOfAmount keyword.Bid = ⊤
 IsOfAmount keyword.Limit = ⊤
 IsOfAmount keyword.Par = ⊤
 IsOfAmount keyword.Sell = ⊤
+IsOfAmount keyword.Private = ⊤
 IsOfAmount other = ⊥
 
 -- an order begins with it that tells of trains, or of what they earn
@@ -35,4 +36,5 @@ HasAmount (Bid private amount) = ⊤
 HasAmount (Limit private amount) = ⊤
 HasAmount (Par company price) = ⊤
 HasAmount (Sell company tenths) = ⊤
+HasAmount (BuyOwnedPrivate private price) = ⊤
 HasAmount other = ⊥

@@ -61,7 +61,11 @@ forms =
     ∷ row keyword.Train (class.Kind ∷ class.Word keyword.Bank ∷ []) repeated.Nothing
     ∷ row keyword.Train (class.Kind ∷ class.Word keyword.Bank ∷ class.Word keyword.Trade ∷ class.Kind ∷ []) repeated.Nothing
     ∷ row keyword.Train (class.Kind ∷ class.Word keyword.Pool ∷ []) repeated.Nothing
+    ∷ row keyword.Train (class.Kind ∷ class.Company ∷ class.Number ∷ []) repeated.Nothing
     ∷ row keyword.Discard (class.Company ∷ class.Kind ∷ []) repeated.Nothing
+    ∷ row keyword.Private (class.Private ∷ class.Number ∷ []) repeated.Nothing
+    ∷ row keyword.Offer (class.Word keyword.Private ∷ class.Private ∷ class.Company ∷ class.Number ∷ []) repeated.Nothing
+    ∷ row keyword.Offer (class.Word keyword.Train ∷ class.Kind ∷ class.Company ∷ class.Company ∷ class.Number ∷ []) repeated.Nothing
     ∷ []
 
 -- names, at least and at most so many

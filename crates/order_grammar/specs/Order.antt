@@ -8,8 +8,10 @@ use Rattle.map_tables.specs.declared.tiles.TileNo.{TileNo}
 use Rattle.order_grammar.specs.Keyword.{text_of_keyword}
 use Rattle.order_grammar.specs.declared.keyword.Keyword.{Keyword}
 use Rattle.order_grammar.specs.declared.keyword.Keyword.TheVariants as keyword
+use Rattle.order_grammar.specs.declared.order.Offer as offers
+use Rattle.order_grammar.specs.declared.order.Offer.TheVariants as offer
 use Rattle.order_grammar.specs.declared.order.Order.{Order}
-use Rattle.order_grammar.specs.declared.order.Order.TheVariants.{Blank, Game, Players, Sheet, Turn, BuyPrivate, Bid, Limit, Par, BuyShare, Sell, ExchangeMohawk, Company as CompanyTurn, Lay, Token, Run, Pay, Withhold, BuyTrain, Discard}
+use Rattle.order_grammar.specs.declared.order.Order.TheVariants.{Blank, Game, Players, Sheet, Turn, BuyPrivate, Bid, Limit, Par, BuyShare, Sell, ExchangeMohawk, Company as CompanyTurn, Lay, Token, Run, Pay, Withhold, BuyTrain, Discard, BuyOwnedPrivate, Offer}
 use Rattle.order_grammar.specs.declared.order.Parts.{Parts}
 use Rattle.order_grammar.specs.declared.order.ShareSource.{ShareSource}
 use Rattle.order_grammar.specs.declared.order.ShareSource.TheVariants.{InitialOffering, BankPool}
@@ -39,6 +41,14 @@ abbrev pub source_values : TrainSource → List Value
 source_values source.Bank = value.Word keyword.Bank ∷ []
 source_values (source.Trade kind) = value.Word keyword.Bank ∷ value.Word keyword.Trade ∷ value.Kind kind ∷ []
 source_values source.BankPool = value.Word keyword.Pool ∷ []
+source_values (source.Company seller price) = value.Company seller ∷ value.Number price ∷ []
+
+-- the words of a sale that is consented to
+abbrev pub offer_values : offers.Offer → List Value
+offer_values (offer.Private private buyer price) =
+    value.Word keyword.Private ∷ value.Private private ∷ value.Company buyer ∷ value.Number price ∷ []
+offer_values (offer.Train kind seller buyer price) =
+    value.Word keyword.Train ∷ value.Kind kind ∷ value.Company seller ∷ value.Company buyer ∷ value.Number price ∷ []
 
 -- a tile that is to be laid
 abbrev pub lay_of : TileNo → Hex → Rotation → Bool → lays.Lay
@@ -71,6 +81,8 @@ parts_of Pay = made_of keyword.Pay [] tail.Nothing
 parts_of Withhold = made_of keyword.Withhold [] tail.Nothing
 parts_of (BuyTrain kind from) = made_of keyword.Train (value.Kind kind ∷ source_values from) tail.Nothing
 parts_of (Discard company kind) = made_of keyword.Discard (value.Company company ∷ value.Kind kind ∷ []) tail.Nothing
+parts_of (BuyOwnedPrivate private price) = made_of keyword.Private (value.Private private ∷ value.Number price ∷ []) tail.Nothing
+parts_of (Offer offer) = made_of keyword.Offer (offer_values offer) tail.Nothing
 
 -- the order of these parts, where there is one
 abbrev pub order_from : Keyword → List Value → Tail → Option Order
@@ -100,5 +112,13 @@ order_from keyword.Train ((value.Kind kind) ∷ (value.Word keyword.Bank) ∷ []
 order_from keyword.Train ((value.Kind kind) ∷ (value.Word keyword.Bank) ∷ (value.Word keyword.Trade) ∷ (value.Kind other) ∷ []) tail.Nothing =
     Some (BuyTrain kind (source.Trade other))
 order_from keyword.Train ((value.Kind kind) ∷ (value.Word keyword.Pool) ∷ []) tail.Nothing = Some (BuyTrain kind source.BankPool)
+order_from keyword.Train ((value.Kind kind) ∷ (value.Company seller) ∷ (value.Number price) ∷ []) tail.Nothing =
+    Some (BuyTrain kind (source.Company seller price))
 order_from keyword.Discard ((value.Company company) ∷ (value.Kind kind) ∷ []) tail.Nothing = Some (Discard company kind)
+order_from keyword.Private ((value.Private private) ∷ (value.Number price) ∷ []) tail.Nothing = Some (BuyOwnedPrivate private price)
+order_from keyword.Offer ((value.Word keyword.Private) ∷ (value.Private private) ∷ (value.Company buyer) ∷ (value.Number price) ∷ []) tail.Nothing =
+    Some (Offer (offer.Private private buyer price))
+order_from keyword.Offer ((value.Word keyword.Train) ∷ (value.Kind kind) ∷ (value.Company seller) ∷ (value.Company buyer) ∷ (value.Number price) ∷ [])
+    tail.Nothing =
+    Some (Offer (offer.Train kind seller buyer price))
 order_from other values tail = None

@@ -20,8 +20,10 @@ use Rattle.tables.specs.Round.{number_most, operating_most}
 use Rattle.order_grammar.specs.Name.{is_name}
 use Rattle.order_grammar.specs.Print.{spelling_of}
 use Rattle.order_grammar.specs.Words.{words_of, before_comment, is_printable}
+use Rattle.order_grammar.specs.declared.order.Offer as offers
+use Rattle.order_grammar.specs.declared.order.Offer.TheVariants as offer
 use Rattle.order_grammar.specs.declared.order.Order.{Order}
-use Rattle.order_grammar.specs.declared.order.Order.TheVariants.{Blank, Game, Players, Sheet, Turn, BuyPrivate, Bid, Limit, Par, BuyShare, Sell, ExchangeMohawk, Company as CompanyTurn, Lay, Token, Run, Pay, Withhold, BuyTrain, Discard}
+use Rattle.order_grammar.specs.declared.order.Order.TheVariants.{Blank, Game, Players, Sheet, Turn, BuyPrivate, Bid, Limit, Par, BuyShare, Sell, ExchangeMohawk, Company as CompanyTurn, Lay, Token, Run, Pay, Withhold, BuyTrain, Discard, BuyOwnedPrivate, Offer}
 use Rattle.order_grammar.specs.declared.order.ShareSource.TheVariants.{InitialOffering, BankPool}
 use Rattle.order_grammar.specs.declared.order.TrainSource.{TrainSource}
 use Rattle.order_grammar.specs.declared.order.TrainSource.TheVariants as source
@@ -114,12 +116,20 @@ abbrev pub AreSwapWords : Bool → List (List ℕ) → Type 0
 AreSwapWords true words = Then (IsWord (codes "SWAP")) End words
 AreSwapWords false words = End words
 
--- BANK, BANK TRADE and the kind that is traded in, or POOL
+-- BANK, BANK TRADE and the kind that is traded in, POOL, or the company that sells and the price
 abbrev pub AreSourceWords : TrainSource → List (List ℕ) → Type 0
 AreSourceWords source.Bank words = Then (IsWord (codes "BANK")) End words
 AreSourceWords (source.Trade kind) words =
     Then (IsWord (codes "BANK")) (Then (IsWord (codes "TRADE")) (Then (IsKind kind) End)) words
 AreSourceWords source.BankPool words = Then (IsWord (codes "POOL")) End words
+AreSourceWords (source.Company seller price) words = Then (IsCompany seller) (Then (IsNumber price) End) words
+
+-- PRIVATE, the private, its buyer and the price, or TRAIN, the kind, its seller, its buyer and the price
+abbrev pub AreOfferWords : offers.Offer → List (List ℕ) → Type 0
+AreOfferWords (offer.Private private buyer price) words =
+    Then (IsWord (codes "PRIVATE")) (Then (IsPrivate private) (Then (IsCompany buyer) (Then (IsNumber price) End))) words
+AreOfferWords (offer.Train kind seller buyer price) words =
+    Then (IsWord (codes "TRAIN")) (Then (IsKind kind) (Then (IsCompany seller) (Then (IsCompany buyer) (Then (IsNumber price) End)))) words
 
 -- these words spell the order, but that its numbers may be too large
 abbrev pub AreWordsFor : Order → List (List ℕ) → Type 0
@@ -154,6 +164,9 @@ AreWordsFor Withhold words = Then (IsWord (codes "WITHHOLD")) End words
 AreWordsFor (BuyTrain kind from) words = Then (IsWord (codes "TRAIN")) (Then (IsKind kind) (AreSourceWords from)) words
 AreWordsFor (Discard company kind) words =
     Then (IsWord (codes "DISCARD")) (Then (IsCompany company) (Then (IsKind kind) End)) words
+AreWordsFor (BuyOwnedPrivate private price) words =
+    Then (IsWord (codes "PRIVATE")) (Then (IsPrivate private) (Then (IsNumber price) End)) words
+AreWordsFor (Offer offer) words = Then (IsWord (codes "OFFER")) (AreOfferWords offer) words
 
 -- the line would spell the order if numbers had no greatest value
 pub record LooselySpells (line : List ℕ) (order : Order) : Type 0 where
@@ -167,6 +180,16 @@ IsSmallRound (Opening number) = number ≤ number_most
 IsSmallRound (Stock number) = number ≤ number_most
 IsSmallRound (Operating set number) = set ≤ number_most
 
+-- the price of a train that another company sells is one that a line may have
+abbrev pub HasSmallPrice : TrainSource → Type 0
+HasSmallPrice (source.Company seller price) = price ≤ number_most
+HasSmallPrice other = Unit {0}
+
+-- so is that of a sale that is offered
+abbrev pub HasSmallOffer : offers.Offer → Type 0
+HasSmallOffer (offer.Private private buyer price) = price ≤ number_most
+HasSmallOffer (offer.Train kind seller buyer price) = price ≤ number_most
+
 -- each number of the order is one that a line may have: these forms have numbers
 abbrev pub HasSmallNumbers : Order → Type 0
 HasSmallNumbers (Game game version) = (game ≤ number_most) × (version ≤ number_most)
@@ -175,6 +198,9 @@ HasSmallNumbers (Bid private amount) = amount ≤ number_most
 HasSmallNumbers (Limit private amount) = amount ≤ number_most
 HasSmallNumbers (Par company price) = price ≤ number_most
 HasSmallNumbers (Sell company tenths) = tenths ≤ number_most
+HasSmallNumbers (BuyTrain kind from) = HasSmallPrice from
+HasSmallNumbers (BuyOwnedPrivate private price) = price ≤ number_most
+HasSmallNumbers (Offer offer) = HasSmallOffer offer
 HasSmallNumbers other = Unit {0}
 
 -- the line spells the order

@@ -40,7 +40,7 @@ pub(crate) enum Repeated {
 }
 
 /// The forms of lines. A line spells an order where its words fit a row.
-pub(crate) const FORMS: [Form; 23] = [
+pub(crate) const FORMS: [Form; 27] = [
     Form {
         keyword: Keyword::Game,
         classes: &[Class::Number, Class::Number],
@@ -165,8 +165,39 @@ pub(crate) const FORMS: [Form; 23] = [
         repeated: Repeated::Nothing,
     },
     Form {
+        keyword: Keyword::Train,
+        classes: &[Class::Kind, Class::Company, Class::Number],
+        repeated: Repeated::Nothing,
+    },
+    Form {
         keyword: Keyword::Discard,
         classes: &[Class::Company, Class::Kind],
+        repeated: Repeated::Nothing,
+    },
+    Form {
+        keyword: Keyword::Private,
+        classes: &[Class::Private, Class::Number],
+        repeated: Repeated::Nothing,
+    },
+    Form {
+        keyword: Keyword::Offer,
+        classes: &[
+            Class::Word(Keyword::Private),
+            Class::Private,
+            Class::Company,
+            Class::Number,
+        ],
+        repeated: Repeated::Nothing,
+    },
+    Form {
+        keyword: Keyword::Offer,
+        classes: &[
+            Class::Word(Keyword::Train),
+            Class::Kind,
+            Class::Company,
+            Class::Company,
+            Class::Number,
+        ],
         repeated: Repeated::Nothing,
     },
 ];

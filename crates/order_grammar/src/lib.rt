@@ -24,7 +24,7 @@ mod words;
 pub use fault::Fault;
 pub use laws::{faulty_where_it_has_one, read_where_spelt, spelling_is_read_again};
 pub use name::{NAME_MOST, Name};
-pub use order::{Order, ShareSource, TrainSource};
+pub use order::{Offer, Order, ShareSource, TrainSource};
 pub use print::{print_line, print_number, print_order, print_round};
 pub use read::{LINE_MOST, Line, read_line};
 pub use words::{Span, Token, Words, begins_with_word, has_word};

@@ -1,7 +1,7 @@
 ghost use Rattle.std.specs.Prelude.{◌≡◌, ◌≤◌, Some, length};
 ghost use Rattle.order_grammar.specs.Family.{HasAmount, IsOfAmount, IsOfFile, IsOfTrains};
-ghost use Rattle.order_grammar.specs.declared.keyword.Keyword.TheVariants.{Buy, Lay as LayWord, Train};
-ghost use Rattle.order_grammar.specs.declared.order.Order.TheVariants.{BuyShare, BuyTrain, Discard, Lay as LayOrder, Run as RunOrder};
+ghost use Rattle.order_grammar.specs.declared.keyword.Keyword.TheVariants.{Buy, Lay as LayWord, Offer as OfferWord, Train};
+ghost use Rattle.order_grammar.specs.declared.order.Order.TheVariants.{BuyShare, BuyTrain, Discard, Lay as LayOrder, Offer as OfferOrder, Run as RunOrder};
 ghost use Rattle.order_grammar.specs.declared.order.Tail.TheVariants.{Nothing};
 ghost use Rattle.order_grammar.specs.declared.order.Value.TheVariants.{Number};
 ghost use Rattle.order_grammar.specs.Order.{keyword_of_source, order_from, parts_of, text_of_source};
@@ -52,10 +52,34 @@ pub enum Order {
     Pay,
     /// `WITHHOLD`: keep the revenue of the turn.
     Withhold,
-    /// `TRAIN kind BANK`, `TRAIN kind BANK TRADE kind` or `TRAIN kind POOL`: buy a train of a kind.
+    /// `TRAIN kind BANK`, `TRAIN kind BANK TRADE kind`, `TRAIN kind POOL` or `TRAIN kind co n`: buy
+    /// a train of a kind.
     BuyTrain { kind: Kind, from: TrainSource },
     /// `DISCARD co kind`: where a company has too many trains, give up one of this kind.
     Discard { company: Company, kind: Kind },
+    /// `PRIVATE p n`: buy a private from the player who owns it, for so many dollars.
+    BuyOwnedPrivate { private: Private, price: Amount },
+    /// `OFFER PRIVATE p co n` or `OFFER TRAIN kind co co n`: consent to a sale in this round.
+    Offer(Offer),
+}
+
+/// A sale to which a player consents before it is ordered.
+#[derive(Clone, Copy, Debug, PartialEq, Eq)]
+pub enum Offer {
+    /// `PRIVATE p co n`: the player's private goes to a company for so many dollars.
+    Private {
+        private: Private,
+        buyer: Company,
+        price: Amount,
+    },
+    /// `TRAIN kind co co n`: a train goes from one company, of which the player is president, to
+    /// another for so many dollars.
+    Train {
+        kind: Kind,
+        seller: Company,
+        buyer: Company,
+        price: Amount,
+    },
 }
 
 /// Where a tenth is bought that is no seat's.
@@ -67,7 +91,7 @@ pub enum ShareSource {
     BankPool,
 }
 
-/// Where a train is bought that is no company's.
+/// Where a train is bought.
 #[derive(Clone, Copy, Debug, PartialEq, Eq)]
 pub enum TrainSource {
     /// `BANK`: what the bank sells.
@@ -76,6 +100,8 @@ pub enum TrainSource {
     Trade(Kind),
     /// `POOL`: what was traded in or discarded.
     BankPool,
+    /// `co n`: what another company sells for so many dollars.
+    Company { seller: Company, price: Amount },
 }
 
 impl ShareSource {
@@ -199,6 +225,8 @@ impl Order {
             Order::Withhold => Parts::of(Keyword::Withhold, &[]),
             Order::BuyTrain { kind, from } => parts_of_purchase(*kind, *from),
             Order::Discard { company, kind } => parts_of_discard(*company, *kind),
+            Order::BuyOwnedPrivate { .. } => self.parts_of_amount(),
+            Order::Offer(offer) => parts_of_offer(*offer),
         };
         Some(parts)
     }
@@ -213,6 +241,9 @@ impl Order {
             Order::Limit { private, amount } => (Keyword::Limit, Value::Private(*private), *amount),
             Order::Par { company, price } => (Keyword::Par, Value::Company(*company), *price),
             Order::Sell { company, tenths } => (Keyword::Sell, Value::Company(*company), *tenths),
+            Order::BuyOwnedPrivate { private, price } => {
+                (Keyword::Private, Value::Private(*private), *price)
+            }
             _ => unreachable!(),
         };
         Parts::of(keyword, &[of, Value::Number(amount)])
@@ -263,6 +294,46 @@ fn parts_of_purchase(kind: Kind, from: TrainSource) -> Parts
             Parts::of(Keyword::Train, &[kind, bank, trade, Value::Kind(other)])
         }
         TrainSource::BankPool => Parts::of(Keyword::Train, &[kind, Value::Word(Keyword::Pool)]),
+        TrainSource::Company { seller, price } => Parts::of(
+            Keyword::Train,
+            &[kind, Value::Company(seller), Value::Number(price)],
+        ),
+    }
+}
+
+/// What the consent to a sale is made of.
+fn parts_of_offer(offer: Offer) -> Parts
+    ensures { Some result ≡ parts_of (OfferOrder offer) }
+{
+    match offer {
+        Offer::Private {
+            private,
+            buyer,
+            price,
+        } => Parts::of(
+            Keyword::Offer,
+            &[
+                Value::Word(Keyword::Private),
+                Value::Private(private),
+                Value::Company(buyer),
+                Value::Number(price),
+            ],
+        ),
+        Offer::Train {
+            kind,
+            seller,
+            buyer,
+            price,
+        } => Parts::of(
+            Keyword::Offer,
+            &[
+                Value::Word(Keyword::Train),
+                Value::Kind(kind),
+                Value::Company(seller),
+                Value::Company(buyer),
+                Value::Number(price),
+            ],
+        ),
     }
 }
 
@@ -302,9 +373,10 @@ fn order_of_values(keyword: Keyword, values: &[Value]) -> Option<Order>
             order_of_file(keyword, values)
         }
         Keyword::Buy => order_to_buy(values),
-        Keyword::Bid | Keyword::Limit | Keyword::Par | Keyword::Sell => {
+        Keyword::Bid | Keyword::Limit | Keyword::Par | Keyword::Sell | Keyword::Private => {
             order_of_amount(keyword, values)
         }
+        Keyword::Offer => order_to_offer(values),
         Keyword::Exchange => match values {
             [Value::Word(Keyword::Mohawk)] => Some(Order::ExchangeMohawk),
             _ => None,
@@ -410,6 +482,13 @@ fn order_of_amount(keyword: Keyword, values: &[Value]) -> Option<Order>
             }),
             _ => None,
         },
+        Keyword::Private => match values {
+            [Value::Private(private), Value::Number(price)] => Some(Order::BuyOwnedPrivate {
+                private: *private,
+                price: *price,
+            }),
+            _ => None,
+        },
         _ => unreachable!(),
     }
 }
@@ -471,9 +550,53 @@ fn order_to_buy_train(values: &[Value]) -> Option<Order>
             Value::Kind(other),
         ] => { (*kind, TrainSource::Trade(*other)) }
         [Value::Kind(kind), Value::Word(Keyword::Pool)] => (*kind, TrainSource::BankPool),
+        [
+            Value::Kind(kind),
+            Value::Company(seller),
+            Value::Number(price),
+        ] => {
+            let (seller, price) = (*seller, *price);
+            (*kind, TrainSource::Company { seller, price })
+        }
         _ => return None,
     };
     Some(Order::BuyTrain { kind, from })
+}
+
+/// The consent to a sale that has these values.
+fn order_to_offer(values: &[Value]) -> Option<Order>
+    ensures { result ≡ order_from OfferWord values.now Nothing }
+{
+    let offer = match values {
+        [
+            Value::Word(Keyword::Private),
+            Value::Private(private),
+            Value::Company(buyer),
+            Value::Number(price),
+        ] => {
+            Offer::Private {
+                private: *private,
+                buyer: *buyer,
+                price: *price,
+            }
+        }
+        [
+            Value::Word(Keyword::Train),
+            Value::Kind(kind),
+            Value::Company(seller),
+            Value::Company(buyer),
+            Value::Number(price),
+        ] => {
+            Offer::Train {
+                kind: *kind,
+                seller: *seller,
+                buyer: *buyer,
+                price: *price,
+            }
+        }
+        _ => return None,
+    };
+    Some(Order::Offer(offer))
 }
 
 impl Parts {

@@ -3,7 +3,7 @@ use Rattle.std.proofs.Common.{◌≡◌, ℕ, List, [], ◌∷◌, ◌++◌, len
 use Rattle.std.specs.Prelude.{Option, Some, None, Result, Ok, Err, IsOk}
 use Rattle.std.specs.List.{flat_map, range_with_len}
 use Rattle.history.specs.declared.event.Event.{Event}
-use Rattle.history.specs.declared.event.Event.TheVariants.{Round, Ruled, Passes, Left, Sold, Bids, Price, Revenue, Given, Par, President, Bought, Sells, Exchanged, Floats, Moves, Home, Laid, Token, Withheld, Runs, Dividend, Traded, Train, Phase, Rusted, Discarded, Closed, Broken}
+use Rattle.history.specs.declared.event.Event.TheVariants.{Round, Ruled, Passes, Left, Sold, Bids, Price, Revenue, Given, Par, President, Bought, Sells, Exchanged, Floats, Moves, Home, Laid, Token, Withheld, Runs, Dividend, Traded, Train, Phase, Rusted, Discarded, Closed, PrivateBought, Broken}
 use Rattle.history.specs.declared.event.Holder.{Holder}
 use Rattle.history.specs.declared.event.Holder.TheVariants as holder
 use Rattle.history.specs.Shares.{president_of, square_of}
@@ -59,6 +59,7 @@ event_same f g (Phase kind) players = refl
 event_same f g (Rusted owner kind) players = refl
 event_same f g (Discarded company kind) players = refl
 event_same f g (Closed private) players = refl
+event_same f g (PrivateBought private company seller price) players = refl
 event_same f g Broken players = refl
 
 -- the same players have the same lines

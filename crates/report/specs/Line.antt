@@ -2,7 +2,7 @@
 use Rattle.std.specs.Prelude.{ℕ, Bool, if◌then◌else◌, List, [], ◌∷◌, ◌++◌, Option, Some, None, map, codes, decimal, unwrap_or, slice_get, ⊤}
 use Rattle.history.specs.Event.{code_of_refusal}
 use Rattle.history.specs.declared.event.Event.{Event}
-use Rattle.history.specs.declared.event.Event.TheVariants.{Round, Ruled, Passes, Left, Sold, Bids, Price, Revenue, Given, Par, President, Bought, Sells, Exchanged, Floats, Moves, Home, Laid, Token, Withheld, Runs, Dividend, Traded, Train, Phase, Rusted, Discarded, Closed, Broken}
+use Rattle.history.specs.declared.event.Event.TheVariants.{Round, Ruled, Passes, Left, Sold, Bids, Price, Revenue, Given, Par, President, Bought, Sells, Exchanged, Floats, Moves, Home, Laid, Token, Withheld, Runs, Dividend, Traded, Train, Phase, Rusted, Discarded, Closed, PrivateBought, Broken}
 use Rattle.history.specs.declared.event.Holder.{Holder}
 use Rattle.history.specs.declared.event.Holder.TheVariants as holder
 use Rattle.history.specs.declared.event.TrainSeller.{TrainSeller}
@@ -79,10 +79,11 @@ lay_line company lay cost = line_of (codes "LAID") (code_of_company company ∷ 
 abbrev pub exchange_line : List ℕ → Seat → ShareSource → List ℕ
 exchange_line file seat from = line_of (codes "EXCHANGED") (codes "MH" ∷ name_of file seat ∷ text_of_source from ∷ [])
 
--- the word for where a company buys a train that is no other company's
+-- the word for where a company buys a train: the code of a company that sells it
 abbrev pub text_of_seller : TrainSeller → List ℕ
 text_of_seller seller.Bank = codes "BANK"
 text_of_seller seller.BankPool = codes "POOL"
+text_of_seller (seller.Company company) = code_of_company company
 
 -- a company's code, or the word for the bank pool where there is none
 abbrev pub text_of_stable : Option Company → List ℕ
@@ -129,16 +130,18 @@ event_line file (Phase kind) = line_of (codes "PHASE") (code_of_kind kind ∷ []
 event_line file (Rusted owner kind) = line_of (codes "RUSTED") (text_of_stable owner ∷ code_of_kind kind ∷ [])
 event_line file (Discarded company kind) = line_of (codes "DISCARDED") (code_of_company company ∷ code_of_kind kind ∷ [])
 event_line file (Closed private) = line_of (codes "CLOSED") (code_of_private private ∷ [])
+event_line file (PrivateBought private company seller price) = private_line file (codes "PRIVATE") private (holder.Company company) price
 event_line file Broken = line_of (codes "BROKEN") []
 
--- the event tells of a private: of its sale, of a bid on it, of its revenue, of its closing, or of the price of
--- SV
+-- the event tells of a private: of its sale, of a bid on it, of its revenue, of its closing, of its purchase by a
+-- company, or of the price of SV
 abbrev pub IsOfPrivate : Event → Type 0
 IsOfPrivate (Sold private seat price) = ⊤
 IsOfPrivate (Bids private seat amount) = ⊤
 IsOfPrivate (Price price) = ⊤
 IsOfPrivate (Revenue private owner amount) = ⊤
 IsOfPrivate (Closed private) = ⊤
+IsOfPrivate (PrivateBought private company seller price) = ⊤
 IsOfPrivate other = ⊥
 
 -- the event tells of tenths: that they are given, bought or sold, or that one is had for MH

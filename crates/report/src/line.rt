@@ -62,7 +62,8 @@ pub(crate) fn push_event(
         | Event::Bids { .. }
         | Event::Price { .. }
         | Event::Revenue { .. }
-        | Event::Closed(_) => { push_of_private(out, sheets, event) }
+        | Event::Closed(_)
+        | Event::PrivateBought { .. } => { push_of_private(out, sheets, event) }
         Event::Given { .. }
         | Event::Bought { .. }
         | Event::Sells { .. }
@@ -84,8 +85,8 @@ pub(crate) fn push_event(
     }
 }
 
-/// Adds an event of a private as its line: its sale, a bid on it, its revenue, its closing, or the
-/// price of SV.
+/// Adds an event of a private as its line: its sale, a bid on it, its revenue, its closing, its
+/// purchase by a company, or the price of SV.
 fn push_of_private(out: &mut Vec<u8>, sheets: &Sheets, event: &Event) -> Result<(), AllocError>
     requires { IsOfPrivate event.now }
     ensures { OnOk result (Adds out.old out.new (event_line sheets.now event.now)) }
@@ -108,6 +109,15 @@ fn push_of_private(out: &mut Vec<u8>, sheets: &Sheets, event: &Event) -> Result<
             amount,
         } => tell_private(out, sheets, "REVENUE", *private, *owner, *amount),
         Event::Closed(private) => tell(out, sheets, "CLOSED", &[Word(private.code())]),
+        Event::PrivateBought {
+            private,
+            company,
+            price,
+            ..
+        } => {
+            let buyer = Holder::Company(*company);
+            tell_private(out, sheets, "PRIVATE", *private, buyer, *price)
+        }
         _ => unreachable!(),
     }
 }
@@ -257,13 +267,14 @@ fn push_of_trains(out: &mut Vec<u8>, sheets: &Sheets, event: &Event) -> Result<(
     }
 }
 
-/// The word for where a company buys a train that is no other company's.
+/// The word for where a company buys a train: the code of a company that sells it.
 fn seller_word(seller: TrainSeller) -> &'static str
     ensures { result.now ≡ text_of_seller seller }
 {
     match seller {
         TrainSeller::Bank => "BANK",
         TrainSeller::BankPool => "POOL",
+        TrainSeller::Company(company) => company.code(),
     }
 }
 

@@ -4,13 +4,15 @@ use Rattle.history.specs.declared.ruling.Ruling.{Ruling}
 use Rattle.history.specs.declared.ruling.Ruling.TheVariants.{Obeyed}
 use Rattle.order_grammar.specs.declared.fault.Fault.{Fault}
 use Rattle.order_grammar.specs.declared.order.Order.{Order}
-use Rattle.order_grammar.specs.declared.order.Order.TheVariants.{Bid, Limit}
+use Rattle.order_grammar.specs.declared.order.Order.TheVariants.{Bid, BuyTrain, Limit}
+use Rattle.order_grammar.specs.declared.order.TrainSource.TheVariants.{Company}
 use Rattle.sheets.specs.Part.{Numbered, Parts, StandsAtHead, groups_of}
 
--- the sum of a bid or a limit is at most 99,999
+-- the sum of a bid or a limit is at most 99,999, and the price at which a company is to sell a train
 abbrev pub IsSmallOrder : Order → Type 0
 IsSmallOrder (Bid private amount) = amount ≤ 99999
 IsSmallOrder (Limit private amount) = amount ≤ 99999
+IsSmallOrder (BuyTrain kind (Company seller price)) = price ≤ 99999
 IsSmallOrder other = Unit {0}
 
 -- so is that of an order that is obeyed

@@ -1,4 +1,8 @@
-use Rattle.std.proofs.Common.{◌≡◌, None, sym, ◌∙◌}
+use Rattle.std.proofs.Common.{◌≡◌, None, ap, sym, ◌∙◌}
+use Rattle.history.specs.LookBack.{with_event}
+use Rattle.history.specs.declared.event.Event.TheVariants as event
+use Rattle.history.specs.declared.ruling.Ruling.TheVariants.{Obeyed}
+use Rattle.order_grammar.specs.declared.order.Order.{Order}
 use Rattle.operating.proofs.Still.{bought_steps, same_judgement}
 use Rattle.operating.proofs.Told.{told_as}
 use Rattle.operating.specs.InTurn.{in_turn}
@@ -7,7 +11,9 @@ use Rattle.operating.proofs.train.rule_train.Goals as goal
 pub buy_train-requires-clause-may : goal.buy_train-requires-clause-may
 buy_train-requires-clause-may c =
     let none : c.judge_purchase-broken.result ≡ None = cc in
-    same_judgement c.args.history.now c.tell_ruling-2.new.history c.args.by.president c.args.line _ c.args.by.company c.purchase_of-purchase.result c.in_ok-tell_ruling-2.ensures.event
+    same_judgement c.args.history.now c.tell_ruling-2.new.history c.args.by.president c.args.line c.args.kind c.args.from c.args.by.company c.purchase_of-purchase.result
+    (told_as c.args.history.now _ c.args.by.president c.args.line c.obeyed.result _ c.in_ok-tell_ruling-2.ensures.event c.obeyed.ensures
+    ∙ ap (λ (its : Order). with_event c.args.history.now (event.Ruled c.args.by.president c.args.line (Obeyed its))) c.in_ok-kept.ensures)
     ∙ sym c.judge_purchase-broken.ensures
     ∙ none
 

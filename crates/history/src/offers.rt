@@ -1,0 +1,29 @@
+//! Sales to which a seat has consented.
+ghost use Rattle.std.specs.Prelude.{◌≡◌};
+ghost use Rattle.history.specs.Offers.{has_consent, has_offered};
+
+use crate::aspect::{InRound, last_said};
+use crate::look_back::Past;
+use crate::topics::OfferBy;
+use order_grammar::Offer;
+use tables::Seat;
+
+impl Past<'_> {
+    /// Whether a seat has offered exactly this sale, by an OFFER line that was obeyed in this
+    /// round.
+    pub fn has_offered(&self, seat: Seat, sale: Offer) -> bool
+        ensures { result ≡ has_offered self.now.events.now seat sale }
+    {
+        last_said(&InRound(OfferBy(sale, seat)), self.events)
+            .flatten()
+            .is_some()
+    }
+
+    /// Whether the seat that gives a thing consents to its sale, where this seat takes it: it is
+    /// the same one, or it has offered exactly this sale in this round.
+    pub fn has_consent(&self, giver: Seat, taker: Seat, sale: Offer) -> bool
+        ensures { result ≡ has_consent self.now.events.now giver taker sale }
+    {
+        giver == taker || self.has_offered(giver, sale)
+    }
+}

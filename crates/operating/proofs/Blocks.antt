@@ -1,0 +1,21 @@
+-- The sums that the lines of a company's block name are small, as those of its sheet.
+use Rattle.std.proofs.Common.{ℕ, Bool, true, false, if◌then◌else◌, List, [], ◌∷◌, map}
+use Rattle.sheets.specs.Block.{block_for, block_in, opens_block_of}
+use Rattle.sheets.specs.Part.{Numbered, Part, parts_for}
+use Rattle.tables.specs.declared.roster.Company.{Company}
+use Rattle.tables.specs.declared.round.Round.{Round}
+use Rattle.turns.proofs.Small.{parts_small}
+use Rattle.turns.specs.Small.{AreSmall, GroupsAreSmall}
+
+-- those of the company's first block among some
+small_in : (company : Company) (parts : List Part) → GroupsAreSmall (map (λ (part : Part). part.lines) parts) → AreSmall (block_in company parts)
+small_in company [] small = tt
+small_in company (part ∷ parts) small =
+    elim (opens_block_of company part.head.reading) as (λ (b : Bool). AreSmall (if b then part.lines else block_in company parts)) [
+      | true ↦ small.0
+      | false ↦ small_in company parts small.1
+    ]
+
+-- those of its block in a sheet
+pub block_small : (file : List ℕ) (round : Round) (seat : ℕ) (company : Company) → AreSmall (block_for file round seat company)
+block_small file round seat company = small_in company (parts_for file round seat).opened (parts_small file round seat).1
