@@ -2,6 +2,7 @@ pub mod Marks
 pub mod Tried
 pub mod Places
 pub mod Advance
+pub mod Eased
 pub mod Prefix
 pub mod Complete
 pub mod Sets

@@ -1,3 +1,4 @@
 pub mod Moves
 pub mod Fit
 pub mod Described
+pub mod Suffix

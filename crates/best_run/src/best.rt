@@ -1,6 +1,7 @@
-ghost use Rattle.std.specs.Prelude.{◌≡◌, IfOk, false};
+ghost use Rattle.std.specs.Prelude.{◌≡◌, ◌-◌, ◌≤◌, IfOk, false, length};
 ghost use Rattle.best_run.specs.Fit.{IsFit};
-ghost use Rattle.best_run.specs.Moves.{Explores, start};
+ghost use Rattle.best_run.specs.Moves.{Explores, between, start};
+ghost use Rattle.best_run.specs.Suffix.{AreBounds, IsSolved, nothing_before};
 ghost use Rattle.certificate.specs.Set.{IsGreatest};
 
 use crate::state::{BORDERS, Settled};
@@ -10,19 +11,47 @@ use std::alloc::{AllocError, Global};
 use tables::{Amount, Company, Kind};
 
 impl Task {
-    /// The greatest total of all ways from nothing settled to the end, in dollars.
-    fn greatest(&self) -> Amount
-        requires { IsFit self.now }
-        ensures { Explores self.now start 0 result }
+    /// Tries all ways of the last trains by themselves, so many of them.
+    fn settle_last(&self, count: usize, bounds: &[Amount], best: &mut Amount)
+        requires fit { IsFit self.now }
+        requires bounds { AreBounds self.now bounds.now }
+        requires count { count ≤ length self.now.trains.items }
+        ensures { let next = length self.now.trains.items - count in
+            Explores self.now (between (nothing_before next)) best.old best.new }
     {
-        let mut best = 0;
         let nothing = Settled {
-            next: 0,
+            next: self.trains.len() - count,
             total: 0,
             used: [false; BORDERS],
         };
-        self.settle_next(&nothing, &mut best);
-        best
+        self.settle_next(&nothing, bounds, best);
+    }
+
+    /// Solves for no train, for the last one, for the last two, and so on, up to all but the first:
+    /// what is found bounds what these trains earn behind others. The only error is want of memory.
+    fn settle_suffixes(&self, alloc: Global, best: &mut Amount) -> Result<Vec<Amount>, AllocError>
+        requires { IsFit self.now }
+        ensures { let all = length self.now.trains.items in
+            IfOk result (λ bounds. IsSolved self.now all bounds.items best.old best.new) }
+    {
+        let mut bounds = Vec::new(alloc);
+        for count in 0..self.trains.len() {
+            self.settle_last(count, &bounds, best);
+            bounds.push(*best)?;
+        }
+        Ok(bounds)
+    }
+
+    /// The greatest total of all ways from nothing settled to the end, in dollars. The only error
+    /// is want of memory.
+    fn greatest(&self, alloc: Global) -> Result<Amount, AllocError>
+        requires { IsFit self.now }
+        ensures { IfOk result (Explores self.now start 0) }
+    {
+        let mut best = 0;
+        let bounds = self.settle_suffixes(alloc, &mut best)?;
+        self.settle_last(self.trains.len(), &bounds, &mut best);
+        Ok(best)
     }
 }
 
@@ -39,5 +68,6 @@ pub fn greatest_revenue<N: Network>(
 {
     network.keeps_laws();
     let task = Task::of(alloc, network, company, trains)?;
-    Ok(task.greatest())
+    let revenue = task.greatest(alloc)?;
+    Ok(revenue)
 }

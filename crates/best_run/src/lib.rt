@@ -3,7 +3,8 @@
 //!
 //! The definitions of a legal set and of the greatest revenue are those of `certificate`. Those of this
 //! crate, in `specs/`, are of the search alone: `Moves` says what it goes over, move by move, `Described`
-//! how a position is laid out for it, `Fit` what keeps its numbers within their bounds.
+//! how a position is laid out for it, `Fit` what keeps its numbers within their bounds, `Suffix` what the
+//! last trains earn by themselves, which bounds what they earn behind others.
 //!
 //! Reading order: `best` (the public call), `spots` (the spots of a position with the pieces of track
 //! between them), `task`, `state` (the trains settled so far, and the run begun), `search`.

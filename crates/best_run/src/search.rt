@@ -1,5 +1,6 @@
-ghost use Rattle.std.specs.Prelude.{◌≡◌, ◌+◌, ◌<◌, ◌≤◌, true, length};
+ghost use Rattle.std.specs.Prelude.{◌≡◌, ◌+◌, ◌<◌, ◌≤◌, true, IsTrue, length};
 ghost use Rattle.best_run.specs.Fit.{HasRoom, IsFit, PieceFits, credit};
+ghost use Rattle.best_run.specs.Suffix.{AreBounds, FallShort};
 ghost use Rattle.best_run.specs.Moves.{Any, Explores, IsBegin, IsBeginAt, IsGo, Takes, Tries, between, node_at, standing, stop_in};
 
 use crate::state::{Settled, Standing};
@@ -7,10 +8,22 @@ use crate::task::{Piece, Task};
 use tables::Amount;
 
 impl Task {
+    /// Whether the trains that are left can earn no more than what has been found, by what they
+    /// earn by themselves. It is not told of all of them.
+    fn falls_short(&self, settled: &Settled, bounds: &[Amount], best: Amount) -> bool
+        requires { settled.now.next ≤ length self.now.trains.items }
+        ensures short { IsTrue result → FallShort self.now bounds.now settled.now best }
+        ensures whole { length settled.now.used ≡ 279 }
+    {
+        let left = self.trains.len() - settled.next;
+        left < bounds.len() && settled.total <= best && bounds[left] <= best - settled.total
+    }
+
     /// Tries all ways from a state between runs to the end.
     #[cycle(explore)]
-    pub(crate) fn settle_next(&self, settled: &Settled, best: &mut Amount)
+    pub(crate) fn settle_next(&self, settled: &Settled, bounds: &[Amount], best: &mut Amount)
         requires fit { IsFit self.now }
+        requires bounds { AreBounds self.now bounds.now }
         requires next { settled.now.next ≤ length self.now.trains.items }
         requires room { HasRoom settled.now.used settled.now.total 44640 }
         ensures { Explores self.now (between settled.now) best.old best.new }
@@ -21,30 +34,35 @@ impl Task {
             }
             return;
         }
+        if self.falls_short(settled, bounds, *best) {
+            return;
+        }
         let passed = settled.passed();
-        self.settle_next(&passed, best);
-        self.begin_runs(settled, best);
+        self.settle_next(&passed, bounds, best);
+        self.begin_runs(settled, bounds, best);
     }
 
     /// Tries all runs of the next train, from each stop.
     #[cycle(explore)]
-    fn begin_runs(&self, settled: &Settled, best: &mut Amount)
+    fn begin_runs(&self, settled: &Settled, bounds: &[Amount], best: &mut Amount)
         requires fit { IsFit self.now }
+        requires bounds { AreBounds self.now bounds.now }
         requires next { settled.now.next < length self.now.trains.items }
         requires room { HasRoom settled.now.used settled.now.total 44640 }
         ensures { Tries self.now (between settled.now) (IsBegin Any) best.old best.new }
     {
         for stop in 0..self.spots.len() {
             if self.spots[stop].stop {
-                self.begin_at(settled, stop, best);
+                self.begin_at(settled, stop, bounds, best);
             }
         }
     }
 
     /// Tries all runs of the next train that begin at a stop.
     #[cycle(explore)]
-    fn begin_at(&self, settled: &Settled, stop: usize, best: &mut Amount)
+    fn begin_at(&self, settled: &Settled, stop: usize, bounds: &[Amount], best: &mut Amount)
         requires fit { IsFit self.now }
+        requires bounds { AreBounds self.now bounds.now }
         requires next { settled.now.next < length self.now.trains.items }
         requires room { HasRoom settled.now.used settled.now.total 44640 }
         requires stop { stop < 744 }
@@ -54,14 +72,22 @@ impl Task {
         let node = &self.spots[stop];
         let run = self.begun(settled, stop);
         for index in 0..node.pieces.len() {
-            self.take(settled, &run, &node.pieces[index], best);
+            self.take(settled, &run, &node.pieces[index], bounds, best);
         }
     }
 
     /// Tries all ways on from a piece, if the run may take it.
     #[cycle(explore)]
-    fn take(&self, settled: &Settled, run: &Standing, piece: &Piece, best: &mut Amount)
+    fn take(
+        &self,
+        settled: &Settled,
+        run: &Standing,
+        piece: &Piece,
+        bounds: &[Amount],
+        best: &mut Amount,
+    )
         requires fit { IsFit self.now }
+        requires bounds { AreBounds self.now bounds.now }
         requires next { settled.now.next < length self.now.trains.items }
         requires piece { let from = stop_in (node_at self.now run.now.head) in
             PieceFits self.now from piece.now }
@@ -71,14 +97,15 @@ impl Task {
         if self.can_take(run, settled, piece) {
             let next = self.along(run, piece);
             let using = settled.using(piece);
-            self.stand(&using, &next, best);
+            self.stand(&using, &next, bounds, best);
         }
     }
 
     /// Tries all ways to the end from a run that has begun.
     #[cycle(explore)]
-    fn stand(&self, settled: &Settled, run: &Standing, best: &mut Amount)
+    fn stand(&self, settled: &Settled, run: &Standing, bounds: &[Amount], best: &mut Amount)
         requires fit { IsFit self.now }
+        requires bounds { AreBounds self.now bounds.now }
         requires next { settled.now.next < length self.now.trains.items }
         requires head { run.now.head < 744 }
         requires room { let more = credit (stop_in (node_at self.now run.now.head)) in
@@ -87,15 +114,16 @@ impl Task {
     {
         if self.may_settle(run) {
             let settling = settled.settling(run);
-            self.settle_next(&settling, best);
+            self.settle_next(&settling, bounds, best);
         }
-        self.go_on(settled, run, best);
+        self.go_on(settled, run, bounds, best);
     }
 
     /// Tries all ways on from where a run stands.
     #[cycle(explore)]
-    fn go_on(&self, settled: &Settled, run: &Standing, best: &mut Amount)
+    fn go_on(&self, settled: &Settled, run: &Standing, bounds: &[Amount], best: &mut Amount)
         requires fit { IsFit self.now }
+        requires bounds { AreBounds self.now bounds.now }
         requires next { settled.now.next < length self.now.trains.items }
         requires head { run.now.head < 744 }
         requires room { let more = credit (stop_in (node_at self.now run.now.head)) in
@@ -107,7 +135,7 @@ impl Task {
             return;
         }
         for index in 0..head.pieces.len() {
-            self.take(settled, run, &head.pieces[index], best);
+            self.take(settled, run, &head.pieces[index], bounds, best);
         }
     }
 }

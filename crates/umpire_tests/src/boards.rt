@@ -6,7 +6,7 @@ use reach::{Network, reached};
 use std::alloc::Global;
 use tables::{Company, Kind, Money};
 
-const PRR: Company = Company::Pennsylvania;
+pub(crate) const PRR: Company = Company::Pennsylvania;
 
 /// A company that has laid nothing in its turn and has this cash.
 fn asker(company: Company, cash: Money) -> Asker {
@@ -22,7 +22,7 @@ fn asker(company: Company, cash: Money) -> Asker {
 }
 
 /// A tile that is turned by one sixth.
-fn laid(hex: Hex, tile: TileNo) -> Lay {
+pub(crate) fn laid(hex: Hex, tile: TileNo) -> Lay {
     Lay {
         hex,
         tile,
@@ -40,7 +40,7 @@ fn first(hex: Hex) -> Stop {
 }
 
 /// A board with some tiles and PRR's home token.
-fn of_prr(alloc: Global, lays: &[Lay]) -> Result<Board, BoardFault> {
+pub(crate) fn of_prr(alloc: Global, lays: &[Lay]) -> Result<Board, BoardFault> {
     Board::of(alloc, lays, &[(first(Hex::H12).place(), PRR)], Kind::Two)
 }
 

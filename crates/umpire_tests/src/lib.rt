@@ -5,9 +5,12 @@
 //!
 //! Reading order: `support` (readers and writers that give and take as they are told), `running`
 //! (whole runs over them), `watching` (a reader or writer that remembers a failure), `texts`
-//! (lines read and printed, reports), `boards` (tiles and tokens), `books` (money, tenths, rounds).
+//! (lines read and printed, reports), `boards` (tiles and tokens), `best` (the greatest
+//! revenue), `books` (money, tenths, rounds).
 #![tactic(auto)]
 
+#[cfg(test)]
+mod best;
 #[cfg(test)]
 mod boards;
 #[cfg(test)]

@@ -4,6 +4,7 @@ use Rattle.best_run.specs.declared.state.Settled.{Settled}
 use Rattle.best_run.specs.declared.state.Standing.{Standing}
 use Rattle.best_run.specs.Fit.{PieceFits}
 use Rattle.best_run.specs.Moves.{Any, Below, Explores, IsBeginAt, IsGo, Takes, Tries, between, can_take, ends_in, node_at, standing, stop_in}
+use Rattle.best_run.proofs.Eased.{falls_short}
 use Rattle.best_run.proofs.Places.{begin_all, begin_next, go_all, go_next, leads_at, less_after, node_is, one_low, piece_fits, room_after, value_low}
 use Rattle.best_run.proofs.Tried.{explores_between, explores_on, explores_standing, over_better, over_no_better, take_begin, take_go, tries_both, tries_fewer}
 use Rattle.best_run.proofs.task.Task.+explore.Goals as goal
@@ -60,6 +61,11 @@ pub settle_next-returns-else-best-settled : goal.settle_next-returns-else-best-s
 settle_next-returns-else-best-settled t c =
     over_no_better c.args.self.now c.args.settled.now c.args.best.now (omega arith) (omega arith)
 
+pub settle_next-returns-then-falls_short : goal.settle_next-returns-then-falls_short
+settle_next-returns-then-falls_short t c =
+    falls_short c.args.self.now c.args.bounds.now c.args.settled.now c.args.best.now c.requires.bounds c.falls_short.ensures.whole c.requires.next
+    (c.falls_short.ensures.short c.if-falls_short.true)
+
 pub settle_next-returns : goal.settle_next-returns
 settle_next-returns t c =
     let task = c.args.self.now in
@@ -96,10 +102,13 @@ take-stand-requires t c =
       (
         c.requires.fit,
         (
-          c.requires.next,
+          c.requires.bounds,
           (
-            c.requires.piece.to,
-            room_after task settled run piece c.requires.fit whole taken c.requires.piece c.requires.room,
+            c.requires.next,
+            (
+              c.requires.piece.to,
+              room_after task settled run piece c.requires.fit whole taken c.requires.piece c.requires.room,
+            ),
           ),
         ),
       ),
@@ -116,7 +125,7 @@ begin_at-take-requires t c =
     let one = one_low (stop_in (node_at task c.args.stop)) in
     let value = value_low task c.requires.fit c.args.stop in
     rw c.begun-run.ensures
-    (omega arith, (c.requires.fit, (c.requires.next, (fits, omega arith))))
+    (omega arith, (c.requires.fit, (c.requires.bounds, (c.requires.next, (fits, omega arith)))))
 
 pub go_on-take-requires : goal.go_on-take-requires
 go_on-take-requires t c =
@@ -126,4 +135,4 @@ go_on-take-requires t c =
     let piece = c.index.result.now in
     let there : node_at task run.head ≡ Some node = node_is task c.requires.fit run.head node c.requires.head c.index-head.ensures in
     let fits : PieceFits task (stop_in (node_at task run.head)) piece = subst (λ (b : Bool). PieceFits task b piece) (sym (ap stop_in there)) (piece_fits task c.requires.fit run.head node there c.loop-index.index piece (omega arith) c.index.ensures) in
-    (omega arith, (c.requires.fit, (c.requires.next, (fits, omega arith))))
+    (omega arith, (c.requires.fit, (c.requires.bounds, (c.requires.next, (fits, omega arith)))))

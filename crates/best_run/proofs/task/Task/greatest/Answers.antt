@@ -1,7 +1,11 @@
--- Nothing is used at first.
-use Rattle.std.proofs.Common.{arith}
-use Rattle.best_run.proofs.Few.{unused_none}
+-- All trains are solved for in the end.
+use Rattle.std.proofs.Common.{sym, subst, arith}
+use Rattle.best_run.specs.Suffix.{AreBounds}
+use Rattle.best_run.proofs.Eased.{solved_all}
 use Rattle.best_run.proofs.task.Task.greatest.Goals as goal
 
-pub settle_next-requires-clause-room : goal.settle_next-requires-clause-room
-settle_next-requires-clause-room c = omega (arith, unused_none 279)
+pub settle_last-requires-clause-bounds : goal.settle_last-requires-clause-bounds
+settle_last-requires-clause-bounds c = subst (AreBounds c.args.self.now) (sym c.deref.ensures.value) c.in_ok-bounds.ensures.true_bounds
+
+pub returns : goal.returns
+returns c = solved_all c.args.self.now c.len.result _ _ _ (omega arith) c.in_ok-bounds.ensures c.settle_last.ensures

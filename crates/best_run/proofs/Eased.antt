@@ -1,0 +1,175 @@
+-- Ways to the end stay open where fewer borders are used, and earn as much more: so the trains that are left never earn
+-- more than they do by themselves.
+use Rattle.std.proofs.Common.{◌≡◌, ℕ, zero, suc, ◌+◌, ◌-◌, ◌<◌, ◌≤◌, Bool, true, false, ◌&&◌, ◌⊎◌, inl, inr, Some, List, [], ◌∷◌, ◌++◌, length, get_or, set, replicate, slice_get, refl, sym, ap, subst, ◌∙◌, arith, add-one}
+use Rattle.reach.specs.Position.{IsAmong}
+use Rattle.best_run.specs.declared.task.Piece.{Piece}
+use Rattle.best_run.specs.declared.task.Task.{Task}
+use Rattle.best_run.specs.declared.state.Settled.{Settled}
+use Rattle.best_run.specs.declared.state.Standing.{Standing}
+use Rattle.best_run.specs.Moves.{CanEarn, Completes, Explores, IsOpen, Move, State, along, begin, begun, between, can_take, go, marked_all, may_come, misses, node_at, pass, passed, settle, settling, standing, start, stop_in, total_after, total_of, using}
+use Rattle.best_run.specs.Suffix.{AreBounds, EarnAtMost, FallShort, IsSolved, nothing_before}
+use Rattle.best_run.proofs.Advance.{IsMarked, free_misses, misses_free}
+
+-- what is marked in the second is marked in the first
+abbrev Freer : List Bool → List Bool → Type 0
+Freer [] [] = Unit {0}
+Freer [] (mark ∷ marks) = ⊥
+Freer (mark ∷ marks) [] = ⊥
+Freer (mark ∷ marks) (other ∷ others) = (other ≡ true → mark ≡ true) × Freer marks others
+
+freer_none : (used : List Bool) → Freer used (replicate (length used) false)
+freer_none [] = tt
+freer_none (mark ∷ used) = ((λ wrong. absurd (let w : false ≡ true = wrong in cc)), freer_none used)
+
+freer_set : (used others : List Bool) (n : ℕ) → Freer used others → Freer (set used n true) (set others n true)
+freer_set [] [] n freer = tt
+freer_set [] (mark ∷ others) n freer = absurd freer
+freer_set (mark ∷ used) [] n freer = absurd freer
+freer_set (mark ∷ used) (other ∷ others) zero freer = ((λ is. refl), freer.1)
+freer_set (mark ∷ used) (other ∷ others) (suc n) freer = (freer.0, freer_set used others n freer.1)
+
+freer_all : (borders : List ℕ) (used others : List Bool) → Freer used others → Freer (marked_all used borders) (marked_all others borders)
+freer_all [] used others freer = freer
+freer_all (border ∷ borders) used others freer = freer_all borders (set used border true) (set others border true) (freer_set used others border freer)
+
+freer_marked : (used others : List Bool) (n : ℕ) → Freer used others → IsMarked others n → IsMarked used n
+freer_marked [] [] n freer marked = marked
+freer_marked [] (mark ∷ others) n freer marked = absurd freer
+freer_marked (mark ∷ used) [] n freer marked = absurd freer
+freer_marked (mark ∷ used) (other ∷ others) zero freer marked = freer.0 marked
+freer_marked (mark ∷ used) (other ∷ others) (suc n) freer marked = freer_marked used others n freer.1 marked
+
+both_true : (a b c : Bool) → (b ≡ true → c ≡ true) → (a && b) ≡ true → (a && c) ≡ true
+both_true true b c makes is = makes is
+both_true false b c makes is = is
+
+-- a piece that may be taken
+freer_take : (task : Task) (run : Standing) (used others : List Bool) (piece : Piece) → Freer used others → can_take task run used piece ≡ true → can_take task run others piece ≡ true
+freer_take task run used others piece freer =
+    both_true (may_come (stop_in (node_at task piece.to)) run piece.to) (misses used piece.borders.items) (misses others piece.borders.items)
+    (λ free. free_misses others piece.borders.items (λ border among marked. misses_free used piece.borders.items free border among (freer_marked used others border freer marked)))
+
+-- the same trains are settled, with other earnings and other marks
+abbrev eased : Settled → ℕ → List Bool → Settled
+eased settled total used = record { next = settled.next; total = total; used = used }
+
+abbrev eased_state : State → ℕ → List Bool → State
+eased_state (between settled) total used = between (eased settled total used)
+eased_state (standing settled run) total used = standing (eased settled total used) run
+
+abbrev marks_of : State → List Bool
+marks_of (between settled) = settled.used
+marks_of (standing settled run) = settled.used
+
+record Eased (task : Task) (state : State) (moves : List Move) (total : ℕ) (used : List Bool) : Type 0 where
+  pub completes : Completes task (eased_state state total used) moves
+  pub earns : total_after task state moves + total ≡ total_after task (eased_state state total used) moves + total_of state
+
+-- what a run earns is earned in both
+less_both : (a b total value settled : ℕ) → a + (total + value) ≡ b + (settled + value) → a + total ≡ b + settled
+less_both a b total value settled same = omega arith
+
+within : (a b total bound best : ℕ) → a + 0 ≡ b + total → b ≤ bound → total + bound ≤ best → a ≤ best
+within a b total bound best same low enough = omega arith
+
+ease : (task : Task) (moves : List Move) (state : State) (total : ℕ) (used : List Bool) → Freer (marks_of state) used → Completes task state moves → Eased task state moves total used
+ease task [] (between settled) total used freer completes = record { completes = completes; earns = omega arith }
+ease task [] (standing settled run) total used freer completes = absurd completes
+ease task (pass ∷ moves) (between settled) total used freer completes =
+    let rest : Eased task (between (passed settled)) moves total used = ease task moves (between (passed settled)) total used freer completes.1 in
+    record { completes = (completes.0, rest.completes); earns = rest.earns }
+ease task (pass ∷ moves) (standing settled run) total used freer completes = absurd completes.0
+ease task (begin stop index piece ∷ moves) (between settled) total used freer completes =
+    let rest : Eased task (standing (using settled piece) (along task (begun task settled stop) piece)) moves total (marked_all used piece.borders.items) = ease task moves (standing (using settled piece) (along task (begun task settled stop) piece)) total (marked_all used piece.borders.items) (freer_all piece.borders.items settled.used used freer) completes.1 in
+    record {
+      completes = (record { train = completes.0.train; begins = completes.0.begins; leads = completes.0.leads; taken = freer_take task (begun task settled stop) settled.used used piece freer completes.0.taken }, rest.completes);
+      earns = rest.earns;
+    }
+ease task (begin stop index piece ∷ moves) (standing settled run) total used freer completes = absurd completes.0
+ease task (go index piece ∷ moves) (between settled) total used freer completes = absurd completes.0
+ease task (go index piece ∷ moves) (standing settled run) total used freer completes =
+    let rest : Eased task (standing (using settled piece) (along task run piece)) moves total (marked_all used piece.borders.items) = ease task moves (standing (using settled piece) (along task run piece)) total (marked_all used piece.borders.items) (freer_all piece.borders.items settled.used used freer) completes.1 in
+    record {
+      completes = (record { passes = completes.0.passes; leads = completes.0.leads; taken = freer_take task run settled.used used piece freer completes.0.taken }, rest.completes);
+      earns = rest.earns;
+    }
+ease task (settle ∷ moves) (between settled) total used freer completes = absurd completes.0
+ease task (settle ∷ moves) (standing settled run) total used freer completes =
+    let rest : Eased task (between (settling settled run)) moves (total + run.value) used = ease task moves (between (settling settled run)) (total + run.value) used freer completes.1 in
+    record {
+      completes = (completes.0, rest.completes);
+      earns = less_both (total_after task (between (settling settled run)) moves) (total_after task (between (eased (settling settled run) (total + run.value) used)) moves) total run.value settled.total rest.earns;
+    }
+
+-- what falls short need not be tried
+pub falls_short : (task : Task) (bounds : List ℕ) (settled : Settled) (best : ℕ) → AreBounds task bounds → length settled.used ≡ 279 → settled.next ≤ length task.trains.items → FallShort task bounds settled best → Explores task (between settled) best best
+falls_short task bounds settled best are whole next short =
+    record { grows = omega arith; earned = λ possible earned. earned; most = most }
+  where
+    most : (moves : List Move) → Completes task (between settled) moves → total_after task (between settled) moves ≤ best
+    most moves completes =
+        let freer : Freer settled.used (replicate 279 false) = subst (λ (n : ℕ). Freer settled.used (replicate n false)) whole (freer_none settled.used) in
+        let easy : Eased task (between settled) moves 0 (replicate 279 false) = ease task moves (between settled) 0 (replicate 279 false) freer completes in
+        let low : total_after task (between (nothing_before settled.next)) moves ≤ short.0 = are (length task.trains.items - settled.next) short.0 settled.next short.1 (omega (arith, next)) moves easy.completes in
+        within (total_after task (between settled) moves) (total_after task (between (nothing_before settled.next)) moves) settled.total short.0 best easy.earns low short.2
+
+-- the trains before one may all pass
+pub open_before : (task : Task) (next : ℕ) → next ≤ length task.trains.items → IsOpen task (between (nothing_before next))
+open_before task zero low moves completes = (moves, completes, refl)
+open_before task (suc next) low moves completes =
+    let Ends : ℕ → Type 0 = λ n. Completes task (between (nothing_before n)) moves × (total_after task (between (nothing_before n)) moves ≡ total_after task (between (nothing_before (suc next))) moves) in
+    let passed_by : Ends (next + 1) = subst Ends (sym (add-one next)) (completes, refl) in
+    let before : CanEarn task (total_after task (between (nothing_before (next + 1))) moves) = open_before task next (omega arith) (pass ∷ moves) (omega arith, passed_by.0) in
+    (before.0, before.1, before.2 ∙ passed_by.1)
+
+slice_push : (xs : List ℕ) (x i y : ℕ) → slice_get (xs ++ x ∷ []) i ≡ Some y → (slice_get xs i ≡ Some y) ⊎ ((i ≡ length xs) × (x ≡ y))
+slice_push [] x zero y is = inr (refl, let e : Some x ≡ Some y = is in cc)
+slice_push [] x (suc i) y is = absurd cc
+slice_push (z ∷ xs) x zero y is = inl is
+slice_push (z ∷ xs) x (suc i) y is =
+    elim (slice_push xs x i y is) [ inl old ↦ inl old | inr new ↦ inr (ap suc new.0, new.1) ]
+
+pub solved_none : (task : Task) (best : ℕ) → IsSolved task 0 [] best best
+solved_none task best =
+    record { all = refl; true_bounds = λ count bound next is. absurd (no_such count bound is); grows = omega arith; earned = λ earned. earned }
+  where
+    no_such : (count bound : ℕ) → slice_get [] count ≡ Some bound → ⊥
+    no_such zero bound is = cc
+    no_such (suc count) bound is = cc
+
+-- one train more is solved for
+pub solved_more : (task : Task) (count : ℕ) (bounds : List ℕ) (first old new : ℕ) → count ≤ length task.trains.items → IsSolved task count bounds first old → Explores task (between (nothing_before (length task.trains.items - count))) old new → IsSolved task (count + 1) (bounds ++ new ∷ []) first new
+solved_more task count bounds first old new low before explores =
+    record {
+      all = length_push bounds ∙ (ap suc before.all ∙ sym (add-one count));
+      true_bounds = bounds_more;
+      grows = omega (arith, before.grows, explores.grows);
+      earned = λ earned. explores.earned (open_before task (length task.trains.items - count) (omega arith)) (before.earned earned);
+    }
+  where
+    length_push : (xs : List ℕ) → length (xs ++ new ∷ []) ≡ suc (length xs)
+    length_push [] = refl
+    length_push (x ∷ xs) = ap suc (length_push xs)
+
+    bounds_more : AreBounds task (bounds ++ new ∷ [])
+    bounds_more many bound next is all =
+        elim (slice_push bounds new many bound is) [
+          | inl known ↦ before.true_bounds many bound next known all
+          | inr last ↦
+              let here : next ≡ length task.trains.items - count = omega (arith, all, last.0, before.all) in
+              subst (λ (n : ℕ). EarnAtMost task n bound) (sym here) (subst (EarnAtMost task (length task.trains.items - count)) last.1 explores.most)
+        ]
+
+-- all trains are solved for
+pub solved_all : (task : Task) (count : ℕ) (bounds : List ℕ) (old new : ℕ) → count ≡ length task.trains.items → IsSolved task (length task.trains.items) bounds 0 old → Explores task (between (nothing_before (length task.trains.items - count))) old new → Explores task start 0 new
+solved_all task count bounds old new all before explores =
+    record {
+      grows = omega arith;
+      earned = λ possible earned. from_start.earned possible (before.earned earned);
+      most = from_start.most;
+    }
+  where
+    from_start : Explores task start old new
+    from_start =
+        let none : length task.trains.items - count ≡ 0 = omega (arith, all) in
+        subst (λ (n : ℕ). Explores task (between (nothing_before n)) old new) none explores

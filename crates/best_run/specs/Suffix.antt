@@ -1,0 +1,32 @@
+-- What the last trains earn by themselves, where no border is used: none of them earns more behind other trains.
+use Rattle.std.specs.Prelude.{◌≡◌, ℕ, ◌+◌, ◌-◌, ◌≤◌, false, Some, List, length, slice_get, replicate}
+use Rattle.best_run.specs.declared.task.Task.{Task}
+use Rattle.best_run.specs.declared.state.Settled.{Settled}
+use Rattle.best_run.specs.Moves.{CanEarn, Completes, Move, between, total_after}
+
+-- the trains before one do not run, and nothing is used
+abbrev pub nothing_before : ℕ → Settled
+nothing_before next = record { next = next; total = 0; used = replicate 279 false }
+
+-- the trains from one on earn at most so much
+abbrev pub EarnAtMost : Task → ℕ → ℕ → Type 0
+EarnAtMost task next most =
+    (moves : List Move) → Completes task (between (nothing_before next)) moves → total_after task (between (nothing_before next)) moves ≤ most
+
+-- for no train, for the last one, for the last two, ..: what they earn at most
+abbrev pub AreBounds : Task → List ℕ → Type 0
+AreBounds task bounds =
+    (count bound next : ℕ) → slice_get bounds count ≡ Some bound → next + count ≡ length task.trains.items → EarnAtMost task next bound
+
+-- with what is settled, the trains that are left can earn no more than has been found
+abbrev pub FallShort : Task → List ℕ → Settled → ℕ → Type 0
+FallShort task bounds settled best =
+    (bound : ℕ) × (slice_get bounds (length task.trains.items - settled.next) ≡ Some bound) × (settled.total + bound ≤ best)
+
+-- no train, the last one, the last two, .., so many in all, are solved for by themselves: what is found bounds what
+-- they earn, and the best found can be earned, if what was found before can be
+pub record IsSolved (task : Task) (count : ℕ) (bounds : List ℕ) (old new : ℕ) : Type 0 where
+  pub all : length bounds ≡ count
+  pub true_bounds : AreBounds task bounds
+  pub grows : old ≤ new
+  pub earned : CanEarn task old → CanEarn task new
