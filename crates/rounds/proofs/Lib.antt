@@ -21,3 +21,4 @@ mod InSet
 mod InOrder
 mod Sets
 mod Trains
+mod Tiles

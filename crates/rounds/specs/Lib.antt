@@ -8,3 +8,4 @@ pub mod Arrival
 pub mod Begun
 pub mod Sets
 pub mod Trains
+pub mod Tiles

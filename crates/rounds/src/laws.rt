@@ -9,6 +9,7 @@ ghost use Rattle.rounds.specs.OperatingRound.{CompaniesOperateOnce, EndsSoon, On
 ghost use Rattle.rounds.specs.Play.{OneGame, Plays, SomeGame};
 ghost use Rattle.rounds.specs.Sequence.{BankAloneEndsIt, SequenceGoesForward};
 ghost use Rattle.rounds.specs.Sets.{SetsKeepTheirNumber};
+ghost use Rattle.rounds.specs.Tiles.{TilesStandInEachGame};
 ghost use Rattle.rounds.specs.Trains.{PhasesGoOnInRounds, TrainsStandInEachGame};
 ghost use Rattle.sheets.specs.File.{content_of};
 ghost use Rattle.sheets.specs.declared.fault.FileFault.TheVariants.{Header};
@@ -16,8 +17,8 @@ ghost use Rattle.tables.specs.declared.round.Round.{Round};
 
 use market::floated_companies_in_order;
 use operating::{
-    all_trains_are_there, company_operates, company_turn_ends, one_company_turn, phases_go_on,
-    turn_only_adds,
+    all_tiles_are_there, all_trains_are_there, company_operates, company_turn_ends,
+    one_company_turn, phases_go_on, turn_only_adds,
 };
 use privates::{one_opening_round, opening_round_ends};
 use sheets::{arrival_changes_nothing, sheets_are_numbered, three_to_six_play};
@@ -98,6 +99,14 @@ pub fn all_trains_are_there_in_each_game()
     ensures { TrainsStandInEachGame }
 {
     all_trains_are_there()
+}
+
+/// Whenever a round ends, the tiles of a number that lie on the map and those in the stock are as
+/// many as the manifest has, and the stock never owes one.
+pub fn all_tiles_are_there_in_each_game()
+    ensures { TilesStandInEachGame }
+{
+    all_tiles_are_there()
 }
 
 /// No round leads back to an earlier phase.

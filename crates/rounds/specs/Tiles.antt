@@ -1,0 +1,11 @@
+-- The tiles in the games of files.
+use Rattle.std.specs.Prelude.{ℕ, List}
+use Rattle.operating.specs.TileLaws.{TilesAreAll}
+use Rattle.rounds.specs.Play.{AreRounds, Between, before_play}
+
+-- in the game of a file, however many rounds were played, the tiles of a number on the map and those in the stock are
+-- as many as the manifest has, and the stock owes none
+abbrev pub TilesStandInEachGame : Type 0
+TilesStandInEachGame =
+    (file : List ℕ) (rounds : ℕ) (there : Between) →
+    AreRounds file rounds (before_play file) there → TilesAreAll there.game.events
