@@ -1,22 +1,17 @@
 //! Tests of what no report shows, through public calls alone, as a user would write them: what
-//! readers and writers see, readers and writers that fail, and calls that no order file reaches or
-//! whose answer no report tells, each on its happy path. What a report shows is a game of `games/`,
-//! which `./check` plays.
+//! readers and writers see, readers and writers that fail, and calls of the topmost libraries whose
+//! answer no report tells, each on its happy path. What a report shows is a game of `games/`, which
+//! `./check` plays; the libraries below the sequence of rounds have their tests in `library_tests`.
 //!
 //! Reading order: `support` (readers and writers that give and take as they are told), `running`
 //! (whole runs over them), `watching` (a reader or writer that remembers a failure), `texts`
-//! (lines read and printed, reports), `boards` (tiles and tokens), `best` (the greatest
-//! revenue), `books` (money, tenths, rounds).
+//! (reports), `sequence` (the rounds after the bank is broken).
 #![tactic(auto)]
 
 #[cfg(test)]
-mod best;
-#[cfg(test)]
-mod boards;
-#[cfg(test)]
-mod books;
-#[cfg(test)]
 mod running;
+#[cfg(test)]
+mod sequence;
 #[cfg(test)]
 mod support;
 #[cfg(test)]

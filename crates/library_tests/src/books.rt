@@ -1,12 +1,11 @@
-//! Money that is paid, tenths that change hands, and the rounds after the bank is broken.
+//! Money that is paid, tenths that change hands, and the room that a list of events has.
 
 ghost use Rattle.treasury.specs.Accounts.{HasAccount, IsSum};
 
 use certs::Holdings;
 use history::{Event, History, Holder, Party, Shareholder, Tenths, Transfer};
-use rounds::{Next, next};
 use std::alloc::{AllocError, Global};
-use tables::{Company, Money, Round, Seat};
+use tables::{Company, Money, Seat};
 use treasury::Accounts;
 
 const ANN: Party = Party::Holder(Holder::Seat(Seat(0)));
@@ -56,15 +55,6 @@ fn presidency_follows_a_transfer(rt: HostRuntime) -> Result<(), AllocError> {
     assert!(rt; holdings.president(company) == Some(bob));
     assert!(rt; holdings.tenths(company, from) == 5);
     Ok(())
-}
-
-#[test]
-fn ends_after_a_set(rt: HostRuntime) {
-    let first = Round::Operating { set: 2, number: 1 };
-    let second = Round::Operating { set: 2, number: 2 };
-    assert_eq!(rt; next(first, 2, true, true), Next::Round(second));
-    assert_eq!(rt; next(second, 2, true, true), Next::Ended);
-    assert_eq!(rt; next(second, 2, true, false), Next::Round(Round::Stock(3)));
 }
 
 #[test]

@@ -1,0 +1,16 @@
+//! Tests of the libraries below the sequence of rounds, through public calls alone, as a user would
+//! write them: calls that no order file reaches or whose answer no report tells, each on its happy
+//! path. What a report shows is a game of `games/`, which `./check` plays.
+//!
+//! Reading order: `lines` (lines read and printed), `boards` (tiles and tokens), `best` (the greatest
+//! revenue), `books` (money, tenths, events).
+#![tactic(auto)]
+
+#[cfg(test)]
+mod best;
+#[cfg(test)]
+mod boards;
+#[cfg(test)]
+mod books;
+#[cfg(test)]
+mod lines;
