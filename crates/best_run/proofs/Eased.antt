@@ -1,6 +1,6 @@
 -- Ways to the end stay open where fewer borders are used, and earn as much more: so the trains that are left never earn
 -- more than they do by themselves.
-use Rattle.std.proofs.Common.{◌≡◌, ℕ, zero, suc, ◌+◌, ◌-◌, ◌<◌, ◌≤◌, Bool, true, false, ◌&&◌, ◌⊎◌, inl, inr, Some, List, [], ◌∷◌, ◌++◌, length, get_or, set, replicate, slice_get, refl, sym, ap, subst, ◌∙◌, arith, add-one}
+use Rattle.std.proofs.Common.{◌≡◌, ℕ, zero, suc, ◌+◌, ◌-◌, ◌<◌, ◌≤◌, Bool, true, false, ◌&&◌, ◌⊎◌, inl, inr, Some, List, [], ◌∷◌, ◌++◌, length, get_or, set, replicate, slice_get, refl, sym, ap, subst, ◌∙◌, arith, add-one, le_trans}
 use Rattle.reach.specs.Position.{IsAmong}
 use Rattle.best_run.specs.declared.task.Piece.{Piece}
 use Rattle.best_run.specs.declared.task.Task.{Task}
@@ -101,6 +101,13 @@ ease task (settle ∷ moves) (standing settled run) total used freer completes =
       earns = less_both (total_after task (between (settling settled run)) moves) (total_after task (between (eased (settling settled run) (total + run.value) used)) moves) total run.value settled.total rest.earns;
     }
 
+-- what is settled and what the trains that are left earn by themselves
+pub rest_low : (task : Task) (settled : Settled) (bound : ℕ) → EarnAtMost task settled.next bound → length settled.used ≡ 279 → (moves : List Move) → Completes task (between settled) moves → total_after task (between settled) moves ≤ settled.total + bound
+rest_low task settled bound most whole moves completes =
+    let freer : Freer settled.used (replicate 279 false) = subst (λ (n : ℕ). Freer settled.used (replicate n false)) whole (freer_none settled.used) in
+    let easy : Eased task (between settled) moves 0 (replicate 279 false) = ease task moves (between settled) 0 (replicate 279 false) freer completes in
+    within (total_after task (between settled) moves) (total_after task (between (nothing_before settled.next)) moves) settled.total bound (settled.total + bound) easy.earns (most moves easy.completes) (omega arith)
+
 -- what falls short need not be tried
 pub falls_short : (task : Task) (bounds : List ℕ) (settled : Settled) (best : ℕ) → AreBounds task bounds → length settled.used ≡ 279 → settled.next ≤ length task.trains.items → FallShort task bounds settled best → Explores task (between settled) best best
 falls_short task bounds settled best are whole next short =
@@ -108,10 +115,7 @@ falls_short task bounds settled best are whole next short =
   where
     most : (moves : List Move) → Completes task (between settled) moves → total_after task (between settled) moves ≤ best
     most moves completes =
-        let freer : Freer settled.used (replicate 279 false) = subst (λ (n : ℕ). Freer settled.used (replicate n false)) whole (freer_none settled.used) in
-        let easy : Eased task (between settled) moves 0 (replicate 279 false) = ease task moves (between settled) 0 (replicate 279 false) freer completes in
-        let low : total_after task (between (nothing_before settled.next)) moves ≤ short.0 = are (length task.trains.items - settled.next) short.0 settled.next short.1 (omega (arith, next)) moves easy.completes in
-        within (total_after task (between settled) moves) (total_after task (between (nothing_before settled.next)) moves) settled.total short.0 best easy.earns low short.2
+        le_trans (rest_low task settled short.0 (are (length task.trains.items - settled.next) short.0 settled.next short.1 (omega (arith, next))) whole moves completes) short.2
 
 -- the trains before one may all pass
 pub open_before : (task : Task) (next : ℕ) → next ≤ length task.trains.items → IsOpen task (between (nothing_before next))

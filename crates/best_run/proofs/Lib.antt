@@ -2,7 +2,10 @@ pub mod Marks
 pub mod Tried
 pub mod Places
 pub mod Advance
+pub mod Ahead
 pub mod Eased
+pub mod Beyond
+pub mod Hopeless
 pub mod Prefix
 pub mod Complete
 pub mod Sets

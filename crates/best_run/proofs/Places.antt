@@ -91,7 +91,7 @@ take_free task run used piece taken =
     second_true (may_come (stop_in (node_at task piece.to)) run piece.to) (misses used piece.borders.items) taken
 
 -- a side is worth nothing
-side_value : (task : Task) → IsFit task → (spot : ℕ) → stop_in (node_at task spot) ≡ false → value_in (node_at task spot) ≡ 0
+pub side_value : (task : Task) → IsFit task → (spot : ℕ) → stop_in (node_at task spot) ≡ false → value_in (node_at task spot) ≡ 0
 side_value task fit spot = by_node (node_at task spot) refl
   where
     by_node : (node : Option Node) → node_at task spot ≡ node → stop_in node ≡ false → value_in node ≡ 0

@@ -2,3 +2,4 @@ pub mod Moves
 pub mod Fit
 pub mod Described
 pub mod Suffix
+pub mod Ahead

@@ -4,13 +4,16 @@
 //! The definitions of a legal set and of the greatest revenue are those of `certificate`. Those of this
 //! crate, in `specs/`, are of the search alone: `Moves` says what it goes over, move by move, `Described`
 //! how a position is laid out for it, `Fit` what keeps its numbers within their bounds, `Suffix` what the
-//! last trains earn by themselves, which bounds what they earn behind others.
+//! last trains earn by themselves, which bounds what they earn behind others, `Ahead` what may lie ahead of a
+//! run, which bounds what it may still earn.
 //!
 //! Reading order: `best` (the public call), `spots` (the spots of a position with the pieces of track
-//! between them), `task`, `state` (the trains settled so far, and the run begun), `search`.
+//! between them), `task`, `state` (the trains settled so far, and the run begun), `outlook` (what lies ahead
+//! of that run), `search`.
 #![tactic(auto)]
 
 mod best;
+mod outlook;
 mod runner;
 mod search;
 mod spots;

@@ -112,6 +112,9 @@ impl Task {
             HasRoom settled.now.used (settled.now.total + (run.now.value + more)) 44720 }
         ensures { Explores self.now (standing settled.now run.now) best.old best.new }
     {
+        if self.is_hopeless(settled, run, bounds, *best) {
+            return;
+        }
         if self.may_settle(run) {
             let settling = settled.settling(run);
             self.settle_next(&settling, bounds, best);

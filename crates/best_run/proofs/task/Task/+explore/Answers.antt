@@ -5,6 +5,7 @@ use Rattle.best_run.specs.declared.state.Standing.{Standing}
 use Rattle.best_run.specs.Fit.{PieceFits}
 use Rattle.best_run.specs.Moves.{Any, Below, Explores, IsBeginAt, IsGo, Takes, Tries, between, can_take, ends_in, node_at, standing, stop_in}
 use Rattle.best_run.proofs.Eased.{falls_short}
+use Rattle.best_run.proofs.Hopeless.{explores_hopeless}
 use Rattle.best_run.proofs.Places.{begin_all, begin_next, go_all, go_next, leads_at, less_after, node_is, one_low, piece_fits, room_after, value_low}
 use Rattle.best_run.proofs.Tried.{explores_between, explores_on, explores_standing, over_better, over_no_better, take_begin, take_go, tries_both, tries_fewer}
 use Rattle.best_run.proofs.task.Task.+explore.Goals as goal
@@ -72,6 +73,10 @@ settle_next-returns t c =
     explores_between task c.args.settled.now c.args.best.now c.settle_next.new.best c.begin_runs.new.best (omega arith)
     (subst (λ (s : Settled). Explores task (between s) c.args.best.now c.settle_next.new.best) c.passed-passed.ensures c.settle_next.ensures)
     c.begin_runs.ensures
+
+pub stand-returns-then-is_hopeless : goal.stand-returns-then-is_hopeless
+stand-returns-then-is_hopeless t c =
+    explores_hopeless c.args.self.now c.args.settled.now c.args.run.now c.args.best.now (c.is_hopeless.ensures c.if-is_hopeless.true)
 
 pub stand-returns : goal.stand-returns
 stand-returns t c =

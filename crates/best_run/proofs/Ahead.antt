@@ -1,0 +1,121 @@
+-- What lies ahead of a run is found piece by piece, and what is found is all that the run may come to.
+use Rattle.std.proofs.Common.{◌≡◌, ℕ, zero, suc, ◌+◌, ◌<◌, ◌≤◌, Bool, true, false, ◌⊎◌, inl, inr, Option, Some, None, List, [], ◌∷◌, length, get_or, set, replicate, slice_get, refl, sym, ap, subst, ◌∙◌, arith, le_trans, get_or-set_same}
+use Rattle.reach.proofs.Collected.{none_marked}
+use Rattle.reach.proofs.Marking.{set_cases, set_keeps}
+use Rattle.best_run.specs.declared.task.Node.{Node}
+use Rattle.best_run.specs.declared.task.Piece.{Piece}
+use Rattle.best_run.specs.declared.task.Task.{Task}
+use Rattle.best_run.specs.declared.state.Settled.{Settled}
+use Rattle.best_run.specs.declared.state.Standing.{Standing}
+use Rattle.best_run.specs.Ahead.{IsGoneOver, IsOutlook, LiesAhead, Widens, WidensBelow, WidensBy, WidensFrom}
+use Rattle.best_run.specs.Fit.{unused}
+use Rattle.best_run.specs.Moves.{LeadsFrom, can_take, ends_in, node_at, own_in, pieces_in}
+use Rattle.best_run.proofs.Marks.{set_fewer}
+use Rattle.best_run.proofs.Places.{below_next, place_low}
+
+pub falsely : (b : Bool) → b ≡ true → b ≡ false → ⊥
+falsely true is not = let wrong : true ≡ false = not in cc
+falsely false is not = let wrong : false ≡ true = is in cc
+
+-- the piece at a place is one
+one_piece : (task : Task) (spot index other : ℕ) (piece found : Piece) → LeadsFrom task spot index piece → LeadsFrom task spot other found → other ≡ index → piece ≡ found
+one_piece task spot index other piece found leads finds same =
+    let e : Some piece ≡ Some found = sym leads ∙ (ap (λ i. slice_get (pieces_in (node_at task spot)) i) (sym same) ∙ finds) in cc
+
+module _ (task : Task) (settled : Settled) (run : Standing) where
+  widens_none : (ahead : List Bool) → Widens task settled run ahead ahead
+  widens_none ahead = record { kept = λ spot lies. lies; over = λ spot lies. inl lies; fewer = omega arith }
+
+  -- what is gone over stays so where more lies ahead
+  over_more : (old new : List Bool) → ((spot : ℕ) → LiesAhead old spot → LiesAhead new spot) → (spot : ℕ) → IsGoneOver task settled run old spot → IsGoneOver task settled run new spot
+  over_more old new kept spot over passes index piece leads taken = kept piece.to (over passes index piece leads taken)
+
+  widens_both : (old middle new : List Bool) → Widens task settled run old middle → Widens task settled run middle new → Widens task settled run old new
+  widens_both old middle new first second =
+      record {
+        kept = λ spot lies. second.kept spot (first.kept spot lies);
+        over = λ spot lies. elim (second.over spot lies) [
+          | inl before ↦ elim (first.over spot before) [ inl old_one ↦ inl old_one | inr over ↦ inr (over_more middle new second.kept spot over) ]
+          | inr over ↦ inr over
+        ];
+        fewer = le_trans second.fewer first.fewer;
+      }
+
+  -- no piece is gone over, one more is, and all are
+  pub below_none : (spot : ℕ) (ahead : List Bool) → WidensBelow task settled run spot 0 ahead ahead
+  below_none spot ahead = record { widens = widens_none ahead; leads = λ index piece low leads taken. absurd (omega arith) }
+
+  pub below_more : (spot index : ℕ) (piece : Piece) (old middle new : List Bool) → LeadsFrom task spot index piece → WidensBelow task settled run spot index old middle → WidensBy task settled run piece middle new → WidensBelow task settled run spot (index + 1) old new
+  below_more spot index piece old middle new here before by =
+      record {
+        widens = widens_both old middle new before.widens by.widens;
+        leads = λ other found low leads taken. elim (below_next other index low) [
+          | inl less ↦ by.widens.kept found.to (before.leads other found less leads taken)
+          | inr same ↦
+              let is : piece ≡ found = one_piece task spot index other piece found here leads same in
+              subst (λ (p : Piece). can_take task run settled.used p ≡ true → LiesAhead new p.to) is by.leads taken
+        ];
+      }
+
+  pub from_all : (spot : ℕ) (node : Node) (index : ℕ) (old new : List Bool) → node_at task spot ≡ Some node → length node.pieces.items ≤ index → WidensBelow task settled run spot index old new → WidensFrom task settled run spot old new
+  from_all spot node index old new there all below =
+      record {
+        widens = below.widens;
+        here = λ passes other piece leads taken. below.leads other piece (omega (arith, place_low task spot node there other piece leads)) leads taken;
+      }
+
+  -- no run passes a spot
+  pub from_end : (spot : ℕ) (ahead : List Bool) → ends_in (node_at task spot) ≡ true → WidensFrom task settled run spot ahead ahead
+  from_end spot ahead ends =
+      record { widens = widens_none ahead; here = λ passes index piece leads taken. absurd (falsely (ends_in (node_at task spot)) ends passes) }
+
+  -- a piece leads to what lies ahead, may not be taken, or leads to more
+  pub along_known : (piece : Piece) (ahead : List Bool) → LiesAhead ahead piece.to → WidensBy task settled run piece ahead ahead
+  along_known piece ahead lies = record { widens = widens_none ahead; leads = λ taken. lies }
+
+  pub along_none : (piece : Piece) (ahead : List Bool) → can_take task run settled.used piece ≡ false → WidensBy task settled run piece ahead ahead
+  along_none piece ahead none =
+      record { widens = widens_none ahead; leads = λ taken. absurd (falsely (can_take task run settled.used piece) taken none) }
+
+  pub along_more : (piece : Piece) (old new : List Bool) → get_or old piece.to false ≡ false → piece.to < length old → WidensFrom task settled run piece.to (set old piece.to true) new → WidensBy task settled run piece old new
+  along_more piece old new free low from =
+      record {
+        widens = record {
+          kept = λ spot lies. from.widens.kept spot (set_keeps old piece.to spot low lies);
+          over = λ spot lies. elim (from.widens.over spot lies) [
+            | inl marked ↦ elim (set_cases old piece.to spot marked) [
+              | inl same ↦ inr (subst (λ (s : ℕ). IsGoneOver task settled run new s) same from.here)
+              | inr before ↦ inl before
+            ]
+            | inr over ↦ inr over
+          ];
+          fewer = omega (arith, from.widens.fewer, set_fewer old piece.to low free);
+        };
+        leads = λ taken. from.widens.kept piece.to (get_or-set_same old piece.to true false low);
+      }
+
+  -- where nothing lay ahead, all has been gone over
+  pub outlook_from : (ahead : List Bool) → WidensFrom task settled run run.head (replicate 744 false) ahead → IsOutlook task settled run ahead
+  outlook_from ahead from =
+      record {
+        head = from.here;
+        all = λ spot lies. elim (from.widens.over spot lies) [
+          | inl none ↦ absurd (falsely (get_or (replicate 744 false) spot false) none (none_marked 744 spot))
+          | inr over ↦ over
+        ];
+      }
+
+-- one spot more has no token
+pub none_next : (task : Task) (ahead : List Bool) (most : ℕ) → ((other : ℕ) → other < most → LiesAhead ahead other → own_in (node_at task other) ≡ false) → (LiesAhead ahead most → own_in (node_at task most) ≡ false) → (other : ℕ) → other < most + 1 → LiesAhead ahead other → own_in (node_at task other) ≡ false
+none_next task ahead most before here other low lies =
+    elim (below_next other most low) [
+      | inl less ↦ before other less lies
+      | inr same ↦
+          subst (λ (n : ℕ). own_in (node_at task n) ≡ false) (sym same) (here (subst (LiesAhead ahead) same lies))
+    ]
+
+-- what lies ahead is a spot
+pub lies_within : (ahead : List Bool) (spot : ℕ) → LiesAhead ahead spot → spot < length ahead
+lies_within [] spot lies = let wrong : false ≡ true = lies in absurd cc
+lies_within (mark ∷ ahead) zero lies = omega arith
+lies_within (mark ∷ ahead) (suc spot) lies = let rest = lies_within ahead spot lies in omega arith

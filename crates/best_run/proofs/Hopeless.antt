@@ -1,0 +1,246 @@
+-- A run earns at most what it has, the level for each stop that is left, what the stops ahead are worth beyond the
+-- level, and what the later trains earn by themselves.
+use Rattle.std.proofs.Common.{◌≡◌, ℕ, zero, suc, ◌+◌, ◌-◌, ◌*◌, ◌<◌, ◌≤◌, Bool, true, false, not, ◌&&◌, ◌||◌, nat_lt, Option, Some, None, inr, List, [], ◌∷◌, length, get_or, set, slice_get, refl, sym, ap, subst, ◌∙◌, arith, length-set, suc-mul}
+use Rattle.std.proofs.lemmas.Bool.{lt-ltb}
+use Rattle.reach.proofs.Marking.{set_keeps}
+use Rattle.best_run.specs.declared.task.Node.{Node}
+use Rattle.best_run.specs.declared.task.Piece.{Piece}
+use Rattle.best_run.specs.declared.task.Task.{Task}
+use Rattle.best_run.specs.declared.state.Settled.{Settled}
+use Rattle.best_run.specs.declared.state.Standing.{Standing}
+use Rattle.best_run.specs.Ahead.{EndsAtMost, IsGoneOver, IsOutlook, LiesAhead, NoTokenAhead, beyond}
+use Rattle.best_run.specs.Fit.{IsFit, PieceFits}
+use Rattle.best_run.specs.Moves.{Completes, Explores, LeadsFrom, Move, along, begin, between, can_take, ends_in, go, left_after, marked_all, may_come, misses, node_at, own_in, pass, pieces_in, settle, settling, standing, stop_in, total_after, using, value_in}
+use Rattle.best_run.specs.Suffix.{EarnAtMost}
+use Rattle.best_run.proofs.Advance.{IsMarked, free_misses, marks_more, misses_free}
+use Rattle.best_run.proofs.Ahead.{falsely}
+use Rattle.best_run.proofs.Eased.{rest_low}
+use Rattle.best_run.proofs.Marks.{length_marked}
+use Rattle.best_run.proofs.Places.{side_value}
+
+gain : Bool → ℕ → ℕ
+gain true more = more
+gain false more = 0
+
+-- what spots ahead that are not visited are worth beyond a level
+gains : ℕ → List Node → List Bool → List Bool → ℕ
+gains level [] ahead visited = 0
+gains level (node ∷ nodes) [] visited = 0
+gains level (node ∷ nodes) (lies ∷ ahead) [] = 0
+gains level (node ∷ nodes) (lies ∷ ahead) (was ∷ visited) = gain (lies && not was) (node.value - level) + gains level nodes ahead visited
+
+gain_low : (lies was : Bool) (level : ℕ) (node : Node) (nodes : List Node) (ahead : List Bool) → gain (lies && not was) (node.value - level) + beyond level nodes ahead ≤ beyond level (node ∷ nodes) (lies ∷ ahead)
+unfolding gain
+gain_low true true level node nodes ahead = omega arith
+gain_low true false level node nodes ahead = omega arith
+gain_low false was level node nodes ahead = omega arith
+
+gains_low : (level : ℕ) (nodes : List Node) (ahead visited : List Bool) → gains level nodes ahead visited ≤ beyond level nodes ahead
+unfolding gains
+gains_low level [] ahead visited = omega arith
+gains_low level (node ∷ nodes) [] visited = omega arith
+gains_low level (node ∷ nodes) (lies ∷ ahead) [] = omega arith
+gains_low level (node ∷ nodes) (lies ∷ ahead) (was ∷ visited) =
+    omega (arith, gain_low lies was level node nodes ahead, gains_low level nodes ahead visited)
+
+and_false : (b : Bool) → (b && false) ≡ false
+and_false true = refl
+and_false false = refl
+
+no_gain : (more : ℕ) → gain false more ≡ 0
+unfolding gain
+no_gain more = refl
+
+gain_gone : (lies : Bool) (more : ℕ) → gain (lies && false) more ≡ 0
+gain_gone lies more = ap (λ b. gain b more) (and_false lies) ∙ no_gain more
+
+gain_all : (lies was : Bool) (more : ℕ) → lies ≡ true → was ≡ false → gain (lies && not was) more ≡ more
+unfolding gain
+gain_all true true more lies was = let wrong : true ≡ false = was in absurd cc
+gain_all true false more lies was = refl
+gain_all false was more lies free = let wrong : false ≡ true = lies in absurd cc
+
+-- a spot more is visited
+gains_fall : (level : ℕ) (nodes : List Node) (ahead visited : List Bool) (n : ℕ) → gains level nodes ahead (set visited n true) ≤ gains level nodes ahead visited
+unfolding gains
+gains_fall level [] ahead visited n = omega arith
+gains_fall level (node ∷ nodes) [] visited n = omega arith
+gains_fall level (node ∷ nodes) (lies ∷ ahead) [] n = omega arith
+gains_fall level (node ∷ nodes) (lies ∷ ahead) (was ∷ visited) zero = omega (arith, gain_gone lies (node.value - level))
+gains_fall level (node ∷ nodes) (lies ∷ ahead) (was ∷ visited) (suc n) = omega (arith, gains_fall level nodes ahead visited n)
+
+-- a stop ahead is visited
+gains_spent : (level : ℕ) (nodes : List Node) (ahead visited : List Bool) (n : ℕ) → n < length visited → get_or ahead n false ≡ true → get_or visited n false ≡ false → (value_in (slice_get nodes n) - level) + gains level nodes ahead (set visited n true) ≤ gains level nodes ahead visited
+unfolding gains
+gains_spent level [] ahead visited n low lies free = omega (arith, nothing n)
+  where
+    nothing : (n : ℕ) → value_in (slice_get {X = Node} [] n) ≡ 0
+    nothing zero = refl
+    nothing (suc n) = refl
+gains_spent level (node ∷ nodes) [] visited n low lies free = let wrong : false ≡ true = lies in absurd cc
+gains_spent level (node ∷ nodes) (lies ∷ ahead) [] n low is free = absurd (omega arith)
+gains_spent level (node ∷ nodes) (lies ∷ ahead) (was ∷ visited) zero low is free =
+    omega (arith, gain_gone lies (node.value - level), gain_all lies was (node.value - level) is free)
+gains_spent level (node ∷ nodes) (lies ∷ ahead) (was ∷ visited) (suc n) low is free =
+    omega (arith, gains_spent level nodes ahead visited n (omega arith) is free)
+
+both_first : (a b : Bool) → (a && b) ≡ true → a ≡ true
+both_first true b is = refl
+both_first false b is = absurd cc
+
+both_second : (a b : Bool) → (a && b) ≡ true → b ≡ true
+both_second true b is = is
+both_second false b is = absurd cc
+
+both_are : (a b : Bool) → a ≡ true → b ≡ true → (a && b) ≡ true
+both_are true b first second = second
+both_are false b first second = absurd cc
+
+neither_is : (a b : Bool) → a ≡ false → b ≡ false → (a || b) ≡ false
+neither_is true b first second = absurd cc
+neither_is false b first second = second
+
+not_is : (b : Bool) → not b ≡ true → b ≡ false
+not_is true is = absurd cc
+not_is false is = refl
+
+is_not : (b : Bool) → b ≡ false → not b ≡ true
+is_not true is = absurd cc
+is_not false is = refl
+
+false_or : (b : Bool) → (b ≡ true → ⊥) → b ≡ false
+false_or true none = absurd (none refl)
+false_or false none = refl
+
+-- a stop was left where one was left later
+left_before : (b : Bool) (left : ℕ) → nat_lt 0 (left_after b left) ≡ true → nat_lt 0 left ≡ true
+left_before true zero is = is
+left_before false zero is = is
+left_before b (suc left) is = lt-ltb 0 (suc left) (omega arith)
+
+-- one stop fewer is left
+one_fewer : (left level : ℕ) → nat_lt 0 left ≡ true → (left - 1) * level + level ≡ left * level
+one_fewer zero level is = let wrong : false ≡ true = is in absurd cc
+one_fewer (suc left) level is =
+    let less : suc left - 1 ≡ left = omega arith in rw less (sym (suc-mul left level))
+
+come_before : (task : Task) (run : Standing) (piece : Piece) → piece.to < length run.visited → (stop : Bool) (spot : ℕ) → may_come stop (along task run piece) spot ≡ true → may_come stop run spot ≡ true
+come_before task run piece low false spot is = refl
+come_before task run piece low true spot is =
+    both_are (nat_lt 0 run.left) (not (get_or run.visited spot false))
+    (left_before (stop_in (node_at task piece.to)) run.left (both_first (nat_lt 0 (left_after (stop_in (node_at task piece.to)) run.left)) (not (get_or (set run.visited piece.to true) spot false)) is))
+    (is_not (get_or run.visited spot false) (false_or (get_or run.visited spot false) (λ was.
+    falsely (get_or (set run.visited piece.to true) spot false) (set_keeps run.visited piece.to spot low was)
+    (not_is (get_or (set run.visited piece.to true) spot false) (both_second (nat_lt 0 (left_after (stop_in (node_at task piece.to)) run.left)) (not (get_or (set run.visited piece.to true) spot false)) is)))))
+
+no_such : {A : Type 0} (index : ℕ) (x : A) → slice_get [] index ≡ Some x → ⊥
+no_such zero x is = cc
+no_such (suc index) x is = cc
+
+-- a piece that leads from a spot is fit
+pub leading_fits : (task : Task) → IsFit task → (spot index : ℕ) (piece : Piece) → LeadsFrom task spot index piece → (from : Bool) × PieceFits task from piece
+leading_fits task fit spot index piece leads = by_node (node_at task spot) refl leads
+  where
+    by_node : (found : Option Node) → node_at task spot ≡ found → slice_get (pieces_in found) index ≡ Some piece → (from : Bool) × PieceFits task from piece
+    by_node None is there = absurd (no_such index piece there)
+    by_node (Some node) is there = (node.stop, (fit.nodes spot node is).pieces index piece there)
+
+-- a piece that may be taken after another may be taken before it
+take_before : (task : Task) (settled : Settled) (run : Standing) (from : Bool) (piece : Piece) → PieceFits task from piece → length settled.used ≡ 279 → length run.visited ≡ 744 → (other : Piece) → can_take task (along task run piece) (using settled piece).used other ≡ true → can_take task run settled.used other ≡ true
+take_before task settled run from piece fits whole spots other is =
+    let stop = stop_in (node_at task other.to) in
+    let came : may_come stop (along task run piece) other.to ≡ true = both_first (may_come stop (along task run piece) other.to) (misses (marked_all settled.used piece.borders.items) other.borders.items) is in
+    let missed : misses (marked_all settled.used piece.borders.items) other.borders.items ≡ true = both_second (may_come stop (along task run piece) other.to) (misses (marked_all settled.used piece.borders.items) other.borders.items) is in
+    both_are (may_come stop run other.to) (misses settled.used other.borders.items)
+    (come_before task run piece (omega (arith, fits.to, spots)) stop other.to came)
+    (free_misses settled.used other.borders.items (λ border among marked.
+    misses_free (marked_all settled.used piece.borders.items) other.borders.items missed border among ((marks_more settled.used piece.borders.items fits.borders whole border).1 (inr marked))))
+
+module _ (task : Task) (fit : IsFit task) (first : Settled) (begun : Standing) (ahead : List Bool) (look : IsOutlook task first begun ahead) where
+  -- a run that goes on from where the first one stands
+  record Follows (settled : Settled) (run : Standing) : Type 0 where
+    pub takes : (piece : Piece) → can_take task run settled.used piece ≡ true → can_take task begun first.used piece ≡ true
+    pub head : IsGoneOver task first begun ahead run.head
+    pub next : settled.next ≡ first.next
+    pub whole : length settled.used ≡ 279
+    pub spots : length run.visited ≡ 744
+
+  lies_there : (settled : Settled) (run : Standing) → Follows settled run → (index : ℕ) (piece : Piece) → ends_in (node_at task run.head) ≡ false → LeadsFrom task run.head index piece → can_take task run settled.used piece ≡ true → LiesAhead ahead piece.to
+  lies_there settled run follows index piece passes leads taken = follows.head passes index piece leads (follows.takes piece taken)
+
+  follows_go : (settled : Settled) (run : Standing) → Follows settled run → (index : ℕ) (piece : Piece) → ends_in (node_at task run.head) ≡ false → LeadsFrom task run.head index piece → can_take task run settled.used piece ≡ true → Follows (using settled piece) (along task run piece)
+  follows_go settled run follows index piece passes leads taken =
+      let fits = leading_fits task fit run.head index piece leads in
+      record {
+        takes = λ other is. follows.takes other (take_before task settled run fits.0 piece fits.1 follows.whole follows.spots other is);
+        head = look.all piece.to (lies_there settled run follows index piece passes leads taken);
+        next = follows.next;
+        whole = length_marked settled.used piece.borders.items ∙ follows.whole;
+        spots = length-set run.visited piece.to true ∙ follows.spots;
+      }
+
+  -- what a run may still earn, at a level
+  still : ℕ → Standing → ℕ
+  still level run = run.left * level + gains level task.spots.items ahead run.visited
+
+  -- a piece leaves no more to be earned
+  still_by : (level : ℕ) (run : Standing) (piece : Piece) → length run.visited ≡ 744 → piece.to < 744 → LiesAhead ahead piece.to → (stop : Bool) → stop_in (node_at task piece.to) ≡ stop → may_come stop run piece.to ≡ true → value_in (node_at task piece.to) + (left_after stop run.left * level + gains level task.spots.items ahead (set run.visited piece.to true)) ≤ run.left * level + gains level task.spots.items ahead run.visited
+  still_by level run piece spots low lies true is may =
+      let free : get_or run.visited piece.to false ≡ false = not_is (get_or run.visited piece.to false) (both_second (nat_lt 0 run.left) (not (get_or run.visited piece.to false)) may) in
+      let spent = gains_spent level task.spots.items ahead run.visited piece.to (omega (arith, spots, low)) lies free in
+      omega (arith, one_fewer run.left level (both_first (nat_lt 0 run.left) (not (get_or run.visited piece.to false)) may))
+  still_by level run piece spots low lies false is may =
+      omega (arith, side_value task fit piece.to is, gains_fall level task.spots.items ahead run.visited piece.to)
+
+  still_go : (level : ℕ) (settled : Settled) (run : Standing) → Follows settled run → (index : ℕ) (piece : Piece) → ends_in (node_at task run.head) ≡ false → LeadsFrom task run.head index piece → can_take task run settled.used piece ≡ true → value_in (node_at task piece.to) + still level (along task run piece) ≤ still level run
+  unfolding still
+  still_go level settled run follows index piece passes leads taken =
+      let fits = leading_fits task fit run.head index piece leads in
+      still_by level run piece follows.spots fits.1.to (lies_there settled run follows index piece passes leads taken) (stop_in (node_at task piece.to)) refl
+      (both_first (may_come (stop_in (node_at task piece.to)) run piece.to) (misses settled.used piece.borders.items) taken)
+
+  -- all ways on
+  low_by : (level later : ℕ) → EarnAtMost task (first.next + 1) later → (moves : List Move) (settled : Settled) (run : Standing) → Follows settled run → Completes task (standing settled run) moves → total_after task (standing settled run) moves ≤ settled.total + run.value + still level run + later
+  low_by level later bound [] settled run follows completes = absurd completes
+  low_by level later bound (pass ∷ moves) settled run follows completes = absurd completes.0
+  low_by level later bound (begin stop index piece ∷ moves) settled run follows completes = absurd completes.0
+  low_by level later bound (go index piece ∷ moves) settled run follows completes =
+      let may = completes.0 in
+      let rest : total_after task (standing (using settled piece) (along task run piece)) moves ≤ settled.total + (run.value + value_in (node_at task piece.to)) + still level (along task run piece) + later = low_by level later bound moves (using settled piece) (along task run piece) (follows_go settled run follows index piece may.passes may.leads may.taken) completes.1 in
+      omega (arith, rest, still_go level settled run follows index piece may.passes may.leads may.taken)
+  low_by level later bound (settle ∷ moves) settled run follows completes =
+      let here : EarnAtMost task (settling settled run).next later = subst (λ (n : ℕ). EarnAtMost task (n + 1) later) (sym follows.next) bound in
+      let rest : total_after task (between (settling settled run)) moves ≤ settled.total + run.value + later = rest_low task (settling settled run) later here follows.whole moves completes.1 in
+      omega arith
+
+  -- no way on has a token
+  no_way : ((spot : ℕ) → LiesAhead ahead spot → own_in (node_at task spot) ≡ false) → (moves : List Move) (settled : Settled) (run : Standing) → Follows settled run → run.own ≡ false → Completes task (standing settled run) moves → ⊥
+  no_way none [] settled run follows own completes = completes
+  no_way none (pass ∷ moves) settled run follows own completes = completes.0
+  no_way none (begin stop index piece ∷ moves) settled run follows own completes = completes.0
+  no_way none (go index piece ∷ moves) settled run follows own completes =
+      let may = completes.0 in
+      no_way none moves (using settled piece) (along task run piece) (follows_go settled run follows index piece may.passes may.leads may.taken)
+      (neither_is run.own (own_in (node_at task piece.to)) own (none piece.to (lies_there settled run follows index piece may.passes may.leads may.taken))) completes.1
+  no_way none (settle ∷ moves) settled run follows own completes =
+      falsely run.own (both_first run.own (stop_in (node_at task run.head)) completes.0) own
+
+  first_follows : length first.used ≡ 279 → length begun.visited ≡ 744 → Follows first begun
+  first_follows whole spots =
+      record { takes = λ piece taken. taken; head = look.head; next = refl; whole = whole; spots = spots }
+
+  -- a run without a token
+  pub ends_without : NoTokenAhead task begun ahead → length first.used ≡ 279 → length begun.visited ≡ 744 → (best : ℕ) → EndsAtMost task first begun best
+  ends_without none whole spots best moves completes =
+      absurd (no_way none.none moves first begun (first_follows whole spots) none.behind completes)
+
+  -- a run that earns too little
+  pub ends_low : (level later best : ℕ) → EarnAtMost task (first.next + 1) later → length first.used ≡ 279 → length begun.visited ≡ 744 → first.total + begun.value + (begun.left * level + beyond level task.spots.items ahead) + later ≤ best → EndsAtMost task first begun best
+  unfolding still
+  ends_low level later best bound whole spots low moves completes =
+      omega (arith, low_by level later bound moves first begun (first_follows whole spots) completes, gains_low level task.spots.items ahead begun.visited)
+
+-- what cannot earn more need not be tried
+pub explores_hopeless : (task : Task) (settled : Settled) (run : Standing) (best : ℕ) → EndsAtMost task settled run best → Explores task (standing settled run) best best
+explores_hopeless task settled run best ends =
+    record { grows = omega arith; earned = λ possible earned. earned; most = ends }

@@ -1,0 +1,180 @@
+ghost use Rattle.std.specs.Prelude.{◌≡◌, ◌+◌, ◌*◌, ◌<◌, ◌≤◌, IsTrue, false, length};
+ghost use Rattle.best_run.specs.Ahead.{EndsAtMost, IsOutlook, NoTokenAhead, WidensBy, WidensFrom, beyond};
+ghost use Rattle.best_run.specs.Fit.{HasRoom, IsFit, BordersFit};
+ghost use Rattle.best_run.specs.Suffix.{AreBounds};
+
+use crate::state::{SPOTS, Settled, Standing};
+use crate::task::{Piece, Task};
+use tables::Amount;
+
+/// How many tens of dollars a stop is worth at most.
+const TENS: usize = 8;
+
+impl Task {
+    /// Adds to what lies ahead of a run what it may come to from a spot.
+    #[cycle(look)]
+    fn look_from(&self, settled: &Settled, run: &Standing, spot: usize, ahead: &mut [bool; SPOTS])
+        requires fit { IsFit self.now }
+        requires spot { spot < 744 }
+        ensures { WidensFrom self.now settled.now run.now spot ahead.old ahead.new }
+    {
+        let node = &self.spots[spot];
+        if node.ends {
+            return;
+        }
+        for index in 0..node.pieces.len() {
+            self.look_along(settled, run, &node.pieces[index], ahead);
+        }
+    }
+
+    /// Adds to what lies ahead of a run what it may come to by a piece.
+    #[cycle(look)]
+    fn look_along(
+        &self,
+        settled: &Settled,
+        run: &Standing,
+        piece: &Piece,
+        ahead: &mut [bool; SPOTS],
+    )
+        requires fit { IsFit self.now }
+        requires to { piece.now.to < 744 }
+        requires borders { BordersFit piece.now.borders.items }
+        ensures { WidensBy self.now settled.now run.now piece.now ahead.old ahead.new }
+    {
+        if ahead[piece.to] {
+            return;
+        }
+        if self.can_take(run, settled, piece) {
+            ahead[piece.to] = true;
+            self.look_from(settled, run, piece.to, ahead);
+        }
+    }
+
+    /// What lies ahead of a run.
+    fn outlook(&self, settled: &Settled, run: &Standing) -> [bool; SPOTS]
+        requires fit { IsFit self.now }
+        requires head { run.now.head < 744 }
+        ensures outlook { IsOutlook self.now settled.now run.now result }
+        ensures borders { length settled.now.used ≡ 279 }
+        ensures spots { length run.now.visited ≡ 744 }
+    {
+        let mut ahead = [false; SPOTS];
+        self.look_from(settled, run, run.head, &mut ahead);
+        ahead
+    }
+
+    /// Whether a run has come by a token of the company, or may still do so.
+    fn may_have_token(&self, run: &Standing, ahead: &[bool; SPOTS]) -> bool
+        requires { IsFit self.now }
+        ensures { result ≡ false → NoTokenAhead self.now run.now ahead.now }
+    {
+        if run.own {
+            return true;
+        }
+        for spot in 0..SPOTS {
+            if ahead[spot] && self.spots[spot].own {
+                return true;
+            }
+        }
+        false
+    }
+
+    /// How many stops ahead are worth so many tens of dollars, for each number of tens.
+    fn tally(&self, ahead: &[bool; SPOTS]) -> [usize; TENS + 1]
+        requires { IsFit self.now }
+    {
+        let mut counts: [usize; TENS + 1] = [0; TENS + 1];
+        for spot in 0..SPOTS {
+            if ahead[spot] {
+                let tens = (self.spots[spot].value / 10) as usize;
+                counts[tens] = counts[tens].saturating_add(1);
+            }
+        }
+        counts
+    }
+
+    /// The level at which a run can be seen to earn least: what the least of the greatest stops ahead
+    /// is worth, of as many as are left. Any level would do.
+    fn level(&self, run: &Standing, ahead: &[bool; SPOTS]) -> Amount
+        requires { IsFit self.now }
+        ensures { result ≤ 80 }
+    {
+        let counts = self.tally(ahead);
+        let mut more: usize = 0;
+        for below in 0..TENS {
+            let tens = TENS - below;
+            more = more.saturating_add(counts[tens]);
+            if more > run.left {
+                return 10 * tens as Amount;
+            }
+        }
+        0
+    }
+
+    /// What the spots ahead are worth beyond a level, in dollars.
+    fn beyond(&self, level: Amount, ahead: &[bool; SPOTS]) -> Amount
+        requires { IsFit self.now }
+        ensures sum { result ≡ beyond level self.now.spots.items ahead.now }
+        ensures bound { result ≤ 59520 }
+    {
+        let mut sum = 0;
+        for spot in 0..SPOTS {
+            if ahead[spot] {
+                sum += self.spots[spot].value.saturating_sub(level);
+            }
+        }
+        sum
+    }
+
+    /// Whether a run and the trains after it can earn no more than what has been found, by what lies
+    /// ahead and by what those trains earn by themselves. It is not told of all such runs.
+    fn earns_too_little(
+        &self,
+        settled: &Settled,
+        run: &Standing,
+        ahead: &[bool; SPOTS],
+        bounds: &[Amount],
+        best: Amount,
+    ) -> bool
+        requires fit { IsFit self.now }
+        requires bounds { AreBounds self.now bounds.now }
+        requires next { settled.now.next < length self.now.trains.items }
+        requires ahead { IsOutlook self.now settled.now run.now ahead.now }
+        requires borders { length settled.now.used ≡ 279 }
+        requires spots { length run.now.visited ≡ 744 }
+        requires room { settled.now.total + run.now.value ≤ 44720 }
+        ensures { IsTrue result → EndsAtMost self.now settled.now run.now best }
+    {
+        let later = self.trains.len() - settled.next - 1;
+        if run.left > SPOTS || later >= bounds.len() {
+            return false;
+        }
+        let level = self.level(run, ahead);
+        let ahead = run.left as Amount * level + self.beyond(level, ahead);
+        let most = settled.total + run.value + ahead;
+        most <= best && bounds[later] <= best - most
+    }
+
+    /// Whether no way on from a run can earn more than what has been found. It is not told of all
+    /// such runs.
+    pub(crate) fn is_hopeless(
+        &self,
+        settled: &Settled,
+        run: &Standing,
+        bounds: &[Amount],
+        best: Amount,
+    ) -> bool
+        requires fit { IsFit self.now }
+        requires bounds { AreBounds self.now bounds.now }
+        requires next { settled.now.next < length self.now.trains.items }
+        requires head { run.now.head < 744 }
+        requires room { settled.now.total + run.now.value ≤ 44720 }
+        ensures { IsTrue result → EndsAtMost self.now settled.now run.now best }
+    {
+        let ahead = self.outlook(settled, run);
+        if !self.may_have_token(run, &ahead) {
+            return true;
+        }
+        self.earns_too_little(settled, run, &ahead, bounds, best)
+    }
+}
