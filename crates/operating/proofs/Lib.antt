@@ -31,3 +31,5 @@ pub mod HomeToken
 pub mod Tiles
 pub mod Operated
 pub mod Consents
+pub mod SaleSteps
+pub mod SaleLaws
