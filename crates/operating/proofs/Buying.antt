@@ -96,7 +96,7 @@ traded_is_held events company kind (Some one) old kept is =
     subst (λ (k : Kind). pos 1 ≤ℤ trains_held events (Some company) k) same (grind (arith, ints, has))
 
 -- what is not less is as much
-not_less : (a b : ℤ) → lt_z a b ≡ false → b ≤ℤ a
+pub not_less : (a b : ℤ) → lt_z a b ≡ false → b ≤ℤ a
 not_less a b is = grind (arith, ints)
 
 -- a company that sells is another than the buyer
