@@ -18,8 +18,9 @@ ghost use Rattle.tables.specs.declared.round.Round.{Round};
 
 use market::floated_companies_in_order;
 use operating::{
-    all_tiles_are_there, all_trains_are_there, closed_for_good, company_operates, company_turn_ends,
-    one_company_turn, phases_go_on, sellers_agree_in_turns, turn_only_adds, turns_say_no_bid,
+    all_tiles_are_there, all_trains_are_there, closed_for_good, company_operates,
+    company_turn_ends, one_company_turn, phases_go_on, sellers_agree_in_turns, turn_only_adds,
+    turns_say_no_bid,
 };
 use privates::{one_opening_round, opening_bids_rise, opening_round_ends};
 use sheets::{arrival_changes_nothing, sheets_are_numbered, three_to_six_play};
