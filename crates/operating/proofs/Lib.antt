@@ -31,3 +31,4 @@ pub mod HomeToken
 pub mod Tiles
 pub mod Operated
 pub mod Consents
+pub mod ClosedPrivates

@@ -17,3 +17,4 @@ pub mod Laws
 pub mod TrainLaws
 pub mod TileLaws
 pub mod ConsentLaws
+pub mod PrivateLaws
