@@ -17,4 +17,5 @@ pub record SaysNoBid (before after : Game) : Type 0 where
 -- so it is in each company's turn
 abbrev pub TurnsSayNoBid : Type 0
 TurnsSayNoBid =
-    (file : List ℕ) (round : Round) (company : Company) (old new : Game) → IsCompanyTurn file round company old new → SaysNoBid old new
+    (file : List ℕ) (round : Round) (company : Company) (old new : Game) →
+    IsCompanyTurn file round company old new → SaysNoBid old new

@@ -18,5 +18,5 @@ pub mod TrainLaws
 pub mod TileLaws
 pub mod ConsentLaws
 pub mod SaleLaws
-pub mod ClosingLaws
 pub mod BidLaws
+pub mod PrivateLaws

@@ -15,7 +15,7 @@ use Rattle.tables.specs.declared.round.Round.{Round}
 use Rattle.tables.specs.declared.seat.Seat.{Seat}
 
 -- by a list of events a seat owns a private, and agrees that it is sold to a company for so much
-pub record IsGivenBy (events : List Event) (giver : Seat) (buyer : Company) (private : Private) (price : ℕ) : Type 0 where
+pub record IsGiven (events : List Event) (giver : Seat) (buyer : Company) (private : Private) (price : ℕ) : Type 0 where
   pub owns : owner_of events private ≡ Some (holder.Seat giver)
   pub agreed : (seats : ℕ) → OwnerAgrees (record { seats = seats; events = events }) buyer private price
 
@@ -24,7 +24,7 @@ pub record IsGivenBy (events : List Event) (giver : Seat) (buyer : Company) (pri
 abbrev pub IsAgreed : List Event → Event → Type 0
 IsAgreed events (event.Train buyer kind (seller.Company from) price) =
     (seats : ℕ) → CompanyAgrees (record { seats = seats; events = events }) from buyer kind price
-IsAgreed events (event.PrivateBought private buyer giver price) = IsGivenBy events giver buyer private price
+IsAgreed events (event.PrivateBought private buyer giver price) = IsGiven events giver buyer private price
 IsAgreed events other = Unit
 
 -- each of these events is agreed by the list before it, where this list comes before them all
@@ -45,7 +45,8 @@ sells_to_company other = false
 -- other events keep it so
 abbrev pub OthersKeepAgreed : Type 0
 OthersKeepAgreed =
-    (events : List Event) (its : Event) → sells_to_company its ≡ false → SellersAgree events → SellersAgree (events ++ its ∷ [])
+    (events : List Event) (its : Event) →
+    sells_to_company its ≡ false → SellersAgree events → SellersAgree (events ++ its ∷ [])
 
 -- and so does each company's turn
 abbrev pub TurnsKeepAgreed : Type 0

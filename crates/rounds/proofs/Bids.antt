@@ -1,5 +1,5 @@
 -- Bids rise in each game: over opening rounds by their law, and in other rounds nobody bids.
-use Rattle.std.proofs.Common.{◌≡◌, ℕ, zero, suc, ◌<◌, Bool, true, false, ◌&&◌, ◌||◌, List, [], ◌∷◌, ◌++◌, Option, Some, None, is_none, length, refl, sym, ap, subst, ◌∙◌, arith}
+use Rattle.std.proofs.Common.{◌≡◌, ℕ, zero, suc, ◌<◌, Bool, true, false, ◌||◌, List, [], ◌∷◌, ◌++◌, Option, Some, None, is_none, length, refl, sym, ap, subst, ◌∙◌, arith}
 use Rattle.std.proofs.lemmas.Bool.{and_parts}
 use Rattle.std.proofs.lemmas.List.{append_assoc, append-nil}
 use Rattle.std.proofs.lemmas.List.Folds.{list_any-append}
@@ -35,11 +35,13 @@ nothing_found None none = refl
 nothing_found (Some x) none = absurd (cc)
 
 -- events that say nothing of bids are near no bid
-near_none : (earlier : Option Bidding) (more : List Event) → list_all no_bid more ≡ true → list_any (λ its. is_near_earlier earlier (bidding_of its)) more ≡ false
+near_none : (earlier : Option Bidding) (more : List Event) → list_all no_bid more ≡ true →
+    list_any (λ its. is_near_earlier earlier (bidding_of its)) more ≡ false
 near_none earlier [] none = refl
 near_none earlier (its ∷ more) none =
     let parts = and_parts (no_bid its) (list_all no_bid more) none in
-    ap (λ (word : Option Bidding). is_near_earlier earlier word || list_any (λ other. is_near_earlier earlier (bidding_of other)) more) (nothing_found (bidding_of its) parts.0)
+    let later : Bool = list_any (λ other. is_near_earlier earlier (bidding_of other)) more in
+    ap (λ (word : Option Bidding). is_near_earlier earlier word || later) (nothing_found (bidding_of its) parts.0)
     ∙ near_none earlier more parts.1
 
 -- so bids still rise with them
@@ -61,21 +63,25 @@ record RiseAt (seats : ℕ) (events : List Event) : Type 0 where
   seated : BiddersAreSeated seats events
 
 -- those who bid sit at the table after events that say nothing of bids
-still_seated : (seats : ℕ) (events more : List Event) → list_all no_bid more ≡ true → BiddersAreSeated seats events → BiddersAreSeated seats (events ++ more)
+still_seated : (seats : ℕ) (events more : List Event) → list_all no_bid more ≡ true → BiddersAreSeated seats events →
+    BiddersAreSeated seats (events ++ more)
 still_seated seats events [] none seated = subst (BiddersAreSeated seats) (sym (append-nil events)) seated
 still_seated seats events (its ∷ more) none seated =
     let parts = and_parts (no_bid its) (list_all no_bid more) none in
     subst (BiddersAreSeated seats) (append_assoc events (its ∷ []) more)
-    (still_seated seats (events ++ its ∷ []) more parts.1 (others_seated seats events its (nothing_found (bidding_of its) parts.0) seated))
+    (still_seated seats (events ++ its ∷ []) more parts.1
+    (others_seated seats events its (nothing_found (bidding_of its) parts.0) seated))
 
 -- so it is where a list grows by those
-by_growing : (seats : ℕ) (old new : List Event) (round : Round) → GrowsBy no_bid (old ++ event.Round round ∷ []) new → RiseAt seats old → RiseAt seats new
+by_growing : (seats : ℕ) (old new : List Event) (round : Round) → GrowsBy no_bid (old ++ event.Round round ∷ []) new →
+    RiseAt seats old → RiseAt seats new
 by_growing seats old new round grows before =
     let begun : List Event = old ++ event.Round round ∷ [] in
     subst (RiseAt seats) (sym grows.longer)
     (record {
       rise = still_rise begun grows.more grows.aside (still_rise old (event.Round round ∷ []) refl before.rise);
-      seated = still_seated seats begun grows.more grows.aside (still_seated seats old (event.Round round ∷ []) refl before.seated);
+      seated = still_seated seats begun grows.more grows.aside
+          (still_seated seats old (event.Round round ∷ []) refl before.seated);
     })
 
 -- stock rounds and operating rounds grow by those
@@ -97,7 +103,8 @@ record RiseIn (seats : ℕ) (game : Game) : Type 0 where
 
 module _ (opening : OpeningBidsRise) (turns : TurnsSayNoBid) (file : List ℕ) (seats : ℕ) (some : 0 < seats) where
   -- over an opening round
-  over_opening : (number : ℕ) (old new : Game) → IsPlayed file (Opening number) old new → RiseIn seats old → RiseIn seats new
+  over_opening : (number : ℕ) (old new : Game) → IsPlayed file (Opening number) old new → RiseIn seats old →
+      RiseIn seats new
   over_opening number old new played before =
       let here : RiseAt old.seats old.events = subst (λ (n : ℕ). RiseAt n old.events) (sym before.table) before.rises in
       let any : 0 < old.seats = omega (arith, before.table, some) in
@@ -105,7 +112,8 @@ module _ (opening : OpeningBidsRise) (turns : TurnsSayNoBid) (file : List ℕ) (
         rises =
             record {
               rise = opening file (Opening number) old new played any here.seated here.rise;
-              seated = subst (λ (n : ℕ). BiddersAreSeated n new.events) before.table (opening_seated file (Opening number) old new played any here.seated);
+              seated = subst (λ (n : ℕ). BiddersAreSeated n new.events) before.table
+                  (opening_seated file (Opening number) old new played any here.seated);
             };
         table = ap (λ (game : Game). game.seats) played.after ∙ before.table;
       }
@@ -115,12 +123,14 @@ module _ (opening : OpeningBidsRise) (turns : TurnsSayNoBid) (file : List ℕ) (
   over_round (Opening number) old new played before = over_opening number old new played before
   over_round (Stock set) old new played before =
       record {
-        rises = by_growing seats old.events new.events (Stock set) (of_stock (GrowsBy no_bid) (grows_on turns) file (Stock set) old new played) before.rises;
+        rises = by_growing seats old.events new.events (Stock set)
+            (of_stock (GrowsBy no_bid) (grows_on turns) file (Stock set) old new played) before.rises;
         table = ap (λ (game : Game). game.seats) played.after ∙ before.table;
       }
   over_round (Operating set number) old new played before =
       record {
-        rises = by_growing seats old.events new.events (Operating set number) (of_operating (GrowsBy no_bid) (grows_on turns) file (Operating set number) old new played) before.rises;
+        rises = by_growing seats old.events new.events (Operating set number)
+            (of_operating (GrowsBy no_bid) (grows_on turns) file (Operating set number) old new played) before.rises;
         table = ap (λ (game : Game). game.seats) played.after ∙ before.table;
       }
 
@@ -129,7 +139,8 @@ none_first : (seats : ℕ) → RiseAt seats []
 none_first seats = record { rise = tt; seated = λ private seat amount stands. absurd (cc) }
 
 -- so they rise in each game
-rise_so_far : OpeningBidsRise → TurnsSayNoBid → (file : List ℕ) → 0 < length (players_of file) → (rounds : ℕ) (there : Between) →
+rise_so_far : OpeningBidsRise → TurnsSayNoBid → (file : List ℕ) → 0 < length (players_of file) →
+    (rounds : ℕ) (there : Between) →
     AreRounds file rounds (before_play file) there → RiseIn (length (players_of file)) there.game
 rise_so_far opening turns file some zero there played =
     subst (λ (at : Between). RiseIn (length (players_of file)) at.game) played

@@ -1,18 +1,15 @@
 -- A private that is closed has no owner ever after, and whoever sells to a company has agreed.
 use Rattle.std.proofs.Common.{◌≡◌, ℕ, zero, suc, true, List, refl, subst}
 use Rattle.history.specs.LookBack.{Game, is_closed}
-use Rattle.history.specs.declared.event.Event.{Event}
 use Rattle.history.specs.declared.event.Event.TheVariants as event
-use Rattle.operating.specs.ClosingLaws.{KeepsClosed, OthersKeepClosed, SalesKeepClosed, TurnsKeepClosed}
+use Rattle.operating.specs.PrivateLaws.{ClosedStaysClosed, KeepsClosed, OthersKeepClosed, SalesKeepClosed}
 use Rattle.operating.specs.SaleLaws.{OthersKeepAgreed, SellersAgree, TurnsKeepAgreed}
-use Rattle.privates.specs.Opening.{IsOpeningRound}
 use Rattle.privates.specs.Standing.{standing_ruling}
 use Rattle.privates.specs.Turn.{opening_rules}
 use Rattle.rounds.proofs.OpeningSteps.{OfOpening, of_close, of_line}
 use Rattle.rounds.proofs.RoundSteps.{OfOpenings, in_each_game, of_each_round, says_still}
-use Rattle.rounds.specs.Play.{AreRounds, Between, IsPlayed}
+use Rattle.rounds.specs.Play.{Between, IsPlayed}
 use Rattle.rounds.specs.Privates.{ClosedForGood, SellersAgreeInEachGame}
-use Rattle.tables.specs.declared.roster.Private.{Private}
 use Rattle.tables.specs.declared.round.Round.{Round}
 use Rattle.tables.specs.declared.seat.Seat.{Seat}
 use Rattle.turns.proofs.RoundLeads.{round_leads}
@@ -40,7 +37,8 @@ module _ (others : OthersKeepClosed) (sales : SalesKeepClosed) where
       (record {
         stays = opening_parts.same;
         further = opening_parts.both;
-        standing = λ seat events line. others events (event.Ruled seat line.number (standing_ruling events line.reading)) refl;
+        standing = λ seat events line. others events
+            (event.Ruled seat line.number (standing_ruling events line.reading)) refl;
         line = λ seats seat turn line. of_line Any KeepsClosed opening_parts seats seat turn line tt;
         passes = λ events seat. others events (event.Passes seat) refl;
         closed = of_close Any KeepsClosed opening_parts;
@@ -48,7 +46,8 @@ module _ (others : OthersKeepClosed) (sales : SalesKeepClosed) where
       })
 
   -- and each round
-  of_rounds : TurnsKeepClosed → (file : List ℕ) (round : Round) (old new : Game) → IsPlayed file round old new → KeepsClosed old.events new.events
+  of_rounds : ClosedStaysClosed → (file : List ℕ) (round : Round) (old new : Game) → IsPlayed file round old new →
+      KeepsClosed old.events new.events
   of_rounds turns file round old new played =
       of_each_round KeepsClosed
       (record {
@@ -60,7 +59,7 @@ module _ (others : OthersKeepClosed) (sales : SalesKeepClosed) where
       file of_openings (λ events round. others events (event.Round round) refl) round old new played
 
 -- so a private is closed for good
-pub closed_for_good : OthersKeepClosed → SalesKeepClosed → TurnsKeepClosed → ClosedForGood
+pub closed_for_good : OthersKeepClosed → SalesKeepClosed → ClosedStaysClosed → ClosedForGood
 closed_for_good others sales turns file zero old new private played closed =
     subst (λ (at : Between). is_closed at.game.events private ≡ true) played closed
 closed_for_good others sales turns file (suc rounds) old new private played closed =

@@ -13,7 +13,7 @@ use Rattle.history.specs.Tell.{after_revenues, breaks, paid_to_owner, with_broke
 use Rattle.history.specs.declared.event.Event.{Event}
 use Rattle.history.specs.declared.event.Event.TheVariants as event
 use Rattle.history.specs.declared.event.Holder.{Holder}
-use Rattle.operating.specs.ClosingLaws.{names_owner}
+use Rattle.operating.specs.PrivateLaws.{names_owner}
 use Rattle.operating.specs.SaleLaws.{sells_to_company}
 use Rattle.sheets.specs.Part.{Numbered}
 use Rattle.tables.specs.Roster.{revenue_of}
@@ -29,7 +29,8 @@ is_aside event =
     is_none (round_of event)
     && (is_none (tile_laid event)
     && (is_none (token_placed event)
-    && (is_none (operated_by event) && (is_none (phase_set event) && (is_none (train_moved event) && not (sells_to_company event))))))
+    && (is_none (operated_by event)
+    && (is_none (phase_set event) && (is_none (train_moved event) && not (sells_to_company event))))))
 
 -- and it says nothing of bids, and names no owner of a private
 abbrev pub is_still : Event → Bool
@@ -50,7 +51,8 @@ abbrev pub GrowsStill : List Event → List Event → Type 0
 GrowsStill old new = GrowsBy is_still old new
 
 -- events that pass one test pass another
-pass_too : (test other : Event → Bool) → ((event : Event) → test event ≡ true → other event ≡ true) → (more : List Event) →
+pass_too : (test other : Event → Bool) → ((event : Event) → test event ≡ true → other event ≡ true) →
+    (more : List Event) →
     list_all test more ≡ true → list_all other more ≡ true
 pass_too test other each [] all = refl
 pass_too test other each (event ∷ more) all =
@@ -58,7 +60,8 @@ pass_too test other each (event ∷ more) all =
     ap (λ (b : Bool). b && list_all other more) (each event parts.0) ∙ pass_too test other each more parts.1
 
 -- so the list grows by events that pass the other
-pub grows_too : (test other : Event → Bool) → ((event : Event) → test event ≡ true → other event ≡ true) → (old new : List Event) →
+pub grows_too : (test other : Event → Bool) → ((event : Event) → test event ≡ true → other event ≡ true) →
+    (old new : List Event) →
     GrowsBy test old new → GrowsBy other old new
 grows_too test other each old new grows =
     record { more = grows.more; longer = grows.longer; aside = pass_too test other each grows.more grows.aside }
@@ -67,14 +70,16 @@ grows_too test other each old new grows =
 pub stands_aside : (old new : List Event) → GrowsStill old new → Grows old new
 stands_aside =
     grows_too is_still is_aside
-    (λ event still. (and_parts (is_aside event) (is_none (bidding_of event) && not (names_owner (ownership_of event))) still).0)
+    (λ event still. (and_parts (is_aside event)
+    (is_none (bidding_of event) && not (names_owner (ownership_of event))) still).0)
 
 -- a list that stays as it is
 pub stays : {test : Event → Bool} (events : List Event) → GrowsBy test events events
 stays events = record { more = []; longer = sym (append-nil events); aside = refl }
 
 -- what stands aside, and more that does
-pub both_aside : (test : Event → Bool) (front back : List Event) → list_all test front ≡ true → list_all test back ≡ true →
+pub both_aside : (test : Event → Bool) (front back : List Event) → list_all test front ≡ true →
+    list_all test back ≡ true →
     list_all test (front ++ back) ≡ true
 both_aside test front back first second =
     list_all-append test front back ∙ ap (λ (b : Bool). b && list_all test back) first ∙ second
@@ -84,47 +89,59 @@ pub further : {test : Event → Bool} (a b c : List Event) → GrowsBy test a b 
 further {test} a b c first second =
     record {
       more = first.more ++ second.more;
-      longer = second.longer ∙ ap (λ (list : List Event). list ++ second.more) first.longer ∙ append_assoc a first.more second.more;
+      longer = second.longer ∙ ap (λ (list : List Event). list ++ second.more) first.longer
+          ∙ append_assoc a first.more second.more;
       aside = both_aside test first.more second.more first.aside second.aside;
     }
 
 -- by each of two cases
-pub in_either : {test : Event → Bool} (old one other : List Event) (b : Bool) → GrowsBy test old one → GrowsBy test old other →
+pub in_either : {test : Event → Bool} (old one other : List Event) (b : Bool) → GrowsBy test old one →
+    GrowsBy test old other →
     GrowsBy test old (if b then one else other)
 in_either old one other true first second = first
 in_either old one other false first second = second
 
 -- by each step
-pub by_steps : (step : List Event → List Event) → ((events : List Event) → Grows events (step events)) → (n : ℕ) (events : List Event) → Grows events (iterate step n events)
+pub by_steps : (step : List Event → List Event) → ((events : List Event) → Grows events (step events)) →
+    (n : ℕ) (events : List Event) → Grows events (iterate step n events)
 by_steps step each zero events = stays events
 by_steps step each (suc n) events =
-    further events (iterate step n events) (step (iterate step n events)) (by_steps step each n events) (each (iterate step n events))
+    further events (iterate step n events) (step (iterate step n events)) (by_steps step each n events)
+    (each (iterate step n events))
 
 -- by one event that stands aside
-pub told : {test : Event → Bool} (events : List Event) (event : Event) → test event ≡ true → GrowsBy test events (events ++ event ∷ [])
+pub told : {test : Event → Bool} (events : List Event) (event : Event) → test event ≡ true →
+    GrowsBy test events (events ++ event ∷ [])
 told events event aside = record { more = event ∷ []; longer = refl; aside = ap (λ (b : Bool). b && true) aside }
 
 -- by BROKEN, where the bank breaks
 pub broken_grows : (seats : ℕ) (events : List Event) → GrowsStill events (with_broken seats events)
 broken_grows seats events =
-    in_either events (events ++ event.Broken ∷ []) events (breaks seats events) (told events event.Broken refl) (stays events)
+    in_either events (events ++ event.Broken ∷ []) events (breaks seats events) (told events event.Broken refl)
+    (stays events)
 
 -- by a revenue
-owner_grows : (seats : ℕ) (events : List Event) (private : Private) (owner : Option Holder) → GrowsStill events (paid_to_owner seats events private owner)
+owner_grows : (seats : ℕ) (events : List Event) (private : Private) (owner : Option Holder) →
+    GrowsStill events (paid_to_owner seats events private owner)
 owner_grows seats events private None = stays events
 owner_grows seats events private (Some owner) =
     let paid : List Event = events ++ event.Revenue private owner (revenue_of private) ∷ [] in
-    further events paid _ (told events (event.Revenue private owner (revenue_of private)) refl) (broken_grows seats paid)
+    further events paid _ (told events (event.Revenue private owner (revenue_of private)) refl)
+    (broken_grows seats paid)
 
 -- by the revenues of some privates
-pub revenues_grow : (seats : ℕ) (events : List Event) (paying : List Private) → GrowsStill events (after_revenues seats events paying)
+pub revenues_grow : (seats : ℕ) (events : List Event) (paying : List Private) →
+    GrowsStill events (after_revenues seats events paying)
 revenues_grow seats events [] = stays events
 revenues_grow seats events (private ∷ others) =
     let paid : List Event = paid_to_owner seats events private (owner_of events private) in
     further events paid _ (owner_grows seats events private (owner_of events private)) (revenues_grow seats paid others)
 
 -- by turns, where it grows by the lines of each and by each pass
-pub by_turns : (play : Play (List Event) Numbered) → ((seat : Seat) (lines : List Numbered) (events : List Event) → Grows events (play.turn seat lines events).state) → ((seat : Seat) (events : List Event) → Grows events (play.pass seat events)) → (n : ℕ) (start : InPlay (List Event) Numbered) → Grows start.now (iterate (after_turn play) n start).now
+pub by_turns : (play : Play (List Event) Numbered) →
+    ((seat : Seat) (lines : List Numbered) (events : List Event) → Grows events (play.turn seat lines events).state) →
+    ((seat : Seat) (events : List Event) → Grows events (play.pass seat events)) →
+    (n : ℕ) (start : InPlay (List Event) Numbered) → Grows start.now (iterate (after_turn play) n start).now
 by_turns play acts passes zero start = stays start.now
 by_turns play acts passes (suc n) start =
     let at : InPlay (List Event) Numbered = iterate (after_turn play) n start in

@@ -3,7 +3,7 @@ use Rattle.std.proofs.Common.{◌≡◌, ℕ, zero, suc, ◌<◌, Bool, true, fa
 use Rattle.std.proofs.lemmas.Bool.Decides.{nat_tests}
 use Rattle.history.proofs.BidWords.{bid_of_at_end, seated_after_bid}
 use Rattle.history.proofs.EventAtEnd.{bid_of_before}
-use Rattle.history.specs.Bids.{bid_of, bid_said}
+use Rattle.history.specs.Bids.{bid_of}
 use Rattle.history.specs.Event.{bidding_of}
 use Rattle.history.specs.LookBack.{Game}
 use Rattle.history.specs.Sound.{BiddersAreSeated}
@@ -33,12 +33,14 @@ abbrev pub StillSeated : ℕ → List Event → List Event → Type 0
 StillSeated seats before after = BiddersAreSeated seats before → BiddersAreSeated seats after
 
 -- an event that says nothing of bids keeps it so
-pub others_seated : (seats : ℕ) (events : List Event) (its : Event) → bidding_of its ≡ None → StillSeated seats events (events ++ its ∷ [])
+pub others_seated : (seats : ℕ) (events : List Event) (its : Event) → bidding_of its ≡ None →
+    StillSeated seats events (events ++ its ∷ [])
 others_seated seats events its none seated private seat amount stands =
     seated private seat amount (sym (bid_of_before events its private seat none) ∙ stands)
 
 -- a bid that stands once those on a private are ended stood before
-not_ended : (here : Bool) (before : Option ℕ) (amount : ℕ) → unwrap_or (if here then Some None else None) before ≡ Some amount → before ≡ Some amount
+not_ended : (here : Bool) (before : Option ℕ) (amount : ℕ) →
+    unwrap_or (if here then Some None else None) before ≡ Some amount → before ≡ Some amount
 not_ended true before amount stands = absurd (cc)
 not_ended false before amount stands = stands
 
@@ -96,7 +98,8 @@ module _ (seats : ℕ) (some : 0 < seats) (start : InPlay (List Event) Numbered)
   -- each turn is of a seat at the table
   turn_at_table : (n : ℕ) → (iterate (after_turn (turns_of opening_rules seats)) n start).seat < seats
   turn_at_table zero = first
-  turn_at_table (suc n) = left_within seats (Some (seat_at (iterate (after_turn (turns_of opening_rules seats)) n start).seat)) some
+  turn_at_table (suc n) = left_within seats
+      (Some (seat_at (iterate (after_turn (turns_of opening_rules seats)) n start).seat)) some
 
   -- so it is one by the rules at the table
   turn_by_rules : (at : InPlay (List Event) Numbered) → at.seat < seats →
@@ -106,11 +109,15 @@ module _ (seats : ℕ) (some : 0 < seats) (start : InPlay (List Event) Numbered)
       let group : List Numbered = next_group (groups_at at.groups at.seat) in
       ap (λ (b : Bool).
       turn_over (turns_of opening_rules seats) at
-      (turned opening_rules (after_each (λ (turn : InTurn) (line : Numbered). if b then after_line seats seat turn line else turn) (in_turn at.now false) group)))
+      (turned opening_rules
+      (after_each (λ (turn : InTurn) (line : Numbered). if b then after_line seats seat turn line else turn)
+      (in_turn at.now false) group)))
       (sym (says_under at.seat seats under))
 
   -- and so are all of them
-  turns_by_rules : (n : ℕ) → iterate (after_turn (turns_of opening_rules seats)) n start ≡ iterate (after_turn (turns_of (rules_at seats) seats)) n start
+  turns_by_rules : (n : ℕ) →
+      iterate (after_turn (turns_of opening_rules seats)) n start
+      ≡ iterate (after_turn (turns_of (rules_at seats) seats)) n start
   turns_by_rules zero = refl
   turns_by_rules (suc n) =
       turn_by_rules (iterate (after_turn (turns_of opening_rules seats)) n start) (turn_at_table n)
@@ -130,13 +137,15 @@ by_rules file round old new played some =
             reached = sym (same played.turns.steps) ∙ played.turns.reached;
             over_then = played.turns.over_then;
             not_before = λ k before.
-                ap (λ (at : InPlay (List Event) Numbered). turns_over (turns_of opening_rules old.seats) at) (sym (same k)) ∙ played.turns.not_before k before;
+                ap (λ (at : InPlay (List Event) Numbered). turns_over (turns_of opening_rules old.seats) at)
+                (sym (same k)) ∙ played.turns.not_before k before;
           };
       after = played.after;
     }
 
 -- an opening round keeps it so
-pub opening_seated : (file : List ℕ) (round : Round) (old new : Game) → IsOpeningRound file round old new → 0 < old.seats →
+pub opening_seated : (file : List ℕ) (round : Round) (old new : Game) → IsOpeningRound file round old new →
+    0 < old.seats →
     StillSeated old.seats old.events new.events
 opening_seated file round old new played some seated =
     let seats : ℕ = old.seats in
@@ -144,8 +153,10 @@ opening_seated file round old new played some seated =
     (record {
       stays = λ events seated. seated;
       further = λ a b c one two seated. two (one seated);
-      standing = λ seat events line. others_seated seats events (event.Ruled seat line.number (standing_ruling events line.reading)) refl;
-      line = λ any seat turn line. tested_line seats seat turn line (nat_lt seat.0 seats) (λ under. is_under seat.0 seats under);
+      standing = λ seat events line. others_seated seats events
+          (event.Ruled seat line.number (standing_ruling events line.reading)) refl;
+      line = λ any seat turn line. tested_line seats seat turn line (nat_lt seat.0 seats)
+          (λ under. is_under seat.0 seats under);
       passes = λ events seat. others_seated seats events (event.Passes seat) refl;
       closed = λ any events. of_close (AtTable seats) (StillSeated seats) (opening_parts seats) seats events;
       leaves = λ events seat lines. others_seated seats events (event.Left seat lines) refl;

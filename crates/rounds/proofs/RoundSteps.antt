@@ -9,7 +9,7 @@ use Rattle.history.specs.Event.{bidding_of, operated_by, ownership_of, phase_set
 use Rattle.history.specs.LookBack.{Game}
 use Rattle.history.specs.declared.event.Event.{Event}
 use Rattle.history.specs.declared.event.Event.TheVariants as event
-use Rattle.operating.specs.ClosingLaws.{names_owner}
+use Rattle.operating.specs.PrivateLaws.{names_owner}
 use Rattle.operating.specs.SaleLaws.{sells_to_company}
 use Rattle.operating.specs.Turn.{IsCompanyTurn}
 use Rattle.privates.specs.Opening.{IsOpeningRound}
@@ -46,7 +46,8 @@ nothing None none = refl
 nothing (Some x) none = cc
 
 -- there is nothing, and more holds
-nothing_and : {X : Type 0} (found : Option X) (more : Bool) → (is_none found && more) ≡ true → (found ≡ None) × (more ≡ true)
+nothing_and : {X : Type 0} (found : Option X) (more : Bool) → (is_none found && more) ≡ true →
+    (found ≡ None) × (more ≡ true)
 nothing_and None more both = (refl, both)
 nothing_and (Some x) more both = absurd (cc)
 
@@ -77,9 +78,14 @@ says_nothing event aside =
 -- nor does one that is still
 pub says_still : (event : Event) → is_still event ≡ true → SaysStill event
 says_still event still =
-    let parts = and_parts (is_aside event) (is_none (bidding_of event) && not (names_owner (ownership_of event))) still in
+    let parts =
+    and_parts (is_aside event) (is_none (bidding_of event) && not (names_owner (ownership_of event))) still in
     let bids = nothing_and (bidding_of event) _ parts.1 in
-    record { aside = says_nothing event parts.0; bids = bids.0; names = not_so (names_owner (ownership_of event)) bids.1 }
+    record {
+      aside = says_nothing event parts.0;
+      bids = bids.0;
+      names = not_so (names_owner (ownership_of event)) bids.1;
+    }
 
 -- it holds between a list and itself, of one after the other, and of each event that stands aside
 pub record IsPassedOn (R : List Event → List Event → Type 0) : Type 0 where
@@ -89,7 +95,9 @@ pub record IsPassedOn (R : List Event → List Event → Type 0) : Type 0 where
 
 -- it holds of each company's turn
 abbrev pub OfTurns : (List Event → List Event → Type 0) → Type 0
-OfTurns R = (file : List ℕ) (round : Round) (company : Company) (old new : Game) → IsCompanyTurn file round company old new → R old.events new.events
+OfTurns R =
+    (file : List ℕ) (round : Round) (company : Company) (old new : Game) →
+    IsCompanyTurn file round company old new → R old.events new.events
 
 -- it holds where a round begins
 abbrev pub OfBeginnings : (List Event → List Event → Type 0) → Type 0
@@ -103,7 +111,8 @@ module _ (R : List Event → List Event → Type 0) (on : IsPassedOn R) where
       let parts = and_parts (is_aside event) (list_all is_aside more) aside in
       let next : List Event = events ++ event ∷ [] in
       subst (R events) (append_assoc events (event ∷ []) more)
-      (on.both events next (next ++ more) (on.aside events event (says_nothing event parts.0)) (of_aside next more parts.1))
+      (on.both events next (next ++ more) (on.aside events event (says_nothing event parts.0))
+      (of_aside next more parts.1))
 
   -- of a list that grows by those
   pub of_growing : (old new : List Event) → Grows old new → R old new
@@ -118,7 +127,9 @@ pub record IsPassedStill (R : List Event → List Event → Type 0) : Type 0 whe
 
 -- it holds of each opening round that has begun
 abbrev pub OfOpenings : (List Event → List Event → Type 0) → Type 0
-OfOpenings R = (file : List ℕ) (round : Round) (old new : Game) → IsOpeningRound file round old new → R (old.events ++ event.Round round ∷ []) new.events
+OfOpenings R =
+    (file : List ℕ) (round : Round) (old new : Game) →
+    IsOpeningRound file round old new → R (old.events ++ event.Round round ∷ []) new.events
 
 module _ (R : List Event → List Event → Type 0) (on : IsPassedStill R) where
   -- of events that are still
@@ -128,7 +139,8 @@ module _ (R : List Event → List Event → Type 0) (on : IsPassedStill R) where
       let parts = and_parts (is_still event) (list_all is_still more) still in
       let next : List Event = events ++ event ∷ [] in
       subst (R events) (append_assoc events (event ∷ []) more)
-      (on.both events next (next ++ more) (on.still events event (says_still event parts.0)) (of_still next more parts.1))
+      (on.both events next (next ++ more) (on.still events event (says_still event parts.0))
+      (of_still next more parts.1))
 
   -- of a list that grows by those
   of_growing_still : (old new : List Event) → GrowsStill old new → R old new
@@ -136,14 +148,17 @@ module _ (R : List Event → List Event → Type 0) (on : IsPassedStill R) where
 
   module _ (file : List ℕ) where
     -- of turns
-    of_turns : (round : Round) (companies : List Company) (old new : Game) → TakeTurns file round companies old new → R old.events new.events
+    of_turns : (round : Round) (companies : List Company) (old new : Game) → TakeTurns file round companies old new →
+        R old.events new.events
     of_turns round [] old new taken =
         subst (λ (game : Game). R old.events game.events) taken (on.same old.events)
     of_turns round (company ∷ others) old new taken =
-        on.both old.events taken.0.events new.events (on.turns file round company old taken.0 taken.1.turn) (of_turns round others taken.0 new taken.2)
+        on.both old.events taken.0.events new.events (on.turns file round company old taken.0 taken.1.turn)
+        (of_turns round others taken.0 new taken.2)
 
     -- of an operating round that has begun
-    pub of_operating : (round : Round) (old new : Game) → IsOperatingRound file round old new → R (old.events ++ event.Round round ∷ []) new.events
+    pub of_operating : (round : Round) (old new : Game) → IsOperatingRound file round old new →
+        R (old.events ++ event.Round round ∷ []) new.events
     of_operating round old new played =
         let begun : List Event = old.events ++ event.Round round ∷ [] in
         let start : Game = opened file round old in
@@ -155,7 +170,8 @@ module _ (R : List Event → List Event → Type 0) (on : IsPassedStill R) where
         (of_growing_still turned end (finished_still file round old.seats turned))))
 
     -- of a stock round that has begun
-    pub of_stock : (round : Round) (old new : Game) → IsStockRound file round old new → R (old.events ++ event.Round round ∷ []) new.events
+    pub of_stock : (round : Round) (old new : Game) → IsStockRound file round old new →
+        R (old.events ++ event.Round round ∷ []) new.events
     of_stock round old new played =
         of_growing_still (old.events ++ event.Round round ∷ []) new.events (stock_round_still file round old new played)
 
@@ -167,26 +183,35 @@ module _ (R : List Event → List Event → Type 0) (on : IsPassedStill R) where
     of_each_begun openings (Operating set number) old new played = of_operating (Operating set number) old new played
 
     -- of each round, if it holds where one begins too
-    pub of_each_round : OfOpenings R → OfBeginnings R → (round : Round) (old new : Game) → IsPlayed file round old new → R old.events new.events
+    pub of_each_round : OfOpenings R → OfBeginnings R → (round : Round) (old new : Game) →
+        IsPlayed file round old new → R old.events new.events
     of_each_round openings begins round old new played =
-        on.both old.events (old.events ++ event.Round round ∷ []) new.events (begins old.events round) (of_each_begun openings round old new played)
+        on.both old.events (old.events ++ event.Round round ∷ []) new.events (begins old.events round)
+        (of_each_begun openings round old new played)
 
 module _ (R : List Event → List Event → Type 0) (on : IsPassedOn R) (turns : OfTurns R) (file : List ℕ) where
   -- what holds of each event that stands aside holds of each that is still, and of opening rounds
   still_too : IsPassedStill R
   still_too =
-      record { same = on.same; both = on.both; still = λ events event says. on.aside events event says.aside; turns = turns }
+      record {
+        same = on.same;
+        both = on.both;
+        still = λ events event says. on.aside events event says.aside;
+        turns = turns;
+      }
 
   openings_too : OfOpenings R
   openings_too file round old new played =
       of_growing R on (old.events ++ event.Round round ∷ []) new.events (opening_grows file round old new played)
 
   -- so of each round that has begun
-  pub of_begun : (round : Round) (old new : Game) → IsPlayed file round old new → R (old.events ++ event.Round round ∷ []) new.events
+  pub of_begun : (round : Round) (old new : Game) → IsPlayed file round old new →
+      R (old.events ++ event.Round round ∷ []) new.events
   of_begun = of_each_begun R still_too file openings_too
 
   -- of each round, if it holds where one begins
-  pub of_round : OfBeginnings R → (round : Round) (old new : Game) → IsPlayed file round old new → R old.events new.events
+  pub of_round : OfBeginnings R → (round : Round) (old new : Game) → IsPlayed file round old new →
+      R old.events new.events
   of_round begins = of_each_round R still_too file openings_too begins
 
 -- what holds by a list holds by a longer one
@@ -206,5 +231,11 @@ pub in_each_game : (P : List Event → Type 0) → IsKept P → (file : List ℕ
 in_each_game P kept file zero there played =
     subst (λ (at : Between). P at.game.events) played kept.first
 in_each_game P kept file (suc rounds) there played =
-    let on : IsPassedOn (Keeps P) = record { same = λ events holds. holds; both = λ a b c one two holds. two (one holds); aside = kept.aside } in
-    of_round (Keeps P) on kept.turns file kept.begins played.0.next played.0.game there.game played.2.played (in_each_game P kept file rounds played.0 played.1)
+    let on : IsPassedOn (Keeps P) = record {
+      same = λ events holds. holds;
+      both = λ a b c one two holds. two
+          (one holds);
+      aside = kept.aside;
+    } in
+    of_round (Keeps P) on kept.turns file kept.begins played.0.next played.0.game there.game played.2.played
+    (in_each_game P kept file rounds played.0 played.1)
