@@ -31,3 +31,6 @@ pub mod HomeToken
 pub mod Tiles
 pub mod Operated
 pub mod Consents
+pub mod SaleLaws
+pub mod AgreedSales
+pub mod ClosedPrivates

@@ -68,9 +68,9 @@ by_events company =
       };
     })
     (λ game its is. record {
-      others = λ other apart. one_more other game.events its (begins_none company its is)
-          ∙ ap (λ (b : Bool). has_operated game.events other || b) (own_alone company other its is apart) ∙ or_false (has_operated game.events other);
-      still = λ other has. one_more other game.events its (begins_none company its is)
+      others = λ other apart. one_more other game.events its (begins_none company game its is)
+          ∙ ap (λ (b : Bool). has_operated game.events other || b) (own_alone company other game its is apart) ∙ or_false (has_operated game.events other);
+      still = λ other has. one_more other game.events its (begins_none company game its is)
           ∙ ap (λ (b : Bool). b || is_some (turn_said other (operated_by its))) has;
     })
 
@@ -114,7 +114,7 @@ has_steps company =
           (some_revenue (is_past_pay turn.progress) (turn.progress.runs.revenue == 0) rules) ∙ or_true (not (is_unpaid turn.progress))));
       kept = λ turn has done. (after_withheld company (Operates company) (by_events company) turn.game turn.progress.runs.revenue).still company
           (now_has company turn.game (event.Withheld company turn.progress.runs.revenue) refl refl);
-      bought = λ turn purchase rules has done. (on.bought turn purchase rules).still company (has done);
+      bought = λ turn kind from rules has done. (on.bought turn kind from rules).still company (has done);
     }
 
 -- what the company has withheld by itself, where it was unpaid, is past its pay

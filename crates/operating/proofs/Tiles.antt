@@ -21,9 +21,11 @@ use Rattle.map_tables.specs.declared.hex.Hex.{Hex}
 use Rattle.map_tables.specs.declared.hex.Hex.TheVariants.{A9}
 use Rattle.map_tables.specs.declared.lay.Lay.{Lay}
 use Rattle.map_tables.specs.declared.tiles.TileNo.{TileNo}
+use Rattle.operating.proofs.AgreedSales.{train_agreed}
 use Rattle.operating.proofs.TrainSteps.{IsPassedOn}
 use Rattle.operating.proofs.TurnGames.{of_game_turn, of_purchase}
 use Rattle.operating.specs.Ground.{ground_now}
+use Rattle.operating.specs.Turn.{purchase_of}
 use Rattle.operating.specs.TileLaws.{LaysKeepTiles, OthersKeepTiles, TilesAreAll, TilesAreAllAtFirst, TurnsKeepTiles, returned_by, returned_of}
 use Rattle.operating.specs.TileLaws.{stock_of, taken_of}
 use Rattle.reach.proofs.Hexes.{same_index}
@@ -177,7 +179,8 @@ turns_keep_tiles file round company old new turn =
       on = on;
       others = λ game its is no_tile no_train no_phase tiles. others_keep_tiles game.events its no_tile tiles;
       lays = λ game asker lay cost rules tiles. lays_keep_tiles game company asker lay cost rules tiles;
-      purchases = λ game purchase rules. of_purchase company StillAll on
-          (λ now its is no_tile tiles. others_keep_tiles now.events its no_tile tiles) game purchase;
+      purchases = λ game kind from rules. of_purchase company StillAll on
+          (λ now its is no_tile tiles. others_keep_tiles now.events its no_tile tiles) game (purchase_of kind from)
+          (train_agreed company game kind from rules);
     })
     file round old new turn

@@ -16,6 +16,7 @@ use Rattle.map_tables.specs.Place.{place_of}
 use Rattle.map_tables.specs.declared.lay.Lay.{Lay}
 use Rattle.market.specs.Moves.{left_of, right_of}
 use Rattle.market.specs.Token.{moved_from, same_square, with_move}
+use Rattle.operating.proofs.AgreedSales.{train_agreed}
 use Rattle.operating.proofs.TrainSteps.{IsPassedOn, OfClosings, of_bop, of_choice, of_next, of_phase, of_stable, of_trade}
 use Rattle.operating.proofs.TurnEvents.{IsOfTurn}
 use Rattle.operating.proofs.TurnSteps.{OfSteps, of_turn}
@@ -24,12 +25,15 @@ use Rattle.operating.specs.Dividend.{all_paid, paid_for, paid_out, paid_to, paid
 use Rattle.operating.specs.Ground.{ground_now}
 use Rattle.operating.specs.InTurn.{InTurn}
 use Rattle.operating.specs.Phases.{after_train, begins_phase, bought, with_phase, with_trade}
+use Rattle.operating.specs.SaleLaws.{IsAgreed}
 use Rattle.operating.specs.Trains.{cost_of, train_judgement}
-use Rattle.operating.specs.Turn.{IsCompanyTurn, begun, settled}
+use Rattle.operating.specs.Turn.{IsCompanyTurn, begun, purchase_of, settled}
 use Rattle.operating.specs.declared.purchase.Purchase.{Purchase}
 use Rattle.std.proofs.Common.{◌≡◌, ℕ, ◌==◌, Bool, true, false, if◌then◌else◌, List, [], ◌∷◌, ◌++◌, Option, Some, None, refl, sym, subst}
 use Rattle.tables.specs.Rules.{first_broken}
 use Rattle.tables.specs.Seat.{all_seats}
+use Rattle.order_grammar.specs.declared.order.TrainSource.{TrainSource}
+use Rattle.tables.specs.declared.rolling_stock.Kind.{Kind}
 use Rattle.tables.specs.declared.roster.Company.{Company}
 use Rattle.tables.specs.declared.round.Round.{Round}
 use Rattle.tables.specs.declared.seat.Seat.{Seat}
@@ -39,17 +43,20 @@ use Rattle.tables.specs.declared.squares.Square.{Square}
 -- each event of the turn that lays no tile, moves no train and begins no phase, of a lay and of a purchase by the rules
 pub record OfEvents (company : Company) (R : Game → Game → Type 0) : Type 0 where
   pub on : IsPassedOn R
-  pub others : (game : Game) (its : Event) → IsOfTurn company its → tile_laid its ≡ None → train_moved its ≡ None → phase_set its ≡ None →
+  pub others : (game : Game) (its : Event) → IsOfTurn company game its → tile_laid its ≡ None → train_moved its ≡ None → phase_set its ≡ None →
       R game (with_event game its)
   pub lays : (game : Game) (asker : Asker) (lay : Lay) (cost : ℕ) → first_broken (ground_rules (ground_now game.events) asker lay) ≡ None →
       R game (with_event game (event.Laid company lay cost))
-  pub purchases : (game : Game) (purchase : Purchase) → train_judgement game company purchase ≡ None → R game (after_train game company purchase)
+  pub purchases : (game : Game) (kind : Kind) (from : TrainSource) → train_judgement game company (purchase_of kind from) ≡ None →
+      R game (after_train game company (purchase_of kind from))
 
--- what holds of each event of a turn that lays no tile holds of a purchase
+-- what holds of each event of a turn that lays no tile holds of a purchase that is agreed
 pub of_purchase : (company : Company) (R : Game → Game → Type 0) → IsPassedOn R →
-    ((game : Game) (its : Event) → IsOfTurn company its → tile_laid its ≡ None → R game (with_event game its)) →
-    (game : Game) (purchase : Purchase) → R game (after_train game company purchase)
-of_purchase company R on each game purchase =
+    ((game : Game) (its : Event) → IsOfTurn company game its → tile_laid its ≡ None → R game (with_event game its)) →
+    (game : Game) (purchase : Purchase) →
+    IsAgreed (with_trade game company purchase.trade_in).events (event.Train company purchase.kind purchase.from (cost_of purchase)) →
+    R game (after_train game company purchase)
+of_purchase company R on each game purchase agreed =
     let closes : OfClosings R = λ now private. each now (event.Closed private) tt refl in
     let traded = with_trade game company purchase.trade_in in
     let train = event.Train company purchase.kind purchase.from (cost_of purchase) in
@@ -58,7 +65,7 @@ of_purchase company R on each game purchase =
     let phase = event.Phase purchase.kind in
     let followed = with_phase all purchase.kind in
     let trade : R game traded = of_trade R on (λ now its kind. each now (event.Traded its kind) tt refl) game company purchase.trade_in in
-    let first : R game all = on.both game came all (on.both game traded came trade (each traded train tt refl)) (of_bop R on closes came company) in
+    let first : R game all = on.both game came all (on.both game traded came trade (each traded train agreed refl)) (of_bop R on closes came company) in
     let later : R (with_event all phase) followed = of_phase R on closes
     (λ kind. of_stable R on kind (λ now owner. each now (event.Rusted owner kind) tt refl))
     (of_next R on (λ now its kind. each now (event.Discarded its kind) tt refl)) all purchase.kind in
@@ -67,13 +74,14 @@ of_purchase company R on each game purchase =
 
 -- so it is shown where it holds of each event
 pub by_each : (company : Company) (R : Game → Game → Type 0) → IsPassedOn R →
-    ((game : Game) (its : Event) → IsOfTurn company its → R game (with_event game its)) → OfEvents company R
+    ((game : Game) (its : Event) → IsOfTurn company game its → R game (with_event game its)) → OfEvents company R
 by_each company R on each =
     record {
       on = on;
       others = λ game its is no_tile no_train no_phase. each game its is;
       lays = λ game asker lay cost rules. each game (event.Laid company lay cost) tt;
-      purchases = λ game purchase rules. of_purchase company R on (λ now its is no_tile. each now its is) game purchase;
+      purchases = λ game kind from rules. of_purchase company R on (λ now its is no_tile. each now its is) game (purchase_of kind from)
+          (train_agreed company game kind from rules);
     }
 
 module _ (company : Company) (R : Game → Game → Type 0) (of : OfEvents company R) where
@@ -152,7 +160,7 @@ module _ (company : Company) (R : Game → Game → Type 0) (of : OfEvents compa
         ran = λ turn ran. of.others turn.game (event.Runs company ran.earned) refl refl refl refl;
         paid = λ turn rules. of_paid_out turn.game turn.progress.runs.revenue;
         kept = λ turn. of_withheld turn.game turn.progress.runs.revenue;
-        bought = λ turn purchase rules. of.purchases turn.game purchase rules;
+        bought = λ turn kind from rules. of.purchases turn.game kind from rules;
       }
 
   -- and of the whole

@@ -17,7 +17,7 @@ use Rattle.operating.proofs.TurnSteps.{of_line}
 use Rattle.operating.specs.InTurn.{InTurn}
 use Rattle.operating.specs.Laws.{OnlyAdds, TurnOnlyAdds}
 use Rattle.operating.specs.TrainLaws.{PhasesGoOnInTurns, TrainsStand, TurnsKeepAll}
-use Rattle.operating.specs.Turn.{ReadingLeads}
+use Rattle.operating.specs.Turn.{ReadingLeads, purchase_of}
 use Rattle.operating.specs.declared.operator.Operator.{Operator}
 use Rattle.order_grammar.specs.declared.fault.Fault.{Fault}
 use Rattle.order_grammar.specs.declared.order.Order.{Order}
@@ -50,7 +50,7 @@ adds_on =
 pub adds_by : (company : Company) → OfEvents company OnlyAdds
 adds_by company =
     by_each company OnlyAdds adds_on
-    (λ game its is. record { more = its ∷ []; added = refl; no_round = ap (λ (b : Bool). b || false) (begins_none company its is) })
+    (λ game its is. record { more = its ∷ []; added = refl; no_round = ap (λ (b : Bool). b || false) (begins_none company game its is) })
 
 -- a turn only adds events, and begins no round
 pub only_adds : TurnOnlyAdds
@@ -74,7 +74,7 @@ turns_keep_all file round company old new turn =
       on = record { same = λ game stand. stand; both = λ a b c one two stand. two (one stand) };
       others = λ game its is no_tile no_train no_phase stand. others_keep_standing game.events its no_train no_phase stand;
       lays = λ game asker lay cost rules stand. others_keep_standing game.events (event.Laid company lay cost) refl refl stand;
-      purchases = λ game purchase rules. purchases_keep_all game company purchase rules;
+      purchases = λ game kind from rules. purchases_keep_all game company (purchase_of kind from) rules;
     })
     file round old new turn
 
@@ -90,6 +90,6 @@ phases_go_on_in_turns file round company old new turn =
       on = record { same = λ game. omega arith; both = λ a b c one two. omega arith };
       others = λ game its is no_tile no_train no_phase. omega (arith, ap place_of_kind (phase_kept game.events its no_phase));
       lays = λ game asker lay cost rules. omega (arith, ap place_of_kind (phase_kept game.events (event.Laid company lay cost) refl));
-      purchases = λ game purchase rules. phases_go_on game company purchase;
+      purchases = λ game kind from rules. phases_go_on game company (purchase_of kind from);
     })
     file round old new turn

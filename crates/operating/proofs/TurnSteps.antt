@@ -27,7 +27,9 @@ use Rattle.history.specs.declared.ruling.TrainRule.{TrainRule}
 use Rattle.map_tables.specs.declared.lay.Lay.{Lay}
 use Rattle.map_tables.specs.declared.place.Place.{Place}
 use Rattle.operating.proofs.Allowed.{lay_allowed, token_allowed}
+use Rattle.operating.proofs.AgreedSales.{private_agreed}
 use Rattle.operating.proofs.Answered.{same_after_ruling}
+use Rattle.operating.proofs.PrivateSales.{same_after_line}
 use Rattle.operating.proofs.Still.{same_judgement}
 use Rattle.operating.proofs.TurnEvents.{IsOfTurn}
 use Rattle.operating.specs.Act.{after_lay, after_token, withheld}
@@ -42,7 +44,6 @@ use Rattle.operating.specs.Trains.{train_judgement}
 use Rattle.operating.specs.Turn.{BlockLeads, IsCompanyTurn, LinesLead, OrderLeads, ReadingLeads, begun, lay_answered, lay_refused, purchase_of}
 use Rattle.operating.specs.Turn.{settled, token_answered, token_refused, train_ruled}
 use Rattle.operating.specs.declared.operator.Operator.{Operator}
-use Rattle.operating.specs.declared.purchase.Purchase.{Purchase}
 use Rattle.operating.specs.declared.runs.Ran.{Ran}
 use Rattle.order_grammar.specs.declared.fault.Fault.{Fault}
 use Rattle.order_grammar.specs.declared.order.Order.{Order}
@@ -63,7 +64,7 @@ use Rattle.tables.specs.declared.seat.Seat.{Seat}
 pub record OfSteps (company : Company) (R : InTurn → InTurn → Type 0) : Type 0 where
   pub same : (turn : InTurn) → R turn turn
   pub both : (a b c : InTurn) → R a b → R b c → R a c
-  pub more : (turn : InTurn) (its : Event) → IsOfTurn company its → tile_laid its ≡ None → train_moved its ≡ None → phase_set its ≡ None →
+  pub more : (turn : InTurn) (its : Event) → IsOfTurn company turn.game its → tile_laid its ≡ None → train_moved its ≡ None → phase_set its ≡ None →
       R turn (in_turn (with_event turn.game its) turn.progress)
   pub laid : (turn : InTurn) (lays : List Lay) (asker : Asker) (lay : Lay) (cost : ℕ) →
       first_broken (ground_rules (ground_now turn.game.events) asker lay) ≡ None →
@@ -75,8 +76,8 @@ pub record OfSteps (company : Company) (R : InTurn → InTurn → Type 0) : Type
   pub paid : (turn : InTurn) → pay_judgement turn.progress ≡ None →
       R turn (in_turn (paid_out turn.game company turn.progress.runs.revenue) (pay_done turn.progress))
   pub kept : (turn : InTurn) → R turn (in_turn (withheld turn.game company turn.progress.runs.revenue) (pay_done turn.progress))
-  pub bought : (turn : InTurn) (purchase : Purchase) → train_judgement turn.game company purchase ≡ None →
-      R turn (in_turn (after_train turn.game company purchase) turn.progress)
+  pub bought : (turn : InTurn) (kind : Kind) (from : TrainSource) → train_judgement turn.game company (purchase_of kind from) ≡ None →
+      R turn (in_turn (after_train turn.game company (purchase_of kind from)) turn.progress)
 
 module _ (company : Company) (R : InTurn → InTurn → Type 0) (steps : OfSteps company R) where
   -- of what the company withholds by itself
@@ -147,30 +148,34 @@ module _ (by : Operator) (R : InTurn → InTurn → Type 0) (steps : OfSteps by.
       after_ruling turn number its (pay_ruled by turn number its None after) (brings refl)
 
   -- of TRAIN
-  of_train : (turn : InTurn) (number : ℕ) (kind : Kind) (from : TrainSource) (purchase : Purchase) (rule : Option TrainRule) →
-      train_judgement turn.game by.company purchase ≡ rule → R turn (train_ruled by turn number (order.BuyTrain kind from) purchase rule)
-  of_train turn number kind from purchase (Some rule) broken = of_ruling turn number _
-  of_train turn number kind from purchase None none =
+  of_train : (turn : InTurn) (number : ℕ) (kind : Kind) (from : TrainSource) (rule : Option TrainRule) →
+      train_judgement turn.game by.company (purchase_of kind from) ≡ rule →
+      R turn (train_ruled by turn number (order.BuyTrain kind from) (purchase_of kind from) rule)
+  of_train turn number kind from (Some rule) broken = of_ruling turn number _
+  of_train turn number kind from None none =
       let its = order.BuyTrain kind from in
+      let purchase = purchase_of kind from in
       let ruled = told by turn number (Obeyed its) in
       after_ruling turn number its (train_ruled by turn number its purchase None)
-      (steps.bought ruled purchase (same_judgement turn.game ruled.game by.president number kind from by.company purchase refl ∙ none))
+      (steps.bought ruled kind from (same_judgement turn.game ruled.game by.president number kind from by.company purchase refl ∙ none))
 
   -- of PRIVATE
-  of_sale : (turn : InTurn) (private : Private) (price : ℕ) (owner : Option Holder) →
-      R turn (in_turn (sold_by turn.game by.company private price owner) turn.progress)
-  of_sale turn private price (Some (holder.Seat seller)) =
-      steps.more turn (event.PrivateBought private by.company seller price) tt refl refl refl
-  of_sale turn private price (Some (holder.Company owner)) = steps.same turn
-  of_sale turn private price None = steps.same turn
+  of_sale : (turn : InTurn) (private : Private) (price : ℕ) (owner : Option Holder) → owner_of turn.game.events private ≡ owner →
+      private_judgement turn.game by.company private price ≡ None → R turn (in_turn (sold_by turn.game by.company private price owner) turn.progress)
+  of_sale turn private price (Some (holder.Seat seller)) owns none =
+      steps.more turn (event.PrivateBought private by.company seller price)
+      (private_agreed by.company turn.game private price seller owns none) refl refl refl
+  of_sale turn private price (Some (holder.Company owner)) owns none = steps.same turn
+  of_sale turn private price None owns none = steps.same turn
 
   of_private : (turn : InTurn) (number : ℕ) (private : Private) (price : ℕ) (rule : Option PrivateRule) →
-      R turn (private_ruled by turn number private price rule)
-  of_private turn number private price (Some rule) = of_ruling turn number _
-  of_private turn number private price None =
+      private_judgement turn.game by.company private price ≡ rule → R turn (private_ruled by turn number private price rule)
+  of_private turn number private price (Some rule) broken = of_ruling turn number _
+  of_private turn number private price None none =
       let ruled = told by turn number (Obeyed (order.BuyOwnedPrivate private price)) in
       after_ruling turn number (order.BuyOwnedPrivate private price) (private_ruled by turn number private price None)
-      (of_sale ruled private price (owner_of ruled.game.events private))
+      (of_sale ruled private price (owner_of ruled.game.events private) refl
+      (same_after_line turn.game ruled.game by.president number by.company private price refl ∙ none))
 
   -- of an order
   of_order : (turn : InTurn) (number : ℕ) (its : Order) (new : InTurn) → OrderLeads by turn number its new → R turn new
@@ -194,9 +199,9 @@ module _ (by : Operator) (R : InTurn → InTurn → Type 0) (steps : OfSteps by.
       let rule = train_judgement paid.game by.company purchase in
       subst (R turn) (sym leads)
       (steps.both turn paid (train_ruled by paid number (order.BuyTrain kind from) purchase rule) (of_settled by.company R steps turn)
-      (of_train paid number kind from purchase rule refl))
+      (of_train paid number kind from rule refl))
   of_order turn number (order.BuyOwnedPrivate private price) new leads =
-      subst (R turn) (sym leads) (of_private turn number private price (private_judgement turn.game by.company private price))
+      subst (R turn) (sym leads) (of_private turn number private price (private_judgement turn.game by.company private price) refl)
   of_order turn number other new leads = subst (R turn) (sym leads) (of_ruling turn number _)
 
   -- of a line

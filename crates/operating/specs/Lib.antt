@@ -17,3 +17,6 @@ pub mod Laws
 pub mod TrainLaws
 pub mod TileLaws
 pub mod ConsentLaws
+pub mod SaleLaws
+pub mod BidLaws
+pub mod PrivateLaws

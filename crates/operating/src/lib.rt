@@ -12,7 +12,7 @@
 //! `running`, `withholding`, `dividend`, `purchase` (the rules of trains), `discards`, `phases`
 //! (what a train brings), `train`, `private` (that it buys), `turn` (the lines of a block), `playing`, `standing` (the lines
 //! before the first block) with `offers`, `laws` (what holds of every turn), `train_laws`, `tile_laws`,
-//! `consent_laws`.
+//! `private_laws`, `consent_laws`, `sale_laws`.
 #![tactic(auto)]
 
 mod asker;
@@ -29,11 +29,13 @@ mod operator;
 mod phases;
 mod playing;
 mod private;
+mod private_laws;
 mod progress;
 mod purchase;
 mod ruling;
 mod running;
 mod runs;
+mod sale_laws;
 mod standing;
 mod tile_laws;
 mod token;
@@ -48,6 +50,8 @@ pub use laws::{
     one_company_turn, turn_only_adds,
 };
 pub use playing::play_company;
+pub use private_laws::closed_for_good;
+pub use sale_laws::{sellers_agree_in_turns, turns_say_no_bid};
 pub use standing::rule_standing_lines;
 pub use tile_laws::all_tiles_are_there;
 pub use train_laws::{all_trains_are_there, phases_go_on};

@@ -22,3 +22,7 @@ mod InOrder
 mod Sets
 mod Trains
 mod Tiles
+mod OpeningSteps
+mod OpeningSeats
+mod Closings
+mod Bids

@@ -18,7 +18,7 @@ use Rattle.privates.specs.Opening.{IsOpeningRound}
 use Rattle.privates.specs.Sale.{after_sale, gifts, settle, settled, settled_by, settled_of}
 use Rattle.privates.specs.Standing.{standing_ruling}
 use Rattle.privates.specs.Turn.{InTurn, after_act, after_line, after_obeyed, opening_rules}
-use Rattle.rounds.proofs.Growing.{Grows, by_steps, further, in_either, is_aside, revenues_grow, stays, told}
+use Rattle.rounds.proofs.Growing.{Grows, by_steps, further, in_either, is_aside, revenues_grow, stands_aside, stays, told}
 use Rattle.sheets.specs.Part.{Numbered}
 use Rattle.tables.specs.Roster.{privates}
 use Rattle.tables.specs.declared.roster.Private.{Private}
@@ -91,7 +91,7 @@ fall_grows seats events price holder =
 close_grows : (seats : ℕ) (events : List Event) → Grows events (closed seats events)
 close_grows seats events =
     in_either events events (after_passing seats events) (all_sold events) (stays events)
-    (in_either events (after_revenues seats events privates) (after_fall seats events (sv_price_of events - 5) (priority_of seats events)) (is_sold events private.SchuylkillValley) (revenues_grow seats events privates) (fall_grows seats events (sv_price_of events - 5) (priority_of seats events)))
+    (in_either events (after_revenues seats events privates) (after_fall seats events (sv_price_of events - 5) (priority_of seats events)) (is_sold events private.SchuylkillValley) (stands_aside events (after_revenues seats events privates) (revenues_grow seats events privates)) (fall_grows seats events (sv_price_of events - 5) (priority_of seats events)))
 
 -- an opening round adds its own ROUND event, and then events that stand aside
 pub opening_grows : (file : List ℕ) (round : Round) (old new : Game) → IsOpeningRound file round old new → Grows (old.events ++ event.Round round ∷ []) new.events

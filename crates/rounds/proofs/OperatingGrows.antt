@@ -1,11 +1,11 @@
--- Before the first company of an operating round, and after its last, the new events stand aside.
+-- Before the first company of an operating round, and after its last, the new events are still, and so stand aside.
 use Rattle.std.proofs.Common.{◌≡◌, ℕ, ◌==◌, true, List, [], ◌∷◌, ◌++◌, refl}
 use Rattle.std.specs.List.{list_all, range_with_len}
 use Rattle.history.specs.LookBack.{Game}
 use Rattle.history.specs.declared.event.Event.{Event}
 use Rattle.history.specs.declared.event.Event.TheVariants as event
 use Rattle.operating.specs.Standing.{after_standing, after_standing_line}
-use Rattle.rounds.proofs.Growing.{Grows, count_aside, further, is_aside, revenues_grow, stays}
+use Rattle.rounds.proofs.Growing.{Grows, GrowsStill, count_aside, further, is_still, revenues_grow, stands_aside, stays}
 use Rattle.rounds.specs.OperatingRound.{finished, lines_left, opened, told_left}
 use Rattle.sheets.specs.Part.{Numbered, parts_for}
 use Rattle.sheets.specs.Taken.{after_all_before, after_each, after_lines_before}
@@ -15,7 +15,7 @@ use Rattle.tables.specs.declared.round.Round.{Round}
 use Rattle.tables.specs.declared.seat.Seat.{Seat}
 
 -- by standing lines
-standing_lines_grow : (seat : Seat) (events : List Event) (lines : List Numbered) → Grows events (after_each (after_standing_line seat) events lines)
+standing_lines_grow : (seat : Seat) (events : List Event) (lines : List Numbered) → GrowsStill events (after_each (after_standing_line seat) events lines)
 standing_lines_grow seat events [] = stays events
 standing_lines_grow seat events (line ∷ lines) =
     further events (after_standing_line seat events line) _ (record { more = _; longer = refl; aside = refl })
@@ -23,7 +23,7 @@ standing_lines_grow seat events (line ∷ lines) =
 
 -- by those of each seat
 standing_grows : (file : List ℕ) (round : Round) (events : List Event) (seats : List ℕ) →
-    Grows events (after_all_before after_standing_line file round events seats)
+    GrowsStill events (after_all_before after_standing_line file round events seats)
 standing_grows file round events [] = stays events
 standing_grows file round events (seat ∷ seats) =
     further events (after_lines_before after_standing_line file round events seat) _
@@ -31,20 +31,25 @@ standing_grows file round events (seat ∷ seats) =
     (standing_grows file round (after_lines_before after_standing_line file round events seat) seats)
 
 -- by those and the revenues
-pub opened_grows : (file : List ℕ) (round : Round) (old : Game) → Grows (old.events ++ event.Round round ∷ []) (opened file round old).events
-opened_grows file round old =
+pub opened_still : (file : List ℕ) (round : Round) (old : Game) → GrowsStill (old.events ++ event.Round round ∷ []) (opened file round old).events
+opened_still file round old =
     let begun : List Event = old.events ++ event.Round round ∷ [] in
     let ruled : List Event = after_standing old.seats file round begun in
     further begun ruled _ (standing_grows file round begun (range_with_len 0 old.seats)) (revenues_grow old.seats ruled privates)
 
--- the counts of lines that were left stand aside
-left_aside : (file : List ℕ) (round : Round) (events : List Event) (seats : List ℕ) → list_all is_aside (told_left file round events seats) ≡ true
+-- the counts of lines that were left are still
+left_aside : (file : List ℕ) (round : Round) (events : List Event) (seats : List ℕ) → list_all is_still (told_left file round events seats) ≡ true
 left_aside file round events [] = refl
 left_aside file round events (seat ∷ seats) =
     let count : ℕ = lines_left file round events (seat_at seat) in
     count_aside (seat_at seat) count (count == 0) (told_left file round events seats) (left_aside file round events seats)
 
 -- by those counts
-pub finished_grows : (file : List ℕ) (round : Round) (seats : ℕ) (events : List Event) → Grows events (finished file round seats events)
-finished_grows file round seats events =
+pub finished_still : (file : List ℕ) (round : Round) (seats : ℕ) (events : List Event) → GrowsStill events (finished file round seats events)
+finished_still file round seats events =
     record { more = _; longer = refl; aside = left_aside file round events (range_with_len 0 seats) }
+
+-- those events stand aside
+pub opened_grows : (file : List ℕ) (round : Round) (old : Game) → Grows (old.events ++ event.Round round ∷ []) (opened file round old).events
+opened_grows file round old =
+    stands_aside (old.events ++ event.Round round ∷ []) (opened file round old).events (opened_still file round old)

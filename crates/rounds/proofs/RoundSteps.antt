@@ -1,20 +1,25 @@
 -- What holds between a list and itself, of one after the other, of each event that stands aside and of each company's
--- turn, holds of a round from its ROUND event on. What these and a ROUND event keep, each round of a game keeps.
-use Rattle.std.proofs.Common.{◌≡◌, ℕ, zero, suc, Bool, true, ◌&&◌, List, [], ◌∷◌, ◌++◌, Option, Some, None, is_none, refl, sym, subst}
+-- turn, holds of a round from its ROUND event on; what is shown of opening rounds by themselves has to hold only of
+-- each event that is still. What these and a ROUND event keep, each round of a game keeps.
+use Rattle.std.proofs.Common.{◌≡◌, ℕ, zero, suc, Bool, true, false, ◌&&◌, not, List, [], ◌∷◌, ◌++◌, Option, Some, None, is_none, refl, sym, subst}
 use Rattle.std.proofs.lemmas.Bool.{and_parts}
 use Rattle.std.proofs.lemmas.List.{append_assoc, append-nil}
 use Rattle.std.specs.List.{list_all}
-use Rattle.history.specs.Event.{operated_by, phase_set, round_of, tile_laid, token_placed, train_moved}
+use Rattle.history.specs.Event.{bidding_of, operated_by, ownership_of, phase_set, round_of, tile_laid, token_placed, train_moved}
 use Rattle.history.specs.LookBack.{Game}
 use Rattle.history.specs.declared.event.Event.{Event}
 use Rattle.history.specs.declared.event.Event.TheVariants as event
+use Rattle.operating.specs.PrivateLaws.{names_owner}
+use Rattle.operating.specs.SaleLaws.{sells_to_company}
 use Rattle.operating.specs.Turn.{IsCompanyTurn}
-use Rattle.rounds.proofs.Growing.{Grows, is_aside}
+use Rattle.privates.specs.Opening.{IsOpeningRound}
+use Rattle.rounds.proofs.Growing.{Grows, GrowsStill, is_aside, is_still}
 use Rattle.rounds.proofs.OpeningGrows.{opening_grows}
-use Rattle.rounds.proofs.OperatingGrows.{finished_grows, opened_grows}
-use Rattle.rounds.proofs.StockGrows.{stock_round_grows}
+use Rattle.rounds.proofs.OperatingGrows.{finished_still, opened_still}
+use Rattle.rounds.proofs.StockGrows.{stock_round_still}
 use Rattle.rounds.specs.OperatingRound.{IsOperatingRound, TakeTurns, finished, opened}
 use Rattle.rounds.specs.Play.{AreRounds, Between, IsPlayed, before_play}
+use Rattle.stock_round.specs.StockRound.{IsStockRound}
 use Rattle.tables.specs.declared.roster.Company.{Company}
 use Rattle.tables.specs.declared.round.Round.{Round}
 use Rattle.tables.specs.declared.round.Round.TheVariants.{Opening, Stock, Operating}
@@ -27,6 +32,13 @@ pub record SaysNothing (event : Event) : Type 0 where
   pub turn : operated_by event ≡ None
   pub phase : phase_set event ≡ None
   pub train : train_moved event ≡ None
+  pub sells : sells_to_company event ≡ false
+
+-- what an event that is still says
+pub record SaysStill (event : Event) : Type 0 where
+  pub aside : SaysNothing event
+  pub bids : bidding_of event ≡ None
+  pub names : names_owner (ownership_of event) ≡ false
 
 -- there is nothing
 nothing : {X : Type 0} (found : Option X) → is_none found ≡ true → found ≡ None
@@ -34,9 +46,15 @@ nothing None none = refl
 nothing (Some x) none = cc
 
 -- there is nothing, and more holds
-nothing_and : {X : Type 0} (found : Option X) (more : Bool) → (is_none found && more) ≡ true → (found ≡ None) × (more ≡ true)
+nothing_and : {X : Type 0} (found : Option X) (more : Bool) → (is_none found && more) ≡ true →
+    (found ≡ None) × (more ≡ true)
 nothing_and None more both = (refl, both)
 nothing_and (Some x) more both = absurd (cc)
+
+-- it is not so
+not_so : (test : Bool) → not test ≡ true → test ≡ false
+not_so true so = absurd (cc)
+not_so false so = refl
 
 -- an event that stands aside says nothing of these
 says_nothing : (event : Event) → is_aside event ≡ true → SaysNothing event
@@ -46,7 +64,28 @@ says_nothing event aside =
     let token = nothing_and (token_placed event) _ tile.1 in
     let turn = nothing_and (operated_by event) _ token.1 in
     let phase = nothing_and (phase_set event) _ turn.1 in
-    record { round = round.0; tile = tile.0; token = token.0; turn = turn.0; phase = phase.0; train = nothing (train_moved event) phase.1 }
+    let train = nothing_and (train_moved event) _ phase.1 in
+    record {
+      round = round.0;
+      tile = tile.0;
+      token = token.0;
+      turn = turn.0;
+      phase = phase.0;
+      train = train.0;
+      sells = not_so (sells_to_company event) train.1;
+    }
+
+-- nor does one that is still
+pub says_still : (event : Event) → is_still event ≡ true → SaysStill event
+says_still event still =
+    let parts =
+    and_parts (is_aside event) (is_none (bidding_of event) && not (names_owner (ownership_of event))) still in
+    let bids = nothing_and (bidding_of event) _ parts.1 in
+    record {
+      aside = says_nothing event parts.0;
+      bids = bids.0;
+      names = not_so (names_owner (ownership_of event)) bids.1;
+    }
 
 -- it holds between a list and itself, of one after the other, and of each event that stands aside
 pub record IsPassedOn (R : List Event → List Event → Type 0) : Type 0 where
@@ -56,7 +95,9 @@ pub record IsPassedOn (R : List Event → List Event → Type 0) : Type 0 where
 
 -- it holds of each company's turn
 abbrev pub OfTurns : (List Event → List Event → Type 0) → Type 0
-OfTurns R = (file : List ℕ) (round : Round) (company : Company) (old new : Game) → IsCompanyTurn file round company old new → R old.events new.events
+OfTurns R =
+    (file : List ℕ) (round : Round) (company : Company) (old new : Game) →
+    IsCompanyTurn file round company old new → R old.events new.events
 
 -- it holds where a round begins
 abbrev pub OfBeginnings : (List Event → List Event → Type 0) → Type 0
@@ -70,43 +111,108 @@ module _ (R : List Event → List Event → Type 0) (on : IsPassedOn R) where
       let parts = and_parts (is_aside event) (list_all is_aside more) aside in
       let next : List Event = events ++ event ∷ [] in
       subst (R events) (append_assoc events (event ∷ []) more)
-      (on.both events next (next ++ more) (on.aside events event (says_nothing event parts.0)) (of_aside next more parts.1))
+      (on.both events next (next ++ more) (on.aside events event (says_nothing event parts.0))
+      (of_aside next more parts.1))
 
   -- of a list that grows by those
   pub of_growing : (old new : List Event) → Grows old new → R old new
   of_growing old new grows = subst (R old) (sym grows.longer) (of_aside old grows.more grows.aside)
 
-  module _ (turns : OfTurns R) (file : List ℕ) where
+-- it holds between a list and itself, of one after the other, of each event that is still and of each company's turn
+pub record IsPassedStill (R : List Event → List Event → Type 0) : Type 0 where
+  pub same : (events : List Event) → R events events
+  pub both : (a b c : List Event) → R a b → R b c → R a c
+  pub still : (events : List Event) (event : Event) → SaysStill event → R events (events ++ event ∷ [])
+  pub turns : OfTurns R
+
+-- it holds of each opening round that has begun
+abbrev pub OfOpenings : (List Event → List Event → Type 0) → Type 0
+OfOpenings R =
+    (file : List ℕ) (round : Round) (old new : Game) →
+    IsOpeningRound file round old new → R (old.events ++ event.Round round ∷ []) new.events
+
+module _ (R : List Event → List Event → Type 0) (on : IsPassedStill R) where
+  -- of events that are still
+  of_still : (events more : List Event) → list_all is_still more ≡ true → R events (events ++ more)
+  of_still events [] still = subst (R events) (sym (append-nil events)) (on.same events)
+  of_still events (event ∷ more) still =
+      let parts = and_parts (is_still event) (list_all is_still more) still in
+      let next : List Event = events ++ event ∷ [] in
+      subst (R events) (append_assoc events (event ∷ []) more)
+      (on.both events next (next ++ more) (on.still events event (says_still event parts.0))
+      (of_still next more parts.1))
+
+  -- of a list that grows by those
+  of_growing_still : (old new : List Event) → GrowsStill old new → R old new
+  of_growing_still old new grows = subst (R old) (sym grows.longer) (of_still old grows.more grows.aside)
+
+  module _ (file : List ℕ) where
     -- of turns
-    of_turns : (round : Round) (companies : List Company) (old new : Game) → TakeTurns file round companies old new → R old.events new.events
+    of_turns : (round : Round) (companies : List Company) (old new : Game) → TakeTurns file round companies old new →
+        R old.events new.events
     of_turns round [] old new taken =
         subst (λ (game : Game). R old.events game.events) taken (on.same old.events)
     of_turns round (company ∷ others) old new taken =
-        on.both old.events taken.0.events new.events (turns file round company old taken.0 taken.1.turn) (of_turns round others taken.0 new taken.2)
+        on.both old.events taken.0.events new.events (on.turns file round company old taken.0 taken.1.turn)
+        (of_turns round others taken.0 new taken.2)
 
     -- of an operating round that has begun
-    of_operating : (round : Round) (old new : Game) → IsOperatingRound file round old new → R (old.events ++ event.Round round ∷ []) new.events
+    pub of_operating : (round : Round) (old new : Game) → IsOperatingRound file round old new →
+        R (old.events ++ event.Round round ∷ []) new.events
     of_operating round old new played =
         let begun : List Event = old.events ++ event.Round round ∷ [] in
         let start : Game = opened file round old in
         let turned : List Event = played.turned.events in
         let end : List Event = finished file round old.seats turned in
         subst (λ (game : Game). R begun game.events) (sym played.after)
-        (on.both begun start.events end (of_growing begun start.events (opened_grows file round old))
+        (on.both begun start.events end (of_growing_still begun start.events (opened_still file round old))
         (on.both start.events turned end (of_turns round played.turns.companies start played.turned played.turns.turns)
-        (of_growing turned end (finished_grows file round old.seats turned))))
+        (of_growing_still turned end (finished_still file round old.seats turned))))
 
-    -- of each round that has begun
-    pub of_begun : (round : Round) (old new : Game) → IsPlayed file round old new → R (old.events ++ event.Round round ∷ []) new.events
-    of_begun (Opening number) old new played =
-        of_growing _ new.events (opening_grows file (Opening number) old new played)
-    of_begun (Stock set) old new played = of_growing _ new.events (stock_round_grows file (Stock set) old new played)
-    of_begun (Operating set number) old new played = of_operating (Operating set number) old new played
+    -- of a stock round that has begun
+    pub of_stock : (round : Round) (old new : Game) → IsStockRound file round old new →
+        R (old.events ++ event.Round round ∷ []) new.events
+    of_stock round old new played =
+        of_growing_still (old.events ++ event.Round round ∷ []) new.events (stock_round_still file round old new played)
 
-    -- of each round, if it holds where one begins
-    pub of_round : OfBeginnings R → (round : Round) (old new : Game) → IsPlayed file round old new → R old.events new.events
-    of_round begins round old new played =
-        on.both old.events (old.events ++ event.Round round ∷ []) new.events (begins old.events round) (of_begun round old new played)
+    -- of each round that has begun, if it holds of opening rounds
+    pub of_each_begun : OfOpenings R → (round : Round) (old new : Game) → IsPlayed file round old new →
+        R (old.events ++ event.Round round ∷ []) new.events
+    of_each_begun openings (Opening number) old new played = openings file (Opening number) old new played
+    of_each_begun openings (Stock set) old new played = of_stock (Stock set) old new played
+    of_each_begun openings (Operating set number) old new played = of_operating (Operating set number) old new played
+
+    -- of each round, if it holds where one begins too
+    pub of_each_round : OfOpenings R → OfBeginnings R → (round : Round) (old new : Game) →
+        IsPlayed file round old new → R old.events new.events
+    of_each_round openings begins round old new played =
+        on.both old.events (old.events ++ event.Round round ∷ []) new.events (begins old.events round)
+        (of_each_begun openings round old new played)
+
+module _ (R : List Event → List Event → Type 0) (on : IsPassedOn R) (turns : OfTurns R) (file : List ℕ) where
+  -- what holds of each event that stands aside holds of each that is still, and of opening rounds
+  still_too : IsPassedStill R
+  still_too =
+      record {
+        same = on.same;
+        both = on.both;
+        still = λ events event says. on.aside events event says.aside;
+        turns = turns;
+      }
+
+  openings_too : OfOpenings R
+  openings_too file round old new played =
+      of_growing R on (old.events ++ event.Round round ∷ []) new.events (opening_grows file round old new played)
+
+  -- so of each round that has begun
+  pub of_begun : (round : Round) (old new : Game) → IsPlayed file round old new →
+      R (old.events ++ event.Round round ∷ []) new.events
+  of_begun = of_each_begun R still_too file openings_too
+
+  -- of each round, if it holds where one begins
+  pub of_round : OfBeginnings R → (round : Round) (old new : Game) → IsPlayed file round old new →
+      R old.events new.events
+  of_round begins = of_each_round R still_too file openings_too begins
 
 -- what holds by a list holds by a longer one
 abbrev pub Keeps : (List Event → Type 0) → List Event → List Event → Type 0
@@ -125,5 +231,11 @@ pub in_each_game : (P : List Event → Type 0) → IsKept P → (file : List ℕ
 in_each_game P kept file zero there played =
     subst (λ (at : Between). P at.game.events) played kept.first
 in_each_game P kept file (suc rounds) there played =
-    let on : IsPassedOn (Keeps P) = record { same = λ events holds. holds; both = λ a b c one two holds. two (one holds); aside = kept.aside } in
-    of_round (Keeps P) on kept.turns file kept.begins played.0.next played.0.game there.game played.2.played (in_each_game P kept file rounds played.0 played.1)
+    let on : IsPassedOn (Keeps P) = record {
+      same = λ events holds. holds;
+      both = λ a b c one two holds. two
+          (one holds);
+      aside = kept.aside;
+    } in
+    of_round (Keeps P) on kept.turns file kept.begins played.0.next played.0.game there.game played.2.played
+    (in_each_game P kept file rounds played.0 played.1)

@@ -1,4 +1,4 @@
--- Within a stock round the list of events grows, and its new events stand aside.
+-- Within a stock round the list of events grows, and its new events are still.
 use Rattle.std.proofs.Common.{ℕ, ◌*◌, ◌==◌, List, [], ◌∷◌, ◌++◌, Option, Some, None, refl}
 use Rattle.std.specs.Prelude.{unwrap_or}
 use Rattle.certs.specs.President.{successor_of}
@@ -15,7 +15,7 @@ use Rattle.market.specs.Token.{moved_from, same_square}
 use Rattle.order_grammar.specs.declared.order.Order.{Order}
 use Rattle.order_grammar.specs.declared.order.Order.TheVariants as order
 use Rattle.order_grammar.specs.declared.order.ShareSource.{ShareSource}
-use Rattle.rounds.proofs.Growing.{Grows, broken_grows, further, in_either, stays, told}
+use Rattle.rounds.proofs.Growing.{Grows, GrowsStill, broken_grows, further, in_either, stands_aside, stays, told}
 use Rattle.sheets.specs.Part.{Numbered}
 use Rattle.stock_round.specs.Act.{after_act, after_exchange, after_purchase, after_sale, bought, exchanged, floated_at, is_to_float, sold, with_float, with_president, with_successor}
 use Rattle.stock_round.specs.Closing.{all_risen, is_sold_out, risen}
@@ -32,7 +32,7 @@ use Rattle.turns.proofs.RoundLeads.{round_leads}
 use Rattle.turns.specs.RoundOfTurns.{in_turn}
 
 -- by the presidency of a company, where it moves from this seat, if any has it
-successor_grows : (seats : ℕ) (events : List Event) (company : Company) (old : Option Seat) → Grows events (with_successor seats events company old)
+successor_grows : (seats : ℕ) (events : List Event) (company : Company) (old : Option Seat) → GrowsStill events (with_successor seats events company old)
 successor_grows seats events company None = stays events
 successor_grows seats events company (Some old) =
     let new : Seat = successor_of seats events company old in
@@ -40,30 +40,30 @@ successor_grows seats events company (Some old) =
     (told events (event.President company new) refl)
 
 -- by a presidency that moves
-president_grows : (seats : ℕ) (events : List Event) (company : Company) → Grows events (with_president seats events company)
+president_grows : (seats : ℕ) (events : List Event) (company : Company) → GrowsStill events (with_president seats events company)
 president_grows seats events company = successor_grows seats events company (president_of events company)
 
 -- by the float of a company with this par value
-floated_grows : (seats : ℕ) (events : List Event) (company : Company) (par : ℕ) → Grows events (floated_at seats events company par)
+floated_grows : (seats : ℕ) (events : List Event) (company : Company) (par : ℕ) → GrowsStill events (floated_at seats events company par)
 floated_grows seats events company par =
     further events (events ++ event.Floats company (10 * par) ∷ []) _ (told events (event.Floats company (10 * par)) refl)
     (broken_grows seats (events ++ event.Floats company (10 * par) ∷ []))
 
 -- by a float
-float_grows : (seats : ℕ) (events : List Event) (company : Company) → Grows events (with_float seats events company)
+float_grows : (seats : ℕ) (events : List Event) (company : Company) → GrowsStill events (with_float seats events company)
 float_grows seats events company =
     in_either events (floated_at seats events company (unwrap_or (par_of events company) 0)) events (is_to_float events company)
     (floated_grows seats events company (unwrap_or (par_of events company) 0)) (stays events)
 
 -- by the move of a token from this square, if it is on one
-token_grows : (move : Square → Square) (events : List Event) (company : Company) (square : Option Square) → Grows events (moved_from move events company square)
+token_grows : (move : Square → Square) (events : List Event) (company : Company) (square : Option Square) → GrowsStill events (moved_from move events company square)
 token_grows move events company None = stays events
 token_grows move events company (Some square) =
     in_either events events (events ++ event.Moves company (move square) ∷ []) (same_square (move square) square) (stays events)
     (told events (event.Moves company (move square)) refl)
 
 -- by a purchase
-purchase_grows : (seats : ℕ) (events : List Event) (seat : Seat) (company : Company) (from : ShareSource) → Grows events (after_purchase seats events seat company from)
+purchase_grows : (seats : ℕ) (events : List Event) (seat : Seat) (company : Company) (from : ShareSource) → GrowsStill events (after_purchase seats events seat company from)
 purchase_grows seats events seat company from =
     let paid : List Event = bought events seat company from in
     let presided : List Event = with_president seats paid company in
@@ -71,7 +71,7 @@ purchase_grows seats events seat company from =
     (further paid presided _ (president_grows seats paid company) (float_grows seats presided company))
 
 -- by a sale
-sale_grows : (seats : ℕ) (events : List Event) (seat : Seat) (company : Company) (tenths : ℕ) → Grows events (after_sale seats events seat company tenths)
+sale_grows : (seats : ℕ) (events : List Event) (seat : Seat) (company : Company) (tenths : ℕ) → GrowsStill events (after_sale seats events seat company tenths)
 sale_grows seats events seat company tenths =
     let told_so : List Event = events ++ event.Sells company seat tenths (tenths * market_price_of events company) ∷ [] in
     let paid : List Event = sold seats events seat company tenths in
@@ -81,7 +81,7 @@ sale_grows seats events seat company tenths =
     (further paid presided _ (president_grows seats paid company) (token_grows (fallen tenths) presided company (square_of presided company))))
 
 -- by an exchange
-exchange_grows : (seats : ℕ) (events : List Event) (seat : Seat) → Grows events (after_exchange seats events seat)
+exchange_grows : (seats : ℕ) (events : List Event) (seat : Seat) → GrowsStill events (after_exchange seats events seat)
 exchange_grows seats events seat =
     let done : List Event = exchanged events seat in
     let presided : List Event = with_president seats done NewYorkCentral in
@@ -89,7 +89,7 @@ exchange_grows seats events seat =
     (further done presided _ (president_grows seats done NewYorkCentral) (float_grows seats presided NewYorkCentral))
 
 -- by an order that was obeyed
-act_grows : (seats : ℕ) (seat : Seat) (events : List Event) (done : Order) → Grows events (after_act seats seat events done)
+act_grows : (seats : ℕ) (seat : Seat) (events : List Event) (done : Order) → GrowsStill events (after_act seats seat events done)
 act_grows seats seat events (order.Par company price) = record { more = _; longer = refl; aside = refl }
 act_grows seats seat events (order.BuyShare company from) = purchase_grows seats events seat company from
 act_grows seats seat events (order.Sell company tenths) = sale_grows seats events seat company tenths
@@ -97,12 +97,12 @@ act_grows seats seat events order.ExchangeMohawk = exchange_grows seats events s
 act_grows seats seat events other = stays events
 
 -- by what a ruling brings
-ruling_grows : (seats : ℕ) (seat : Seat) (turn : InTurn) (ruled : Ruling) → Grows turn.events (after_obeyed seats seat turn ruled).events
+ruling_grows : (seats : ℕ) (seat : Seat) (turn : InTurn) (ruled : Ruling) → GrowsStill turn.events (after_obeyed seats seat turn ruled).events
 ruling_grows seats seat turn (ruling.Obeyed done) = act_grows seats seat turn.events done
 ruling_grows seats seat turn other = stays turn.events
 
 -- by a line of a turn
-line_grows : (seats : ℕ) (seat : Seat) (turn : InTurn) (line : Numbered) → Grows turn.events (after_line seats seat turn line).events
+line_grows : (seats : ℕ) (seat : Seat) (turn : InTurn) (line : Numbered) → GrowsStill turn.events (after_line seats seat turn line).events
 line_grows seats seat turn line =
     let ruled : Ruling = ruling_of seats turn.events seat turn.deeds.bought line.reading in
     let told_so : InTurn = in_turn (turn.events ++ event.Ruled seat line.number ruled ∷ []) turn.deeds in
@@ -110,21 +110,21 @@ line_grows seats seat turn line =
     (told turn.events (event.Ruled seat line.number ruled) refl) (ruling_grows seats seat told_so ruled)
 
 -- by the rise of a company that is sold out
-rise_grows : (events : List Event) (company : Company) → Grows events (risen events company)
+rise_grows : (events : List Event) (company : Company) → GrowsStill events (risen events company)
 rise_grows events company =
     in_either events (moved_from up_of events company (square_of events company)) events (is_sold_out events company)
     (token_grows up_of events company (square_of events company)) (stays events)
 
 -- by that of some companies
-rises_grow : (events : List Event) (companies : List Company) → Grows events (all_risen events companies)
+rises_grow : (events : List Event) (companies : List Company) → GrowsStill events (all_risen events companies)
 rises_grow events [] = stays events
 rises_grow events (company ∷ others) =
     further events (risen events company) _ (rise_grows events company) (rises_grow (risen events company) others)
 
--- a stock round adds its own ROUND event, and then events that stand aside
-pub stock_round_grows : (file : List ℕ) (round : Round) (old new : Game) → IsStockRound file round old new → Grows (old.events ++ event.Round round ∷ []) new.events
-stock_round_grows =
-    round_leads stock_rules Grows
+-- a stock round adds its own ROUND event, and then events that are still
+pub stock_round_still : (file : List ℕ) (round : Round) (old new : Game) → IsStockRound file round old new → GrowsStill (old.events ++ event.Round round ∷ []) new.events
+stock_round_still =
+    round_leads stock_rules GrowsStill
     (record {
       stays = stays;
       further = further;
@@ -134,3 +134,8 @@ stock_round_grows =
       closed = λ seats events. rises_grow events (operating_order_of events);
       leaves = λ events seat lines. told events (event.Left seat lines) refl;
     })
+
+-- so they stand aside
+pub stock_round_grows : (file : List ℕ) (round : Round) (old new : Game) → IsStockRound file round old new → Grows (old.events ++ event.Round round ∷ []) new.events
+stock_round_grows file round old new played =
+    stands_aside (old.events ++ event.Round round ∷ []) new.events (stock_round_still file round old new played)

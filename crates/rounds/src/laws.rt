@@ -7,6 +7,7 @@ ghost use Rattle.rounds.specs.Causality.{LaterSheetsChangeNothing};
 ghost use Rattle.rounds.specs.Example.{first_end, first_file, second_end, second_file};
 ghost use Rattle.rounds.specs.OperatingRound.{CompaniesOperateOnce, EndsSoon, OneOperatingRound};
 ghost use Rattle.rounds.specs.Play.{OneGame, Plays, SomeGame};
+ghost use Rattle.rounds.specs.Privates.{BidsRiseInEachGame, ClosedForGood, SellersAgreeInEachGame};
 ghost use Rattle.rounds.specs.Sequence.{BankAloneEndsIt, SequenceGoesForward};
 ghost use Rattle.rounds.specs.Sets.{SetsKeepTheirNumber};
 ghost use Rattle.rounds.specs.Tiles.{TilesStandInEachGame};
@@ -17,10 +18,11 @@ ghost use Rattle.tables.specs.declared.round.Round.{Round};
 
 use market::floated_companies_in_order;
 use operating::{
-    all_tiles_are_there, all_trains_are_there, company_operates, company_turn_ends,
-    one_company_turn, phases_go_on, turn_only_adds,
+    all_tiles_are_there, all_trains_are_there, closed_for_good, company_operates,
+    company_turn_ends, one_company_turn, phases_go_on, sellers_agree_in_turns, turn_only_adds,
+    turns_say_no_bid,
 };
-use privates::{one_opening_round, opening_round_ends};
+use privates::{one_opening_round, opening_bids_rise, opening_round_ends};
 use sheets::{arrival_changes_nothing, sheets_are_numbered, three_to_six_play};
 use stock_round::{one_stock_round, stock_round_ends};
 
@@ -114,6 +116,30 @@ pub fn phases_go_on_in_rounds()
     ensures { PhasesGoOnInRounds }
 {
     phases_go_on()
+}
+
+/// Whenever a round ends, each bid was at least 5 over every earlier bid on its private.
+pub fn bids_rise_in_each_game()
+    ensures { BidsRiseInEachGame }
+{
+    opening_bids_rise();
+    three_to_six_play();
+    turns_say_no_bid()
+}
+
+/// A private that is closed has no owner ever after, whatever rounds are played.
+pub fn closed_for_good_in_each_game()
+    ensures { ClosedForGood }
+{
+    closed_for_good()
+}
+
+/// Whoever sold a train or a private to a company had agreed to exactly that sale, as the list of
+/// events before it says: he presided over the buyer too, or had offered it in the same round.
+pub fn sellers_agree_in_each_game()
+    ensures { SellersAgreeInEachGame }
+{
+    sellers_agree_in_turns()
 }
 
 /// While the bank is not broken, some round follows each round.

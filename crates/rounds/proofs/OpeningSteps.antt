@@ -1,0 +1,198 @@
+-- An opening round, event by event: a private is sold while it is unsold, a bid is made by a seat that takes a turn,
+-- and what else is told is still. What holds of each such event, and of one after the other, holds of the round.
+use Rattle.std.proofs.Common.{◌≡◌, ℕ, zero, suc, ◌-◌, ◌==◌, Bool, true, false, if◌then◌else◌, List, [], ◌∷◌, ◌++◌, Option, Some, None, Result, Ok, Err, refl, sym, subst, ◌∙◌}
+use Rattle.std.proofs.lemmas.Bool.{and_parts}
+use Rattle.std.proofs.lemmas.List.{append_assoc, append-nil}
+use Rattle.std.specs.List.{list_all}
+use Rattle.history.proofs.EventAtEnd.{is_sold_before}
+use Rattle.history.specs.Bids.{bids_on}
+use Rattle.history.specs.Event.{IsQuiet}
+use Rattle.history.specs.LookBack.{cheapest_of, is_sold, priority_of, sv_price_of}
+use Rattle.history.specs.Tell.{after_revenues}
+use Rattle.history.specs.declared.event.Bid.{Bid}
+use Rattle.history.specs.declared.event.Event.{Event}
+use Rattle.history.specs.declared.event.Event.TheVariants as event
+use Rattle.history.specs.declared.ruling.OpeningRule.{OpeningRule}
+use Rattle.history.specs.declared.ruling.Ruling.{Ruling}
+use Rattle.history.specs.declared.ruling.Ruling.TheVariants.{Obeyed}
+use Rattle.order_grammar.specs.declared.fault.Fault.{Fault}
+use Rattle.order_grammar.specs.declared.order.Order.{Order}
+use Rattle.order_grammar.specs.declared.order.Order.TheVariants as order
+use Rattle.privates.proofs.Judged.{may_act_after}
+use Rattle.privates.proofs.StandingBids.{cheapest_unsold}
+use Rattle.privates.specs.Closing.{after_fall, after_passing, all_sold, closed, given_away}
+use Rattle.privates.specs.Judgement.{has_place_in_group, judged, judgement_of, placed_ruling, price_of}
+use Rattle.privates.specs.Sale.{after_sale, gifts, settle, settled, settled_by, settled_of}
+use Rattle.privates.specs.Turn.{InTurn, after_line, after_ruling}
+use Rattle.rounds.proofs.Growing.{GrowsStill, is_still, revenues_grow}
+use Rattle.sheets.specs.Part.{Numbered}
+use Rattle.sheets.specs.Place.{placed}
+use Rattle.tables.specs.Roster.{privates}
+use Rattle.tables.specs.Steps.{iterate}
+use Rattle.tables.specs.declared.roster.Private.{Private}
+use Rattle.tables.specs.declared.roster.Private.TheVariants as private
+use Rattle.tables.specs.declared.seat.Seat.{Seat}
+
+-- what is to be shown so that it holds of the parts of an opening round in which these seats take turns
+pub record OfOpening (Sits : Seat → Type 0) (R : List Event → List Event → Type 0) : Type 0 where
+  pub same : (events : List Event) → R events events
+  pub both : (a b c : List Event) → R a b → R b c → R a c
+  pub still : (events : List Event) (its : Event) → is_still its ≡ true → R events (events ++ its ∷ [])
+  pub sold : (events : List Event) (private : Private) (buyer : Seat) (price : ℕ) → is_sold events private ≡ false →
+      R events (events ++ event.Sold private buyer price ∷ [])
+  pub bids : (events : List Event) (private : Private) (seat : Seat) (amount : ℕ) → Sits seat →
+      R events (events ++ event.Bids private seat amount ∷ [])
+
+-- what comes with a sale is still
+gifts_still : (events : List Event) (private : Private) (buyer : Seat) →
+    list_all is_still (gifts events private buyer) ≡ true
+gifts_still events private.SchuylkillValley buyer = refl
+gifts_still events private.ChamplainStLawrence buyer = refl
+gifts_still events private.DelawareHudson buyer = refl
+gifts_still events private.MohawkHudson buyer = refl
+gifts_still events private.CamdenAmboy buyer = refl
+gifts_still events private.BaltimoreOhio buyer = refl
+
+-- a ruling says nothing of what parties have and own
+ruling_quiet : (seat : Seat) (number : ℕ) (ruling : Ruling) → IsQuiet (event.Ruled seat number ruling)
+ruling_quiet seat number ruling =
+    record {
+      payment = refl;
+      ownership = refl;
+      bidding = refl;
+      transfer = refl;
+      par = refl;
+      square = refl;
+      office = refl;
+      float = refl;
+      sv_price = refl;
+      train = refl;
+      tile = refl;
+      token = refl;
+    }
+
+module _ (Sits : Seat → Type 0) (R : List Event → List Event → Type 0) (of : OfOpening Sits R) where
+  -- of events that are still
+  of_still : (events more : List Event) → list_all is_still more ≡ true → R events (events ++ more)
+  of_still events [] still = subst (R events) (sym (append-nil events)) (of.same events)
+  of_still events (its ∷ more) still =
+      let parts = and_parts (is_still its) (list_all is_still more) still in
+      let next : List Event = events ++ its ∷ [] in
+      subst (R events) (append_assoc events (its ∷ []) more)
+      (of.both events next (next ++ more) (of.still events its parts.0) (of_still next more parts.1))
+
+  -- of a list that grows by those
+  of_growing_still : (old new : List Event) → GrowsStill old new → R old new
+  of_growing_still old new grows = subst (R old) (sym grows.longer) (of_still old grows.more grows.aside)
+
+  -- of a sale
+  of_sale : (events : List Event) (private : Private) (buyer : Seat) (price : ℕ) → is_sold events private ≡ false →
+      R events (after_sale events private buyer price)
+  of_sale events private buyer price unsold =
+      let its = event.Sold private buyer price in
+      let next : List Event = events ++ its ∷ [] in
+      subst (R events) (append_assoc events (its ∷ []) (gifts events private buyer))
+      (of.both events next (next ++ gifts events private buyer) (of.sold events private buyer price unsold)
+      (of_still next (gifts events private buyer) (gifts_still events private buyer)))
+
+  -- of the sale that the bids on a private bring
+  of_bids : (seats : ℕ) (events : List Event) (private : Private) (bids : List Bid) → is_sold events private ≡ false →
+      R events (settled_by seats events private bids)
+  of_bids seats events private [] unsold = of.same events
+  of_bids seats events private (bid ∷ []) unsold = of_sale events private bid.seat bid.amount unsold
+  of_bids seats events private (bid ∷ other ∷ bids) unsold = of_sale events private _ _ unsold
+
+  -- of that of the cheapest private
+  of_cheapest : (seats : ℕ) (events : List Event) (cheapest : Option Private) → cheapest_of events ≡ cheapest →
+      R events (settled_of seats events cheapest)
+  of_cheapest seats events None is = of.same events
+  of_cheapest seats events (Some private) is =
+      of_bids seats events private (bids_on seats events private) (cheapest_unsold events private is)
+
+  -- of some of these
+  of_steps : (seats n : ℕ) (events : List Event) → R events (iterate (settle seats) n events)
+  of_steps seats zero events = of.same events
+  of_steps seats (suc n) events =
+      let there : List Event = iterate (settle seats) n events in
+      of.both events there (settle seats there) (of_steps seats n events)
+      (of_cheapest seats there (cheapest_of there) refl)
+
+  -- of the sales that follow from a sale
+  of_settled : (seats : ℕ) (events : List Event) → R events (settled seats events)
+  unfolding settled
+  of_settled seats events = of_steps seats 6 events
+
+  -- of a sale, and of those
+  of_sales : (seats : ℕ) (events : List Event) (private : Private) (buyer : Seat) (price : ℕ) →
+      is_sold events private ≡ false →
+      R events (settled seats (after_sale events private buyer price))
+  of_sales seats events private buyer price unsold =
+      let sold : List Event = after_sale events private buyer price in
+      of.both events sold (settled seats sold) (of_sale events private buyer price unsold) (of_settled seats sold)
+
+  -- of a line with the ruling of an order that breaks this rule, or none
+  of_order : (seats : ℕ) (seat : Seat) (turn : InTurn) (number : ℕ) (done : Order) (broken : Option OpeningRule) →
+      judgement_of seats turn.events seat turn.deeds done ≡ broken → Sits seat →
+      R turn.events (after_ruling seats seat turn number (judged done broken)).events
+  of_order seats seat turn number done (Some rule) is sits =
+      of.still turn.events (event.Ruled seat number (judged done (Some rule))) refl
+  of_order seats seat turn number (order.BuyPrivate private) None is sits =
+      let told : Event = event.Ruled seat number (judged (order.BuyPrivate private) None) in
+      let ruled : List Event = turn.events ++ told ∷ [] in
+      let may = may_act_after (record { seats = seats; events = turn.events })
+      (record { seats = seats; events = ruled }) told seat turn.deeds (order.BuyPrivate private) refl
+      (ruling_quiet seat number (Obeyed (order.BuyPrivate private))) is in
+      of.both turn.events ruled (settled seats (after_sale ruled private seat (price_of ruled private)))
+      (of.still turn.events told refl)
+      (of_sales seats ruled private seat (price_of ruled private) may.unsold)
+  of_order seats seat turn number (order.Bid private amount) None is sits =
+      let told : Event = event.Ruled seat number (judged (order.Bid private amount) None) in
+      let ruled : List Event = turn.events ++ told ∷ [] in
+      of.both turn.events ruled (ruled ++ event.Bids private seat amount ∷ []) (of.still turn.events told refl)
+      (of.bids ruled private seat amount sits)
+  of_order seats seat turn number other None is sits = absurd (cc)
+
+  -- of a line of which this is placed
+  of_placed : (seats : ℕ) (seat : Seat) (turn : InTurn) (number : ℕ) (reading : Result Order Fault) → Sits seat →
+      R turn.events (after_ruling seats seat turn number
+      (placed_ruling seats turn.events seat turn.deeds reading)).events
+  of_placed seats seat turn number (Err fault) sits =
+      of.still turn.events (event.Ruled seat number (placed_ruling seats turn.events seat turn.deeds (Err fault))) refl
+  of_placed seats seat turn number (Ok done) sits =
+      of_order seats seat turn number done (judgement_of seats turn.events seat turn.deeds done) refl sits
+
+  -- of a line
+  pub of_line : (seats : ℕ) (seat : Seat) (turn : InTurn) (line : Numbered) → Sits seat →
+      R turn.events (after_line seats seat turn line).events
+  of_line seats seat turn line sits = of_placed seats seat turn line.number
+      (placed has_place_in_group line.reading) sits
+
+  -- of the fall of SV's price
+  of_fall : (seats : ℕ) (events : List Event) (price : ℕ) (holder : Seat) →
+      is_sold events private.SchuylkillValley ≡ false →
+      R events (after_fall seats events price holder)
+  of_fall seats events price holder unsold =
+      let fallen : List Event = events ++ event.Price 0 ∷ [] in
+      elim (price == 0) as (λ (b : Bool). R events
+      (if b then settled seats (given_away events holder) else events ++ event.Price price ∷ [])) [
+        | true ↦ of.both events fallen (settled seats (given_away events holder)) (of.still events (event.Price 0) refl)
+            (of_sales seats fallen private.SchuylkillValley holder 0
+            (is_sold_before events (event.Price 0) private.SchuylkillValley refl ∙ unsold))
+        | false ↦ of.still events (event.Price price) refl
+      ]
+
+  -- of what follows where all have passed
+  of_passing : (seats : ℕ) (events : List Event) (sold : Bool) → is_sold events private.SchuylkillValley ≡ sold →
+      R events (if sold then after_revenues seats events privates else after_fall seats events
+      (sv_price_of events - 5) (priority_of seats events))
+  of_passing seats events true is =
+      of_growing_still events (after_revenues seats events privates) (revenues_grow seats events privates)
+  of_passing seats events false is = of_fall seats events (sv_price_of events - 5) (priority_of seats events) is
+
+  -- of the close
+  pub of_close : (seats : ℕ) (events : List Event) → R events (closed seats events)
+  of_close seats events =
+      elim (all_sold events) as (λ (b : Bool). R events (if b then events else after_passing seats events)) [
+        | true ↦ of.same events
+        | false ↦ of_passing seats events (is_sold events private.SchuylkillValley) refl
+      ]
