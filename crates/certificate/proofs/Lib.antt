@@ -23,3 +23,4 @@ pub mod RunReached
 pub mod RunBelow
 pub mod SetBelow
 pub mod Example
+pub mod TwoTrain

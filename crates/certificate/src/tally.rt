@@ -192,7 +192,7 @@ fn number_of(stop: Stop) -> usize
 
 /// The number of the border at a side of a hex.
 #[tactic(auto, unfolding(crate::specs::Legal::border_of))]
-fn border(hex: Hex, side: Side) -> usize
+pub(crate) fn border(hex: Hex, side: Side) -> usize
     ensures value { result ≡ border_of hex side }
     ensures bound { result < 279 }
 {
