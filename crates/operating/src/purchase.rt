@@ -46,7 +46,7 @@ fn price_of_train(kind: Kind, trade_in: Option<Kind>) -> Amount
 }
 
 /// The kinds of which the bank sells only the least that is left.
-const NUMBERED: [Kind; 5] = [Kind::Two, Kind::Three, Kind::Four, Kind::Five, Kind::Six];
+pub(crate) const NUMBERED: [Kind; 5] = [Kind::Two, Kind::Three, Kind::Four, Kind::Five, Kind::Six];
 
 /// The first rule that a purchase by a company breaks; `None` if it breaks none.
 pub(crate) fn judge_purchase(
@@ -99,7 +99,7 @@ fn is_on_sale(past: &Past, from: TrainSeller, kind: Kind) -> bool
 }
 
 /// Whether the bank sells trains of a kind.
-fn sells(past: &Past, kind: Kind) -> bool
+pub(crate) fn sells(past: &Past, kind: Kind) -> bool
     ensures { result ≡ bank_sells past.now.events.now kind }
 {
     first_left(past) == Some(kind) || (kind == Kind::Diesel && sells_diesels(past))
