@@ -23,4 +23,5 @@ pub mod RunReached
 pub mod RunBelow
 pub mod SetBelow
 pub mod Example
+pub mod Fewer
 pub mod TwoTrain

@@ -1,6 +1,6 @@
 -- A search from the tokens of a company finds a run for a 2-train exactly where there is one: what it goes over is such
 -- a run, and each such run is gone over, from its beginning or, where the token is at its end, from there.
-use Rattle.std.proofs.Common.{◌≡◌, ℕ, ◌+◌, ◌<◌, ◌≤◌, Bool, true, false, ◌⊎◌, inl, inr, if◌then◌else◌, Option, Some, None, IfSome, option_map, List, [], ◌∷◌, ◌++◌, length, get_or, set, map, replicate, refl, ap, sym, ◌∙◌, subst, arith, get_or-set_same, get_or-set_other}
+use Rattle.std.proofs.Common.{◌≡◌, ◌↔◌, ℕ, ◌+◌, ◌<◌, ◌≤◌, Bool, true, false, ◌⊎◌, inl, inr, if◌then◌else◌, Option, Some, None, IfSome, option_map, List, [], ◌∷◌, ◌++◌, length, get_or, set, take, replicate, refl, ap, sym, ◌∙◌, subst, arith, get_or-set_same, get_or-set_other}
 use Rattle.std.specs.List.{AllByRecursion}
 use Rattle.map_tables.specs.Border.{neighbour_of}
 use Rattle.map_tables.specs.Laws.{NeighboursPair}
@@ -10,11 +10,13 @@ use Rattle.map_tables.specs.declared.place.Stop.{Stop}
 use Rattle.map_tables.specs.declared.side.Side.{Side}
 use Rattle.map_tables.specs.declared.track.End.{End}
 use Rattle.map_tables.specs.declared.track.End.TheVariants.{Side as AtSide, Stop as AtStop}
+use Rattle.map_tables.specs.declared.track.Link.{Link}
 use Rattle.reach.specs.Lawful.{IsLawful}
 use Rattle.reach.specs.Position.{Position, HasToken, IsAmong, IsFull, is_red, links_of}
 use Rattle.reach.specs.Walk.{AreJoined, IsTrack, IsWalk, PassesOnly, across, across_end, begins_at, entered_at, left_at, spot_at, stop_at_end, stop_of}
 use Rattle.reach.specs.declared.walk.Spot.{Spot}
 use Rattle.reach.specs.declared.walk.Step.{Step}
+use Rattle.reach.proofs.Lists.{among_next}
 use Rattle.reach.proofs.Marking.{set_cases, set_keeps}
 use Rattle.reach.proofs.Spots.{back}
 use Rattle.tables.specs.declared.rolling_stock.Kind.TheVariants.{Two}
@@ -318,6 +320,23 @@ crossed_by marks hex (AtStop number) over is = absurd cc
 not_crossed : (marks : List Bool) (hex : Hex) (end : End) → crossing_end marks hex end ≡ None → IsFree marks hex end → ⊥
 not_crossed marks hex (AtSide side) is free = by_no_mark (get_or marks (border_of hex side) false) (set marks (border_of hex side) true) is free
 not_crossed marks hex (AtStop number) is free = free
+
+-- where no step by the links before one is such, and none by that one, none is by the links up to it
+pub one_link_more : (P : Step → Type 0) (here all : List Link) → here ≡ all → (i : ℕ) (d : Link) → i < length here → ((step : Step) → IsAmong step.link (take i all) → P step → ⊥) → (((step : Step) × (step.link ≡ get_or here i d) × P step) → ⊥) → (step : Step) → IsAmong step.link (take (i + 1) all) → P step → ⊥
+one_link_more P here all is i d low before none step among leads =
+    elim (among_next here i step.link d low (subst (λ (ls : List Link). IsAmong step.link (take (i + 1) ls)) (sym is) among)) [
+      | inl earlier ↦ before step (subst (λ (ls : List Link). IsAmong step.link (take i ls)) is earlier) leads
+      | inr last ↦ none (step, last, leads)
+    ]
+
+-- a step by a link is one of two
+pub by_turn : (P : Step → Type 0) (link : Link) (first second : Bool) → (first ≡ true) ↔ P (record { link = link; turned = false }) → (second ≡ true) ↔ P (record { link = link; turned = true }) → first ≡ false → ((step : Step) × (step.link ≡ link) × P step) → second ≡ true
+by_turn P link first second forward back none found = by_step found.0.link found.0.turned found.1 found.2
+  where
+    by_step : (its : Link) (turned : Bool) → its ≡ link → P (record { link = its; turned = turned }) → second ≡ true
+    by_step its true is holds = back.1 (subst (λ (l : Link). P (record { link = l; turned = true })) is holds)
+    by_step its false is holds =
+        absurd (let wrong : true ≡ false = sym (forward.1 (subst (λ (l : Link). P (record { link = l; turned = false })) is holds)) ∙ none in cc)
 
 module _ (position : Position) (start : Stop) (marks : List Bool) (step : Step) where
   -- a step that is left at a stop leads on where that is not the first one

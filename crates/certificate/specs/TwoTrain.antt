@@ -38,10 +38,9 @@ Continues position start marks step (next ∷ later) =
 abbrev pub LeadsOn : Position → Stop → List Bool → Step → Type 0
 LeadsOn position start marks step = (later : List Step) × Continues position start marks step later
 
--- some steps do so of which the first is this one
-abbrev pub LeadsBy : Position → Stop → List Bool → Step → Type 0
-LeadsBy position start marks step =
-    IsTrack position step × IsFree marks (entered_at step).hex (entered_at step).end × LeadsOn position start (over_border marks (entered_at step).hex (entered_at step).end) step
+-- and a step that is entered at a spot does so
+abbrev pub LeadsFrom : Position → Stop → List Bool → Spot → Step → Type 0
+LeadsFrom position start marks spot step = (entered_at step ≡ spot) × LeadsOn position start marks step
 
 -- no border is marked
 abbrev pub none_used : List Bool

@@ -183,7 +183,7 @@ impl Tally {
 }
 
 /// The place of a stop in the order of the map.
-fn number_of(stop: Stop) -> usize
+pub(crate) fn number_of(stop: Stop) -> usize
     ensures value { result ≡ stop_order stop }
     ensures bound { result < 186 }
 {

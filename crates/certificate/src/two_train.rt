@@ -1,13 +1,14 @@
 //! Whether a company can run a 2-train.
-ghost use Rattle.std.specs.Prelude.{◌≡◌, ◌<◌, ◌↔◌, IsTrue, Some, false, get_or, set, true};
+ghost use Rattle.std.specs.Prelude.{◌≡◌, ◌<◌, ◌↔◌, IsTrue};
 ghost use Rattle.map_tables.specs.Hex.{index_of};
 ghost use Rattle.reach.specs.Lawful.{IsLawful};
 ghost use Rattle.reach.specs.Position.{IsAmong, links_of};
-ghost use Rattle.reach.specs.Walk.{IsTrack, across, entered_at, left_at};
+ghost use Rattle.reach.specs.Walk.{entered_at};
 ghost use Rattle.reach.specs.declared.walk.Step.{Step};
-ghost use Rattle.certificate.specs.TwoTrain.{CanRun, IsFree, LeadsOn, LeavesToken, over_border};
+ghost use Rattle.certificate.specs.TwoTrain.{CanRun, LeadsFrom, LeadsOn, LeavesToken};
 
 use crate::leg::order;
+use crate::tally::number_of;
 use crate::used::Used;
 use map_tables::{HEXES, Hex, Link, Stop};
 use reach::{Network, Spot, Step};
@@ -40,7 +41,7 @@ fn leaves_in<N: Network>(network: &N, company: Company, hex: Hex) -> bool
     requires { IsLawful (N.position network.now) }
     ensures { let position = N.position network.now in
         IsTrue result ↔ ((step : Step) × IsAmong step.link (links_of position hex)
-            × LeavesToken position company step) }
+        × LeavesToken position company step) }
 {
     let links = network.links(hex);
     for link in links.as_slice() {
@@ -80,6 +81,7 @@ fn leaves<N: Network>(network: &N, company: Company, step: Step) -> bool
 
 /// Whether a step, and others after it, lead to a stop that is not the first one, over borders
 /// that are not used.
+#[cycle(track)]
 fn leads_on<N: Network>(network: &N, start: Stop, step: Step, used: &Used) -> bool
     requires { IsLawful (N.position network.now) }
     ensures { let position = N.position network.now in
@@ -87,7 +89,7 @@ fn leads_on<N: Network>(network: &N, start: Stop, step: Step, used: &Used) -> bo
 {
     let left = step.left();
     if let Some(stop) = left.stop() {
-        return stop != start;
+        return is_other(stop, start);
     }
     let Some(next) = left.across() else {
         return false;
@@ -97,22 +99,43 @@ fn leads_on<N: Network>(network: &N, start: Stop, step: Step, used: &Used) -> bo
     };
     let links = network.links(next.hex);
     for link in links.as_slice() {
-        let forward = Step {
-            link: *link,
-            turned: false,
-        };
-        if is_entered(forward, next) && leads_on(network, start, forward, &crossing) {
-            return true;
-        }
-        let back = Step {
-            link: *link,
-            turned: true,
-        };
-        if is_entered(back, next) && leads_on(network, start, back, &crossing) {
+        if leads_by_link(network, start, *link, next, &crossing) {
             return true;
         }
     }
     false
+}
+
+/// Whether a step by a link, in either direction, is entered at a spot and leads on.
+#[cycle(track)]
+fn leads_by_link<N: Network>(network: &N, start: Stop, link: Link, spot: Spot, used: &Used) -> bool
+    requires { IsLawful (N.position network.now) }
+    ensures { let leads = LeadsFrom (N.position network.now) start used.now spot in
+        IsTrue result ↔ ((step : Step) × (step.link ≡ link) × leads step) }
+{
+    let forward = Step {
+        link,
+        turned: false,
+    };
+    let back = Step { link, turned: true };
+    leads_from(network, start, forward, spot, used) || leads_from(network, start, back, spot, used)
+}
+
+/// Whether a step is entered at a spot and leads on.
+#[cycle(track)]
+fn leads_from<N: Network>(network: &N, start: Stop, step: Step, spot: Spot, used: &Used) -> bool
+    requires { IsLawful (N.position network.now) }
+    ensures { let position = N.position network.now in
+        IsTrue result ↔ LeadsFrom position start used.now spot step }
+{
+    is_entered(step, spot) && leads_on(network, start, step, used)
+}
+
+/// Whether a stop is not the first one.
+fn is_other(stop: Stop, start: Stop) -> bool
+    ensures { IsTrue result ↔ (¬ (stop ≡ start)) }
+{
+    number_of(stop) != number_of(start)
 }
 
 /// Whether a step is entered at a spot.

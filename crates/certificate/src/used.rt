@@ -1,4 +1,4 @@
-ghost use Rattle.std.specs.Prelude.{◌≡◌, false, replicate};
+ghost use Rattle.std.specs.Prelude.{◌≡◌, ◌<◌, false, replicate, IfSome, count_by, not};
 ghost use Rattle.certificate.specs.TwoTrain.{crossing};
 
 use crate::tally::border;
@@ -40,8 +40,10 @@ impl Used {
 
     /// The borders that are used once the one at a spot is too; `None` where it is used already,
     /// and at a stop.
+    #[tactic(auto, using(crate::proofs::Fewer::fewer_free))]
     pub(crate) fn over(&self, spot: Spot) -> Option<Used>
-        ensures { result ≡ crossing self.now spot }
+        ensures crossing { result ≡ crossing self.now spot }
+        ensures fewer { IfSome result (λ over. count_by not over < count_by not self.now) }
     {
         let End::Side(side) = spot.end else {
             return None;

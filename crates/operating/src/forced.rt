@@ -222,10 +222,7 @@ fn first_to_sell(history: &History, by: Operator, among: &[Company]) -> Option<C
     ensures { let may = λ company. is_none (rule_of_sale by history.now (one_tenth company)) in
         result ≡ find may among.now }
 {
-    among
-        .iter()
-        .copied()
-        .find(|company| sale_rule(history, by, tenth_of(*company)).is_none())
+    among.iter().copied().find(|company| sale_rule(history, by, tenth_of(*company)).is_none())
 }
 
 /// The president pays what the company lacks, and it buys; or he falls short, and is bankrupt.

@@ -18,8 +18,7 @@ one_spot a b hexes ends =
 pub returns-then-index : goal.returns-then-index
 returns-then-index c =
     let spot : Spot = c.args.spot in
-    let entered = c.entered-entered.ensures in
-    (
+    let entered = c.entered-entered.ensures in (
       λ same. sym entered ∙ one_spot c.entered-entered.result spot (sym c.index.ensures.value ∙ c.if-index.true ∙ c.index-2.ensures.value) (sym c.order.ensures.value ∙ eqb-true c.order.result c.order-then-index.result same ∙ c.order-then-index.ensures.value),
       λ is. eq-eqb c.order.result c.order-then-index.result (c.order.ensures.value ∙ ap (λ (s : Spot). end_order s.end) (entered ∙ is) ∙ sym c.order-then-index.ensures.value),
     )
