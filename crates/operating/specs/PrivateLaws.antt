@@ -10,10 +10,12 @@ use Rattle.tables.specs.declared.round.Round.{Round}
 
 -- a closed private has no owner
 abbrev pub ClosedHasNoOwner : Type 0
-ClosedHasNoOwner = (events : List Event) (private : Private) → is_closed events private ≡ true → owner_of events private ≡ None
+ClosedHasNoOwner =
+    (events : List Event) (private : Private) → is_closed events private ≡ true → owner_of events private ≡ None
 
 -- and a company's turn leaves it closed
 abbrev pub ClosedStaysClosed : Type 0
 ClosedStaysClosed =
     (file : List ℕ) (round : Round) (company : Company) (old new : Game) →
-    IsCompanyTurn file round company old new → (private : Private) → is_closed old.events private ≡ true → is_closed new.events private ≡ true
+    IsCompanyTurn file round company old new →
+    (private : Private) → is_closed old.events private ≡ true → is_closed new.events private ≡ true
