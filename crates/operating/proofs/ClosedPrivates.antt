@@ -31,7 +31,8 @@ says_none (Some None) closed = refl
 says_none (Some (Some owner)) closed = absurd (cc)
 
 pub closed_has_no_owner : ClosedHasNoOwner
-closed_has_no_owner events private closed = says_none (last_said (λ its. owner_said private (ownership_of its)) events) closed
+closed_has_no_owner events private closed =
+    says_none (last_said (λ its. owner_said private (ownership_of its)) events) closed
 
 -- it stays so where no owner is named
 closed_again : (said word : Option (Option Holder)) → is_some (option_flatten said) ≡ false → says_closed word ≡ true →

@@ -38,7 +38,8 @@ is_agreed company game (event.PrivateBought private its seller price) is = is
 is_agreed company game other is = tt
 
 -- none begins a round
-pub begins_none : (company : Company) (game : Game) (its : Event) → IsOfTurn company game its → is_some (round_of its) ≡ false
+pub begins_none : (company : Company) (game : Game) (its : Event) → IsOfTurn company game its →
+    is_some (round_of its) ≡ false
 begins_none company game (event.Round round) is = absurd is
 begins_none company game other is = refl
 
@@ -48,8 +49,8 @@ named by company other is apart =
     subst (λ (c : Company). is_some (turn_said other (Some c)) ≡ false) (sym is) (ap (λ (b : Bool). is_some (if b then Some company else None)) apart)
 
 -- nobody but the company operates by one
-pub own_alone : (company other : Company) (game : Game) (its : Event) → IsOfTurn company game its → same_company company other ≡ false →
-    is_some (turn_said other (operated_by its)) ≡ false
+pub own_alone : (company other : Company) (game : Game) (its : Event) → IsOfTurn company game its →
+    same_company company other ≡ false → is_some (turn_said other (operated_by its)) ≡ false
 own_alone company other game (event.Runs by revenue) is apart = named by company other is apart
 own_alone company other game (event.Withheld by amount) is apart = named by company other is apart
 own_alone company other game its is apart = refl
