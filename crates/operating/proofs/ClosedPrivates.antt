@@ -1,6 +1,7 @@
 -- A private that is closed stays so: an event that names an owner names that of a private which is not closed. In a
 -- company's turn that is the purchase of one from a player who owns it.
-use Rattle.std.proofs.Common.{◌≡◌, Bool, true, false, ◌&&◌, if◌then◌else◌, List, [], ◌∷◌, ◌++◌, Option, Some, None, is_some, is_none, refl, sym, ap, ◌∙◌}
+use Rattle.std.proofs.Common.{◌≡◌, Bool, true, false, ◌&&◌, if◌then◌else◌, List, [], ◌∷◌, ◌++◌, Option, Some, None}
+use Rattle.std.proofs.Common.{is_some, is_none, refl, sym, ap, ◌∙◌}
 use Rattle.std.specs.Option.{option_flatten, option_or}
 use Rattle.history.proofs.BidWords.{same_private_is}
 use Rattle.history.proofs.EventAtEnd.{last_said_at_end}
@@ -64,7 +65,8 @@ unsold_not : (word : Option (Option Holder)) → is_some word ≡ false → says
 unsold_not None unsold = refl
 unsold_not (Some word) unsold = absurd (cc)
 
-owned_not : (word : Option (Option Holder)) (owner : Holder) → option_flatten word ≡ Some owner → says_closed word ≡ false
+owned_not : (word : Option (Option Holder)) (owner : Holder) → option_flatten word ≡ Some owner →
+    says_closed word ≡ false
 owned_not None owner owns = refl
 owned_not (Some None) owner owns = let nobody : ◌≡◌ {A = Option Holder} None (Some owner) = owns in absurd (cc)
 owned_not (Some (Some other)) owner owns = refl
