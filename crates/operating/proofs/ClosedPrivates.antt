@@ -1,6 +1,6 @@
 -- A private that is closed stays so in a company's turn: no event of it speaks of its owner but the closing of one,
 -- and the purchase of one from a player who owns it.
-use Rattle.std.proofs.Common.{◌≡◌, ℕ, Bool, true, false, ◌&&◌, if◌then◌else◌, List, [], ◌∷◌, ◌++◌, Option, Some, None}
+use Rattle.std.proofs.Common.{◌≡◌, ℕ, Bool, true, false, ◌&&◌, if◌then◌else◌, Option, Some, None}
 use Rattle.std.proofs.Common.{is_some, is_none, refl, sym, ap, ◌∙◌}
 use Rattle.std.specs.Option.{option_flatten, option_or}
 use Rattle.history.proofs.BidWords.{same_private_is}

@@ -6,7 +6,8 @@ ghost use Rattle.operating.specs.Trains.{is_no_trade_in as no_trade_in, is_on_sa
 ghost use Rattle.operating.specs.Trains.{lacks_consent as has_no_consent, is_not_sellers as none_of_sellers};
 ghost use Rattle.operating.specs.Trains.{may_be_traded as may_be_given, may_trade as may_be_had_for};
 ghost use Rattle.operating.specs.Trains.{price_for_trade as price_with_trade, price_of_train as the_price_of_train};
-ghost use Rattle.operating.specs.Trains.{sells as bank_sells, sells_diesels as bank_sells_diesels, traded_count as count_of_trade};
+ghost use Rattle.operating.specs.Trains.{sells as bank_sells, sells_diesels as bank_sells_diesels};
+ghost use Rattle.operating.specs.Trains.{traded_count as count_of_trade};
 
 use crate::discards::has_train;
 use history::{History, Party, Past, TrainRule, TrainSeller};
