@@ -44,13 +44,16 @@ StillAgree before after = SellersAgree before.events → SellersAgree after.even
 
 pub turns_keep_agreed : TurnsKeepAgreed
 turns_keep_agreed file round company old new turn =
-    let on : IsPassedOn StillAgree = record { same = λ game agreed. agreed; both = λ a b c one two agreed. two (one agreed) } in
+    let on : IsPassedOn StillAgree =
+    record { same = λ game agreed. agreed; both = λ a b c one two agreed. two (one agreed) } in
     of_game_turn company StillAgree
-    (by_each company StillAgree on (λ game its is agreed. one_more [] game.events its agreed (is_agreed company game its is)))
+    (by_each company StillAgree on
+    (λ game its is agreed. one_more [] game.events its agreed (is_agreed company game its is)))
     file round old new turn
 
 -- no event of a turn says anything of bids
-no_bid_by : (company : Company) (game : Game) (its : Event) → IsOfTurn company game its → is_none (bidding_of its) ≡ true
+no_bid_by : (company : Company) (game : Game) (its : Event) → IsOfTurn company game its →
+    is_none (bidding_of its) ≡ true
 no_bid_by company game (event.Bids private seat amount) is = absurd is
 no_bid_by company game (event.Sold private buyer price) is = absurd is
 no_bid_by company game other is = refl

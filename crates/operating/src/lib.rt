@@ -10,9 +10,9 @@
 //! (how far the turn has come), `ground` (what lies on the map), `asker` (the company as the rules
 //! of the board see it), `ruling`, `home`, `lay` and `token` (what orders do) with `cost`,
 //! `running`, `withholding`, `dividend`, `purchase` (the rules of trains), `discards`, `phases`
-//! (what a train brings), `train`, `private` (that it buys), `turn` (the lines of a block), `playing`, `standing` (the lines
-//! before the first block) with `offers`, `laws` (what holds of every turn), `train_laws`, `tile_laws`,
-//! `private_laws`, `consent_laws`, `sale_laws`.
+//! (what a train brings), `train`, `private` (that it buys), `turn` (the lines of a block),
+//! `playing`, `standing` (the lines before the first block) with `offers`, `laws` (what holds of
+//! every turn), `train_laws`, `tile_laws`, `private_laws`, `consent_laws`, `sale_laws`.
 #![tactic(auto)]
 
 mod asker;
