@@ -1,6 +1,6 @@
 -- Each round played leaves fewer places in the order of rounds, and a file that is not refused has
 -- players: so play comes to an end.
-use Rattle.std.proofs.Common.{◌≡◌, ℕ, zero, suc, ◌+◌, ◌<◌, true, false, List, length, refl, ap, ◌∙◌, inl, inr, arith}
+use Rattle.std.proofs.Common.{◌≡◌, ◌⊎◌, ℕ, zero, suc, ◌+◌, ◌<◌, true, false, List, length, refl, ap, inl, inr, arith}
 use Rattle.std.proofs.lemmas.Bool.{cases_Bool}
 use Rattle.history.specs.LookBack.{Game}
 use Rattle.privates.specs.Opening as opening
@@ -27,6 +27,16 @@ EachStockRoundEnds = (file : List ℕ) (round : Round) (old : Game) → stock.En
 -- and each operating round
 abbrev pub EachOperatingRoundEnds : Type 0
 EachOperatingRoundEnds = (file : List ℕ) (round : Round) (old : Game) → operating.EndsSoon file round old
+
+-- a round comes next for which all have posted, or play stops
+goes_or_stops : (file : List ℕ) (upcoming : Next) →
+    ((round : Round) × (upcoming ≡ next.Round round) × (all_posted file round ≡ true)) ⊎ (goes_on file upcoming ≡ false)
+goes_or_stops file (next.Round round) =
+    elim (cases_Bool (all_posted file round)) [
+      | inl posted ↦ inl (round, refl, posted)
+      | inr stopped ↦ inr stopped
+    ]
+goes_or_stops file next.Ended = inr refl
 
 module _ (opening_ends : EachOpeningEnds) (stock_ends : EachStockRoundEnds) (operating_ends : EachOperatingRoundEnds) (file : List ℕ) where
   -- a round that is played ends, with as many seats
@@ -56,18 +66,13 @@ module _ (opening_ends : EachOpeningEnds) (stock_ends : EachStockRoundEnds) (ope
       places_to_come old.next < bound → (last : Between) × Plays file last
   plays_within numbered zero done old some stands rounds few = absurd (omega arith)
   plays_within numbered (suc bound) done old some stands rounds few =
-      elim old.next as (λ (it : Next). old.next ≡ it → (last : Between) × Plays file last) [
-        | next.Round round ↦ λ comes.
-            elim (cases_Bool (all_posted file round)) [
-              | inl posted ↦
-                  let new = one_more old round comes posted in
-                  let fewer = fewer_to_come numbered file old new.0 some stands new.1 in
-                  plays_within numbered bound (suc done) new.0 some (round_in_set file old new.0 stands new.1) (old, rounds, new.1) (omega (arith, few, fewer))
-              | inr stopped ↦ (old, record { rounds = done; reached = rounds; stopped = ap (goes_on file) comes ∙ stopped })
-            ]
-        | next.Ended ↦ λ over. (old, record { rounds = done; reached = rounds; stopped = ap (goes_on file) over })
+      elim (goes_or_stops file old.next) [
+        | inl goes ↦
+            let new = one_more old goes.0 goes.1 goes.2 in
+            let fewer = fewer_to_come numbered file old new.0 some stands new.1 in
+            plays_within numbered bound (suc done) new.0 some (round_in_set file old new.0 stands new.1) (old, rounds, new.1) (omega (arith, few, fewer))
+        | inr stopped ↦ (old, record { rounds = done; reached = rounds; stopped = stopped })
       ]
-      refl
 
 -- a file that is not refused has a game
 pub some_game_accepted : SheetsAreNumbered → ThreeToSixPlay → EachOpeningEnds → EachStockRoundEnds → EachOperatingRoundEnds → SomeGame

@@ -81,24 +81,24 @@ module _ (numbered : SheetsAreNumbered) (file : List ℕ) (round later : Round) 
       let forward = played_forward some stands posted comes in
       omega arith
 
--- so does each round that is played, whatever comes next
+module _ (numbered : SheetsAreNumbered) (file : List ℕ) (old new : Between) (some : 0 < length (players_of file)) (round : IsRound file old new) (at : StandsInSet round.round old.in_set) where
+  -- fewer places are left after a round that was played, whatever comes next
+  fewer_than_before : (upcoming : Next) → new.next ≡ upcoming → places_to_come upcoming < places_left round.round
+  fewer_than_before (next.Round later) comes =
+      fewer_places numbered file round.round later old.in_set (all_sold new.game.events) (broken_in new.game.events) some at round.posted
+      (follows file old new later round comes)
+  fewer_than_before next.Ended over =
+      let small = posted_small numbered file round.round some round.posted in
+      let within = before_the_last round.round small (in_any_set round.round old.in_set at) in
+      omega (arith, within)
+
+-- so each round that is played leaves fewer
 pub fewer_to_come : SheetsAreNumbered → (file : List ℕ) (old new : Between) → 0 < length (players_of file) → StandsNext old →
     IsRound file old new → places_to_come new.next < places_to_come old.next
 fewer_to_come numbered file old new some stands round =
-    let at : StandsInSet round.round old.in_set = stands round.round round.comes in
-    let small = posted_small numbered file round.round some round.posted in
-    let within = before_the_last round.round small (in_any_set round.round old.in_set at) in
     let is : places_to_come old.next ≡ places_left round.round = ap places_to_come round.comes in
-    elim new.next as (λ (it : Next). new.next ≡ it → places_to_come it < places_to_come old.next) [
-      | next.Round later ↦ λ comes.
-          let fewer =
-          fewer_places numbered file round.round later old.in_set (all_sold new.game.events) (broken_in new.game.events) some at round.posted
-          (follows file old new later round comes)
-          in
-          omega (arith, is, fewer)
-      | next.Ended ↦ λ over. omega (arith, is, within)
-    ]
-    refl
+    let fewer = fewer_than_before numbered file old new some round (stands round.round round.comes) new.next refl in
+    omega (arith, is, fewer)
 
 -- what a round asks holds before the next, if it holds after the one that was played
 gifts_next : (round : Round) (in_set : ℕ) (all_sold broken : Bool) (events : List Event) →

@@ -1,7 +1,6 @@
 -- How games end: a bankruptcy or a broken bank ends them, nothing else does, and nothing follows.
-use Rattle.std.proofs.Common.{◌≡◌, ◌⊎◌, ℕ, zero, suc, ◌+◌, ◌≤◌, Bool, true, false, nat_lt, if◌then◌else◌, inl, inr, List, [], ◌∷◌, ◌++◌, Option, Some, None, refl, sym, ap, subst, ◌∙◌, arith}
-use Rattle.std.proofs.Math.Bool.{or-true}
-use Rattle.std.proofs.lemmas.Bool.{cases_Bool, false≢true, ltb-false}
+use Rattle.std.proofs.Common.{◌≡◌, ℕ, zero, suc, ◌+◌, ◌≤◌, Bool, true, false, ◌||◌, nat_lt, if◌then◌else◌, inl, inr, List, [], ◌∷◌, ◌++◌, Option, Some, None, refl, sym, ap, subst, ◌∙◌, arith}
+use Rattle.std.proofs.lemmas.Bool.{cases_Bool, false≢true, le-ltb, ltb-false}
 use Rattle.std.proofs.lemmas.List.Folds.{list_any-append}
 use Rattle.history.specs.Event.{tells_broken}
 use Rattle.history.specs.LookBack.{bankrupt_in, broken_in}
@@ -19,7 +18,6 @@ use Rattle.rounds.specs.Sequence.{following}
 use Rattle.rounds.specs.Sets.{IsOfSet}
 use Rattle.rounds.specs.declared.following.Next.{Next}
 use Rattle.rounds.specs.declared.following.Next.TheVariants as next
-use Rattle.rounds.specs.declared.game.End.{End}
 use Rattle.rounds.specs.declared.game.End.TheVariants.{Bank, Bankrupt}
 use Rattle.tables.specs.declared.roster.Company.{Company}
 use Rattle.tables.specs.declared.round.Round.{Round}
@@ -125,7 +123,7 @@ no_set_after adds file set later broken there round upcoming is comes of_set pla
 -- after the last operating round of a set a broken bank leaves nothing
 last_of_set : (set in_set : ℕ) (sold : Bool) → following (Operating set in_set) in_set sold true ≡ next.Ended
 last_of_set set in_set sold =
-    let over : nat_lt in_set in_set ≡ false = grind (arith) in
+    let over : nat_lt in_set in_set ≡ false = le-ltb in_set in_set (omega arith) in
     ap (λ (more : Bool). if more then next.Round (Operating set (in_set + 1)) else next.Ended) over
 
 -- whether or not a president is bankrupt too
