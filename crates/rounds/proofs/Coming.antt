@@ -54,7 +54,7 @@ some_comes (Operating set number) in_set all_sold =
     ]
 
 -- the end is no round
-no_round : (round : Round) → next.Ended ≡ next.Round round → ⊥
+pub no_round : (round : Round) → next.Ended ≡ next.Round round → ⊥
 no_round round same = cc
 
 -- a round that comes is the one that the sequence says

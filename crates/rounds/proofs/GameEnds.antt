@@ -8,12 +8,12 @@ use Rattle.history.specs.declared.event.Event.{Event}
 use Rattle.history.specs.declared.event.Event.TheVariants as event
 use Rattle.operating.specs.Laws.{TurnOnlyAdds}
 use Rattle.privates.specs.Turn.{all_sold}
-use Rattle.rounds.proofs.Coming.{OfNext, after_operating, comes_once, follows, no_round, of_coming, some_comes}
+use Rattle.rounds.proofs.Coming.{OfNext, comes_once, follows, no_round, of_coming, some_comes}
 use Rattle.rounds.proofs.GoingOn.{round_goes_on}
 use Rattle.rounds.proofs.InSet.{StandsInSet, comes_in_set}
 use Rattle.rounds.specs.Ends.{BankruptcyEndsGames, BrokenBankEndsSets, GamesEndOnce, NoSetAfterBroken, NoTurnAfterBankruptcy, NothingElseEndsGames}
 use Rattle.rounds.specs.OperatingRound.{first_idle}
-use Rattle.rounds.specs.Play.{AreRounds, Between, IsRound, coming, end_of, goes_on}
+use Rattle.rounds.specs.Play.{AreRounds, Between, IsRound, end_of, goes_on}
 use Rattle.rounds.specs.Sequence.{following}
 use Rattle.rounds.specs.Sets.{IsOfSet}
 use Rattle.rounds.specs.declared.following.Next.{Next}

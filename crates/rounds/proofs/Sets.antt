@@ -1,5 +1,5 @@
 -- A set keeps the number of operating rounds with which it began, since only a stock round that comes sets it.
-use Rattle.std.proofs.Common.{◌≡◌, ℕ, zero, suc, ◌+◌, ◌≤◌, Bool, false, List, refl, sym, ap, subst, ◌∙◌, arith}
+use Rattle.std.proofs.Common.{◌≡◌, ℕ, zero, suc, ◌+◌, ◌≤◌, Bool, List, refl, sym, ap, subst, ◌∙◌, arith}
 use Rattle.std.proofs.lemmas.Bool.{ltb-false}
 use Rattle.history.specs.LookBack.{broken_in}
 use Rattle.history.specs.declared.event.Event.{Event}

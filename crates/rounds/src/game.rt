@@ -1,4 +1,4 @@
-ghost use Rattle.std.specs.Prelude.{◌≡◌, ◌≤◌, IfOk, IfSome, MatchOption, length};
+ghost use Rattle.std.specs.Prelude.{◌≡◌, ◌≤◌, IfOk, MatchOption, false, length};
 ghost use Rattle.history.specs.Sound.{IsSound};
 ghost use Rattle.rounds.specs.Gifts.{GiftsWait};
 ghost use Rattle.rounds.specs.Play.{IsPlayed, IsTheGame, IsToPlay, all_posted, coming as what_comes, end_of, goes_on, in_set_before as set_before, rounds_of_new_set};

@@ -1,10 +1,9 @@
-use Rattle.std.proofs.Common.{◌≡◌, zero, suc, ◌<◌, length, subst, sym, ◌∙◌, arith, rules}
+use Rattle.std.proofs.Common.{zero, suc, ◌<◌, length, subst, ◌∙◌, arith, rules}
 use Rattle.rounds.proofs.Coming.{comes_once, follows}
 use Rattle.rounds.proofs.Forward.{fewer_to_come, gifts_go_on, posted_small}
 use Rattle.rounds.proofs.InSet.{StandsInSet, StandsNext, begins_so, first_stands, round_in_set}
 use Rattle.rounds.specs.Gifts.{GiftsWait}
 use Rattle.rounds.specs.Play.{Between, IsRound, IsToPlay}
-use Rattle.rounds.specs.declared.following.Next.TheVariants as next
 use Rattle.sheets.specs.File.{players_of}
 use Rattle.tables.specs.declared.round.Round.{Round}
 use Rattle.tables.specs.declared.round.Round.TheVariants.{Opening}
@@ -24,8 +23,8 @@ loop-round-init c =
       seats = search rules;
     }
 
-pub coming-requires : goal.coming-requires
-coming-requires c =
+pub coming-upcoming-requires : goal.coming-upcoming-requires
+coming-upcoming-requires c =
     let at : IsToPlay c.args.sheets.now c.loop-round.upcoming c.in-Some.round = search rules in
     let some : 0 < length (players_of c.args.sheets.now) = omega (arith, c.seats.ensures.value, c.seats.ensures.least) in
     let stands : StandsInSet c.in-Some.round c.loop-round.in_set = c.loop-round.invariant.in_set c.in-Some.round at.comes in
