@@ -115,3 +115,16 @@ module _ (owner : Option Company) where
   pub size_singly : (by : Operator) (game : Game) → size (sold_singly by game).events ≡ size game.events
   unfolding sold_singly
   size_singly by game = size_steps by 40 game
+
+-- so a company without a train still has none once the money is raised
+pub still_none : (by : Operator) (lines : List Numbered) (old told raised sold : Game) → told ≡ with_event old (event.Forced by.company) → raised ≡ after_raises true by told lines → sold ≡ sold_singly by raised → has_trains old.events by.company ≡ false → has_trains sold.events by.company ≡ false
+still_none by lines old told raised sold is_told is_raised is_sold none =
+    let owner : Option Company = Some by.company in
+    ap (lt_z (pos 0))
+    (ap (λ (game : Game). stable_size game.events owner) is_sold
+    ∙ size_singly owner by raised
+    ∙ ap (λ (game : Game). stable_size game.events owner) is_raised
+    ∙ size_raises owner true by lines told
+    ∙ ap (λ (game : Game). stable_size game.events owner) is_told
+    ∙ size_before old.events (event.Forced by.company) owner refl)
+    ∙ none

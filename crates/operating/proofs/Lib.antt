@@ -31,3 +31,8 @@ pub mod HomeToken
 pub mod Tiles
 pub mod Operated
 pub mod Consents
+pub mod ForcedBuying
+pub mod ForcedLemmas
+pub mod Seated
+pub mod ForcedSteps
+pub mod ForcedAid

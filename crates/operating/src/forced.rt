@@ -1,13 +1,10 @@
 //! The purchase that a company must make at the end of its turn.
-ghost use Rattle.std.specs.Prelude.{◌≡◌, ◌≤◌, ◌<◌, ◌↔◌, IfOk, IsTrue, OnOk, None, Some, find, is_none};
-ghost use Rattle.history.specs.Bids.{free_cash_of};
+ghost use Rattle.std.specs.Prelude.{◌≡◌, ◌≤◌, ◌<◌, ◌↔◌, IfOk, IsTrue, OnOk, false, find, is_none};
 ghost use Rattle.history.specs.Sound.{IsSound};
-ghost use Rattle.history.specs.Trains.{so_many as not_under_none};
-ghost use Rattle.operating.specs.Forced.{EndLeads, IsDue, after_forced, after_raise, after_raise_line, after_raises, cheapest as the_cheapest, concluded, falls_short as president_falls_short, first_on_sale as the_first_on_sale, lack_of, next_to_sell as the_next_to_sell, one_tenth, raise_rule as rule_of_raise, sale_rule as rule_of_sale, sold_further, sold_singly, with_aid, with_ruling, with_sale};
+ghost use Rattle.history.specs.Trains.{so_many as as_many};
+ghost use Rattle.operating.specs.Forced.{EndLeads, IsDue, after_forced, after_raise, after_raise_line, after_raises, cheapest as the_cheapest, concluded, falls_short as president_falls_short, first_on_sale as the_first_on_sale, has_trains as has_any_trains, lack_of, next_to_sell as the_next_to_sell, one_tenth, plain as plain_purchase, raise_rule as rule_of_raise, sale_rule as rule_of_sale, sold_further, sold_singly, with_aid, with_one_sold};
 ghost use Rattle.operating.specs.Trains.{IsSmallPurchase};
-ghost use Rattle.order_grammar.specs.declared.order.Order.TheVariants.{Raise};
 ghost use Rattle.sheets.specs.Part.{line_read};
-ghost use Rattle.tables.specs.Roster.{companies};
 
 use crate::ground::board;
 use crate::operator::Operator;
@@ -36,10 +33,13 @@ pub(crate) fn end_turn(
     ensures turn { OnOk result (EndLeads by block.old.before history.old history.new) }
     ensures sound { OnOk result (IsSound history.new) }
 {
-    if !is_due(alloc, history, by.company)? {
-        return rule_raises(history, by, block, false);
+    let due = is_due(alloc, history, by.company)?;
+    if due {
+        buy_by_force(alloc, history, by, block)?;
+        return Ok(());
     }
-    buy_by_force(alloc, history, by, block)
+    rule_raises(history, by, block, false)?;
+    Ok(())
 }
 
 /// Whether a company must buy a train: it has none, and could run one of kind 2.
@@ -47,11 +47,18 @@ fn is_due(alloc: Global, history: &History, company: Company) -> Result<bool, Al
     requires { IsSound history.now }
     ensures { IfOk result (λ due. IsTrue due ↔ IsDue history.now company) }
 {
-    if history.now().stable_size(Some(company)) > 0 {
+    if has_trains(&history.now(), company) {
         return Ok(false);
     }
     let board = board(alloc, history)?;
     Ok(can_run(&board, company))
+}
+
+/// Whether a company has a train.
+fn has_trains(past: &Past, company: Company) -> bool
+    ensures { result ≡ has_any_trains past.now.events.now company }
+{
+    past.stable_size(Some(company)) > 0
 }
 
 /// A company buys the train that it must, or its president is bankrupt.
@@ -69,10 +76,11 @@ fn buy_by_force(
     ensures after { OnOk result (history.new ≡ after_forced by block.old.before history.old) }
     ensures sound { OnOk result (IsSound history.new) }
 {
-    history.append(Event::Forced(by.company))?;
+    history.tell(Event::Forced(by.company))?;
     rule_raises(history, by, block, true)?;
     sell_singly(history, by)?;
-    conclude(alloc, history, by)
+    conclude(alloc, history, by)?;
+    Ok(())
 }
 
 /// Rules the RAISE lines of a block, where a purchase is due, or is not.
@@ -85,6 +93,7 @@ fn rule_raises(
     requires few { history.old.seats ≤ 6 }
     requires at_table { by.president.0 < history.old.seats }
     requires sound { IsSound history.old }
+    ensures seats { OnOk result (history.new.seats ≡ history.old.seats) }
     ensures after { OnOk result (history.new
         ≡ after_raises due by history.old block.old.before) }
     ensures sound { OnOk result (IsSound history.new) }
@@ -105,6 +114,7 @@ fn rule_if_raise(
     requires few { history.old.seats ≤ 6 }
     requires at_table { by.president.0 < history.old.seats }
     requires sound { IsSound history.old }
+    ensures seats { OnOk result (history.new.seats ≡ history.old.seats) }
     ensures after { OnOk result (history.new ≡ after_raise_line due by history.old
         (line_read line.now).number (line_read line.now).reading) }
     ensures sound { OnOk result (IsSound history.new) }
@@ -112,7 +122,8 @@ fn rule_if_raise(
     match line.order() {
         Ok(Order::Raise { company, tenths }) => {
             let (company, tenths) = (*company, *tenths);
-            rule_raise(history, by, line.number, Sale { company, tenths }, due)
+            rule_raise(history, by, line.number, Sale { company, tenths }, due)?;
+            Ok(())
         }
         _ => Ok(()),
     }
@@ -129,6 +140,7 @@ fn rule_raise(
     requires few { history.old.seats ≤ 6 }
     requires at_table { by.president.0 < history.old.seats }
     requires sound { IsSound history.old }
+    ensures seats { OnOk result (history.new.seats ≡ history.old.seats) }
     ensures after { OnOk result (history.new ≡ after_raise due by history.old line sale) }
     ensures sound { OnOk result (IsSound history.new) }
 {
@@ -137,10 +149,12 @@ fn rule_raise(
     let kept = history.keep(&Order::Raise { company, tenths })?;
     if let Some(rule) = broken {
         let refused = KeptRuling::refused(Refusal::Stock(rule), kept);
-        return tell_ruling(history, by.president, line, refused);
+        tell_ruling(history, by.president, line, refused)?;
+        return Ok(());
     }
     tell_ruling(history, by.president, line, KeptRuling::obeyed(kept))?;
-    sell_block(history, by.president, sale)
+    sell_block(history, by.president, sale)?;
+    Ok(())
 }
 
 /// The first rule that a RAISE breaks, where a purchase is due, or is not.
@@ -175,6 +189,7 @@ fn sell_singly(history: &mut History, by: Operator) -> Result<(), AllocError>
     requires few { history.old.seats ≤ 6 }
     requires at_table { by.president.0 < history.old.seats }
     requires sound { IsSound history.old }
+    ensures seats { OnOk result (history.new.seats ≡ history.old.seats) }
     ensures after { OnOk result (history.new ≡ sold_singly by history.old) }
     ensures sound { OnOk result (IsSound history.new) }
 {
@@ -190,16 +205,32 @@ fn sell_further(history: &mut History, by: Operator) -> Result<(), AllocError>
     requires few { history.old.seats ≤ 6 }
     requires at_table { by.president.0 < history.old.seats }
     requires sound { IsSound history.old }
+    ensures seats { OnOk result (history.new.seats ≡ history.old.seats) }
     ensures after { OnOk result (history.new ≡ sold_further by history.old) }
     ensures sound { OnOk result (IsSound history.new) }
 {
-    if !falls_short(history, by) {
+    if falls_short(history, by) {
+        sell_next(history, by)?;
         return Ok(());
     }
-    let Some(company) = next_to_sell(history, by) else {
+    Ok(())
+}
+
+/// The president sells one tenth more, where he may.
+fn sell_next(history: &mut History, by: Operator) -> Result<(), AllocError>
+    requires few { history.old.seats ≤ 6 }
+    requires at_table { by.president.0 < history.old.seats }
+    requires sound { IsSound history.old }
+    ensures seats { OnOk result (history.new.seats ≡ history.old.seats) }
+    ensures after { OnOk result (history.new
+        ≡ with_one_sold by history.old (the_next_to_sell by history.old)) }
+    ensures sound { OnOk result (IsSound history.new) }
+{
+    if let Some(company) = next_to_sell(history, by) {
+        sell_block(history, by.president, tenth_of(company))?;
         return Ok(());
-    };
-    sell_block(history, by.president, tenth_of(company))
+    }
+    Ok(())
 }
 
 /// One tenth of a company.
@@ -229,17 +260,19 @@ fn first_to_sell(history: &History, by: Operator, among: &[Company]) -> Option<C
 #[tactic(auto, unfolding(crate::specs::Forced::concluded))]
 fn conclude(alloc: Global, history: &mut History, by: Operator) -> Result<(), AllocError>
     requires at_table { by.president.0 < history.old.seats }
+    requires none { has_any_trains history.old.events by.company ≡ false }
     requires sound { IsSound history.old }
     ensures after { OnOk result (history.new ≡ concluded by history.old) }
     ensures sound { OnOk result (IsSound history.new) }
 {
     if falls_short(history, by) {
-        history.append(Event::Bankrupt(by.president))?;
+        history.tell(Event::Bankrupt(by.president))?;
         return Ok(());
     }
     let purchase = cheapest(&history.now());
     aid(history, by)?;
-    buy_train(alloc, history, by.company, purchase)
+    buy_train(alloc, history, by.company, purchase)?;
+    Ok(())
 }
 
 /// The president pays what the company lacks, if it lacks anything.
@@ -251,7 +284,7 @@ fn aid(history: &mut History, by: Operator) -> Result<(), AllocError>
     ensures after { OnOk result (history.new ≡ with_aid by history.old) }
     ensures sound { OnOk result (IsSound history.new) }
 {
-    let amount = so_many(lack(history, by.company)) as Amount;
+    let amount = lacking(history, by.company);
     if amount == 0 {
         return Ok(());
     }
@@ -261,6 +294,15 @@ fn aid(history: &mut History, by: Operator) -> Result<(), AllocError>
         amount,
     })?;
     Ok(())
+}
+
+/// What a company lacks for the cheapest train that is for sale, in dollars; 0 where it has enough.
+fn lacking(history: &History, company: Company) -> Amount
+    requires { IsSound history.now }
+    ensures amount { result ≡ as_many (lack_of history.now company) }
+    ensures small { result ≤ 1100 }
+{
+    so_many(lack(history, company)) as Amount
 }
 
 /// Whether the president has less free of his bids than the company lacks.
@@ -307,7 +349,9 @@ fn first_on_sale(past: &Past, kinds: &[Kind]) -> Purchase
 }
 
 /// The purchase of a train for which none is traded in.
-fn plain(kind: Kind, from: TrainSeller) -> Purchase {
+fn plain(kind: Kind, from: TrainSeller) -> Purchase
+    ensures { result ≡ plain_purchase kind from }
+{
     Purchase {
         kind,
         from,

@@ -1,0 +1,65 @@
+-- What the president pays of a forced purchase: what the company lacks, which is small and which he has.
+use Rattle.std.proofs.Common.{◌≡◌, ℕ, ◌≤◌, ◌<◌, Bool, true, false, if◌then◌else◌, ℤ, pos, negsuc, ◌≤ℤ◌, ◌-ℤ◌, refl, sym, ap, subst, ◌∙◌, arith}
+use Rattle.std.proofs.lemmas.Bool.Decides.{nat_tests}
+use Rattle.std.proofs.lemmas.Int.{ints}
+use Rattle.std.specs.Int.Signed.{lt_z}
+use Rattle.history.proofs.ForcedActs.{aid_sound}
+use Rattle.history.specs.Bids.{free_cash_of}
+use Rattle.history.specs.Event.{party_of_company}
+use Rattle.history.specs.LookBack.{Game, cash_of, with_event}
+use Rattle.history.specs.Sound.{IsSound}
+use Rattle.history.specs.Trains.{so_many}
+use Rattle.history.specs.declared.event.Event.TheVariants as event
+use Rattle.operating.proofs.ForcedBuying.{cheapest_low}
+use Rattle.operating.specs.Forced.{cheapest, falls_short, lack_of, with_aid}
+use Rattle.operating.specs.Trains.{cost_of}
+use Rattle.operating.specs.declared.operator.Operator.{Operator}
+use Rattle.tables.specs.declared.roster.Company.{Company}
+
+-- so many, of a sum that is at most a number, are at most as many
+so_low : (sum : ℤ) (most : ℕ) → sum ≤ℤ pos most → so_many sum ≤ most
+so_low (pos n) most low = omega (arith, ints, low)
+so_low (negsuc n) most low = omega arith
+
+-- what is lacking is small
+pub lack_small : (game : Game) (company : Company) → IsSound game → so_many (lack_of game company) ≤ 1100
+unfolding lack_of
+lack_small game company sound =
+    let cash : ℤ = cash_of game.seats game.events (party_of_company company) in
+    let some : pos 0 ≤ℤ cash = sound.companies company in
+    so_low (pos (cost_of (cheapest game.events)) -ℤ cash) 1100 (omega (arith, ints, some, cheapest_low game.events))
+
+-- nothing is paid where nothing is lacking
+over_none : (sum : ℤ) → so_many sum ≡ 0 → lt_z (pos 0) sum ≡ false
+over_none (pos n) none = grind (arith, ints, nat_tests, none)
+over_none (negsuc n) none = refl
+
+over_some : (sum : ℤ) → (so_many sum ≡ 0 → ⊥) → lt_z (pos 0) sum ≡ true
+over_some (pos n) some = grind (arith, ints, nat_tests, some)
+over_some (negsuc n) some = absurd (some refl)
+
+pub no_aid : (by : Operator) (game : Game) → so_many (lack_of game by.company) ≡ 0 → game ≡ with_aid by game
+unfolding with_aid
+no_aid by game none =
+    ap (λ (b : Bool). if b then with_event game (event.Aid by.president by.company (so_many (lack_of game by.company))) else game)
+    (sym (over_none (lack_of game by.company) none))
+
+pub aid_told : (by : Operator) (game new : Game) (amount : ℕ) → amount ≡ so_many (lack_of game by.company) → (amount ≡ 0 → ⊥) → new ≡ with_event game (event.Aid by.president by.company amount) → new ≡ with_aid by game
+unfolding with_aid
+aid_told by game new amount is some told =
+    told
+    ∙ ap (λ (n : ℕ). with_event game (event.Aid by.president by.company n)) is
+    ∙ ap (λ (b : Bool). if b then with_event game (event.Aid by.president by.company (so_many (lack_of game by.company))) else game)
+    (sym (over_some (lack_of game by.company) (λ none. some (is ∙ none))))
+
+-- the president who does not fall short has it
+has_it : (free lack : ℤ) → pos 0 ≤ℤ free → lt_z free lack ≡ false → pos (so_many lack) ≤ℤ free
+has_it free (pos n) some enough = grind (arith, ints, enough)
+has_it free (negsuc n) some enough = some
+
+pub aid_keeps_sound : (by : Operator) (game new : Game) (amount : ℕ) → amount ≡ so_many (lack_of game by.company) → by.president.0 < game.seats → falls_short by game ≡ false → new ≡ with_event game (event.Aid by.president by.company amount) → IsSound game → IsSound new
+unfolding falls_short
+aid_keeps_sound by game new amount is seated enough told sound =
+    subst IsSound (sym told)
+    (aid_sound game by.president by.company amount seated
+    (subst (λ (n : ℕ). pos n ≤ℤ free_cash_of game.seats game.events by.president) (sym is) (has_it (free_cash_of game.seats game.events by.president) (lack_of game by.company) (sound.solvent by.president) enough)) sound)
