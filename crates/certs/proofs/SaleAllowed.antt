@@ -39,7 +39,7 @@ sale_allowed seats events seat sale operating none =
     record { held = kept.1.0; pool = kept.1.1.0; leaves = stays (presides seat (president_of events sale.company)) (leaves_none seats events seat sale) (moves_operating seats events seat sale operating) kept.1.1.1.0; started = holds (is_started events sale.company) kept.1.1.1.1.0 }
 
 -- a company that is started stays so
-same_start : (before after : List Event) (company : Company) → SaysTheSame before after → is_started after company ≡ is_started before company
+pub same_start : (before after : List Event) (company : Company) → SaysTheSame before after → is_started after company ≡ is_started before company
 same_start before after company same = ap is_some (same.square company)
 
 -- the seats that have so many tenths have them still
