@@ -36,3 +36,4 @@ pub mod ForcedLemmas
 pub mod Seated
 pub mod ForcedSteps
 pub mod ForcedAid
+pub mod ClosedPrivates

@@ -68,9 +68,9 @@ by_events company =
       };
     })
     (λ game its is. record {
-      others = λ other apart. one_more other game.events its (begins_none company its is)
-          ∙ ap (λ (b : Bool). has_operated game.events other || b) (own_alone company other its is apart) ∙ or_false (has_operated game.events other);
-      still = λ other has. one_more other game.events its (begins_none company its is)
+      others = λ other apart. one_more other game.events its (begins_none company game its is)
+          ∙ ap (λ (b : Bool). has_operated game.events other || b) (own_alone company other game its is apart) ∙ or_false (has_operated game.events other);
+      still = λ other has. one_more other game.events its (begins_none company game its is)
           ∙ ap (λ (b : Bool). b || is_some (turn_said other (operated_by its))) has;
     })
 

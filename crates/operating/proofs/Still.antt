@@ -117,7 +117,7 @@ module _ (events : List Event) (seat : Seat) (number : ℕ) (kind : Kind) (from 
   -- it offers nothing
   offers_none : (giver : Seat) (sale : Offer) → in_round (λ its. said_by giver (offered_in sale) (obeyed_of its)) line ≡ None
   offers_none giver sale =
-      elim (seat.0 == giver.0) as (λ (b : Bool). option_map Some (if b then None else None) ≡ None) [
+      elim (seat.0 == giver.0) as (λ (b : Bool). option_map {T = Offer} Some (if b then None else None) ≡ None) [
         | true ↦ refl
         | false ↦ refl
       ]

@@ -39,7 +39,7 @@ use Rattle.tables.specs.declared.squares.Square.{Square}
 -- each event of the turn that lays no tile, moves no train and begins no phase, of a lay and of a purchase by the rules
 pub record OfEvents (company : Company) (R : Game → Game → Type 0) : Type 0 where
   pub on : IsPassedOn R
-  pub others : (game : Game) (its : Event) → IsOfTurn company its → tile_laid its ≡ None → train_moved its ≡ None → phase_set its ≡ None →
+  pub others : (game : Game) (its : Event) → IsOfTurn company game its → tile_laid its ≡ None → train_moved its ≡ None → phase_set its ≡ None →
       R game (with_event game its)
   pub lays : (game : Game) (asker : Asker) (lay : Lay) (cost : ℕ) → first_broken (ground_rules (ground_now game.events) asker lay) ≡ None →
       R game (with_event game (event.Laid company lay cost))
@@ -47,7 +47,7 @@ pub record OfEvents (company : Company) (R : Game → Game → Type 0) : Type 0 
 
 -- what holds of each event of a turn that lays no tile holds of a purchase
 pub of_purchase : (company : Company) (R : Game → Game → Type 0) → IsPassedOn R →
-    ((game : Game) (its : Event) → IsOfTurn company its → tile_laid its ≡ None → R game (with_event game its)) →
+    ((game : Game) (its : Event) → IsOfTurn company game its → tile_laid its ≡ None → R game (with_event game its)) →
     (game : Game) (purchase : Purchase) → R game (after_train game company purchase)
 of_purchase company R on each game purchase =
     let closes : OfClosings R = λ now private. each now (event.Closed private) tt refl in
@@ -67,7 +67,7 @@ of_purchase company R on each game purchase =
 
 -- so it is shown where it holds of each event
 pub by_each : (company : Company) (R : Game → Game → Type 0) → IsPassedOn R →
-    ((game : Game) (its : Event) → IsOfTurn company its → R game (with_event game its)) → OfEvents company R
+    ((game : Game) (its : Event) → IsOfTurn company game its → R game (with_event game its)) → OfEvents company R
 by_each company R on each =
     record {
       on = on;

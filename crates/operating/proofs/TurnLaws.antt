@@ -50,7 +50,7 @@ adds_on =
 pub adds_by : (company : Company) → OfEvents company OnlyAdds
 adds_by company =
     by_each company OnlyAdds adds_on
-    (λ game its is. record { more = its ∷ []; added = refl; no_round = ap (λ (b : Bool). b || false) (begins_none company its is) })
+    (λ game its is. record { more = its ∷ []; added = refl; no_round = ap (λ (b : Bool). b || false) (begins_none company game its is) })
 
 -- a turn only adds events, and begins no round
 pub only_adds : TurnOnlyAdds

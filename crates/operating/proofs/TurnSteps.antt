@@ -63,7 +63,7 @@ use Rattle.tables.specs.declared.seat.Seat.{Seat}
 pub record OfSteps (company : Company) (R : InTurn → InTurn → Type 0) : Type 0 where
   pub same : (turn : InTurn) → R turn turn
   pub both : (a b c : InTurn) → R a b → R b c → R a c
-  pub more : (turn : InTurn) (its : Event) → IsOfTurn company its → tile_laid its ≡ None → train_moved its ≡ None → phase_set its ≡ None →
+  pub more : (turn : InTurn) (its : Event) → IsOfTurn company turn.game its → tile_laid its ≡ None → train_moved its ≡ None → phase_set its ≡ None →
       R turn (in_turn (with_event turn.game its) turn.progress)
   pub laid : (turn : InTurn) (lays : List Lay) (asker : Asker) (lay : Lay) (cost : ℕ) →
       first_broken (ground_rules (ground_now turn.game.events) asker lay) ≡ None →
@@ -157,12 +157,12 @@ module _ (by : Operator) (R : InTurn → InTurn → Type 0) (steps : OfSteps by.
       (steps.bought ruled purchase (same_judgement turn.game ruled.game by.president number kind from by.company purchase refl ∙ none))
 
   -- of PRIVATE
-  of_sale : (turn : InTurn) (private : Private) (price : ℕ) (owner : Option Holder) →
+  of_sale : (turn : InTurn) (private : Private) (price : ℕ) (owner : Option Holder) → owner_of turn.game.events private ≡ owner →
       R turn (in_turn (sold_by turn.game by.company private price owner) turn.progress)
-  of_sale turn private price (Some (holder.Seat seller)) =
-      steps.more turn (event.PrivateBought private by.company seller price) tt refl refl refl
-  of_sale turn private price (Some (holder.Company owner)) = steps.same turn
-  of_sale turn private price None = steps.same turn
+  of_sale turn private price (Some (holder.Seat seller)) owns =
+      steps.more turn (event.PrivateBought private by.company seller price) owns refl refl refl
+  of_sale turn private price (Some (holder.Company owner)) owns = steps.same turn
+  of_sale turn private price None owns = steps.same turn
 
   of_private : (turn : InTurn) (number : ℕ) (private : Private) (price : ℕ) (rule : Option PrivateRule) →
       R turn (private_ruled by turn number private price rule)
@@ -170,7 +170,7 @@ module _ (by : Operator) (R : InTurn → InTurn → Type 0) (steps : OfSteps by.
   of_private turn number private price None =
       let ruled = told by turn number (Obeyed (order.BuyOwnedPrivate private price)) in
       after_ruling turn number (order.BuyOwnedPrivate private price) (private_ruled by turn number private price None)
-      (of_sale ruled private price (owner_of ruled.game.events private))
+      (of_sale ruled private price (owner_of ruled.game.events private) refl)
 
   -- of an order
   of_order : (turn : InTurn) (number : ℕ) (its : Order) (new : InTurn) → OrderLeads by turn number its new → R turn new

@@ -18,3 +18,4 @@ pub mod Laws
 pub mod TrainLaws
 pub mod TileLaws
 pub mod ConsentLaws
+pub mod PrivateLaws

@@ -13,8 +13,8 @@
 //! of the board see it), `ruling`, `home`, `lay` and `token` (what orders do) with `cost`,
 //! `running`, `withholding`, `dividend`, `purchase` (the rules of trains), `discards`, `phases`
 //! (what a train brings), `train`, `private` (that it buys), `forced` (what it must buy), `turn` (the
-//! lines of a block), `playing`, `standing` (the lines before the first block) with `offers`, `laws` (what holds of every turn), `train_laws`, `tile_laws`,
-//! `consent_laws`.
+//! lines of a block), `playing`, `standing` (the lines before the first block) with `offers`, `laws`
+//! (what holds of every turn), `train_laws`, `tile_laws`, `private_laws`, `consent_laws`.
 #![tactic(auto)]
 
 mod asker;
@@ -32,6 +32,7 @@ mod operator;
 mod phases;
 mod playing;
 mod private;
+mod private_laws;
 mod progress;
 mod purchase;
 mod ruling;
@@ -51,6 +52,7 @@ pub use laws::{
     one_company_turn, turn_only_adds,
 };
 pub use playing::play_company;
+pub use private_laws::closed_for_good;
 pub use standing::rule_standing_lines;
 pub use tile_laws::all_tiles_are_there;
 pub use train_laws::{all_trains_are_there, phases_go_on};

@@ -20,4 +20,4 @@ buy_train-requires-clause-may c =
 pub returns-clause-turn : goal.returns-clause-turn
 returns-clause-turn c =
     let none : c.judge_purchase-broken.result ≡ None = cc in
-    bought_steps c.args.by (in_turn c.args.history.now c.args.progress) c.args.line c.args.kind c.args.from c.purchase_of-purchase.result _ c.tell_ruling-2.new.history c.buy_train.new.history c.purchase_of-purchase.ensures c.in_ok-kept.ensures (sym c.judge_purchase-broken.ensures ∙ none) (told_as c.args.history.now _ c.args.by.president c.args.line c.obeyed.result _ c.in_ok-tell_ruling-2.ensures.event c.obeyed.ensures) c.in_ok-buy_train.ensures.after
+    bought_steps c.args.by (in_turn c.args.history.now c.args.progress) c.args.line c.args.kind c.args.from c.purchase_of-purchase.result _ c.tell_ruling-2.new.history c.buy_train.new.history c.purchase_of-purchase.ensures.purchase c.in_ok-kept.ensures (sym c.judge_purchase-broken.ensures ∙ none) (told_as c.args.history.now _ c.args.by.president c.args.line c.obeyed.result _ c.in_ok-tell_ruling-2.ensures.event c.obeyed.ensures) c.in_ok-buy_train.ensures.after
