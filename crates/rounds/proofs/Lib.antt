@@ -22,3 +22,4 @@ mod InOrder
 mod Sets
 mod Trains
 mod Tiles
+pub mod GameEnds

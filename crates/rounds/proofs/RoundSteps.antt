@@ -126,4 +126,4 @@ in_each_game P kept file zero there played =
     subst (λ (at : Between). P at.game.events) played kept.first
 in_each_game P kept file (suc rounds) there played =
     let on : IsPassedOn (Keeps P) = record { same = λ events holds. holds; both = λ a b c one two holds. two (one holds); aside = kept.aside } in
-    of_round (Keeps P) on kept.turns file kept.begins played.0.next played.0.game there.game played.2.played (in_each_game P kept file rounds played.0 played.1)
+    of_round (Keeps P) on kept.turns file kept.begins played.2.round played.0.game there.game played.2.played (in_each_game P kept file rounds played.0 played.1)

@@ -9,3 +9,4 @@ pub mod Begun
 pub mod Sets
 pub mod Trains
 pub mod Tiles
+pub mod Ends
