@@ -58,10 +58,11 @@ over_is hex (AtSide side) borders = refl
 over_is hex (AtStop number) borders = refl
 
 distinct_over : (hex : Hex) (end : End) (borders : List ℕ) → AllByRecursion (λ b. b < 279) borders → IsFree (marked none_used borders) hex end → AreDistinct borders → AreDistinct (border_at hex end ++ borders)
-distinct_over hex (AtSide side) borders low free distinct =
-    (λ among. let is : get_or (marked none_used borders) (border_of hex side) false ≡ true = among_marked borders (border_of hex side) low among in
-        let wrong : true ≡ false = sym is ∙ free in cc,
-     distinct)
+distinct_over hex (AtSide side) borders low free distinct = (
+  λ among. let is : get_or (marked none_used borders) (border_of hex side) false ≡ true = among_marked borders (border_of hex side) low among in
+      let wrong : true ≡ false = sym is ∙ free in cc,
+  distinct,
+)
 distinct_over hex (AtStop number) borders low free distinct = distinct
 
 free_there : (hex : Hex) (end : End) (borders : List ℕ) → stop_at_end hex end ≡ None → AreDistinct (border_at hex end ++ borders) → IsFree (marked none_used borders) hex end
@@ -197,6 +198,7 @@ one_border pair spot other over = by_end spot.end over
         let there : spot_at next (AtSide (facing_of side)) ≡ other = cc in
         ap (λ (border : ℕ). border ∷ []) (faced spot.hex next side is (pair spot.hex side next is))
         ∙ ap (λ (s : Spot). border_at s.hex s.end) there
+
     by_end : (end : End) → across_end spot.hex end ≡ Some other → border_at spot.hex end ≡ border_at other.hex other.end
     by_end (AtSide side) over = by_hex side (neighbour_of spot.hex side) refl over
     by_end (AtStop number) over = absurd cc
@@ -262,8 +264,7 @@ module _ (position : Position) (lawful : IsLawful position) (company : Company) 
       let same : border_at there.hex there.end ≡ border_at at.hex at.end = one_border lawful.borders_pair there at over in
       let free_here : IsFree marks there.hex there.end = free_at marks there.hex there.end one.0 (subst (λ (bs : List ℕ). AreFree marks bs) (sym same) (first_free marks at.hex at.end borders free)) in
       let then_free : AreFree (over_border marks there.hex there.end) borders = subst (λ (ms : List Bool). AreFree ms borders) (sym (over_at marks there.hex there.end ∙ ap (marked marks) same)) (still_free marks at.hex at.end borders distinct free) in
-      let on : Continues position own (over_border marks there.hex there.end) (flipped earlier) (returning before) = backwards own start other before earlier (over_border marks there.hex there.end) walk.2 begins one.1 (others_distinct at.hex at.end borders distinct) then_free in
-      (
+      let on : Continues position own (over_border marks there.hex there.end) (flipped earlier) (returning before) = backwards own start other before earlier (over_border marks there.hex there.end) walk.2 begins one.1 (others_distinct at.hex at.end borders distinct) then_free in (
         walk.2.0,
         ap across (flip_leaves step) ∙ (back position lawful there at over).0 ∙ ap (λ (s : Spot). Some s) (sym (flip_enters earlier)),
         subst (λ (s : Spot). IsFree marks s.hex s.end) (sym (flip_enters earlier)) free_here,
@@ -288,8 +289,12 @@ module _ (position : Position) (lawful : IsLawful position) (company : Company) 
         | inl at_end ↦ (
           flipped step,
           run.walk.0,
-          (stop, ap stop_of (flip_enters step) ∙ run.ends.1, at_end,
-            (returning before, backwards stop start (λ same. distinct.0 (inl same)) before step none_used run.walk run.begins.1 few run.no_border_twice (all_free (crossed (step ∷ before))))),
+          (
+            stop,
+            ap stop_of (flip_enters step) ∙ run.ends.1,
+            at_end,
+            (returning before, backwards stop start (λ same. distinct.0 (inl same)) before step none_used run.walk run.begins.1 few run.no_border_twice (all_free (crossed (step ∷ before)))),
+          ),
         )
         | inr first ↦ elim first [
           | inl at_start ↦ ahead start before step [] at_start run.walk run.begins.1 few run.no_border_twice (stop, run.ends.1, λ same. distinct.0 (inl (sym same)))
@@ -370,20 +375,18 @@ module _ (position : Position) (start : Stop) (marks : List Bool) (step : Step) 
     leads_over_none closed leads = not_crossed marks there.hex there.end closed (next_step leads).3
 
     pub leads_over : (crossed : List Bool) → crossing marks there ≡ Some crossed → LeadsOn position start marks step → (next : Step) × IsAmong next.link (links_of position there.hex) × (entered_at next ≡ there) × LeadsOn position start crossed next
-    leads_over crossed open leads =
+    leads_over crossed crosses leads =
         let on = next_step leads in
-        let next : Step = on.0 in
-        (
+        let next : Step = on.0 in (
           next,
           subst (λ (s : Spot). IsAmong next.link (links_of position s.hex)) on.2 on.1,
           on.2,
-          subst (λ (ms : List Bool). LeadsOn position start ms next) (crossed_by marks there.hex there.end crossed open).1 on.4,
+          subst (λ (ms : List Bool). LeadsOn position start ms next) (crossed_by marks there.hex there.end crossed crosses).1 on.4,
         )
 
     pub over_leads : (crossed : List Bool) → crossing marks there ≡ Some crossed → (next : Step) → IsAmong next.link (links_of position there.hex) → entered_at next ≡ there → LeadsOn position start crossed next → LeadsOn position start marks step
-    over_leads crossed open next among same leads =
-        let parts = crossed_by marks there.hex there.end crossed open in
-        (
+    over_leads crossed crosses next among same leads =
+        let parts = crossed_by marks there.hex there.end crossed crosses in (
           next ∷ leads.0,
           (
             subst (λ (s : Spot). IsAmong next.link (links_of position s.hex)) (sym same) among,

@@ -2,10 +2,10 @@
 ghost use Rattle.std.specs.Prelude.{◌≡◌, ◌<◌, ◌↔◌, IsTrue};
 ghost use Rattle.map_tables.specs.Hex.{index_of};
 ghost use Rattle.reach.specs.Lawful.{IsLawful};
-ghost use Rattle.reach.specs.Position.{IsAmong, links_of};
+ghost use Rattle.reach.specs.Position.{HasToken, IsAmong, links_of};
 ghost use Rattle.reach.specs.Walk.{entered_at};
 ghost use Rattle.reach.specs.declared.walk.Step.{Step};
-ghost use Rattle.certificate.specs.TwoTrain.{CanRun, LeadsFrom, LeadsOn, LeavesToken};
+ghost use Rattle.certificate.specs.TwoTrain.{CanRun, LeadsFrom, LeadsOn, LeavesToken, none_used};
 
 use crate::leg::order;
 use crate::tally::number_of;
@@ -72,11 +72,19 @@ fn leaves<N: Network>(network: &N, company: Company, step: Step) -> bool
     ensures { IsTrue result ↔ LeavesToken (N.position network.now) company step }
 {
     match step.entered().stop() {
-        Some(start) => {
-            network.token(start, company) && leads_on(network, start, step, &Used::new())
-        }
+        Some(start) => leaves_stop(network, company, start, step),
         None => false,
     }
+}
+
+/// Whether a stop has a token of the company, and a step leads on from it.
+fn leaves_stop<N: Network>(network: &N, company: Company, start: Stop, step: Step) -> bool
+    requires { IsLawful (N.position network.now) }
+    ensures { let position = N.position network.now in
+        IsTrue result
+        ↔ (HasToken position start company × LeadsOn position start none_used step) }
+{
+    network.token(start, company) && leads_on(network, start, step, &Used::new())
 }
 
 /// Whether a step, and others after it, lead to a stop that is not the first one, over borders

@@ -1,5 +1,5 @@
 -- A step leads on where it is left at another stop, or where one of the steps that are entered beyond leads on.
-use Rattle.std.proofs.Common.{◌≡◌, ℕ, ◌+◌, ◌<◌, ◌≤◌, true, false, Some, None, inl, inr, List, [], length, get_or, take, refl, ap, sym, ◌∙◌, subst, arith}
+use Rattle.std.proofs.Common.{◌≡◌, ℕ, rules, ◌+◌, ◌<◌, ◌≤◌, true, false, Some, None, inl, inr, List, [], length, get_or, take, refl, ap, sym, ◌∙◌, subst, arith}
 use Rattle.std.proofs.lemmas.List.{take_all}
 use Rattle.map_tables.specs.declared.hex.Hex.{Hex}
 use Rattle.map_tables.specs.declared.track.Link.{Link}
@@ -35,7 +35,7 @@ leads_on-returns-in_default-over g t c =
     (λ wrong. absurd cc, λ leads. absurd (leads_over_none (g.N.Network.position c.args.network.now) c.args.start c.args.used.now c.args.step none c.in-Some-across.next over closed leads))
 
 pub leads_on-leads_by_link-requires : goal.leads_on-leads_by_link-requires
-leads_on-leads_by_link-requires g t c = (omega (arith, c.in-Some-over.ensures.fewer), c.requires)
+leads_on-leads_by_link-requires g t c = λ lifetimes within. (omega (arith, c.in-Some-over.ensures.fewer), (search rules, c.requires))
 
 pub leads_on-returns-then-leads_by_link : goal.leads_on-returns-then-leads_by_link
 leads_on-returns-then-leads_by_link g t c =
@@ -74,7 +74,7 @@ leads_on-returns g t c =
     )
 
 pub leads_by_link-returns-then-leads_from : goal.leads_by_link-returns-then-leads_from
-leads_by_link-returns-then-leads_from g t c = (λ yes. (_, refl, c.leads_from.ensures.0 c.if-leads_from.true), λ found. refl)
+leads_by_link-returns-then-leads_from g t c = (λ yes. (_, refl, c.leads_from.ensures.0 yes), λ found. c.if-leads_from.true)
 
 pub leads_by_link-returns-else-leads_from : goal.leads_by_link-returns-else-leads_from
 leads_by_link-returns-else-leads_from g t c = (

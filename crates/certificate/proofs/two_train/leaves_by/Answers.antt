@@ -5,7 +5,7 @@ use Rattle.certificate.proofs.TwoTrain.{by_turn}
 use Rattle.certificate.proofs.two_train.leaves_by.Goals as goal
 
 pub returns-then-leaves : goal.returns-then-leaves
-returns-then-leaves g c = (λ yes. (_, refl, c.leaves.ensures.0 c.if-leaves.true), λ found. refl)
+returns-then-leaves g c = (λ yes. (_, refl, c.leaves.ensures.0 yes), λ found. c.if-leaves.true)
 
 pub returns-else-leaves : goal.returns-else-leaves
 returns-else-leaves g c = (
