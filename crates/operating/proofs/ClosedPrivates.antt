@@ -13,7 +13,8 @@ use Rattle.history.specs.declared.event.Holder.{Holder}
 use Rattle.history.specs.declared.event.Holder.TheVariants as holder
 use Rattle.operating.proofs.TrainSteps.{IsPassedOn}
 use Rattle.operating.proofs.TurnEvents.{IsOfTurn}
-use Rattle.operating.proofs.TurnGames.{by_each, of_game_turn}
+use Rattle.operating.proofs.ForcedGames.{of_game_turn}
+use Rattle.operating.proofs.TurnGames.{by_each}
 use Rattle.operating.specs.PrivateLaws.{ClosedHasNoOwner, ClosedStaysClosed}
 use Rattle.tables.specs.Roster.{same_private}
 use Rattle.tables.specs.declared.roster.Company.{Company}

@@ -37,3 +37,4 @@ pub mod Seated
 pub mod ForcedSteps
 pub mod ForcedAid
 pub mod ClosedPrivates
+pub mod ForcedGames

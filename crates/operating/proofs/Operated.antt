@@ -5,13 +5,15 @@ use Rattle.std.specs.Option.{option_flatten, option_map, option_or}
 use Rattle.history.proofs.EventAtEnd.{last_said_at_end}
 use Rattle.history.specs.Event.{operated_by, round_of}
 use Rattle.history.specs.LookBack.{Game, in_round, last_said, with_event}
+use Rattle.history.specs.Shares.{president_of}
 use Rattle.history.specs.Operating.{has_operated, turn_said}
 use Rattle.history.specs.declared.event.Event.{Event}
 use Rattle.history.specs.declared.event.Event.TheVariants as event
 use Rattle.history.specs.declared.ruling.PayRule.{PayRule}
 use Rattle.history.specs.declared.ruling.PayRule.TheVariants.{NothingToPay}
 use Rattle.operating.proofs.TurnEvents.{begins_none, own_alone}
-use Rattle.operating.proofs.TurnGames.{OfEvents, after_withheld, by_each, of_game_turn, of_steps}
+use Rattle.operating.proofs.ForcedGames.{of_block_end, of_game_turn}
+use Rattle.operating.proofs.TurnGames.{OfEvents, after_withheld, by_each, of_steps}
 use Rattle.operating.proofs.TurnSteps.{OfSteps, of_turn}
 use Rattle.operating.specs.Act.{withheld}
 use Rattle.operating.specs.Dividend.{is_past_pay}
@@ -132,9 +134,9 @@ has_at_end : (company : Company) (file : List ℕ) (round : Round) (old new : Ga
     has_operated new.events company ≡ true
 has_at_end company file round old new turn =
     let last = settled company turn.last in
-    ap (λ (game : Game). has_operated game.events company) turn.after
-    ∙ of_turn company _ (has_steps company) file round old new turn (λ none. cc)
-    (ap (λ (b : Bool). not b || not (last.progress.runs.revenue == 0)) (settled_past company turn.last))
+    (of_block_end company (Operates company) (by_events company) file round last.game (president_of old.events company) new turn.after).still company
+    (of_turn company _ (has_steps company) file round old new turn (λ none. cc)
+    (ap (λ (b : Bool). not b || not (last.progress.runs.revenue == 0)) (settled_past company turn.last)))
 
 -- and no other that had not before
 pub company_operates : CompanyOperates

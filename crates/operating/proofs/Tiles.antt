@@ -22,7 +22,8 @@ use Rattle.map_tables.specs.declared.hex.Hex.TheVariants.{A9}
 use Rattle.map_tables.specs.declared.lay.Lay.{Lay}
 use Rattle.map_tables.specs.declared.tiles.TileNo.{TileNo}
 use Rattle.operating.proofs.TrainSteps.{IsPassedOn}
-use Rattle.operating.proofs.TurnGames.{of_game_turn, of_purchase}
+use Rattle.operating.proofs.ForcedGames.{of_game_turn}
+use Rattle.operating.proofs.TurnGames.{of_purchase}
 use Rattle.operating.specs.Ground.{ground_now}
 use Rattle.operating.specs.TileLaws.{LaysKeepTiles, OthersKeepTiles, TilesAreAll, TilesAreAllAtFirst, TurnsKeepTiles, returned_by, returned_of}
 use Rattle.operating.specs.TileLaws.{stock_of, taken_of}

@@ -155,8 +155,8 @@ module _ (company : Company) (R : Game → Game → Type 0) (of : OfEvents compa
         bought = λ turn purchase rules. of.purchases turn.game purchase rules;
       }
 
-  -- and of the whole
-  pub of_game_turn : (file : List ℕ) (round : Round) (old new : Game) → IsCompanyTurn file round company old new → R old new
-  of_game_turn file round old new turn =
-      subst (R old) (sym turn.after)
-      (of.on.both old (begun old company).game (settled company turn.last).game (of_home old) (of_turn company _ of_steps file round old new turn))
+  -- and of the turn up to where the company has paid or withheld
+  pub of_paid_turn : (file : List ℕ) (round : Round) (old new : Game) (turn : IsCompanyTurn file round company old new) →
+      R old (settled company turn.last).game
+  of_paid_turn file round old new turn =
+      of.on.both old (begun old company).game (settled company turn.last).game (of_home old) (of_turn company _ of_steps file round old new turn)

@@ -12,7 +12,8 @@ use Rattle.operating.proofs.Complete.{others_keep_standing, phase_kept}
 use Rattle.operating.proofs.Fleet.{purchases_keep_all}
 use Rattle.operating.proofs.TrainSteps.{IsPassedOn, phases_go_on}
 use Rattle.operating.proofs.TurnEvents.{begins_none}
-use Rattle.operating.proofs.TurnGames.{OfEvents, by_each, of_game_turn, of_steps}
+use Rattle.operating.proofs.ForcedGames.{of_game_turn}
+use Rattle.operating.proofs.TurnGames.{OfEvents, by_each, of_steps}
 use Rattle.operating.proofs.TurnSteps.{of_line}
 use Rattle.operating.specs.InTurn.{InTurn}
 use Rattle.operating.specs.Laws.{OnlyAdds, TurnOnlyAdds}

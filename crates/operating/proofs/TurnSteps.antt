@@ -197,6 +197,7 @@ module _ (by : Operator) (R : InTurn → InTurn → Type 0) (steps : OfSteps by.
       (of_train paid number kind from purchase rule refl))
   of_order turn number (order.BuyOwnedPrivate private price) new leads =
       subst (R turn) (sym leads) (of_private turn number private price (private_judgement turn.game by.company private price))
+  of_order turn number (order.Raise company tenths) new leads = subst (R turn) (sym leads) (steps.same turn)
   of_order turn number other new leads = subst (R turn) (sym leads) (of_ruling turn number _)
 
   -- of a line
