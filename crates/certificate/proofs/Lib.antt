@@ -25,3 +25,4 @@ pub mod SetBelow
 pub mod Example
 pub mod Fewer
 pub mod TwoTrain
+pub mod RunDecided
