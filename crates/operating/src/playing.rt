@@ -1,4 +1,5 @@
-ghost use Rattle.std.specs.Prelude.{◌≡◌, ◌<◌, ◌≤◌, IfOk, IfSome, OnOk, Some, length};
+ghost use Rattle.std.specs.Prelude.{◌≡◌, ◌<◌, ◌≤◌, IfOk, IfSome, OnOk, length, true};
+ghost use Rattle.history.specs.Shares.{is_floated};
 ghost use Rattle.history.specs.Sound.{IsSound};
 ghost use Rattle.operating.specs.InTurn.{at_start, in_turn};
 ghost use Rattle.operating.specs.Turn.{BlockEnds, BlockLeads, IsCompanyTurn};
@@ -16,8 +17,8 @@ use std::alloc::{AllocError, Global};
 use tables::{Company, Round, Seat};
 
 /// Plays the turn of a company in an operating round, with the sheets for it. The list of events
-/// must be sound, and its seats those of the sheets' players. It is meant for a company that has
-/// floated and has not operated in this round. An `Err` comes from want of memory alone, and the
+/// must be sound, and its seats those of the sheets' players; the company has floated. It is meant
+/// for one that has not operated in this round. An `Err` comes from want of memory alone, and the
 /// game is dropped.
 pub fn play_company(
     alloc: Global,
@@ -26,6 +27,7 @@ pub fn play_company(
     round: Round,
     company: Company,
 ) -> Result<History, AllocError>
+    requires floated { is_floated history.events company ≡ true }
     requires sound { IsSound history }
     requires seats { history.seats ≡ length (players_of sheets.now) }
     ensures turn { IfOk result (IsCompanyTurn sheets.now round company history) }

@@ -10,7 +10,8 @@ use Rattle.history.specs.declared.event.Event.{Event}
 use Rattle.history.specs.declared.event.Event.TheVariants as event
 use Rattle.operating.specs.InTurn.{InTurn}
 use Rattle.operating.specs.Standing as rules
-use Rattle.operating.specs.Turn.{BlockLeads, IsCompanyTurn, LinesLead, begun}
+use Rattle.operating.specs.Forced.{EndLeads}
+use Rattle.operating.specs.Turn.{BlockEnds, BlockLeads, IsCompanyTurn, LinesLead, begun, settled}
 use Rattle.privates.specs.Opening.{IsOpeningRound, groups_for, in_play, opened}
 use Rattle.privates.specs.Standing as opening
 use Rattle.privates.specs.Turn.{opening_turns}
@@ -92,13 +93,19 @@ module _ (first second : List ℕ) where
   same_block round company turn new (Some seat) same leads =
       subst (λ (sheet : Option (List (List ℕ))). LinesLead (record { company = company; president = seat }) turn (block_in company (parts_of round (unwrap_or sheet [])).opened) new) (same seat.0) leads
 
+  -- and its turn ends alike by that block
+  same_end : (round : Round) (company : Company) (game new : Game) (president : Option Seat) → SameFor round → BlockEnds first round company game president new → BlockEnds second round company game president new
+  same_end round company game new None same ends = ends
+  same_end round company game new (Some seat) same ends =
+      subst (λ (sheet : Option (List (List ℕ))). EndLeads (record { company = company; president = seat }) (block_in company (parts_of round (unwrap_or sheet [])).opened) game new) (same seat.0) ends
+
   -- a company takes its turn alike
   same_turn : (round : Round) (company : Company) (old new : Game) → SameFor round → IsCompanyTurn first round company old new → IsCompanyTurn second round company old new
   same_turn round company old new same turn =
       record {
         last = turn.last;
         block = same_block round company (begun old company) turn.last (president_of old.events company) same turn.block;
-        after = turn.after;
+        after = same_end round company (settled company turn.last).game new (president_of old.events company) same turn.after;
       }
 
   -- so do companies one after another
