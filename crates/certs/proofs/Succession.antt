@@ -1,5 +1,5 @@
 -- A presidency that passes on keeps a list sound.
-use Rattle.std.proofs.Common.{◌≡◌, ◌==◌, Bool, true, false, if◌then◌else◌, List, [], ◌∷◌, ◌++◌, Option, Some, None, refl}
+use Rattle.std.proofs.Common.{◌≡◌, ◌==◌, Bool, true, false, if◌then◌else◌, [], ◌∷◌, ◌++◌, Option, Some, None, refl}
 use Rattle.certs.proofs.Presidents.{most_le}
 use Rattle.certs.specs.President.{others_from, seat_tenths_of, successor_of}
 use Rattle.certs.specs.SaleAct.{succeeded, with_president, with_successor}
