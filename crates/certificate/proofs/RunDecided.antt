@@ -1,5 +1,5 @@
 -- It is known of each position whether a company can run a 2-train.
-use Rattle.std.proofs.Common.{◌≡◌, ℕ, zero, suc, ◌<◌, ◌≤◌, Bool, true, false, not, ◌⊎◌, inl, inr, if◌then◌else◌, Option, Some, None, List, [], ◌∷◌, length, get_or, set, count_by, refl, ap, sym, ◌∙◌, subst, arith}
+use Rattle.std.proofs.Common.{◌≡◌, ℕ, zero, suc, ◌<◌, ◌≤◌, Bool, true, false, not, inl, inr, if◌then◌else◌, Option, Some, None, List, [], ◌∷◌, length, get_or, set, count_by, refl, ap, sym, ◌∙◌, subst, arith}
 use Rattle.std.proofs.lemmas.Bool.{cases_eq}
 use Rattle.std.proofs.Common.{length-set}
 use Rattle.map_tables.specs.Hex.{hexes, index_of}

@@ -1,6 +1,6 @@
 -- A search from the tokens of a company finds a run for a 2-train exactly where there is one: what it goes over is such
 -- a run, and each such run is gone over, from its beginning or, where the token is at its end, from there.
-use Rattle.std.proofs.Common.{◌≡◌, ◌↔◌, ℕ, ◌+◌, ◌<◌, ◌≤◌, Bool, true, false, ◌⊎◌, inl, inr, if◌then◌else◌, Option, Some, None, IfSome, option_map, List, [], ◌∷◌, ◌++◌, length, get_or, set, take, replicate, refl, ap, sym, ◌∙◌, subst, arith, get_or-set_same, get_or-set_other}
+use Rattle.std.proofs.Common.{◌≡◌, ◌↔◌, ℕ, ◌+◌, ◌<◌, ◌≤◌, Bool, true, false, inl, inr, if◌then◌else◌, Option, Some, None, IfSome, option_map, List, [], ◌∷◌, ◌++◌, length, get_or, set, take, replicate, refl, ap, sym, ◌∙◌, subst, arith, get_or-set_same, get_or-set_other}
 use Rattle.std.specs.List.{AllByRecursion}
 use Rattle.map_tables.specs.Border.{neighbour_of}
 use Rattle.map_tables.specs.Laws.{NeighboursPair}

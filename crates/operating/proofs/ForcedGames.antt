@@ -12,6 +12,9 @@ use Rattle.history.specs.Tell.{breaks}
 use Rattle.history.specs.Trains.{so_many}
 use Rattle.history.specs.declared.event.Event.{Event}
 use Rattle.history.specs.declared.event.Event.TheVariants as event
+use Rattle.history.specs.declared.ruling.Refusal.TheVariants as refusal
+use Rattle.history.specs.declared.ruling.Ruling.{Ruling}
+use Rattle.history.specs.declared.ruling.Ruling.TheVariants.{Obeyed, Refused}
 use Rattle.history.specs.declared.ruling.StockRule.{StockRule}
 use Rattle.market.specs.Moves.{fallen}
 use Rattle.market.specs.Token.{moved_from, same_square}
@@ -73,9 +76,11 @@ module _ (by : Operator) (R : Game → Game → Type 0) (of : OfEvents by.compan
   -- of a RAISE
   of_raise_ruled : (game : Game) (number : ℕ) (sale : Sale) (broken : Option StockRule) → R game (raise_ruled by game number sale broken)
   of_raise_ruled game number sale None =
-      let ruled : Game = with_ruling by game number _ in
-      of.on.both game ruled (with_sale by ruled sale) (of.others game _ tt refl refl refl) (of_sale ruled sale)
-  of_raise_ruled game number sale (Some rule) = of.others game _ tt refl refl refl
+      let obeyed : Ruling = Obeyed (order.Raise sale.company sale.tenths) in
+      let ruled : Game = with_ruling by game number obeyed in
+      of.on.both game ruled (with_sale by ruled sale) (of.others game (event.Ruled by.president number obeyed) tt refl refl refl) (of_sale ruled sale)
+  of_raise_ruled game number sale (Some rule) =
+      of.others game (event.Ruled by.president number (Refused (refusal.Stock rule) (order.Raise sale.company sale.tenths))) tt refl refl refl
 
   of_raise_line : (due : Bool) (game : Game) (number : ℕ) (reading : Result Order Fault) → R game (after_raise_line due by game number reading)
   of_raise_line due game number (Ok (order.Raise company tenths)) =

@@ -18,6 +18,8 @@ use Rattle.history.specs.declared.event.Event.TheVariants as event
 use Rattle.history.specs.declared.event.TrainPlace.TheVariants as place
 use Rattle.history.specs.declared.event.TrainSeller.{TrainSeller}
 use Rattle.history.specs.declared.event.TrainSeller.TheVariants as seller
+use Rattle.history.specs.declared.ruling.Refusal.TheVariants as refusal
+use Rattle.history.specs.declared.ruling.Ruling.TheVariants.{Obeyed, Refused}
 use Rattle.history.specs.declared.ruling.StockRule.{StockRule}
 use Rattle.market.specs.Moves.{fallen}
 use Rattle.market.specs.Token.{moved_from, same_square}
@@ -80,8 +82,10 @@ module _ (owner : Option Company) where
 
   size_raise_ruled : (by : Operator) (game : Game) (number : ℕ) (sale : Sale) (broken : Option StockRule) → size (raise_ruled by game number sale broken).events ≡ size game.events
   size_raise_ruled by game number sale None =
-      size_sale game.seats _ by.president sale.company sale.tenths ∙ size_before game.events _ owner refl
-  size_raise_ruled by game number sale (Some rule) = size_before game.events _ owner refl
+      let ruled : Event = event.Ruled by.president number (Obeyed (order.Raise sale.company sale.tenths)) in
+      size_sale game.seats (game.events ++ ruled ∷ []) by.president sale.company sale.tenths ∙ size_before game.events ruled owner refl
+  size_raise_ruled by game number sale (Some rule) =
+      size_before game.events (event.Ruled by.president number (Refused (refusal.Stock rule) (order.Raise sale.company sale.tenths))) owner refl
 
   size_raise_line : (due : Bool) (by : Operator) (game : Game) (number : ℕ) (reading : Result Order Fault) → size (after_raise_line due by game number reading).events ≡ size game.events
   size_raise_line due by game number (Ok (order.Raise company tenths)) =

@@ -1,15 +1,12 @@
 -- A step leads on where it is left at another stop, or where one of the steps that are entered beyond leads on.
-use Rattle.std.proofs.Common.{◌≡◌, ℕ, rules, ◌+◌, ◌<◌, ◌≤◌, true, false, Some, None, inl, inr, List, [], length, get_or, take, refl, ap, sym, ◌∙◌, subst, arith}
+use Rattle.std.proofs.Common.{◌≡◌, rules, true, false, Some, None, List, [], length, take, refl, ap, sym, ◌∙◌, subst, arith}
 use Rattle.std.proofs.lemmas.List.{take_all}
-use Rattle.map_tables.specs.declared.hex.Hex.{Hex}
 use Rattle.map_tables.specs.declared.track.Link.{Link}
-use Rattle.map_tables.specs.declared.place.Stop.{Stop}
 use Rattle.reach.specs.Position.{IsAmong, Position, links_of}
-use Rattle.reach.specs.Walk.{across, entered_at, left_at, stop_of}
+use Rattle.reach.specs.Walk.{across, left_at, stop_of}
 use Rattle.reach.specs.declared.walk.Spot.{Spot}
-use Rattle.reach.specs.declared.walk.Step.{Step}
 use Rattle.reach.proofs.Lists.{among_at}
-use Rattle.certificate.specs.TwoTrain.{LeadsFrom, LeadsOn, crossing}
+use Rattle.certificate.specs.TwoTrain.{LeadsFrom, crossing}
 use Rattle.certificate.proofs.TwoTrain.{by_turn, leads_nowhere, leads_over, leads_over_none, leads_to_stop, one_link_more, over_leads}
 use Rattle.certificate.proofs.two_train.+track.Goals as goal
 

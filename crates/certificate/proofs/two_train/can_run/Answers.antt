@@ -1,6 +1,5 @@
 -- The hex in hand comes after those before it.
-use Rattle.std.proofs.Common.{◌≡◌, ◌+◌, ◌<◌, true, false, inl, inr, refl, sym, ◌∙◌, arith}
-use Rattle.map_tables.specs.Hex.{index_of}
+use Rattle.std.proofs.Common.{◌≡◌, true, false, inl, inr, refl, sym, ◌∙◌, arith}
 use Rattle.reach.specs.Position.{Position}
 use Rattle.reach.proofs.Collected.{hexes_more, own_hex}
 use Rattle.reach.proofs.Hexes.{index_low}

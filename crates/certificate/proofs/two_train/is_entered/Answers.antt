@@ -5,7 +5,7 @@ use Rattle.map_tables.specs.Hex.{index_of}
 use Rattle.map_tables.specs.Track.{end_order}
 use Rattle.map_tables.specs.declared.hex.Hex.{Hex}
 use Rattle.map_tables.specs.declared.track.End.{End}
-use Rattle.reach.specs.Walk.{entered_at, spot_at}
+use Rattle.reach.specs.Walk.{spot_at}
 use Rattle.reach.specs.declared.walk.Spot.{Spot}
 use Rattle.reach.proofs.Hexes.{same_index}
 use Rattle.certificate.proofs.Named.{same_end}
