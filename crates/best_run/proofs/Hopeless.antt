@@ -12,7 +12,7 @@ use Rattle.best_run.specs.Ahead.{EndsAtMost, IsGoneOver, IsOutlook, LiesAhead, N
 use Rattle.best_run.specs.Fit.{IsFit, PieceFits}
 use Rattle.best_run.specs.Moves.{Completes, Explores, LeadsFrom, Move, along, begin, between, can_take, ends_in, go, left_after, marked_all, may_come, misses, node_at, own_in, pass, pieces_in, settle, settling, standing, stop_in, total_after, using, value_in}
 use Rattle.best_run.specs.Suffix.{EarnAtMost}
-use Rattle.best_run.proofs.Advance.{IsMarked, free_misses, marks_more, misses_free}
+use Rattle.best_run.proofs.Advance.{free_misses, marks_more, misses_free}
 use Rattle.best_run.proofs.Ahead.{falsely}
 use Rattle.best_run.proofs.Eased.{rest_low}
 use Rattle.best_run.proofs.Marks.{length_marked}

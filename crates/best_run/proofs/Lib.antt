@@ -6,6 +6,7 @@ pub mod Ahead
 pub mod Eased
 pub mod Beyond
 pub mod Hopeless
+pub mod Sorted
 pub mod Prefix
 pub mod Complete
 pub mod Sets

@@ -156,7 +156,7 @@ impl Task {
     }
 
     /// Whether no way on from a run can earn more than what has been found. It is not told of all
-    /// such runs.
+    /// such runs, and of none that stands at a side: that costs more time than it saves.
     pub(crate) fn is_hopeless(
         &self,
         settled: &Settled,
@@ -171,6 +171,9 @@ impl Task {
         requires room { settled.now.total + run.now.value ≤ 44720 }
         ensures { IsTrue result → EndsAtMost self.now settled.now run.now best }
     {
+        if !self.spots[run.head].stop {
+            return false;
+        }
         let ahead = self.outlook(settled, run);
         if !self.may_have_token(run, &ahead) {
             return true;
