@@ -5,8 +5,8 @@ use Rattle.operating.proofs.forced.end_turn.Goals as goal
 pub buy_by_force-requires-clause-due : goal.buy_by_force-requires-clause-due
 buy_by_force-requires-clause-due c = c.in_ok-due.ensures.0 c.if-due.true
 
-pub returns-then-due-clause-turn : goal.returns-then-due-clause-turn
-returns-then-due-clause-turn c = inl (c.in_ok-due.ensures.0 c.if-due.true, c.in_ok-buy_by_force.ensures.after)
+pub returns-in_ok-buy_by_force-clause-turn : goal.returns-in_ok-buy_by_force-clause-turn
+returns-in_ok-buy_by_force-clause-turn c = inl (c.in_ok-due.ensures.0 c.if-due.true, c.in_ok-buy_by_force.ensures.after)
 
 pub returns-clause-turn : goal.returns-clause-turn
 returns-clause-turn c =
