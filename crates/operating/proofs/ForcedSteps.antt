@@ -1,5 +1,5 @@
 -- The steps of a forced purchase, from what each part of them does.
-use Rattle.std.proofs.Common.{◌≡◌, ℕ, Bool, true, false, ◌&&◌, if◌then◌else◌, List, Option, Some, None, is_none, find, refl, sym, ap, subst, ◌∙◌}
+use Rattle.std.proofs.Common.{◌≡◌, ℕ, zero, suc, Bool, true, false, ◌&&◌, if◌then◌else◌, List, Option, Some, None, is_none, find, refl, sym, ap, subst, ◌∙◌}
 use Rattle.certificate.proofs.Named.{found_passes}
 use Rattle.certs.proofs.SaleAllowed.{sale_allowed}
 use Rattle.certs.specs.Sale.{sale_judgement}
@@ -18,6 +18,7 @@ use Rattle.operating.specs.declared.purchase.Purchase.{Purchase}
 use Rattle.order_grammar.specs.declared.order.Order.TheVariants as order
 use Rattle.sheets.specs.Part.{Numbered}
 use Rattle.tables.specs.Roster.{companies}
+use Rattle.tables.specs.Steps.{iterate}
 use Rattle.tables.specs.declared.roster.Company.{Company}
 
 -- a game is its seats and its events
@@ -75,6 +76,15 @@ sold_then by old new short sold = sold ∙ ap (λ (b : Bool). if b then with_one
 pub not_sold : (by : Operator) (game : Game) → falls_short by game ≡ false → game ≡ sold_further by game
 unfolding sold_further
 not_sold by game enough = ap (λ (b : Bool). if b then with_one_sold by game (next_to_sell by game) else game) (sym enough)
+
+-- who does not fall short sells nothing
+times_none : (by : Operator) (times : ℕ) (game : Game) → falls_short by game ≡ false → game ≡ iterate (sold_further by) times game
+times_none by zero game enough = refl
+times_none by (suc times) game enough = not_sold by game enough ∙ ap (sold_further by) (times_none by times game enough)
+
+pub none_needed : (by : Operator) (game : Game) → falls_short by game ≡ false → game ≡ sold_singly by game
+unfolding sold_singly
+none_needed by game enough = times_none by 40 game enough
 
 -- the president is bankrupt
 pub bankrupt_then : (by : Operator) (old new : Game) → falls_short by old ≡ true → new ≡ with_event old (event.Bankrupt by.president) → new ≡ concluded by old

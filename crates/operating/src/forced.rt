@@ -184,8 +184,24 @@ fn sale_rule(history: &History, by: Operator, sale: Sale) -> Option<StockRule>
 const SALES_MOST: usize = 40;
 
 /// The president sells tenths one at a time, until he does not fall short or may sell none.
-#[tactic(auto, unfolding(crate::specs::Forced::sold_singly))]
 fn sell_singly(history: &mut History, by: Operator) -> Result<(), AllocError>
+    requires few { history.old.seats ≤ 6 }
+    requires at_table { by.president.0 < history.old.seats }
+    requires sound { IsSound history.old }
+    ensures seats { OnOk result (history.new.seats ≡ history.old.seats) }
+    ensures after { OnOk result (history.new ≡ sold_singly by history.old) }
+    ensures sound { OnOk result (IsSound history.new) }
+{
+    if falls_short(history, by) {
+        sell_tenths(history, by)?;
+        return Ok(());
+    }
+    Ok(())
+}
+
+/// The president sells tenths one at a time, as many as can be sold.
+#[tactic(auto, unfolding(crate::specs::Forced::sold_singly))]
+fn sell_tenths(history: &mut History, by: Operator) -> Result<(), AllocError>
     requires few { history.old.seats ≤ 6 }
     requires at_table { by.president.0 < history.old.seats }
     requires sound { IsSound history.old }

@@ -3,7 +3,7 @@ use Rattle.std.proofs.Common.{◌≡◌}
 use Rattle.history.specs.Sound.{IsSound}
 use Rattle.operating.specs.Forced.{sold_further}
 use Rattle.tables.specs.Steps.{iterate}
-use Rattle.operating.proofs.forced.sell_singly.Given as goal
+use Rattle.operating.proofs.forced.sell_tenths.Given as goal
 
 abbrev pub invariant-loop : goal.invariant-loop
 invariant-loop l = record {
