@@ -1,6 +1,6 @@
 -- What the president pays of a forced purchase: what the company lacks, which is small and which he has.
-use Rattle.std.proofs.Common.{◌≡◌, ℕ, ◌≤◌, ◌<◌, Bool, true, false, if◌then◌else◌, ℤ, pos, negsuc, ◌≤ℤ◌, ◌-ℤ◌, refl, sym, ap, subst, ◌∙◌, arith}
-use Rattle.std.proofs.lemmas.Bool.Decides.{nat_tests}
+use Rattle.std.proofs.Common.{◌≡◌, ℕ, ◌≤◌, ◌<◌, inl, inr, Bool, true, false, if◌then◌else◌, ℤ, pos, negsuc, ◌≤ℤ◌, ◌-ℤ◌, refl, sym, ap, subst, ◌∙◌, arith}
+use Rattle.std.proofs.lemmas.Bool.{cases_eq}
 use Rattle.std.proofs.lemmas.Int.{ints}
 use Rattle.std.specs.Int.Signed.{lt_z}
 use Rattle.history.proofs.ForcedActs.{aid_sound}
@@ -10,7 +10,7 @@ use Rattle.history.specs.LookBack.{Game, cash_of, with_event}
 use Rattle.history.specs.Sound.{IsSound}
 use Rattle.history.specs.Trains.{so_many}
 use Rattle.history.specs.declared.event.Event.TheVariants as event
-use Rattle.operating.proofs.ForcedBuying.{cheapest_low}
+use Rattle.operating.proofs.ForcedBuying.{cheapest_low, less_is, not_less_is}
 use Rattle.operating.specs.Forced.{cheapest, falls_short, lack_of, with_aid}
 use Rattle.operating.specs.Trains.{cost_of}
 use Rattle.operating.specs.declared.operator.Operator.{Operator}
@@ -31,11 +31,15 @@ lack_small game company sound =
 
 -- nothing is paid where nothing is lacking
 over_none : (sum : ℤ) → so_many sum ≡ 0 → lt_z (pos 0) sum ≡ false
-over_none (pos n) none = grind (arith, ints, nat_tests, none)
-over_none (negsuc n) none = refl
+over_none (pos n) none = not_less_is (pos 0) (pos n) (omega (arith, ints, none))
+over_none (negsuc n) none = not_less_is (pos 0) (negsuc n) (omega (arith, ints))
 
 over_some : (sum : ℤ) → (so_many sum ≡ 0 → ⊥) → lt_z (pos 0) sum ≡ true
-over_some (pos n) some = grind (arith, ints, nat_tests, some)
+over_some (pos n) some =
+    elim (cases_eq n 0) [
+      | inl none ↦ absurd (some none)
+      | inr other ↦ let over : 0 < n = omega arith in less_is (pos 0) (pos n) (omega (arith, ints, over))
+    ]
 over_some (negsuc n) some = absurd (some refl)
 
 pub no_aid : (by : Operator) (game : Game) → so_many (lack_of game by.company) ≡ 0 → game ≡ with_aid by game
@@ -54,7 +58,7 @@ aid_told by game new amount is some told =
 
 -- the president who does not fall short has it
 has_it : (free lack : ℤ) → pos 0 ≤ℤ free → lt_z free lack ≡ false → pos (so_many lack) ≤ℤ free
-has_it free (pos n) some enough = grind (arith, ints, enough)
+has_it free (pos n) some enough = let least : pos n ≤ℤ free = grind (arith, ints, enough) in least
 has_it free (negsuc n) some enough = some
 
 pub aid_keeps_sound : (by : Operator) (game new : Game) (amount : ℕ) → amount ≡ so_many (lack_of game by.company) → by.president.0 < game.seats → falls_short by game ≡ false → new ≡ with_event game (event.Aid by.president by.company amount) → IsSound game → IsSound new

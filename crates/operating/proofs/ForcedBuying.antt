@@ -1,6 +1,6 @@
 -- The train that a company must buy is for sale, and once its president has paid what it lacks no rule of a purchase
 -- is broken.
-use Rattle.std.proofs.Common.{◌≡◌, ◌⊎◌, ℕ, ◌+◌, ◌<◌, ◌≤◌, Bool, true, false, not, ◌&&◌, ◌||◌, nat_lt, cond, if◌then◌else◌, List, [], ◌∷◌, ◌++◌, Option, Some, None, ℤ, pos, ◌≤ℤ◌, ◌+ℤ◌, ◌-ℤ◌, inl, inr, refl, sym, ap, subst, ◌∙◌, arith}
+use Rattle.std.proofs.Common.{◌≡◌, ◌⊎◌, ℕ, ◌+◌, ◌<◌, ◌≤◌, Bool, true, false, not, ◌&&◌, ◌||◌, nat_lt, cond, if◌then◌else◌, List, [], ◌∷◌, ◌++◌, Option, Some, None, ℤ, pos, negsuc, ◌≤ℤ◌, ◌<ℤ◌, ◌+ℤ◌, ◌-ℤ◌, inl, inr, refl, sym, ap, subst, ◌∙◌, arith}
 use Rattle.std.proofs.lemmas.Bool.{ltb-false, lt-ltb}
 use Rattle.std.proofs.lemmas.Bool.Decides.{nat_tests}
 use Rattle.std.proofs.lemmas.Int.{ints}
@@ -16,6 +16,7 @@ use Rattle.history.specs.declared.event.Event.TheVariants as event
 use Rattle.history.specs.declared.event.TrainPlace.TheVariants as place
 use Rattle.history.specs.declared.event.TrainSeller.{TrainSeller}
 use Rattle.history.specs.declared.event.TrainSeller.TheVariants as seller
+use Rattle.history.specs.declared.ruling.TrainRule.{TrainRule}
 use Rattle.history.specs.declared.ruling.TrainRule.TheVariants.{NotOnSale, TrainLimit, CashTooSmall, NoConsent, NotSellers, NoTradeIn}
 use Rattle.operating.specs.Forced.{cheapest, first_on_sale, has_trains, lack_of, plain, with_aid}
 use Rattle.operating.specs.Trains.{are_left, cost_of, first_left, first_left_of, is_full, is_kind, is_left, is_on_sale, is_too_dear, numbered_kinds, sells, sells_diesels, train_judgement}
@@ -181,24 +182,41 @@ limit_low Five = omega arith
 limit_low Six = omega arith
 limit_low Diesel = omega arith
 
-room : (size : ℤ) (limit : ℕ) → lt_z (pos 0) size ≡ false → 1 ≤ limit → not (lt_z (size -ℤ pos 0) (pos limit)) ≡ false
-room size limit none low = grind (arith, ints, nat_tests, none, low)
+-- the test of less
+pub less_is : (a b : ℤ) → a <ℤ b → lt_z a b ≡ true
+less_is a b less = by_test (lt_z a b) refl
+  where
+    by_test : (test : Bool) → lt_z a b ≡ test → lt_z a b ≡ true
+    by_test true is = is
+    by_test false is = let not_so : b ≤ℤ a = grind (arith, ints, is) in let wrong : 1 ≤ 0 = omega (arith, ints, not_so, less) in absurd (omega arith)
 
--- none of six rules is broken
-none_of : (a b c : Bool) → a ≡ false → b ≡ false → c ≡ false →
-    first_broken (record { code = NotOnSale; broken = a } ∷ record { code = TrainLimit; broken = b } ∷ record { code = CashTooSmall; broken = c } ∷ record { code = NoConsent; broken = false } ∷ record { code = NotSellers; broken = false } ∷ record { code = NoTradeIn; broken = false } ∷ []) ≡ None
-none_of true b c first second third = absurd cc
-none_of false true c first second third = absurd cc
-none_of false false true first second third = absurd cc
-none_of false false false first second third = refl
+pub not_less_is : (a b : ℤ) → b ≤ℤ a → lt_z a b ≡ false
+not_less_is a b least = by_test (lt_z a b) refl
+  where
+    by_test : (test : Bool) → lt_z a b ≡ test → lt_z a b ≡ false
+    by_test false is = is
+    by_test true is = let so : a <ℤ b = grind (arith, ints, is) in let wrong : 1 ≤ 0 = omega (arith, ints, so, least) in absurd (omega arith)
 
 not_so : (b : Bool) → b ≡ true → not b ≡ false
 not_so true is = refl
 not_so false is = absurd cc
 
+room : (size : ℤ) (limit : ℕ) → lt_z (pos 0) size ≡ false → 1 ≤ limit → not (lt_z (size -ℤ pos 0) (pos limit)) ≡ false
+room size limit none low =
+    let few : size ≤ℤ pos 0 = grind (arith, ints, none) in
+    not_so (lt_z (size -ℤ pos 0) (pos limit)) (less_is (size -ℤ pos 0) (pos limit) (omega (arith, ints, few, low)))
+
+-- none of six rules is broken
+none_of : (a b c : Bool) → a ≡ false → b ≡ false → c ≡ false →
+    first_broken {Code = TrainRule} (record { code = NotOnSale; broken = a } ∷ record { code = TrainLimit; broken = b } ∷ record { code = CashTooSmall; broken = c } ∷ record { code = NoConsent; broken = false } ∷ record { code = NotSellers; broken = false } ∷ record { code = NoTradeIn; broken = false } ∷ []) ≡ None
+none_of true b c first second third = absurd cc
+none_of false true c first second third = absurd cc
+none_of false false true first second third = absurd cc
+none_of false false false first second third = refl
+
 module _ (game : Game) (company : Company) (none : has_trains game.events company ≡ false) where
   -- a purchase of the bank or of the pool
-  from_there : (from : TrainSeller) (kind : Kind) (a : Bool) → a ≡ false → is_too_dear game company (plain kind from) ≡ false → first_broken (record { code = NotOnSale; broken = a } ∷ record { code = TrainLimit; broken = is_full game.events company None } ∷ record { code = CashTooSmall; broken = is_too_dear game company (plain kind from) } ∷ record { code = NoConsent; broken = false } ∷ record { code = NotSellers; broken = false } ∷ record { code = NoTradeIn; broken = false } ∷ []) ≡ None
+  from_there : (from : TrainSeller) (kind : Kind) (a : Bool) → a ≡ false → is_too_dear game company (plain kind from) ≡ false → first_broken {Code = TrainRule} (record { code = NotOnSale; broken = a } ∷ record { code = TrainLimit; broken = is_full game.events company None } ∷ record { code = CashTooSmall; broken = is_too_dear game company (plain kind from) } ∷ record { code = NoConsent; broken = false } ∷ record { code = NotSellers; broken = false } ∷ record { code = NoTradeIn; broken = false } ∷ []) ≡ None
   from_there from kind a sale enough =
       none_of a (is_full game.events company None) (is_too_dear game company (plain kind from)) sale (room (stable_size game.events (Some company)) (limit_of (phase_of game.events)) none (limit_low (phase_of game.events))) enough
 
@@ -219,12 +237,16 @@ company_itself company = grind (arith, nat_tests)
 
 -- what a company has once it was paid what it lacks
 paid_up : (cash lack : ℤ) (cost : ℕ) (same : Bool) → same ≡ true → lack ≡ (pos cost -ℤ cash) → lt_z (pos 0) lack ≡ true → lt_z ((cash +ℤ pos (if same then so_many lack else 0)) -ℤ pos 0) (pos cost) ≡ false
-paid_up cash (pos amount) cost true is lacks more = grind (arith, ints, nat_tests, lacks)
 paid_up cash lack cost false is lacks more = absurd cc
-paid_up cash lack cost true is lacks more = absurd (grind (arith, ints, more))
+paid_up cash (pos amount) cost true is lacks more =
+    not_less_is ((cash +ℤ pos amount) -ℤ pos 0) (pos cost) (omega (arith, ints, lacks))
+paid_up cash (negsuc under) cost true is lacks more =
+    absurd (let over : pos 0 <ℤ negsuc under = grind (arith, ints, more) in omega (arith, ints, over))
 
 enough_before : (cash lack : ℤ) (cost : ℕ) → lack ≡ (pos cost -ℤ cash) → lt_z (pos 0) lack ≡ false → lt_z cash (pos cost) ≡ false
-enough_before cash lack cost lacks more = grind (arith, ints, nat_tests, lacks, more)
+enough_before cash lack cost lacks none =
+    let few : lack ≤ℤ pos 0 = grind (arith, ints, none) in
+    not_less_is cash (pos cost) (omega (arith, ints, lacks, few))
 
 -- once the president has paid what the company lacks, it has the price
 aided : (by : Operator) (game : Game) → is_too_dear (with_aid by game) by.company (cheapest game.events) ≡ false
