@@ -42,10 +42,15 @@ abbrev with_events : Game → List Event → Game
 with_events game events = record { seats = game.seats; events = events }
 
 module _ (by : Operator) (R : Game → Game → Type 0) (of : OfEvents by.company R) where
+  -- of either of two lists
+  of_list : (test : Bool) (game : Game) (yes no : List Event) → R game (with_events game yes) → R game (with_events game no) → R game (with_events game (if test then yes else no))
+  of_list true game yes no first second = first
+  of_list false game yes no first second = second
+
   -- of a bank that breaks
   of_break : (game : Game) (events : List Event) → R game (with_events game events) → R game (with_events game (if breaks game.seats events then events ++ event.Broken ∷ [] else events))
   of_break game events so_far =
-      of_choice R (breaks game.seats events) game (with_events game (events ++ event.Broken ∷ [])) (with_events game events)
+      of_list (breaks game.seats events) game (events ++ event.Broken ∷ []) events
       (of.on.both game (with_events game events) (with_events game (events ++ event.Broken ∷ [])) so_far (of.others (with_events game events) event.Broken tt refl refl refl)) so_far
 
   -- of a presidency that passes
@@ -53,13 +58,13 @@ module _ (by : Operator) (R : Game → Game → Type 0) (of : OfEvents by.compan
   of_succession game company None = of.on.same game
   of_succession game company (Some old) =
       let new : Seat = successor_of game.seats game.events company old in
-      of_choice R (new.0 == old.0) game game (with_event game (event.President company new)) (of.on.same game) (of.others game (event.President company new) tt refl refl refl)
+      of_list (new.0 == old.0) game game.events (game.events ++ event.President company new ∷ []) (of.on.same game) (of.others game (event.President company new) tt refl refl refl)
 
   -- of the token of a company that moves
   of_token_moved : (move : Square → Square) (game : Game) (company : Company) (square : Option Square) → R game (with_events game (moved_from move game.events company square))
   of_token_moved move game company None = of.on.same game
   of_token_moved move game company (Some square) =
-      of_choice R (same_square (move square) square) game game (with_event game (event.Moves company (move square))) (of.on.same game) (of.others game (event.Moves company (move square)) tt refl refl refl)
+      of_list (same_square (move square) square) game game.events (game.events ++ event.Moves company (move square) ∷ []) (of.on.same game) (of.others game (event.Moves company (move square)) tt refl refl refl)
 
   -- of a sale
   of_sale : (game : Game) (sale : Sale) → R game (with_sale by game sale)
