@@ -97,7 +97,7 @@ holder_seated game company seat sound holds = by_test (nat_lt seat.0 game.seats)
         let here : tenths_in_all game.seats events company ≡ pos 10 = sound.ten company in
         let up_to : game.seats + (seat.0 - game.seats) ≡ seat.0 = omega arith in
         let first : held_by events company (all_seats game.seats) ≤ℤ held_by events company (all_seats seat.0) = subst (λ (m : ℕ). held_by events company (all_seats game.seats) ≤ℤ held_by events company (all_seats m)) up_to (grown events company held game.seats (seat.0 - game.seats)) in
-        let his : held_by events company (all_seats (seat.0 + 1)) ≡ held_by events company (all_seats seat.0) +ℤ shares_of events company (OfSeat (seat_at seat.0)) = one_seat_more events company held seat.0 in
+        let his : held_by events company (all_seats (seat.0 + 1)) ≡ held_by events company (all_seats seat.0) +ℤ shares_of events company (OfSeat seat) = one_seat_more events company held seat.0 in
         let last : held_by events company (all_seats (seat.0 + 1)) ≤ℤ held_by events company (all_seats n) = grown events company held (seat.0 + 1) (bound_of events) in
         let wrong : 1 ≤ 0 = omega (arith, ints, all, here, first, his, last, holds) in
         omega (arith, wrong)
