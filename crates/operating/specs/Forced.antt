@@ -56,7 +56,9 @@ plain kind from = record { kind = kind; from = from; trade_in = None; asked = No
 unfoldable pub first_on_sale : List Event → List Kind → Purchase
 first_on_sale events [] = plain Diesel seller.Bank
 first_on_sale events (kind ∷ others) =
-    if sells events kind then plain kind seller.Bank else (if lt_z (pos 0) (trains_held events None kind) then plain kind seller.BankPool else first_on_sale events others)
+    if sells events kind
+    then plain kind seller.Bank
+    else (if lt_z (pos 0) (trains_held events None kind) then plain kind seller.BankPool else first_on_sale events others)
 
 -- the cheapest train that is for sale: the kinds stand by their price, and the bank sells a D once it has none of the
 -- others
@@ -140,19 +142,25 @@ sold_singly by game = iterate (sold_further by) sales_most game
 -- with AID, where the company lacks anything
 unfoldable pub with_aid : Operator → Game → Game
 with_aid by game =
-    if lt_z (pos 0) (lack_of game by.company) then with_event game (event.Aid by.president by.company (so_many (lack_of game by.company))) else game
+    if lt_z (pos 0) (lack_of game by.company)
+    then with_event game (event.Aid by.president by.company (so_many (lack_of game by.company)))
+    else game
 
 -- after the purchase, or the bankruptcy of the president
 unfoldable pub concluded : Operator → Game → Game
 concluded by game =
-    if falls_short by game then with_event game (event.Bankrupt by.president) else after_train (with_aid by game) by.company (cheapest game.events)
+    if falls_short by game
+    then with_event game (event.Bankrupt by.president)
+    else after_train (with_aid by game) by.company (cheapest game.events)
 
 -- after a purchase that is due, where these are the lines of the block
 unfoldable pub after_forced : Operator → List Numbered → Game → Game
 after_forced by lines game =
     concluded by (sold_singly by (after_raises true by (with_event game (event.Forced by.company)) lines))
 
--- the end of a company's turn leads to new, where these are the lines of its block: by a purchase that is due, or none is
+-- the end of a company's turn leads to new, where these are the lines of its block: by a purchase that is due, or
+-- none is
 abbrev pub EndLeads : Operator → List Numbered → Game → Game → Type 0
 EndLeads by lines game new =
-    (IsDue game by.company × (new ≡ after_forced by lines game)) ⊎ ((¬ IsDue game by.company) × (new ≡ after_raises false by game lines))
+    (IsDue game by.company × (new ≡ after_forced by lines game))
+    ⊎ ((¬ IsDue game by.company) × (new ≡ after_raises false by game lines))
