@@ -58,7 +58,9 @@ first_on_sale events [] = plain Diesel seller.Bank
 first_on_sale events (kind ∷ others) =
     if sells events kind
     then plain kind seller.Bank
-    else (if lt_z (pos 0) (trains_held events None kind) then plain kind seller.BankPool else first_on_sale events others)
+    else (if lt_z (pos 0) (trains_held events None kind)
+    then plain kind seller.BankPool
+    else first_on_sale events others)
 
 -- the cheapest train that is for sale: the kinds stand by their price, and the bank sells a D once it has none of the
 -- others
