@@ -4,6 +4,7 @@ pub mod Places
 pub mod Advance
 pub mod Ahead
 pub mod Eased
+pub mod Equal
 pub mod Beyond
 pub mod Hopeless
 pub mod Sorted

@@ -23,6 +23,8 @@ impl Task {
         let nothing = Settled {
             next: self.trains.len() - count,
             total: 0,
+            kind: 0,
+            cap: 0,
             used: [false; BORDERS],
         };
         self.settle_next(&nothing, bounds, best);
