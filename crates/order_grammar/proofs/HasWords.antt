@@ -11,7 +11,7 @@ use Rattle.order_grammar.specs.Order.{lay_of, parts_of}
 use Rattle.order_grammar.specs.Spells.{HasSpelling, is_round_of_line}
 use Rattle.order_grammar.specs.declared.order.Offer.TheVariants as offer
 use Rattle.order_grammar.specs.declared.order.Order.{Order}
-use Rattle.order_grammar.specs.declared.order.Order.TheVariants.{Game, Players, Sheet, Bid, Limit, Par, BuyShare, Sell, Lay, Run, BuyTrain, BuyOwnedPrivate, Offer}
+use Rattle.order_grammar.specs.declared.order.Order.TheVariants.{Game, Players, Sheet, Bid, Limit, Par, BuyShare, Sell, Lay, Run, BuyTrain, BuyOwnedPrivate, Raise, Offer}
 use Rattle.order_grammar.specs.declared.order.Parts.{Parts}
 use Rattle.order_grammar.specs.declared.order.ShareSource.TheVariants.{InitialOffering, BankPool}
 use Rattle.order_grammar.specs.declared.order.TrainSource.TheVariants as source
@@ -63,6 +63,7 @@ has_words (BuyTrain kind (source.Trade other)) has = refl
 has_words (BuyTrain kind source.BankPool) has = refl
 has_words (BuyTrain kind (source.Company seller price)) has = rw (le-leb price number_most has) refl
 has_words (BuyOwnedPrivate private price) has = rw (le-leb price number_most has) refl
+has_words (Raise company tenths) has = rw (le-leb tenths number_most has) refl
 has_words (Offer (offer.Private private buyer price)) has = rw (le-leb price number_most has) refl
 has_words (Offer (offer.Train kind seller buyer price)) has = rw (le-leb price number_most has) refl
 has_words other has = refl

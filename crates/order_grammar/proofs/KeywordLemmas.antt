@@ -43,6 +43,7 @@ same_keyword keyword.Withhold keyword.Withhold same = refl
 same_keyword keyword.Train keyword.Train same = refl
 same_keyword keyword.Discard keyword.Discard same = refl
 same_keyword keyword.Private keyword.Private same = refl
+same_keyword keyword.Raise keyword.Raise same = refl
 same_keyword keyword.Offer keyword.Offer same = refl
 same_keyword keyword.InitialOffering keyword.InitialOffering same = refl
 same_keyword keyword.Pool keyword.Pool same = refl

@@ -15,7 +15,7 @@ use Rattle.order_grammar.specs.Spells.{IsWord, IsNumber, IsName, IsRoundOfLine, 
 use Rattle.order_grammar.specs.declared.keyword.Keyword.{Keyword}
 use Rattle.order_grammar.specs.declared.keyword.Keyword.TheVariants as keyword
 use Rattle.order_grammar.specs.declared.order.Order.{Order}
-use Rattle.order_grammar.specs.declared.order.Order.TheVariants.{Blank, Game, Players, Sheet, Turn, BuyPrivate, Bid, Limit, Par, BuyShare, Sell, ExchangeMohawk, Company as CompanyTurn, Lay, Token, Run, Pay, Withhold, BuyTrain, Discard, BuyOwnedPrivate, Offer}
+use Rattle.order_grammar.specs.declared.order.Order.TheVariants.{Blank, Game, Players, Sheet, Turn, BuyPrivate, Bid, Limit, Par, BuyShare, Sell, ExchangeMohawk, Company as CompanyTurn, Lay, Token, Run, Pay, Withhold, BuyTrain, Discard, BuyOwnedPrivate, Raise, Offer}
 use Rattle.order_grammar.specs.declared.order.Offer.TheVariants as offer
 use Rattle.order_grammar.specs.declared.order.Parts.{Parts}
 use Rattle.order_grammar.specs.declared.order.ShareSource.TheVariants.{InitialOffering, BankPool}
@@ -67,6 +67,7 @@ formed keyword.Train ((value.Kind kind) ∷ (value.Company seller) ∷ (value.Nu
 formed keyword.Discard ((value.Company company) ∷ (value.Kind kind) ∷ []) tail.Nothing h = record { order = Discard company kind; made = refl; parts = refl }
 formed keyword.Private ((value.Private private) ∷ (value.Number price) ∷ []) tail.Nothing h =
     record { order = BuyOwnedPrivate private price; made = refl; parts = refl }
+formed keyword.Raise ((value.Company company) ∷ (value.Number tenths) ∷ []) tail.Nothing h = record { order = Raise company tenths; made = refl; parts = refl }
 formed keyword.Offer ((value.Word keyword.Private) ∷ (value.Private private) ∷ (value.Company buyer) ∷ (value.Number price) ∷ []) tail.Nothing h =
     record { order = Offer (offer.Private private buyer price); made = refl; parts = refl }
 formed keyword.Offer ((value.Word keyword.Train) ∷ (value.Kind kind) ∷ (value.Company seller) ∷ (value.Company buyer) ∷ (value.Number price) ∷ []) tail.Nothing h =

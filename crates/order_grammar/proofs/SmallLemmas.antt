@@ -9,7 +9,7 @@ use Rattle.order_grammar.specs.Order.{parts_of, swap_values}
 use Rattle.order_grammar.specs.Spells.{HasSmallNumbers, IsSmallRound}
 use Rattle.order_grammar.specs.declared.order.Offer.TheVariants as offer
 use Rattle.order_grammar.specs.declared.order.Order.{Order}
-use Rattle.order_grammar.specs.declared.order.Order.TheVariants.{Game, Sheet, Bid, Limit, Par, Sell, Lay, BuyTrain, BuyOwnedPrivate, Offer}
+use Rattle.order_grammar.specs.declared.order.Order.TheVariants.{Game, Sheet, Bid, Limit, Par, Sell, Lay, BuyTrain, BuyOwnedPrivate, Raise, Offer}
 use Rattle.order_grammar.specs.declared.order.Parts.{Parts}
 use Rattle.order_grammar.specs.declared.order.TrainSource.TheVariants as source
 use Rattle.order_grammar.specs.declared.order.Value.{Value}
@@ -61,6 +61,7 @@ small_by_parts (BuyTrain kind (source.Trade other)) small = refl
 small_by_parts (BuyTrain kind source.BankPool) small = refl
 small_by_parts (BuyTrain kind (source.Company seller price)) small = rw (le-leb price number_most small) refl
 small_by_parts (BuyOwnedPrivate private price) small = rw (le-leb price number_most small) refl
+small_by_parts (Raise company tenths) small = rw (le-leb tenths number_most small) refl
 small_by_parts (Offer (offer.Private private buyer price)) small = rw (le-leb price number_most small) refl
 small_by_parts (Offer (offer.Train kind seller buyer price)) small = rw (le-leb price number_most small) refl
 small_by_parts other small = refl
@@ -80,6 +81,7 @@ small_of_parts (BuyTrain kind (source.Trade other)) small = tt
 small_of_parts (BuyTrain kind source.BankPool) small = tt
 small_of_parts (BuyTrain kind (source.Company seller price)) small = leb-true price number_most (and_parts (nat_le price number_most) true small).0
 small_of_parts (BuyOwnedPrivate private price) small = leb-true price number_most (and_parts (nat_le price number_most) true small).0
+small_of_parts (Raise company tenths) small = leb-true tenths number_most (and_parts (nat_le tenths number_most) true small).0
 small_of_parts (Offer (offer.Private private buyer price)) small =
     leb-true price number_most (and_parts (nat_le price number_most) true small).0
 small_of_parts (Offer (offer.Train kind seller buyer price)) small =

@@ -3,7 +3,7 @@ use Rattle.std.specs.Prelude.{⊤}
 use Rattle.order_grammar.specs.declared.keyword.Keyword.{Keyword}
 use Rattle.order_grammar.specs.declared.keyword.Keyword.TheVariants as keyword
 use Rattle.order_grammar.specs.declared.order.Order.{Order}
-use Rattle.order_grammar.specs.declared.order.Order.TheVariants.{Bid, BuyOwnedPrivate, Limit, Par, Sell}
+use Rattle.order_grammar.specs.declared.order.Order.TheVariants.{Bid, BuyOwnedPrivate, Limit, Par, Raise, Sell}
 
 -- a line of the file or a head of its sheets begins with it
 abbrev pub IsOfFile : Keyword → Type 0
@@ -13,14 +13,19 @@ IsOfFile keyword.Turn = ⊤
 IsOfFile keyword.Company = ⊤
 IsOfFile other = ⊥
 
--- an order begins with it that names a number of dollars or of tenths
+-- an order begins with it that names a number of dollars
 abbrev pub IsOfAmount : Keyword → Type 0
 IsOfAmount keyword.Bid = ⊤
 IsOfAmount keyword.Limit = ⊤
 IsOfAmount keyword.Par = ⊤
-IsOfAmount keyword.Sell = ⊤
 IsOfAmount keyword.Private = ⊤
 IsOfAmount other = ⊥
+
+-- an order begins with it that names a number of tenths
+abbrev pub IsOfTenths : Keyword → Type 0
+IsOfTenths keyword.Sell = ⊤
+IsOfTenths keyword.Raise = ⊤
+IsOfTenths other = ⊥
 
 -- an order begins with it that tells of trains, or of what they earn
 abbrev pub IsOfTrains : Keyword → Type 0
@@ -37,4 +42,5 @@ HasAmount (Limit private amount) = ⊤
 HasAmount (Par company price) = ⊤
 HasAmount (Sell company tenths) = ⊤
 HasAmount (BuyOwnedPrivate private price) = ⊤
+HasAmount (Raise company tenths) = ⊤
 HasAmount other = ⊥

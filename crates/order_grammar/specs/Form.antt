@@ -64,6 +64,7 @@ forms =
     ∷ row keyword.Train (class.Kind ∷ class.Company ∷ class.Number ∷ []) repeated.Nothing
     ∷ row keyword.Discard (class.Company ∷ class.Kind ∷ []) repeated.Nothing
     ∷ row keyword.Private (class.Private ∷ class.Number ∷ []) repeated.Nothing
+    ∷ row keyword.Raise (class.Company ∷ class.Number ∷ []) repeated.Nothing
     ∷ row keyword.Offer (class.Word keyword.Private ∷ class.Private ∷ class.Company ∷ class.Number ∷ []) repeated.Nothing
     ∷ row keyword.Offer (class.Word keyword.Train ∷ class.Kind ∷ class.Company ∷ class.Company ∷ class.Number ∷ []) repeated.Nothing
     ∷ []

@@ -21,7 +21,7 @@ first_words_of_forms =
     codes "GAME" ∷ codes "PLAYERS" ∷ codes "SHEET" ∷ codes "TURN" ∷ codes "BUY"
     ∷ codes "BID" ∷ codes "LIMIT" ∷ codes "PAR" ∷ codes "SELL" ∷ codes "EXCHANGE" ∷ codes "COMPANY"
     ∷ codes "LAY" ∷ codes "TOKEN" ∷ codes "RUN" ∷ codes "PAY" ∷ codes "WITHHOLD" ∷ codes "TRAIN" ∷ codes "DISCARD"
-    ∷ codes "PRIVATE" ∷ codes "OFFER" ∷ []
+    ∷ codes "PRIVATE" ∷ codes "RAISE" ∷ codes "OFFER" ∷ []
 
 -- there is a first word, and no form begins with it
 abbrev pub BeginsNoForm : List (List ℕ) → Type 0

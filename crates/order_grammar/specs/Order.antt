@@ -11,7 +11,7 @@ use Rattle.order_grammar.specs.declared.keyword.Keyword.TheVariants as keyword
 use Rattle.order_grammar.specs.declared.order.Offer as offers
 use Rattle.order_grammar.specs.declared.order.Offer.TheVariants as offer
 use Rattle.order_grammar.specs.declared.order.Order.{Order}
-use Rattle.order_grammar.specs.declared.order.Order.TheVariants.{Blank, Game, Players, Sheet, Turn, BuyPrivate, Bid, Limit, Par, BuyShare, Sell, ExchangeMohawk, Company as CompanyTurn, Lay, Token, Run, Pay, Withhold, BuyTrain, Discard, BuyOwnedPrivate, Offer}
+use Rattle.order_grammar.specs.declared.order.Order.TheVariants.{Blank, Game, Players, Sheet, Turn, BuyPrivate, Bid, Limit, Par, BuyShare, Sell, ExchangeMohawk, Company as CompanyTurn, Lay, Token, Run, Pay, Withhold, BuyTrain, Discard, BuyOwnedPrivate, Raise, Offer}
 use Rattle.order_grammar.specs.declared.order.Parts.{Parts}
 use Rattle.order_grammar.specs.declared.order.ShareSource.{ShareSource}
 use Rattle.order_grammar.specs.declared.order.ShareSource.TheVariants.{InitialOffering, BankPool}
@@ -82,6 +82,7 @@ parts_of Withhold = made_of keyword.Withhold [] tail.Nothing
 parts_of (BuyTrain kind from) = made_of keyword.Train (value.Kind kind ∷ source_values from) tail.Nothing
 parts_of (Discard company kind) = made_of keyword.Discard (value.Company company ∷ value.Kind kind ∷ []) tail.Nothing
 parts_of (BuyOwnedPrivate private price) = made_of keyword.Private (value.Private private ∷ value.Number price ∷ []) tail.Nothing
+parts_of (Raise company tenths) = made_of keyword.Raise (value.Company company ∷ value.Number tenths ∷ []) tail.Nothing
 parts_of (Offer offer) = made_of keyword.Offer (offer_values offer) tail.Nothing
 
 -- the order of these parts, where there is one
@@ -116,6 +117,7 @@ order_from keyword.Train ((value.Kind kind) ∷ (value.Company seller) ∷ (valu
     Some (BuyTrain kind (source.Company seller price))
 order_from keyword.Discard ((value.Company company) ∷ (value.Kind kind) ∷ []) tail.Nothing = Some (Discard company kind)
 order_from keyword.Private ((value.Private private) ∷ (value.Number price) ∷ []) tail.Nothing = Some (BuyOwnedPrivate private price)
+order_from keyword.Raise ((value.Company company) ∷ (value.Number tenths) ∷ []) tail.Nothing = Some (Raise company tenths)
 order_from keyword.Offer ((value.Word keyword.Private) ∷ (value.Private private) ∷ (value.Company buyer) ∷ (value.Number price) ∷ []) tail.Nothing =
     Some (Offer (offer.Private private buyer price))
 order_from keyword.Offer ((value.Word keyword.Train) ∷ (value.Kind kind) ∷ (value.Company seller) ∷ (value.Company buyer) ∷ (value.Number price) ∷ [])

@@ -23,7 +23,7 @@ use Rattle.order_grammar.specs.Words.{words_of, before_comment, is_printable}
 use Rattle.order_grammar.specs.declared.order.Offer as offers
 use Rattle.order_grammar.specs.declared.order.Offer.TheVariants as offer
 use Rattle.order_grammar.specs.declared.order.Order.{Order}
-use Rattle.order_grammar.specs.declared.order.Order.TheVariants.{Blank, Game, Players, Sheet, Turn, BuyPrivate, Bid, Limit, Par, BuyShare, Sell, ExchangeMohawk, Company as CompanyTurn, Lay, Token, Run, Pay, Withhold, BuyTrain, Discard, BuyOwnedPrivate, Offer}
+use Rattle.order_grammar.specs.declared.order.Order.TheVariants.{Blank, Game, Players, Sheet, Turn, BuyPrivate, Bid, Limit, Par, BuyShare, Sell, ExchangeMohawk, Company as CompanyTurn, Lay, Token, Run, Pay, Withhold, BuyTrain, Discard, BuyOwnedPrivate, Raise, Offer}
 use Rattle.order_grammar.specs.declared.order.ShareSource.TheVariants.{InitialOffering, BankPool}
 use Rattle.order_grammar.specs.declared.order.TrainSource.{TrainSource}
 use Rattle.order_grammar.specs.declared.order.TrainSource.TheVariants as source
@@ -166,6 +166,8 @@ AreWordsFor (Discard company kind) words =
     Then (IsWord (codes "DISCARD")) (Then (IsCompany company) (Then (IsKind kind) End)) words
 AreWordsFor (BuyOwnedPrivate private price) words =
     Then (IsWord (codes "PRIVATE")) (Then (IsPrivate private) (Then (IsNumber price) End)) words
+AreWordsFor (Raise company tenths) words =
+    Then (IsWord (codes "RAISE")) (Then (IsCompany company) (Then (IsNumber tenths) End)) words
 AreWordsFor (Offer offer) words = Then (IsWord (codes "OFFER")) (AreOfferWords offer) words
 
 -- the line would spell the order if numbers had no greatest value
@@ -200,6 +202,7 @@ HasSmallNumbers (Par company price) = price ≤ number_most
 HasSmallNumbers (Sell company tenths) = tenths ≤ number_most
 HasSmallNumbers (BuyTrain kind from) = HasSmallPrice from
 HasSmallNumbers (BuyOwnedPrivate private price) = price ≤ number_most
+HasSmallNumbers (Raise company tenths) = tenths ≤ number_most
 HasSmallNumbers (Offer offer) = HasSmallOffer offer
 HasSmallNumbers other = Unit {0}
 

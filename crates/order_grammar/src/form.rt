@@ -40,7 +40,7 @@ pub(crate) enum Repeated {
 }
 
 /// The forms of lines. A line spells an order where its words fit a row.
-pub(crate) const FORMS: [Form; 27] = [
+pub(crate) const FORMS: [Form; 28] = [
     Form {
         keyword: Keyword::Game,
         classes: &[Class::Number, Class::Number],
@@ -177,6 +177,11 @@ pub(crate) const FORMS: [Form; 27] = [
     Form {
         keyword: Keyword::Private,
         classes: &[Class::Private, Class::Number],
+        repeated: Repeated::Nothing,
+    },
+    Form {
+        keyword: Keyword::Raise,
+        classes: &[Class::Company, Class::Number],
         repeated: Repeated::Nothing,
     },
     Form {

@@ -1,5 +1,5 @@
 ghost use Rattle.std.specs.Prelude.{◌≡◌, ◌≤◌, Some, length};
-ghost use Rattle.order_grammar.specs.Family.{HasAmount, IsOfAmount, IsOfFile, IsOfTrains};
+ghost use Rattle.order_grammar.specs.Family.{HasAmount, IsOfAmount, IsOfFile, IsOfTenths, IsOfTrains};
 ghost use Rattle.order_grammar.specs.declared.keyword.Keyword.TheVariants.{Buy, Lay as LayWord, Offer as OfferWord, Train};
 ghost use Rattle.order_grammar.specs.declared.order.Order.TheVariants.{BuyShare, BuyTrain, Discard, Lay as LayOrder, Offer as OfferOrder, Run as RunOrder};
 ghost use Rattle.order_grammar.specs.declared.order.Tail.TheVariants.{Nothing};
@@ -59,6 +59,9 @@ pub enum Order {
     Discard { company: Company, kind: Kind },
     /// `PRIVATE p n`: buy a private from the player who owns it, for so many dollars.
     BuyOwnedPrivate { private: Private, price: Amount },
+    /// `RAISE co n`: sell so many tenths of a company, should a train have to be bought that the
+    /// company and its president cannot pay.
+    Raise { company: Company, tenths: Amount },
     /// `OFFER PRIVATE p co n` or `OFFER TRAIN kind co co n`: consent to a sale in this round.
     Offer(Offer),
 }
@@ -225,7 +228,7 @@ impl Order {
             Order::Withhold => Parts::of(Keyword::Withhold, &[]),
             Order::BuyTrain { kind, from } => parts_of_purchase(*kind, *from),
             Order::Discard { company, kind } => parts_of_discard(*company, *kind),
-            Order::BuyOwnedPrivate { .. } => self.parts_of_amount(),
+            Order::BuyOwnedPrivate { .. } | Order::Raise { .. } => self.parts_of_amount(),
             Order::Offer(offer) => parts_of_offer(*offer),
         };
         Some(parts)
@@ -244,6 +247,7 @@ impl Order {
             Order::BuyOwnedPrivate { private, price } => {
                 (Keyword::Private, Value::Private(*private), *price)
             }
+            Order::Raise { company, tenths } => (Keyword::Raise, Value::Company(*company), *tenths),
             _ => unreachable!(),
         };
         Parts::of(keyword, &[of, Value::Number(amount)])
@@ -373,9 +377,10 @@ fn order_of_values(keyword: Keyword, values: &[Value]) -> Option<Order>
             order_of_file(keyword, values)
         }
         Keyword::Buy => order_to_buy(values),
-        Keyword::Bid | Keyword::Limit | Keyword::Par | Keyword::Sell | Keyword::Private => {
+        Keyword::Bid | Keyword::Limit | Keyword::Par | Keyword::Private => {
             order_of_amount(keyword, values)
         }
+        Keyword::Sell | Keyword::Raise => order_of_tenths(keyword, values),
         Keyword::Offer => order_to_offer(values),
         Keyword::Exchange => match values {
             [Value::Word(Keyword::Mohawk)] => Some(Order::ExchangeMohawk),
@@ -448,7 +453,7 @@ fn order_to_buy(values: &[Value]) -> Option<Order>
     }
 }
 
-/// The order of these parts that names a number of dollars or of tenths.
+/// The order of these parts that names a number of dollars.
 fn order_of_amount(keyword: Keyword, values: &[Value]) -> Option<Order>
     requires { IsOfAmount keyword }
     ensures { result ≡ order_from keyword values.now Nothing }
@@ -475,6 +480,23 @@ fn order_of_amount(keyword: Keyword, values: &[Value]) -> Option<Order>
             }),
             _ => None,
         },
+        Keyword::Private => match values {
+            [Value::Private(private), Value::Number(price)] => Some(Order::BuyOwnedPrivate {
+                private: *private,
+                price: *price,
+            }),
+            _ => None,
+        },
+        _ => unreachable!(),
+    }
+}
+
+/// The order of these parts that names a number of tenths.
+fn order_of_tenths(keyword: Keyword, values: &[Value]) -> Option<Order>
+    requires { IsOfTenths keyword }
+    ensures { result ≡ order_from keyword values.now Nothing }
+{
+    match keyword {
         Keyword::Sell => match values {
             [Value::Company(company), Value::Number(tenths)] => Some(Order::Sell {
                 company: *company,
@@ -482,10 +504,10 @@ fn order_of_amount(keyword: Keyword, values: &[Value]) -> Option<Order>
             }),
             _ => None,
         },
-        Keyword::Private => match values {
-            [Value::Private(private), Value::Number(price)] => Some(Order::BuyOwnedPrivate {
-                private: *private,
-                price: *price,
+        Keyword::Raise => match values {
+            [Value::Company(company), Value::Number(tenths)] => Some(Order::Raise {
+                company: *company,
+                tenths: *tenths,
             }),
             _ => None,
         },
