@@ -89,7 +89,7 @@ has_begun [] = false
 has_begun (step ∷ before) = true
 
 -- no mark among new ones
-none_marked : (count m : ℕ) → get_or (replicate count false) m false ≡ false
+pub none_marked : (count m : ℕ) → get_or (replicate count false) m false ≡ false
 none_marked zero m = refl
 none_marked (suc count) zero = refl
 none_marked (suc count) (suc m) = none_marked count m

@@ -23,3 +23,6 @@ pub mod RunReached
 pub mod RunBelow
 pub mod SetBelow
 pub mod Example
+pub mod Fewer
+pub mod TwoTrain
+pub mod RunDecided

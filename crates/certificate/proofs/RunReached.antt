@@ -16,10 +16,10 @@ use Rattle.certificate.specs.Legal.{HasSuch, first_stop, listed, visited}
 use Rattle.certificate.proofs.Marks.{among_both}
 
 -- a step the other way over its link
-abbrev flipped : Step → Step
+abbrev pub flipped : Step → Step
 flipped step = record { link = step.link; turned = not step.turned }
 
-flip_enters : (step : Step) → entered_at (flipped step) ≡ left_at step
+pub flip_enters : (step : Step) → entered_at (flipped step) ≡ left_at step
 flip_enters step = by_turn step.link step.turned
   where
     by_turn :
@@ -28,7 +28,7 @@ flip_enters step = by_turn step.link step.turned
     by_turn link true = refl
     by_turn link false = refl
 
-flip_leaves : (step : Step) → left_at (flipped step) ≡ entered_at step
+pub flip_leaves : (step : Step) → left_at (flipped step) ≡ entered_at step
 flip_leaves step = by_turn step.link step.turned
   where
     by_turn :

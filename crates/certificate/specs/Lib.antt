@@ -11,3 +11,4 @@ pub mod TreeLaws
 pub mod Example
 pub mod Tally
 pub mod Law
+pub mod TwoTrain

@@ -133,7 +133,7 @@ fn step_over(hex: Hex, from: End, to: End) -> Step
 }
 
 /// The place of an end among the ends of a hex.
-fn order(end: End) -> usize
+pub(crate) fn order(end: End) -> usize
     ensures value { result ≡ end_order end }
     ensures bound { result < 8 }
 {

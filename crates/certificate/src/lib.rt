@@ -16,7 +16,7 @@
 //!
 //! Reading order: `check` (the public call), `run_fault`, `used`, `leg` (from place to place),
 //! `tally`, `laws`; `claim` (a revenue with runs that earn it), `runner` (what tells the greatest
-//! revenue).
+//! revenue), `two_train` (whether a company can run at all).
 #![tactic(auto)]
 
 mod check;
@@ -26,6 +26,7 @@ mod leg;
 mod run_fault;
 mod runner;
 mod tally;
+mod two_train;
 mod used;
 
 pub use check::check_run;
@@ -39,4 +40,5 @@ pub use laws::{
 };
 pub use run_fault::RunFault;
 pub use runner::{Runner, RunnerFault};
+pub use two_train::can_run;
 pub use used::Used;

@@ -183,7 +183,7 @@ impl Tally {
 }
 
 /// The place of a stop in the order of the map.
-fn number_of(stop: Stop) -> usize
+pub(crate) fn number_of(stop: Stop) -> usize
     ensures value { result ≡ stop_order stop }
     ensures bound { result < 186 }
 {
@@ -192,7 +192,7 @@ fn number_of(stop: Stop) -> usize
 
 /// The number of the border at a side of a hex.
 #[tactic(auto, unfolding(crate::specs::Legal::border_of))]
-fn border(hex: Hex, side: Side) -> usize
+pub(crate) fn border(hex: Hex, side: Side) -> usize
     ensures value { result ≡ border_of hex side }
     ensures bound { result < 279 }
 {

@@ -1,5 +1,9 @@
-ghost use Rattle.std.specs.Prelude.{◌≡◌, false, replicate};
+ghost use Rattle.std.specs.Prelude.{◌≡◌, ◌<◌, false, replicate, IfSome, count_by, not};
+ghost use Rattle.certificate.specs.TwoTrain.{crossing};
 
+use crate::tally::border;
+use map_tables::End;
+use reach::Spot;
 use std::marker::Model;
 
 /// How many borders the hexes of the map have: each hex numbers three of its six.
@@ -32,5 +36,24 @@ impl Used {
         Used {
             crossed: [false; BORDERS],
         }
+    }
+
+    /// The borders that are used once the one at a spot is too; `None` where it is used already,
+    /// and at a stop.
+    #[tactic(auto, using(crate::proofs::Fewer::fewer_free))]
+    pub(crate) fn over(&self, spot: Spot) -> Option<Used>
+        ensures crossing { result ≡ crossing self.now spot }
+        ensures fewer { IfSome result (λ over. count_by not over < count_by not self.now) }
+    {
+        let End::Side(side) = spot.end else {
+            return None;
+        };
+        let number = border(spot.hex, side);
+        if self.crossed[number] {
+            return None;
+        }
+        let mut over = *self;
+        over.crossed[number] = true;
+        Some(over)
     }
 }

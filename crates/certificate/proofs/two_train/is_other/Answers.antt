@@ -1,0 +1,14 @@
+-- Stops are told apart by their places in the order of the map.
+use Rattle.std.proofs.Common.{◌≡◌, ap, sym, ◌∙◌, arith}
+use Rattle.std.proofs.lemmas.Bool.Decides.{nat_tests}
+use Rattle.reach.specs.Reached.{stop_order}
+use Rattle.reach.proofs.Spots.{same_order}
+use Rattle.certificate.proofs.two_train.is_other.Goals as goal
+
+pub returns : goal.returns
+returns c =
+    let one = c.number_of.ensures.value in
+    let other = c.number_of-2.ensures.value in (
+      λ differ is. let same : c.number_of.result ≡ c.number_of-2.result = one ∙ ap stop_order is ∙ sym other in grind (arith, nat_tests, differ, same),
+      λ differ. let apart : c.number_of.result ≡ c.number_of-2.result → ⊥ = λ same. differ (same_order c.args.stop c.args.start (sym one ∙ same ∙ other)) in grind (arith, nat_tests, apart),
+    )
