@@ -123,6 +123,9 @@ none_to_bank (event.Dividend company holder amount) = tt
 none_to_bank (event.Phase kind) = tt
 none_to_bank (event.Closed private) = tt
 none_to_bank (event.PrivateBought private company seller price) = tt
+none_to_bank (event.Forced company) = tt
+none_to_bank (event.Aid seat company amount) = tt
+none_to_bank (event.Bankrupt seat) = tt
 none_to_bank event.Broken = tt
 
 -- what comes to the stables and to the place of those out of play went from there, or from the bank

@@ -23,6 +23,7 @@ pub mod Stables
 pub mod Payments
 pub mod TrainActs
 pub mod PrivateActs
+pub mod ForcedActs
 pub mod InOrder
 pub mod Revenues
 pub mod Cheapest

@@ -3,7 +3,7 @@
 -- the company that floats, the price of SV that it sets, the tile that it lays, the token that it places,
 -- the train that it moves, the phase that it sets, the company that has operated by it, the round that it
 -- begins, the seat of a line that was ruled, the order that was obeyed, and whether it tells that the bank is
--- broken. Every fact about a game looks back over one of them.
+-- broken or that a president is bankrupt. Every fact about a game looks back over one of them.
 use Rattle.std.specs.Prelude.{◌≡◌, ℕ, Bool, true, false, List, codes, Option, Some, None}
 use Rattle.order_grammar.specs.declared.order.Order.{Order}
 use Rattle.order_grammar.specs.declared.order.Order.TheVariants as order
@@ -12,7 +12,7 @@ use Rattle.order_grammar.specs.declared.order.ShareSource.TheVariants as source
 use Rattle.history.specs.declared.event.Bidding.{Bidding}
 use Rattle.history.specs.declared.event.Bidding.TheVariants.{Made, Ended}
 use Rattle.history.specs.declared.event.Event.{Event}
-use Rattle.history.specs.declared.event.Event.TheVariants.{Round, Ruled, Bids, Sold, Price, Revenue, Given, Par, President, Bought, Sells, Exchanged, Floats, Moves, Home, Laid, Token, Withheld, Runs, Dividend, Traded, Train, Phase, Rusted, Discarded, Closed, PrivateBought, Broken}
+use Rattle.history.specs.declared.event.Event.TheVariants.{Round, Ruled, Bids, Sold, Price, Revenue, Given, Par, President, Bought, Sells, Exchanged, Floats, Moves, Home, Laid, Token, Withheld, Runs, Dividend, Traded, Train, Phase, Rusted, Discarded, Closed, PrivateBought, Forced, Aid, Bankrupt, Broken}
 use Rattle.history.specs.declared.event.Holder.TheVariants as holder
 use Rattle.history.specs.declared.event.Office.{Office}
 use Rattle.history.specs.declared.event.Ownership.{Ownership}
@@ -91,7 +91,8 @@ stable_of None = train_place.BankPool
 stable_of (Some company) = train_place.Company company
 
 -- the money that an event moves: a seat pays the bank for a private or for tenths, and a company for a lay or
--- a token; a company pays whoever sells it a train, and a seat for its private; the bank pays a revenue, a
+-- a token; a company pays whoever sells it a train, and a seat for its private; a seat pays a company what that
+-- lacks for a train; the bank pays a revenue, a
 -- dividend, a seat for tenths, a company that floats, and one that withholds
 abbrev pub payment_of : Event → Option Payment
 payment_of (Sold private seat price) = Some (record { from = party_at seat; to = party.Bank; amount = price })
@@ -107,6 +108,8 @@ payment_of (Train company kind from price) =
     Some (record { from = party_of_company company; to = party_of_seller from; amount = price })
 payment_of (PrivateBought private company seller price) =
     Some (record { from = party_of_company company; to = party_at seller; amount = price })
+payment_of (Aid seat company amount) =
+    Some (record { from = party_at seat; to = party_of_company company; amount = amount })
 payment_of other = None
 
 -- the sum of money that an event names, or 0
@@ -126,6 +129,7 @@ sum_of (Runs company revenue) = revenue
 sum_of (Dividend company holder amount) = amount
 sum_of (Train company kind from price) = price
 sum_of (PrivateBought private company seller price) = price
+sum_of (Aid seat company amount) = amount
 sum_of other = 0
 
 -- what an event says of a private: that this holder owns it from then on, or nobody
@@ -233,6 +237,11 @@ ruled_by other = None
 abbrev pub tells_broken : Event → Bool
 tells_broken Broken = true
 tells_broken other = false
+
+-- it tells that a president is bankrupt
+abbrev pub tells_bankrupt : Event → Bool
+tells_bankrupt (Bankrupt seat) = true
+tells_bankrupt other = false
 
 -- an order that was obeyed, with the seat that gave it and the number of its line
 pub record Obeyance : Type 0 where

@@ -30,6 +30,7 @@ order_in_short short.Withhold = order.Withhold
 order_in_short (short.BuyTrain kind from) = order.BuyTrain kind from
 order_in_short (short.Discard company kind) = order.Discard company kind
 order_in_short (short.BuyOwnedPrivate private price) = order.BuyOwnedPrivate private price
+order_in_short (short.Raise company tenths) = order.Raise company tenths
 order_in_short (short.Offer offer) = order.Offer offer
 
 -- an order of play, but no run: its form takes few bytes
@@ -48,6 +49,7 @@ has_short_form order.Withhold = true
 has_short_form (order.BuyTrain kind from) = true
 has_short_form (order.Discard company kind) = true
 has_short_form (order.BuyOwnedPrivate private price) = true
+has_short_form (order.Raise company tenths) = true
 has_short_form (order.Offer offer) = true
 has_short_form other = false
 

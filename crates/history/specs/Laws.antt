@@ -10,7 +10,7 @@ use Rattle.history.specs.Shares.{arrival_of, is_floated, is_par_value, par_of, p
 use Rattle.history.specs.Sound.{IsSound, IsSvPrice, LiesFit, least_offered}
 use Rattle.history.specs.Tell.{broken_told}
 use Rattle.history.specs.declared.event.Event.{Event}
-use Rattle.history.specs.declared.event.Event.TheVariants.{Bids, Sold, Price, Revenue, Given, Par, President, Bought, Sells, Exchanged, Floats, Moves, Home, Laid, Token, Withheld, Runs, Dividend, Traded, Train, Phase, Rusted, Discarded, Closed, PrivateBought}
+use Rattle.history.specs.declared.event.Event.TheVariants.{Bids, Sold, Price, Revenue, Given, Par, President, Bought, Sells, Exchanged, Floats, Moves, Home, Laid, Token, Withheld, Runs, Dividend, Traded, Train, Phase, Rusted, Discarded, Closed, PrivateBought, Forced, Aid, Bankrupt}
 use Rattle.history.specs.declared.event.Holder.{Holder}
 use Rattle.history.specs.declared.event.Holder.TheVariants as holder
 use Rattle.history.specs.declared.event.Party.{Party}
@@ -261,6 +261,19 @@ PrivateKeepsSound =
     (game : Game) (private : Private) (company : Company) (seller : Seat) (price : ℕ) →
     owner_of game.events private ≡ Some (holder.Seat seller) → pos price ≤ℤ cash_of game.seats game.events (party_of_company company) →
     IsSound game → IsSound (with_event game (PrivateBought private company seller price))
+
+-- a purchase that is forced, and a president that is bankrupt, keep a list sound
+abbrev pub ForcingKeepsSound : Type 0
+ForcingKeepsSound = (game : Game) (company : Company) → IsSound game → IsSound (with_event game (Forced company))
+
+abbrev pub BankruptcyKeepsSound : Type 0
+BankruptcyKeepsSound = (game : Game) (seat : Seat) → IsSound game → IsSound (with_event game (Bankrupt seat))
+
+-- and so does what a seat at the table pays a company, where the seat has it free of its bids
+abbrev pub AidKeepsSound : Type 0
+AidKeepsSound =
+    (game : Game) (seat : Seat) (company : Company) (amount : ℕ) →
+    seat.0 < game.seats → pos amount ≤ℤ free_cash_of game.seats game.events seat → IsSound game → IsSound (with_event game (Aid seat company amount))
 
 -- a tile that the event at the end lays is the last
 abbrev pub LaysGrow : Type 0

@@ -4,7 +4,7 @@
 use Rattle.std.specs.Prelude.{ℕ, ◌<◌, ◌+◌, ◌==◌, Bool, true, false, if◌then◌else◌, List, [], ◌∷◌, ◌++◌, Option, Some, None, sum_by, pos, neg_ℤ, ◌-ℤ◌, ◌≤ℤ◌, ℤ, ◌^◌, is_none, length, is_some, ◌&&◌, unwrap_or, slice_index_or}
 use Rattle.std.specs.List.{list_any}
 use Rattle.std.specs.Option.{option_or, option_flatten, option_map}
-use Rattle.history.specs.Event.{Obeyance, obeyed_of, is_act, ownership_of, payment_of, round_of as round_begun, sv_price_set, tells_broken}
+use Rattle.history.specs.Event.{Obeyance, obeyed_of, is_act, ownership_of, payment_of, round_of as round_begun, sv_price_set, tells_bankrupt, tells_broken}
 use Rattle.history.specs.declared.event.Event.{Event}
 use Rattle.history.specs.declared.event.Event.TheVariants.{Bought}
 use Rattle.history.specs.declared.event.Holder.{Holder}
@@ -121,6 +121,10 @@ sv_price_of events = unwrap_or (last_said sv_price_set events) (face_of Schuylki
 -- the bank is broken
 abbrev pub broken_in : List Event → Bool
 broken_in events = list_any tells_broken events
+
+-- a president is bankrupt: the game is over
+abbrev pub bankrupt_in : List Event → Bool
+bankrupt_in events = list_any tells_bankrupt events
 
 -- the seat that acted in its own turn by an obeyed order
 abbrev pub actor_by : Option Obeyance → Option Seat

@@ -213,6 +213,16 @@ pub enum Event {
         seller: Seat,
         price: Amount,
     },
+    /// A company must buy a train.
+    Forced(Company),
+    /// A president pays a company what it lacks for a train that it must buy.
+    Aid {
+        seat: Seat,
+        company: Company,
+        amount: Amount,
+    },
+    /// A president cannot pay what his company lacks for a train that it must buy. The game is over.
+    Bankrupt(Seat),
     /// The bank's cash came to 0 or less.
     Broken,
 }
@@ -446,6 +456,15 @@ impl Event {
                 to: Party::of_seat(*seller),
                 amount: *price,
             }),
+            Event::Aid {
+                seat,
+                company,
+                amount,
+            } => Some(Payment {
+                from: Party::of_seat(*seat),
+                to: Party::of_company(*company),
+                amount: *amount,
+            }),
             Event::Revenue { owner, amount, .. } => {
                 Some(Payment::of_bank(Party::Holder(*owner), *amount))
             }
@@ -473,7 +492,7 @@ impl Event {
             Event::Floats { amount, .. } | Event::Withheld { amount, .. } => *amount,
             Event::Laid { cost, .. } | Event::Token { cost, .. } => *cost,
             Event::Runs { revenue, .. } => *revenue,
-            Event::Dividend { amount, .. } => *amount,
+            Event::Dividend { amount, .. } | Event::Aid { amount, .. } => *amount,
             Event::Train { price, .. } | Event::PrivateBought { price, .. } => *price,
             _ => 0,
         }

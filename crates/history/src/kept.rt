@@ -32,6 +32,7 @@ enum ShortOrder {
     BuyTrain { kind: Kind, from: TrainSource },
     Discard { company: Company, kind: Kind },
     BuyOwnedPrivate { private: Private, price: Amount },
+    Raise { company: Company, tenths: Amount },
     Offer(Offer),
 }
 
@@ -58,6 +59,7 @@ impl ShortOrder {
             Order::BuyOwnedPrivate { private, price } => {
                 ShortOrder::BuyOwnedPrivate { private, price }
             }
+            Order::Raise { company, tenths } => ShortOrder::Raise { company, tenths },
             Order::Offer(offer) => ShortOrder::Offer(offer),
             _ => return None,
         };
@@ -85,6 +87,7 @@ impl ShortOrder {
             ShortOrder::BuyOwnedPrivate { private, price } => {
                 Order::BuyOwnedPrivate { private, price }
             }
+            ShortOrder::Raise { company, tenths } => Order::Raise { company, tenths },
             ShortOrder::Offer(offer) => Order::Offer(offer),
         }
     }

@@ -1,7 +1,7 @@
 //! Laws of games: each function does nothing, and its contract is the law.
 
 ghost use Rattle.history.specs.Money.{AllMoneyStays};
-ghost use Rattle.history.specs.Laws.{ArrivalIsLast, ArrivalsDiffer, BidKeepsSound, BlockKeepsSound, BlockWithSuccessionKeepsSound, CaIsSoldWithItsGift, CashMoves, ClosingKeepsSound, DiscardKeepsSound, DividendKeepsSound, ExchangeKeepsSound, FirstIsCheapest, FloatKeepsSound, GiftKeepsSound, HomeKeepsSound, LastWordIsLast, LayKeepsSound, LaysGrow, MoveKeepsSound, OwnersAreParties, PhaseKeepsSound, PriceKeepsSound, PrivateKeepsSound, PurchaseKeepsSound, QuietKeepsSound, QuietSaysTheSame, RevenueKeepsSound, RulingsAreCounted, RunKeepsSound, RustingKeepsSound, SaleKeepsSound, SoundMoneyStays, StartByPurchaseKeepsSound, StartKeepsSound, SuccessionKeepsSound, SvIsGivenAway, TokenKeepsSound, TokensGrow, TradeKeepsSound, TrainPurchaseKeepsSound, WithholdingKeepsSound};
+ghost use Rattle.history.specs.Laws.{AidKeepsSound, ArrivalIsLast, ArrivalsDiffer, BankruptcyKeepsSound, BidKeepsSound, BlockKeepsSound, BlockWithSuccessionKeepsSound, CaIsSoldWithItsGift, CashMoves, ClosingKeepsSound, DiscardKeepsSound, DividendKeepsSound, ExchangeKeepsSound, FirstIsCheapest, FloatKeepsSound, ForcingKeepsSound, GiftKeepsSound, HomeKeepsSound, LastWordIsLast, LayKeepsSound, LaysGrow, MoveKeepsSound, OwnersAreParties, PhaseKeepsSound, PriceKeepsSound, PrivateKeepsSound, PurchaseKeepsSound, QuietKeepsSound, QuietSaysTheSame, RevenueKeepsSound, RulingsAreCounted, RunKeepsSound, RustingKeepsSound, SaleKeepsSound, SoundMoneyStays, StartByPurchaseKeepsSound, StartKeepsSound, SuccessionKeepsSound, SvIsGivenAway, TokenKeepsSound, TokensGrow, TradeKeepsSound, TrainPurchaseKeepsSound, WithholdingKeepsSound};
 ghost use Rattle.history.specs.Trains.{AllTrainsStay};
 
 /// What was said last of a thing is what the last event says, or else what was said before it.
@@ -159,6 +159,14 @@ pub fn phase_keeps_sound()
 /// pay it.
 pub fn private_keeps_sound()
     ensures { PrivateKeepsSound }
+{}
+
+/// A forced purchase keeps a list sound: that it is due, what the president pays of it where he has
+/// the sum free of his bids, and that he is bankrupt.
+pub fn forcing_keeps_sound()
+    ensures due { ForcingKeepsSound }
+    ensures aid { AidKeepsSound }
+    ensures bankruptcy { BankruptcyKeepsSound }
 {}
 
 /// A tile that is laid is the last of those that were, and a token that is placed is the last.

@@ -2,7 +2,7 @@ ghost use Rattle.std.specs.Prelude.{◌≡◌, ◌↔◌, ◌≤◌, IsTrue, Mat
 ghost use Rattle.history.specs.Bids.{bid_of, free_cash_of};
 ghost use Rattle.history.specs.Event.{sum_of};
 ghost use Rattle.history.specs.Kept.{TakesBox};
-ghost use Rattle.history.specs.LookBack.{FitsMemory, IsModerate, broken_in, cash_of, cheapest_in, cheapest_of, is_sold, is_sold_in, owner_in, owner_of, priority_of, round_of, sv_price_of, with_event};
+ghost use Rattle.history.specs.LookBack.{FitsMemory, IsModerate, bankrupt_in, broken_in, cash_of, cheapest_in, cheapest_of, is_sold, is_sold_in, owner_in, owner_of, priority_of, round_of, sv_price_of, with_event};
 ghost use Rattle.history.specs.Operating.{has_operated, lays_of, rulings_in_round, tokens_of, tokens_placed};
 ghost use Rattle.history.specs.Shares.{arrival_of, has_sold_in_round, is_floated, is_started, par_of, president_of, shares_of, square_of};
 ghost use Rattle.history.specs.Sound.{IsSound};
@@ -122,6 +122,13 @@ impl History {
         ensures { result ≡ broken_in self.now.events }
     {
         self.now().broken()
+    }
+
+    /// Whether a president is bankrupt, so that the game is over.
+    pub fn bankrupt(&self) -> bool
+        ensures { result ≡ bankrupt_in self.now.events }
+    {
+        self.now().bankrupt()
     }
 
     /// Whether a private has been sold.

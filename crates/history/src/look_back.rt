@@ -1,5 +1,5 @@
 ghost use Rattle.std.specs.Prelude.{◌≡◌, length};
-ghost use Rattle.history.specs.LookBack.{FitsMemory, IsModerate, broken_in, cash_of, cheapest_in, cheapest_of, is_sold, is_sold_in, owner_in, owner_of, priority_of, round_of, start_of, sv_price_of};
+ghost use Rattle.history.specs.LookBack.{FitsMemory, IsModerate, bankrupt_in, broken_in, cash_of, cheapest_in, cheapest_of, is_sold, is_sold_in, owner_in, owner_of, priority_of, round_of, start_of, sv_price_of};
 
 use crate::aspect::{balance, last_said};
 use crate::event::{Event, Holder, Party};
@@ -79,6 +79,15 @@ impl Past<'_> {
         self.events
             .iter()
             .any(|event| matches!(event, Event::Broken))
+    }
+
+    /// Whether a president is bankrupt, so that the game is over.
+    pub fn bankrupt(&self) -> bool
+        ensures { result ≡ bankrupt_in self.now.events.now }
+    {
+        self.events
+            .iter()
+            .any(|event| matches!(event, Event::Bankrupt(_)))
     }
 
     /// The round that began last; `None` before the first.

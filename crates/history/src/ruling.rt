@@ -90,7 +90,8 @@ impl OpeningRule {
 /// A rule that an order in a stock round may break.
 #[derive(Clone, Copy, Debug, PartialEq, Eq, Drop, Error)]
 pub enum StockRule {
-    /// S1: the order is none of a stock round.
+    /// S1: the order is none of a stock round; or tenths are to be sold for a train, and nothing has
+    /// to be raised.
     #[error("the order has no place in a stock round")]
     NotOfStock,
     /// S2: nothing is sold in the first stock round.
@@ -102,7 +103,8 @@ pub enum StockRule {
     /// S4: the bank pool would have over five tenths of the company.
     #[error("the bank pool would have over five tenths of the company")]
     PoolFull,
-    /// S5: the seat is president, would keep fewer than two tenths, and no other seat has two.
+    /// S5: the seat is president, would keep fewer than two tenths, and no other seat has two; or
+    /// the presidency of the company for which tenths are sold would pass.
     #[error("no other seat could follow the president")]
     PresidentMustStay,
     /// S6: the seat has sold tenths of the company in this round.
