@@ -7,3 +7,7 @@ mod NoteLemmas
 pub mod ByGame
 mod Deals
 pub mod PresidesByGame
+mod Others
+mod Sales
+pub mod SaleAllowed
+pub mod Succession

@@ -5,3 +5,4 @@ pub mod President
 pub mod Counted
 pub mod Purchase
 pub mod Sale
+pub mod SaleAct

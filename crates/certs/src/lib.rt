@@ -8,8 +8,8 @@
 //!
 //! Reading order: `holdings`, `notes` (the tables that they are made of), `rows` (the tenths of one
 //! company), `president`, `counted` (the certificates that count), `deal` (what is bought and
-//! sold), `purchase`, `sale`, `laws` (what the presidency goes by, and that it and what counts are
-//! the same by the events of a game).
+//! sold), `purchase`, `sale`, `sell` (what a sale brings), `laws` (what the presidency goes by, and
+//! that it and what counts are the same by the events of a game).
 #![tactic(auto)]
 
 mod counted;
@@ -21,6 +21,7 @@ mod president;
 mod purchase;
 mod rows;
 mod sale;
+mod sell;
 
 pub use deal::{Purchase, Sale};
 pub use holdings::Holdings;
@@ -28,3 +29,4 @@ pub use laws::{counted_by_the_game, first_with_most_presides, presides_by_the_ga
 pub use president::successor;
 pub use purchase::{is_over_six, market_price, may_buy, tenth_price};
 pub use sale::may_sell;
+pub use sell::{sell_block, tell_president};

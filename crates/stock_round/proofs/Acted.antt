@@ -3,6 +3,7 @@ use Rattle.std.proofs.Common.{◌≡◌, ℕ, ◌*◌, ◌==◌, Bool, true, fal
 use Rattle.std.specs.Prelude.{is_some, unwrap_or}
 use Rattle.certs.specs.President.{successor_of}
 use Rattle.certs.specs.Purchase.{market_price_of, tenth_price_of}
+use Rattle.certs.specs.SaleAct.{after_sale, sold, with_president, with_successor}
 use Rattle.history.specs.Shares.{par_of, president_of, square_of}
 use Rattle.history.specs.Tell.{breaks, with_broken}
 use Rattle.history.specs.declared.event.Event.{Event}
@@ -16,7 +17,7 @@ use Rattle.order_grammar.specs.declared.order.Order.TheVariants as order
 use Rattle.order_grammar.specs.declared.order.ShareSource.{ShareSource}
 use Rattle.sheets.specs.Part.{Numbered}
 use Rattle.sheets.specs.Place.{placed}
-use Rattle.stock_round.specs.Act.{after_exchange, after_purchase, after_sale, after_start, bought, exchanged, floated_at, is_to_float, sold, with_float, with_president, with_successor}
+use Rattle.stock_round.specs.Act.{after_exchange, after_purchase, after_start, bought, exchanged, floated_at, is_to_float, with_float}
 use Rattle.stock_round.specs.Judgement.{exchange_source, has_place_in_group, judged, judgement_of, placed_ruling}
 use Rattle.stock_round.specs.Turn.{InTurn, after_ruling, stock_rules}
 use Rattle.tables.specs.declared.roster.Company.{Company}

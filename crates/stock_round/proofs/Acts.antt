@@ -3,12 +3,8 @@ use Rattle.std.proofs.Common.{◌≡◌, ℕ, ◌*◌, ◌≤◌, ◌<◌, ◌==
 use Rattle.std.proofs.lemmas.Bool.Decides.{nat_tests}
 use Rattle.std.proofs.lemmas.Int.{ints}
 use Rattle.std.specs.Int.Signed.{lt_z}
-use Rattle.certs.proofs.Presidents.{most_le}
-use Rattle.certs.specs.President.{others_from, seat_tenths_of, successor_of}
 use Rattle.certs.specs.Purchase.{is_none_there, is_short, tenth_price_of}
-use Rattle.certs.specs.Sale.{is_over_five}
-use Rattle.certs.specs.declared.deal.Sale.{Sale}
-use Rattle.history.proofs.Blocks.{float_sound as float_law, succession_sound as succession_law}
+use Rattle.history.proofs.Blocks.{float_sound as float_law}
 use Rattle.history.proofs.Purchases.{exchange_sound as exchange_law, purchase_sound as purchase_law, start_by_purchase_sound as start_law}
 use Rattle.history.specs.Bids.{free_cash_of}
 use Rattle.history.specs.Event.{place_of_source}
@@ -20,12 +16,12 @@ use Rattle.history.specs.declared.event.Event.TheVariants as event
 use Rattle.history.specs.declared.event.Holder.{Holder}
 use Rattle.history.specs.declared.event.Holder.TheVariants as holder
 use Rattle.history.specs.declared.event.Shareholder.TheVariants.{InitialOffering, BankPool}
-use Rattle.market.proofs.Tokens.{same_game}
 use Rattle.order_grammar.specs.declared.order.ShareSource.{ShareSource}
 use Rattle.order_grammar.specs.declared.order.ShareSource.TheVariants as source
-use Rattle.stock_round.proofs.Judged.{holds, is_nothing}
-use Rattle.stock_round.specs.Act.{float_most, is_to_float, president_tenths, succeeded, with_president, with_successor}
-use Rattle.stock_round.specs.Allowed.{MayBuy, MayExchange, MaySell, MayStart}
+use Rattle.certs.proofs.SaleAllowed.{holds}
+use Rattle.stock_round.proofs.Judged.{is_nothing}
+use Rattle.stock_round.specs.Act.{float_most, is_to_float, president_tenths}
+use Rattle.stock_round.specs.Allowed.{MayBuy, MayExchange, MayStart}
 use Rattle.stock_round.specs.Judgement.{exchange_source, is_offered, is_owner, is_pooled}
 use Rattle.tables.specs.Seat.{seat_at}
 use Rattle.tables.specs.declared.roster.Company.{Company}
@@ -88,27 +84,6 @@ exchange_sound game new seat from may within is_from told sound =
     subst IsSound (sym told)
     (exchange_law game seat from (owns seat (owner_of events MohawkHudson) kept.0) within (subst (λ (s : ShareSource). pos 1 ≤ℤ shares_of events company.NewYorkCentral (place_of_source s)) (sym is_from) there) sound)
 
--- a presidency that has moved
-succession_sound : (game : Game) (company : Company) (old : Seat) → president_of game.events company ≡ Some old → IsSound game → IsSound (record { seats = game.seats; events = succeeded game.events company old (successor_of game.seats game.events company old) })
-succession_sound game company old is sound =
-    let new = successor_of game.seats game.events company old in
-    elim (new.0 == old.0) as (λ (b : Bool). IsSound (record { seats = game.seats; events = if b then game.events else game.events ++ event.President company new ∷ [] })) [
-      | true ↦ sound
-      | false ↦ succession_law game company old new is (most_le (seat_tenths_of game.events company) old (others_from game.seats old)) sound
-    ]
-
--- the presidency that follows from a change
-pub president_sound : (game new : Game) (company : Company) → new.seats ≡ game.seats → new.events ≡ with_president game.seats game.events company → IsSound game → IsSound new
-president_sound game new company seats told sound =
-    let after : IsSound (record { seats = game.seats; events = with_president game.seats game.events company }) =
-    elim (president_of game.events company) as (λ (found : Option Seat). president_of game.events company ≡ found → IsSound (record { seats = game.seats; events = with_successor game.seats game.events company found })) [
-      | None ↦ λ is. sound
-      | Some old ↦ λ is. succession_sound game company old is sound
-    ]
-    refl
-    in
-    same_game new game.seats (with_president game.seats game.events company) seats told after
-
 -- a company that is to float has few tenths left
 few_left : (floated : Bool) (left : ℤ) → (not floated && not (lt_z (pos float_most) left)) ≡ true → left ≤ℤ pos 4
 few_left true left is = absurd (cc)
@@ -138,13 +113,3 @@ float_led game its ready sound =
 pub float_sound : (game new : Game) (its : Company) (amount : ℕ) → is_to_float game.events its ≡ true → new ≡ with_event game (event.Floats its amount) → IsSound game → IsSound new
 float_sound game new its amount ready told sound =
     subst IsSound (sym told) (float_law game its amount (few_left (is_floated game.events its) (shares_of game.events its InitialOffering) ready) sound)
-
--- few tenths come to a pool that has none too few and comes to at most five
-few_come : (pooled : ℤ) (tenths : ℕ) → pos 0 ≤ℤ pooled → lt_z (pos 5) (pooled +ℤ pos tenths) ≡ false → tenths ≤ 5
-few_come pooled tenths some pool = grind (arith, ints, some, pool)
-
--- a block that may be sold is small
-pub block_small : (game : Game) (seat : Seat) (sale : Sale) → MaySell game.seats game.events seat sale → IsSound game → sale.tenths ≤ 5
-unfolding is_over_five
-block_small game seat sale may sound =
-    few_come (shares_of game.events sale.company BankPool) sale.tenths (sound.held sale.company BankPool) may.pool

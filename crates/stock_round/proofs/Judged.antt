@@ -1,13 +1,10 @@
 -- An order that breaks no rule can be done, and still can after an event that changes nothing of what
 -- parties have and own.
 use Rattle.std.proofs.Common.{◌≡◌, ℕ, ◌*◌, ◌==◌, Bool, true, false, not, ◌||◌, ◌&&◌, List, [], ◌∷◌, ◌++◌, Option, Some, None, is_some, unwrap_or, ℤ, pos, ◌-ℤ◌, ◌+ℤ◌, refl, sym, subst, ap, ◌∙◌}
-use Rattle.std.specs.Int.Signed.{le_z, lt_z}
-use Rattle.certs.specs.Counted.{presides}
-use Rattle.certs.specs.President.{others_from}
+use Rattle.std.specs.Int.Signed.{lt_z}
+use Rattle.certs.proofs.SaleAllowed.{holds, sale_allowed, same_start, still_may_sell}
 use Rattle.certs.specs.Purchase.{in_zone, is_none_there, is_over_six, is_short, lifts_six, price_on, purchase_judgement, purchase_rules, tenth_price_of}
-use Rattle.certs.specs.Sale.{is_not_held, is_over_five, kept_after, leaves_none, must_stay, one_has, sale_judgement, sale_rules}
 use Rattle.certs.specs.declared.deal.Purchase.TheVariants as purchase
-use Rattle.certs.specs.declared.deal.Sale.{Sale}
 use Rattle.history.proofs.EventAtEnd.{quiet_same}
 use Rattle.history.specs.Bids.{bids_of, free_cash_of}
 use Rattle.history.specs.Event.{IsQuiet, party_at, place_of_source}
@@ -22,7 +19,7 @@ use Rattle.order_grammar.specs.declared.order.Order.TheVariants.{Par, BuyShare, 
 use Rattle.order_grammar.specs.declared.order.ShareSource.{ShareSource}
 use Rattle.order_grammar.specs.declared.order.ShareSource.TheVariants as source
 use Rattle.stock_round.specs.Act.{president_tenths}
-use Rattle.stock_round.specs.Allowed.{MayAct, MayBuy, MaySell, MayStart}
+use Rattle.stock_round.specs.Allowed.{MayAct, MayBuy, MayStart}
 use Rattle.stock_round.specs.Judgement.{exchange_rules, is_no_exchange, is_owner, judgement_of}
 use Rattle.tables.proofs.Rules.{none_broken}
 use Rattle.tables.specs.declared.roster.Company.{Company}
@@ -30,11 +27,6 @@ use Rattle.tables.specs.declared.roster.Company.TheVariants.{NewYorkCentral}
 use Rattle.tables.specs.declared.roster.Private.TheVariants.{MohawkHudson}
 use Rattle.tables.specs.declared.seat.Seat.{Seat}
 use Rattle.tables.specs.declared.squares.Square.{Square}
-
--- what is not so is false
-pub holds : (b : Bool) → not b ≡ false → b ≡ true
-holds true kept = refl
-holds false kept = cc
 
 -- a company can be started where no rule is broken
 start_allowed : (seats : ℕ) (events : List Event) (seat : Seat) (company : Company) (price : ℕ) (bought : Option Company) → purchase_judgement seats events seat (purchase.Par company price) bought ≡ None → MayStart seats events seat company price
@@ -50,24 +42,13 @@ purchase_allowed seats events seat company from bought none =
     let kept = none_broken (purchase_rules seats events seat (purchase.Share company from) bought) none in
     record { there = kept.1.0; started = holds (is_started events company) kept.1.1.1.0; pays = kept.1.1.1.1.0 }
 
--- tenths can be sold
-sale_allowed : (seats : ℕ) (events : List Event) (seat : Seat) (sale : Sale) → sale_judgement seats events seat sale None ≡ None → MaySell seats events seat sale
-unfolding sale_judgement
-sale_allowed seats events seat sale none =
-    let kept = none_broken (sale_rules seats events seat sale None) none in
-    record { held = kept.1.0; pool = kept.1.1.0; leaves = kept.1.1.1.0; started = holds (is_started events sale.company) kept.1.1.1.1.0 }
-
 -- an order that breaks no rule can be done
 pub may_act : (seats : ℕ) (events : List Event) (seat : Seat) (bought : Option Company) (order : Order) → judgement_of seats events seat bought order ≡ None → MayAct seats events seat order
 may_act seats events seat bought (Par company price) none = start_allowed seats events seat company price bought none
 may_act seats events seat bought (BuyShare company from) none = purchase_allowed seats events seat company from bought none
-may_act seats events seat bought (Sell company tenths) none = sale_allowed seats events seat (record { company = company; tenths = tenths }) none
+may_act seats events seat bought (Sell company tenths) none = sale_allowed seats events seat (record { company = company; tenths = tenths }) None none
 may_act seats events seat bought ExchangeMohawk none = (none_broken (exchange_rules events seat) none).0
 may_act seats events seat bought other none = tt
-
--- a company that is started stays so
-same_start : (before after : List Event) (company : Company) → SaysTheSame before after → is_started after company ≡ is_started before company
-same_start before after company same = ap is_some (same.square company)
 
 -- a seat has as much free
 same_free : (seats : ℕ) (before after : List Event) (seat : Seat) → SaysTheSame before after → free_cash_of seats after seat ≡ free_cash_of seats before seat
@@ -87,26 +68,6 @@ same_purse seats before after seat cost same_cost same is_same =
     ap (λ (n : ℕ). lt_z (free_cash_of seats after seat) (pos n)) is_same
     ∙ ap (λ (free : ℤ). lt_z free (pos cost)) (same_free seats before after seat same)
 
--- the seats that have so many tenths have them still
-same_holders : (before after : List Event) (company : Company) (least : ℤ) (seats : List Seat) → SaysTheSame before after → one_has after company least seats ≡ one_has before company least seats
-same_holders before after company least [] same = refl
-same_holders before after company least (seat ∷ others) same =
-    ap (λ (tenths : ℤ). le_z least tenths || one_has after company least others) (same.shares company (OfSeat seat))
-    ∙ ap (λ (later : Bool). le_z least (shares_of before company (OfSeat seat)) || later) (same_holders before after company least others same)
-
--- a president leaves none as before
-same_leave : (seats : ℕ) (before after : List Event) (seat : Seat) (sale : Sale) → SaysTheSame before after → leaves_none seats after seat sale ≡ leaves_none seats before seat sale
-same_leave seats before after seat sale same =
-    ap (λ (tenths : ℤ). lt_z (tenths -ℤ pos sale.tenths) (pos 2) && not (one_has after sale.company (pos 2) (others_from seats seat))) (same.shares sale.company (OfSeat seat))
-    ∙ ap (λ (another : Bool). lt_z (kept_after before seat sale) (pos 2) && not another) (same_holders before after sale.company (pos 2) (others_from seats seat) same)
-
--- a president must stay as before
-same_stay : (seats : ℕ) (before after : List Event) (seat : Seat) (sale : Sale) → SaysTheSame before after → must_stay seats after seat sale None ≡ must_stay seats before seat sale None
-unfolding must_stay
-same_stay seats before after seat sale same =
-    ap (λ (president : Option Seat). presides seat president && (leaves_none seats after seat sale || false)) (same.president sale.company)
-    ∙ ap (λ (leaves : Bool). presides seat (president_of before sale.company) && (leaves || false)) (same_leave seats before after seat sale same)
-
 -- an exchange is allowed as before
 same_exchange : (before after : List Event) (seat : Seat) → SaysTheSame before after → is_no_exchange after seat ≡ is_no_exchange before seat
 unfolding is_over_six
@@ -123,7 +84,7 @@ same_exchange before after seat same =
 
 -- an order can still be done where a list says the same
 still_may : (seats : ℕ) (before after : List Event) (seat : Seat) (order : Order) → SaysTheSame before after → MayAct seats before seat order → MayAct seats after seat order
-unfolding is_none_there is_not_held is_over_five
+unfolding is_none_there
 still_may seats before after seat (Par company price) same may =
     record {
       par = may.par;
@@ -136,13 +97,7 @@ still_may seats before after seat (BuyShare company from) same may =
       started = same_start before after company same ∙ may.started;
       pays = same_purse seats before after seat (tenth_price_of before company from) (tenth_price_of after company from) same (same_price before after company from same) ∙ may.pays;
     }
-still_may seats before after seat (Sell company tenths) same may =
-    record {
-      held = ap (λ (held : ℤ). tenths == 0 || lt_z held (pos tenths)) (same.shares company (OfSeat seat)) ∙ may.held;
-      pool = ap (λ (pooled : ℤ). lt_z (pos 5) (pooled +ℤ pos tenths)) (same.shares company BankPool) ∙ may.pool;
-      leaves = same_stay seats before after seat (record { company = company; tenths = tenths }) same ∙ may.leaves;
-      started = same_start before after company same ∙ may.started;
-    }
+still_may seats before after seat (Sell company tenths) same may = still_may_sell seats before after seat (record { company = company; tenths = tenths }) same may
 still_may seats before after seat ExchangeMohawk same may = same_exchange before after seat same ∙ may
 still_may seats before after seat other same may = tt
 

@@ -1,20 +1,17 @@
 -- What an obeyed order of a stock turn brings, event by event, each on the list that the one before left.
 -- To set a par value is to buy the president's certificate, two tenths, at it. A tenth of the initial
--- offering costs the par value, one of the pool the market price. So many tenths sold bring so many times the
--- market price, and the token then moves down as many squares. The presidency passes to a seat that has
--- strictly more tenths than the president. A company floats once at most four tenths are left in its initial
+-- offering costs the par value, one of the pool the market price. What a sale brings is said with the certificates,
+-- and so is the presidency that passes to a seat that has strictly more tenths than the president. A company floats once at most four tenths are left in its initial
 -- offering, and has ten times its par value then.
-use Rattle.std.specs.Prelude.{ℕ, ◌*◌, ◌==◌, Bool, not, ◌&&◌, if◌then◌else◌, List, [], ◌∷◌, ◌++◌, Option, Some, None, unwrap_or, pos}
+use Rattle.std.specs.Prelude.{ℕ, ◌*◌, Bool, not, ◌&&◌, if◌then◌else◌, List, [], ◌∷◌, ◌++◌, unwrap_or, pos}
 use Rattle.std.specs.Int.Signed.{lt_z}
-use Rattle.certs.specs.President.{successor_of}
-use Rattle.certs.specs.Purchase.{market_price_of, tenth_price_of}
-use Rattle.history.specs.Shares.{is_floated, par_of, president_of, shares_of}
+use Rattle.certs.specs.Purchase.{tenth_price_of}
+pub use Rattle.certs.specs.SaleAct.{after_sale, with_president}
+use Rattle.history.specs.Shares.{is_floated, par_of, shares_of}
 use Rattle.history.specs.Tell.{with_broken}
 use Rattle.history.specs.declared.event.Event.{Event}
 use Rattle.history.specs.declared.event.Event.TheVariants as event
 use Rattle.history.specs.declared.event.Shareholder.TheVariants.{InitialOffering as AtOffering}
-use Rattle.market.specs.Moves.{fallen}
-use Rattle.market.specs.Token.{with_move}
 use Rattle.order_grammar.specs.declared.order.Order.{Order}
 use Rattle.order_grammar.specs.declared.order.Order.TheVariants.{Par, BuyShare, Sell, ExchangeMohawk}
 use Rattle.order_grammar.specs.declared.order.ShareSource.{ShareSource}
@@ -27,19 +24,6 @@ use Rattle.tables.specs.declared.seat.Seat.{Seat}
 -- the tenths of a president's certificate
 abbrev pub president_tenths : ℕ
 president_tenths = 2
-
--- with PRESIDENT where this seat now presides in place of another
-abbrev pub succeeded : List Event → Company → Seat → Seat → List Event
-succeeded events company old new = if new.0 == old.0 then events else events ++ event.President company new ∷ []
-
--- with the presidency of a company moved, where this seat presided, if any did
-abbrev pub with_successor : ℕ → List Event → Company → Option Seat → List Event
-with_successor seats events company None = events
-with_successor seats events company (Some old) = succeeded events company old (successor_of seats events company old)
-
--- with the presidency of a company moved to the seat that now has it
-abbrev pub with_president : ℕ → List Event → Company → List Event
-with_president seats events company = with_successor seats events company (president_of events company)
 
 -- the most tenths that are left in the initial offering of a company that floats
 abbrev pub float_most : ℕ
@@ -75,16 +59,6 @@ bought events seat company from = events ++ event.Bought company seat 1 from (te
 abbrev pub after_purchase : ℕ → List Event → Seat → Company → ShareSource → List Event
 after_purchase seats events seat company from =
     with_float seats (with_president seats (bought events seat company from) company) company
-
--- after a seat was paid for so many tenths
-abbrev pub sold : ℕ → List Event → Seat → Company → ℕ → List Event
-sold seats events seat company tenths =
-    with_broken seats (events ++ event.Sells company seat tenths (tenths * market_price_of events company) ∷ [])
-
--- after a seat has sold so many tenths, and what follows from it
-abbrev pub after_sale : ℕ → List Event → Seat → Company → ℕ → List Event
-after_sale seats events seat company tenths =
-    with_move (fallen tenths) (with_president seats (sold seats events seat company tenths) company) company
 
 -- after a seat has given up MH for a tenth of NYC
 abbrev pub exchanged : List Event → Seat → List Event

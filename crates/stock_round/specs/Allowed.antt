@@ -1,10 +1,9 @@
 -- What an order needs so that it can be done: those of its rules that say what the game has, and not what was
 -- done before in the turn or the round. They are kept after the ruling as they were before it.
-use Rattle.std.specs.Prelude.{◌≡◌, ℕ, ◌*◌, List, true, false, None}
+use Rattle.std.specs.Prelude.{◌≡◌, ℕ, ◌*◌, List, true, false}
 use Rattle.certs.specs.Purchase.{is_no_par, is_none_there, is_short, tenth_price_of}
-use Rattle.certs.specs.Sale.{is_not_held, is_over_five, must_stay}
 use Rattle.certs.specs.declared.deal.Purchase.TheVariants as purchase
-use Rattle.certs.specs.declared.deal.Sale.{Sale}
+pub use Rattle.certs.specs.SaleAct.{MaySell}
 use Rattle.history.specs.Shares.{is_started}
 use Rattle.history.specs.declared.event.Event.{Event}
 use Rattle.order_grammar.specs.declared.order.Order.{Order}
@@ -26,13 +25,6 @@ pub record MayBuy (seats : ℕ) (events : List Event) (seat : Seat) (company : C
   pub there : is_none_there events (purchase.Share company from) ≡ false
   pub started : is_started events company ≡ true
   pub pays : is_short seats events seat (tenth_price_of events company from) ≡ false
-
--- the seat can make a sale
-pub record MaySell (seats : ℕ) (events : List Event) (seat : Seat) (sale : Sale) : Type 0 where
-  pub held : is_not_held events seat sale ≡ false
-  pub pool : is_over_five events sale ≡ false
-  pub leaves : must_stay seats events seat sale None ≡ false
-  pub started : is_started events sale.company ≡ true
 
 -- the seat can give up MH for a tenth of NYC
 abbrev pub MayExchange : List Event → Seat → Type 0

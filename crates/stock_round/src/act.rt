@@ -1,14 +1,13 @@
-ghost use Rattle.std.specs.Prelude.{◌≡◌, ◌≤◌, ◌<◌, ◌*◌, OnOk};
+ghost use Rattle.std.specs.Prelude.{◌≡◌, ◌≤◌, ◌<◌, OnOk};
 ghost use Rattle.history.specs.Sound.{IsSound};
 ghost use Rattle.history.specs.declared.event.Event.TheVariants as event;
-ghost use Rattle.stock_round.specs.Act.{after_act, after_exchange, after_purchase, after_sale, after_start};
-ghost use Rattle.stock_round.specs.Allowed.{MayAct, MayBuy, MayExchange, MaySell, MayStart};
+ghost use Rattle.stock_round.specs.Act.{after_act, after_exchange, after_purchase, after_start};
+ghost use Rattle.stock_round.specs.Allowed.{MayAct, MayBuy, MayExchange, MayStart};
 
 use crate::float::tell_float;
-use crate::payments::{give_up_mohawk, pay_for_block, pay_for_tenth};
-use crate::president::tell_president;
+use crate::payments::{give_up_mohawk, pay_for_tenth};
+use certs::{Sale, sell_block, tell_president};
 use history::{Event, History};
-use market::move_token_down;
 use order_grammar::{Order, ShareSource};
 use std::alloc::AllocError;
 use tables::{Amount, Company, Seat};
@@ -30,7 +29,10 @@ pub(crate) fn act(history: &mut History, seat: Seat, order: &Order) -> Result<()
     match order {
         Order::Par { company, price } => start(history, seat, *company, *price),
         Order::BuyShare { company, from } => buy(history, seat, *company, *from),
-        Order::Sell { company, tenths } => sell(history, seat, *company, *tenths),
+        Order::Sell { company, tenths } => {
+            let (company, tenths) = (*company, *tenths);
+            sell_block(history, seat, Sale { company, tenths })
+        }
         Order::ExchangeMohawk => exchange(history, seat),
         _ => Ok(()),
     }
@@ -82,30 +84,6 @@ fn buy(
     pay_for_tenth(history, seat, company, from)?;
     tell_president(history, company)?;
     tell_float(history, company)
-}
-
-/// A seat sells tenths of a company, as one block.
-fn sell(
-    history: &mut History,
-    seat: Seat,
-    company: Company,
-    tenths: Amount,
-) -> Result<(), AllocError>
-    requires few { history.old.seats ≤ 6 }
-    requires at_table { seat.0 < history.old.seats }
-    requires may { MaySell history.old.seats history.old.events seat
-        (record { company = company; tenths = tenths }) }
-    requires sound { IsSound history.old }
-    ensures seats { OnOk result (history.new.seats ≡ history.old.seats) }
-    ensures events { OnOk result (history.new.events
-        ≡ after_sale history.old.seats history.old.events seat company tenths) }
-    ensures sound { OnOk result (IsSound history.new) }
-{
-    let tenths = tenths as u8;
-    pay_for_block(history, seat, company, tenths)?;
-    tell_president(history, company)?;
-    move_token_down(history, company, tenths)?;
-    Ok(())
 }
 
 /// A seat gives up MH for a tenth of NYC.

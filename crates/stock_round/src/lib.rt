@@ -8,7 +8,7 @@
 //! succession; then the companies that are all in players' hands move up.
 //!
 //! Reading order: `judgement` (the rules that an order may break), `ruling`, `act` (what an obeyed
-//! order brings) with `payments`, `prices`, `president` and `float`, `deals` (what a seat has done
+//! order brings) with `payments`, `prices` and `float`, `deals` (what a seat has done
 //! in a turn), `turn` (the lines of a turn), `standing` (the lines before the first group),
 //! `closing`, `playing` (what makes it a round of `turns`), `laws` (what holds of every stock
 //! round).
@@ -22,7 +22,6 @@ mod judgement;
 mod laws;
 mod payments;
 mod playing;
-mod president;
 mod prices;
 mod ruling;
 mod standing;

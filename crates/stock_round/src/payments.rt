@@ -1,16 +1,15 @@
 //! What passes between a seat and the bank in one event.
-ghost use Rattle.std.specs.Prelude.{◌≡◌, ◌≤◌, ◌<◌, OnOk};
+ghost use Rattle.std.specs.Prelude.{◌≡◌, ◌<◌, OnOk};
 ghost use Rattle.history.specs.Sound.{IsSound};
-ghost use Rattle.stock_round.specs.Act.{bought, exchanged, sold};
+ghost use Rattle.stock_round.specs.Act.{bought, exchanged};
 ghost use Rattle.stock_round.specs.Allowed.{MayBuy, MayExchange};
 
 use crate::judgement::exchange_source;
 use crate::prices::tenth_price;
-use certs::market_price;
 use history::{Event, History};
 use order_grammar::ShareSource;
 use std::alloc::AllocError;
-use tables::{Amount, Company, Seat};
+use tables::{Company, Seat};
 
 /// A seat pays for a tenth of a company, and has it.
 pub(crate) fn pay_for_tenth(
@@ -35,29 +34,6 @@ pub(crate) fn pay_for_tenth(
         from,
         price,
     })?;
-    Ok(())
-}
-
-/// A seat has the price of tenths of a company, and the pool has them.
-pub(crate) fn pay_for_block(
-    history: &mut History,
-    seat: Seat,
-    company: Company,
-    tenths: u8,
-) -> Result<(), AllocError>
-    requires few { tenths ≤ 10 }
-    ensures seats { OnOk result (history.new.seats ≡ history.old.seats) }
-    ensures events { OnOk result (history.new.events
-        ≡ sold history.old.seats history.old.events seat company tenths) }
-{
-    let price = Amount::from(tenths) * market_price(&history.now(), company);
-    history.append(Event::Sells {
-        company,
-        seat,
-        tenths,
-        price,
-    })?;
-    history.tell_broken()?;
     Ok(())
 }
 

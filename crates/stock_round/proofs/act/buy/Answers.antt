@@ -1,4 +1,4 @@
-use Rattle.stock_round.proofs.Acts.{president_sound}
+use Rattle.certs.proofs.Succession.{president_sound}
 use Rattle.stock_round.proofs.act.buy.Goals as goal
 
 pub tell_float-requires : goal.tell_float-requires

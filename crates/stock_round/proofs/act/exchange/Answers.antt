@@ -1,4 +1,4 @@
-use Rattle.stock_round.proofs.Acts.{president_sound}
+use Rattle.certs.proofs.Succession.{president_sound}
 use Rattle.tables.specs.declared.roster.Company.TheVariants.{NewYorkCentral}
 use Rattle.stock_round.proofs.act.exchange.Goals as goal
 

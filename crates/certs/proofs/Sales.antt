@@ -20,9 +20,8 @@ use Rattle.history.specs.declared.event.Event.{Event}
 use Rattle.history.specs.declared.event.Event.TheVariants as event
 use Rattle.history.specs.declared.event.Shareholder.TheVariants.{Seat as OfSeat}
 use Rattle.market.proofs.Tokens.{same_game}
-use Rattle.stock_round.proofs.Others.{another_leads}
-use Rattle.stock_round.specs.Act.{sold, succeeded, with_president, with_successor}
-use Rattle.stock_round.specs.Allowed.{MaySell}
+use Rattle.certs.proofs.Others.{another_leads}
+use Rattle.certs.specs.SaleAct.{MaySell, sold, succeeded, with_president, with_successor}
 use Rattle.tables.specs.Roster.{same_company}
 use Rattle.tables.specs.Seat.{seat_at}
 use Rattle.tables.specs.declared.roster.Company.{Company}

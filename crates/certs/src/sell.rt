@@ -1,0 +1,87 @@
+//! What a sale brings.
+ghost use Rattle.std.specs.Prelude.{◌≡◌, ◌≤◌, ◌<◌, OnOk};
+ghost use Rattle.certs.specs.SaleAct.{MaySell, after_sale, sold, succeeded, with_president};
+ghost use Rattle.history.specs.Sound.{IsSound};
+
+use crate::deal::Sale;
+use crate::president::successor;
+use crate::purchase::market_price;
+use history::{Event, History};
+use market::move_token_down;
+use std::alloc::AllocError;
+use tables::{Amount, Company, Seat};
+
+/// A seat sells tenths of a company, as one block: the bank pays it, the presidency passes on where
+/// another seat then has more, and the token on the chart moves down. An `Err` comes from want of
+/// memory alone.
+pub fn sell_block(history: &mut History, seat: Seat, sale: Sale) -> Result<(), AllocError>
+    requires few { history.old.seats ≤ 6 }
+    requires at_table { seat.0 < history.old.seats }
+    requires may { MaySell history.old.seats history.old.events seat sale }
+    requires sound { IsSound history.old }
+    ensures seats { OnOk result (history.new.seats ≡ history.old.seats) }
+    ensures events { OnOk result (history.new.events
+        ≡ after_sale history.old.seats history.old.events seat sale.company sale.tenths) }
+    ensures sound { OnOk result (IsSound history.new) }
+{
+    let tenths = sale.tenths as u8;
+    pay_for_block(history, seat, sale.company, tenths)?;
+    tell_president(history, sale.company)?;
+    move_token_down(history, sale.company, tenths)?;
+    Ok(())
+}
+
+/// A seat has the price of tenths of a company, and the pool has them.
+fn pay_for_block(
+    history: &mut History,
+    seat: Seat,
+    company: Company,
+    tenths: u8,
+) -> Result<(), AllocError>
+    requires few { tenths ≤ 10 }
+    ensures seats { OnOk result (history.new.seats ≡ history.old.seats) }
+    ensures events { OnOk result (history.new.events
+        ≡ sold history.old.seats history.old.events seat company tenths) }
+{
+    let price = Amount::from(tenths) * market_price(&history.now(), company);
+    history.append(Event::Sells {
+        company,
+        seat,
+        tenths,
+        price,
+    })?;
+    history.tell_broken()?;
+    Ok(())
+}
+
+/// Tells who presides over a company, where the presidency has moved by a change of its tenths. An
+/// `Err` comes from want of memory alone.
+pub fn tell_president(history: &mut History, company: Company) -> Result<(), AllocError>
+    ensures seats { OnOk result (history.new.seats ≡ history.old.seats) }
+    ensures events { OnOk result (history.new.events
+        ≡ with_president history.old.seats history.old.events company) }
+{
+    let Some(old) = history.president(company) else {
+        return Ok(());
+    };
+    let new = successor(&history.now(), company, old);
+    tell_successor(history, company, old, new)
+}
+
+/// Tells that a seat presides in place of another, where it is another.
+fn tell_successor(
+    history: &mut History,
+    company: Company,
+    old: Seat,
+    new: Seat,
+) -> Result<(), AllocError>
+    ensures seats { OnOk result (history.new.seats ≡ history.old.seats) }
+    ensures events { OnOk result (history.new.events
+        ≡ succeeded history.old.events company old new) }
+{
+    if new == old {
+        return Ok(());
+    }
+    history.append(Event::President { company, seat: new })?;
+    Ok(())
+}
