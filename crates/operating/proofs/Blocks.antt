@@ -1,7 +1,7 @@
 -- The sums that the lines of a company's block name are small, as those of its sheet.
 use Rattle.std.proofs.Common.{ℕ, Bool, true, false, if◌then◌else◌, List, [], ◌∷◌, map}
 use Rattle.sheets.specs.Block.{block_for, block_in, opens_block_of}
-use Rattle.sheets.specs.Part.{Numbered, Part, parts_for}
+use Rattle.sheets.specs.Part.{Part, parts_for}
 use Rattle.tables.specs.declared.roster.Company.{Company}
 use Rattle.tables.specs.declared.round.Round.{Round}
 use Rattle.turns.proofs.Small.{parts_small}

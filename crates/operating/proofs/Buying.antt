@@ -6,7 +6,7 @@ use Rattle.std.proofs.lemmas.Int.{ints}
 use Rattle.std.specs.Int.Signed.{lt_z}
 use Rattle.history.proofs.EventAtEnd.{cash_of_before, trains_at_end}
 use Rattle.history.proofs.Rolling.{same_kind_is, sold_at_end}
-use Rattle.history.proofs.TrainActs.{closing_sound, trade_sound, train_purchase_sound}
+use Rattle.history.proofs.TrainActs.{trade_sound, train_purchase_sound}
 use Rattle.history.specs.Event.{party_of_company, train_moved}
 use Rattle.history.specs.LookBack.{Game, cash_of, with_event}
 use Rattle.history.specs.Sound.{IsSound}
@@ -27,7 +27,6 @@ use Rattle.tables.specs.Train.{same_kind, trains_of as manifest_of}
 use Rattle.tables.specs.declared.rolling_stock.Kind.{Kind}
 use Rattle.tables.specs.declared.rolling_stock.Kind.TheVariants.{Six, Diesel}
 use Rattle.tables.specs.declared.roster.Company.{Company}
-use Rattle.tables.specs.declared.roster.Private.{Private}
 
 -- what is not so is so where its contrary is not
 pub so : (test : Bool) → not test ≡ false → test ≡ true

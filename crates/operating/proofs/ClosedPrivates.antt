@@ -1,6 +1,7 @@
 -- A private that is closed stays so: an event that names an owner names that of a private which is not closed. In a
 -- company's turn that is the purchase of one from a player who owns it.
-use Rattle.std.proofs.Common.{◌≡◌, Bool, true, false, ◌&&◌, if◌then◌else◌, List, [], ◌∷◌, ◌++◌, Option, Some, None, is_some, is_none, refl, sym, ap, ◌∙◌}
+use Rattle.std.proofs.Common.{◌≡◌, Bool, true, false, ◌&&◌, if◌then◌else◌, List, [], ◌∷◌, ◌++◌, Option, Some, None}
+use Rattle.std.proofs.Common.{is_some, is_none, refl, sym, ap, ◌∙◌}
 use Rattle.std.specs.Option.{option_flatten, option_or}
 use Rattle.history.proofs.BidWords.{same_private_is}
 use Rattle.history.proofs.EventAtEnd.{last_said_at_end}
@@ -13,12 +14,12 @@ use Rattle.history.specs.declared.event.Holder.TheVariants as holder
 use Rattle.history.specs.declared.event.Ownership.{Ownership}
 use Rattle.operating.proofs.TrainSteps.{IsPassedOn}
 use Rattle.operating.proofs.TurnEvents.{IsOfTurn}
-use Rattle.operating.proofs.TurnGames.{by_each, of_game_turn}
+use Rattle.operating.proofs.ForcedGames.{forced_names_none, of_game_turn}
+use Rattle.operating.proofs.TurnGames.{by_each}
 use Rattle.operating.specs.PrivateLaws.{ClosedHasNoOwner, ClosedStaysClosed, KeepsClosed, OthersKeepClosed, SalesKeepClosed, names_owner}
 use Rattle.tables.specs.Roster.{same_private}
 use Rattle.tables.specs.declared.roster.Company.{Company}
 use Rattle.tables.specs.declared.roster.Private.{Private}
-use Rattle.tables.specs.declared.seat.Seat.{Seat}
 
 -- the last word on a private says that it is closed: it has been sold, and has no owner
 abbrev says_closed : Option (Option Holder) → Bool
@@ -31,7 +32,8 @@ says_none (Some None) closed = refl
 says_none (Some (Some owner)) closed = absurd (cc)
 
 pub closed_has_no_owner : ClosedHasNoOwner
-closed_has_no_owner events private closed = says_none (last_said (λ its. owner_said private (ownership_of its)) events) closed
+closed_has_no_owner events private closed =
+    says_none (last_said (λ its. owner_said private (ownership_of its)) events) closed
 
 -- it stays so where no owner is named
 closed_again : (said word : Option (Option Holder)) → is_some (option_flatten said) ≡ false → says_closed word ≡ true →
@@ -63,7 +65,8 @@ unsold_not : (word : Option (Option Holder)) → is_some word ≡ false → says
 unsold_not None unsold = refl
 unsold_not (Some word) unsold = absurd (cc)
 
-owned_not : (word : Option (Option Holder)) (owner : Holder) → option_flatten word ≡ Some owner → says_closed word ≡ false
+owned_not : (word : Option (Option Holder)) (owner : Holder) → option_flatten word ≡ Some owner →
+    says_closed word ≡ false
 owned_not None owner owns = refl
 owned_not (Some None) owner owns = let nobody : ◌≡◌ {A = Option Holder} None (Some owner) = owns in absurd (cc)
 owned_not (Some (Some other)) owner owns = refl
@@ -109,4 +112,5 @@ closed_stays_closed file round company old new turn =
       same = λ game private closed. closed;
       both = λ a b c one two private closed. two private (one private closed);
     } in
-    of_game_turn company StillClosed (by_each company StillClosed on (of_each company)) file round old new turn
+    of_game_turn company StillClosed (by_each company StillClosed on (of_each company))
+    (λ game its is no_tile no_train no_phase. others_keep_closed game.events its (forced_names_none its is)) file round old new turn

@@ -1,13 +1,13 @@
 -- What a company pays out: each dividend keeps a list sound, no place has more than ten tenths, and what is paid to
 -- all is paid step by step.
-use Rattle.std.proofs.Common.{◌≡◌, ℕ, zero, suc, ◌+◌, ◌-◌, ◌<◌, ◌≤◌, ◌==◌, inl, inr, Bool, true, false, if◌then◌else◌, List, [], ◌∷◌, ◌++◌, map, Option, Some, None, pos, ◌≤ℤ◌, refl, sym, subst, ap, ◌∙◌, arith}
+use Rattle.std.proofs.Common.{◌≡◌, ℕ, zero, suc, ◌+◌, ◌-◌, ◌<◌, ◌≤◌, ◌==◌, inl, inr, Bool, true, false, if◌then◌else◌, List, [], ◌∷◌, map, pos, ◌≤ℤ◌, refl, sym, subst, ap, ◌∙◌, arith}
 use Rattle.std.proofs.lemmas.Bool.{cases_eq}
 use Rattle.std.proofs.lemmas.Int.{ints}
 use Rattle.std.specs.List.{range_with_len}
 use Rattle.history.proofs.TrainActs.{dividend_sound}
 use Rattle.history.specs.LookBack.{Game, with_event}
 use Rattle.history.specs.Money.{IsParty}
-use Rattle.history.specs.Shares.{held_by, shares_of, square_of}
+use Rattle.history.specs.Shares.{held_by, shares_of}
 use Rattle.history.specs.Sound.{IsSound, TenthsAreHeld}
 use Rattle.history.specs.Tell.{broken_told}
 use Rattle.history.specs.declared.event.Event.{Event}
@@ -17,13 +17,12 @@ use Rattle.history.specs.declared.event.Holder.TheVariants as holder
 use Rattle.history.specs.declared.event.Party.TheVariants as party
 use Rattle.history.specs.declared.event.Shareholder.TheVariants.{InitialOffering, BankPool, Seat as OfSeat}
 use Rattle.market.specs.Moves.{right_of}
-use Rattle.market.specs.Token.{moved_from, same_square, with_move}
+use Rattle.market.specs.Token.{with_move}
 use Rattle.operating.proofs.Fitting.{broken_sound}
 use Rattle.operating.specs.Dividend.{all_paid, moved_right, paid_for, paid_out, paid_to, paid_to_seats}
 use Rattle.tables.specs.Seat.{all_seats, seat_at}
 use Rattle.tables.specs.declared.roster.Company.{Company}
 use Rattle.tables.specs.declared.seat.Seat.{Seat}
-use Rattle.tables.specs.declared.squares.Square.{Square}
 
 -- seats have no fewer than no tenths together
 held_not_under : (events : List Event) (company : Company) (seats : List Seat) → TenthsAreHeld events → pos 0 ≤ℤ held_by events company seats

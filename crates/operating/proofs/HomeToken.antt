@@ -1,5 +1,5 @@
 -- The home token of a company: whether it lies is read event by event; after the company's turn it lies, and stays.
-use Rattle.std.proofs.Common.{◌≡◌, ℕ, Bool, true, false, ◌&&◌, ◌||◌, if◌then◌else◌, List, [], ◌∷◌, ◌++◌, refl, sym, ap, ◌∙◌}
+use Rattle.std.proofs.Common.{◌≡◌, Bool, true, false, ◌&&◌, ◌||◌, if◌then◌else◌, List, [], ◌∷◌, ◌++◌, refl, sym, ap, ◌∙◌}
 use Rattle.std.proofs.lemmas.List.{append_assoc}
 use Rattle.std.proofs.lemmas.List.Elements.{filter_map-append}
 use Rattle.std.proofs.lemmas.List.Folds.{list_any-append}
@@ -8,6 +8,7 @@ use Rattle.board.proofs.Same.{or_true}
 use Rattle.history.specs.Event.{token_placed}
 use Rattle.history.specs.LookBack.{Game, with_event}
 use Rattle.history.specs.Operating.{tokens_of}
+use Rattle.history.specs.Shares.{president_of}
 use Rattle.history.specs.declared.event.Event.{Event}
 use Rattle.history.specs.declared.event.Event.TheVariants as event
 use Rattle.map_tables.specs.Hex.{index_of}
@@ -17,11 +18,12 @@ use Rattle.map_tables.specs.Place.{place_of}
 use Rattle.map_tables.specs.declared.place.Place.{Place}
 use Rattle.map_tables.specs.declared.place.Stop.{Stop}
 use Rattle.operating.proofs.TurnGames.{of_steps}
-use Rattle.operating.proofs.TurnLaws.{adds_by}
+use Rattle.operating.proofs.TurnLaws.{adds_by, more_adds}
+use Rattle.operating.proofs.ForcedGames.{of_block_end}
 use Rattle.operating.proofs.TurnSteps.{of_turn}
 use Rattle.operating.specs.Act.{has_home_token, with_home}
 use Rattle.operating.specs.Laws.{HomeTokenLies, OnlyAdds}
-use Rattle.operating.specs.Turn.{begun}
+use Rattle.operating.specs.Turn.{begun, settled}
 use Rattle.tables.specs.Roster.{same_company}
 use Rattle.tables.specs.declared.roster.Company.{Company}
 use Rattle.tables.specs.declared.roster.Company.TheVariants.{Pennsylvania}
@@ -73,8 +75,11 @@ begun_lies game company =
 pub home_token_lies : HomeTokenLies
 home_token_lies file round company old new turn more =
     let first = (begun old company).game in
-    let adds = of_turn company _ (of_steps company OnlyAdds (adds_by company)) file round old new turn in
-    ap (λ (game : Game). has_home_token (game.events ++ more) company) (turn.after ∙ adds.added)
+    let paid = (settled company turn.last).game in
+    let before : OnlyAdds first paid = of_turn company _ (of_steps company OnlyAdds (adds_by company)) file round old new turn in
+    let ended : OnlyAdds paid new = of_block_end company OnlyAdds (adds_by company) more_adds file round paid (president_of old.events company) new turn.after in
+    let adds : OnlyAdds first new = (adds_by company).on.both first paid new before ended in
+    ap (λ (game : Game). has_home_token (game.events ++ more) company) adds.added
     ∙ ap (λ (events : List Event). has_home_token events company) (append_assoc first.events adds.more more)
     ∙ by_either (home_of company) company first.events (adds.more ++ more)
     ∙ ap (λ (b : Bool). b || has_home_token (adds.more ++ more) company) (begun_lies old company)

@@ -1,12 +1,12 @@
 -- The marks of a turn are those of the borders that the walks of its obeyed runs cross: they are none at first, a run
 -- that is obeyed adds its own, and no other order touches them.
-use Rattle.std.proofs.Common.{◌≡◌, ℕ, Bool, true, false, if◌then◌else◌, List, [], ◌∷◌, ◌++◌, Option, Some, None, Result, Ok, Err, ℤ, length, get_or, replicate, zero, suc, refl, sym, subst, ap, ◌∙◌, inl, inr}
+use Rattle.std.proofs.Common.{◌≡◌, ℕ, Bool, true, false, if◌then◌else◌, List, [], ◌∷◌, ◌++◌, Option, Some, None, Result, Ok, Err, ℤ, length, replicate, zero, suc, refl, sym, subst, ap, ◌∙◌}
 use Rattle.board.specs.declared.fault.LayFault.{LayFault}
 use Rattle.board.specs.declared.fault.TokenFault.{TokenFault}
 use Rattle.certificate.proofs.Kept.{crossed_used}
 use Rattle.certificate.proofs.Sharing.{legal_by_marks}
-use Rattle.certificate.specs.Legal.{IsLegalRun, all_crossed, crossed}
-use Rattle.certificate.specs.Marks.{IsUsed, MarksAre, borders_used, marked}
+use Rattle.certificate.specs.Legal.{all_crossed, crossed}
+use Rattle.certificate.specs.Marks.{IsUsed, MarksAre}
 use Rattle.history.specs.LookBack.{Game}
 use Rattle.history.specs.declared.ruling.LayRule.{LayRule}
 use Rattle.history.specs.declared.ruling.PayRule.{PayRule}
@@ -19,7 +19,7 @@ use Rattle.map_tables.specs.declared.place.Place.{Place}
 use Rattle.operating.proofs.Judged.{judged_borders, judged_legal}
 use Rattle.operating.specs.Act.{withheld}
 use Rattle.operating.specs.Dividend.{paid_out, pay_judgement, pay_ruled, withhold_judgement}
-use Rattle.operating.specs.InTurn.{InTurn, at_start, in_turn, is_unpaid, no_runs, pay_done}
+use Rattle.operating.specs.InTurn.{InTurn, in_turn, is_unpaid, pay_done}
 use Rattle.operating.specs.Judgement.{rule_of_lay, rule_of_token}
 use Rattle.operating.specs.LegalRuns.{LinesRun, ObeyedRunsAreLegal, walk_if_ran, walk_obeyed}
 use Rattle.operating.specs.Privates.{private_judgement, private_ruled}
@@ -29,11 +29,9 @@ use Rattle.operating.specs.Turn.{OrderLeads, ReadingLeads, begun, lay_answered, 
 use Rattle.operating.specs.declared.operator.Operator.{Operator}
 use Rattle.operating.specs.declared.purchase.Purchase.{Purchase}
 use Rattle.operating.specs.declared.runs.Ran.{Ran}
-use Rattle.operating.specs.declared.runs.Runs.{Runs}
 use Rattle.order_grammar.specs.declared.fault.Fault.{Fault}
 use Rattle.order_grammar.specs.declared.order.Order.{Order}
 use Rattle.order_grammar.specs.declared.order.Order.TheVariants as order
-use Rattle.reach.specs.Position.{IsAmong}
 use Rattle.reach.specs.declared.walk.Step.{Step}
 use Rattle.sheets.specs.Part.{Numbered}
 use Rattle.tables.specs.declared.rolling_stock.Kind.{Kind}

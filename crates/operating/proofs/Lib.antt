@@ -33,4 +33,13 @@ pub mod Operated
 pub mod Consents
 pub mod SaleLaws
 pub mod AgreedSales
+pub mod ForcedBuying
+pub mod ForcedLemmas
+pub mod Seated
+pub mod ForcedSteps
+pub mod ForcedAid
 pub mod ClosedPrivates
+pub mod ForcedGames
+pub mod Presidency
+pub mod Bankruptcies
+pub mod ForcedTrains

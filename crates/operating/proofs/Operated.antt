@@ -5,13 +5,15 @@ use Rattle.std.specs.Option.{option_flatten, option_map, option_or}
 use Rattle.history.proofs.EventAtEnd.{last_said_at_end}
 use Rattle.history.specs.Event.{operated_by, round_of}
 use Rattle.history.specs.LookBack.{Game, in_round, last_said, with_event}
+use Rattle.history.specs.Shares.{president_of}
 use Rattle.history.specs.Operating.{has_operated, turn_said}
 use Rattle.history.specs.declared.event.Event.{Event}
 use Rattle.history.specs.declared.event.Event.TheVariants as event
 use Rattle.history.specs.declared.ruling.PayRule.{PayRule}
 use Rattle.history.specs.declared.ruling.PayRule.TheVariants.{NothingToPay}
 use Rattle.operating.proofs.TurnEvents.{begins_none, own_alone}
-use Rattle.operating.proofs.TurnGames.{OfEvents, after_withheld, by_each, of_game_turn, of_steps}
+use Rattle.operating.proofs.ForcedGames.{OfForced, forced_begins_none, forced_operates_none, of_block_end, of_game_turn}
+use Rattle.operating.proofs.TurnGames.{OfEvents, after_withheld, by_each, of_steps}
 use Rattle.operating.proofs.TurnSteps.{OfSteps, of_turn}
 use Rattle.operating.specs.Act.{withheld}
 use Rattle.operating.specs.Dividend.{is_past_pay}
@@ -26,7 +28,7 @@ use Rattle.tables.specs.declared.roster.Company.{Company}
 use Rattle.tables.specs.declared.round.Round.{Round}
 
 -- something or nothing is that
-or_false : (b : Bool) → (b || false) ≡ b
+pub or_false : (b : Bool) → (b || false) ≡ b
 or_false true = refl
 or_false false = refl
 
@@ -73,6 +75,17 @@ by_events company =
       still = λ other has. one_more other game.events its (begins_none company game its is)
           ∙ ap (λ (b : Bool). b || is_some (turn_said other (operated_by its))) has;
     })
+
+-- and by each of a forced purchase
+more_events : (company : Company) → OfForced (Operates company)
+more_events company game its is no_tile no_train no_phase =
+    record {
+      others = λ other apart. one_more other game.events its (forced_begins_none its is)
+          ∙ ap (λ (word : Option Company). has_operated game.events other || is_some (turn_said other word)) (forced_operates_none its is)
+          ∙ or_false (has_operated game.events other);
+      still = λ other has. one_more other game.events its (forced_begins_none its is)
+          ∙ ap (λ (b : Bool). b || is_some (turn_said other (operated_by its))) has;
+    }
 
 -- a company has operated by an event that says so
 now_has : (company : Company) (game : Game) (its : Event) → is_some (round_of its) ≡ false → operated_by its ≡ Some company →
@@ -132,14 +145,14 @@ has_at_end : (company : Company) (file : List ℕ) (round : Round) (old new : Ga
     has_operated new.events company ≡ true
 has_at_end company file round old new turn =
     let last = settled company turn.last in
-    ap (λ (game : Game). has_operated game.events company) turn.after
-    ∙ of_turn company _ (has_steps company) file round old new turn (λ none. cc)
-    (ap (λ (b : Bool). not b || not (last.progress.runs.revenue == 0)) (settled_past company turn.last))
+    (of_block_end company (Operates company) (by_events company) (more_events company) file round last.game (president_of old.events company) new turn.after).still company
+    (of_turn company _ (has_steps company) file round old new turn (λ none. cc)
+    (ap (λ (b : Bool). not b || not (last.progress.runs.revenue == 0)) (settled_past company turn.last)))
 
 -- and no other that had not before
 pub company_operates : CompanyOperates
 company_operates file round company old new turn other =
-    let by = of_game_turn company (Operates company) (by_events company) file round old new turn in
+    let by = of_game_turn company (Operates company) (by_events company) (more_events company) file round old new turn in
     elim (same_company company other) as (λ (b : Bool). same_company company other ≡ b →
     has_operated new.events other ≡ (has_operated old.events other || b)) [
       | true ↦ λ same. subst (λ (c : Company). has_operated new.events c ≡ true) (company_is company other same)

@@ -1,11 +1,13 @@
 -- A company's turn has one outcome: the rules of the board give one answer to a lay and to a token, and all else
 -- follows.
-use Rattle.std.proofs.Common.{◌≡◌, ℕ, Bool, true, false, ◌↔◌, IsTrue, List, [], ◌∷◌, ◌++◌, Option, Some, None, Result, Ok, Err, refl, sym, ap, subst, ◌∙◌}
+use Rattle.std.proofs.Common.{◌≡◌, ℕ, Bool, true, false, ◌↔◌, IsTrue, List, [], ◌∷◌, ◌++◌, Option, Some, None, Result, Ok, Err, inl, inr, refl, sym, ap, subst, ◌∙◌}
 use Rattle.board.proofs.RuleTables.{earlier}
 use Rattle.board.specs.Ground.{Ground, position_of, with_lay}
 use Rattle.board.specs.LayRules.{IsConnected, IsLayAnswer, cost_or, ground_rules, lay_cost_of, lay_rules, reach_rules as lay_reach_rules}
 use Rattle.board.specs.TokenRules.{IsReachedPlace, IsTokenAnswer, reach_rules as token_reach_rules, slot_rules, token_cost_of, token_rules}
 use Rattle.board.specs.declared.asker.Asker.{Asker}
+use Rattle.certificate.proofs.Finite.{Decided}
+use Rattle.certificate.proofs.RunDecided.{can_run_decided}
 use Rattle.history.specs.LookBack.{Game}
 use Rattle.history.specs.Shares.{president_of}
 use Rattle.map_tables.specs.declared.lay.Lay.{Lay}
@@ -15,7 +17,8 @@ use Rattle.operating.specs.Ground.{ground_now}
 use Rattle.operating.specs.InTurn.{InTurn}
 use Rattle.operating.specs.Judgement.{asker_of}
 use Rattle.operating.specs.Laws.{CompanyTurnEnds, OneCompanyTurn}
-use Rattle.operating.specs.Turn.{BlockLeads, IsCompanyTurn, LinesLead, OrderLeads, ReadingLeads, begun, lay_answered, settled}
+use Rattle.operating.specs.Forced.{EndLeads, IsDue, after_forced, after_raises, has_trains}
+use Rattle.operating.specs.Turn.{BlockEnds, BlockLeads, IsCompanyTurn, LinesLead, OrderLeads, ReadingLeads, begun, lay_answered, settled}
 use Rattle.operating.specs.Turn.{token_answered}
 use Rattle.operating.specs.declared.operator.Operator.{Operator}
 use Rattle.order_grammar.specs.declared.fault.Fault.{Fault}
@@ -125,14 +128,53 @@ module _ (all : AllLawful) where
   one_block file round company turn (Some seat) =
       one_way (record { company = company; president = seat }) turn (block_for file round seat.0 company)
 
+  -- it is known whether a company must buy a train
+  due_decided : (game : Game) (company : Company) → Decided (IsDue game company)
+  due_decided game company =
+      elim (can_run_decided (position_of (ground_now game.events)) (all (ground_now game.events)) company) [
+        | inr none ↦ inr (λ due. none due.1)
+        | inl can ↦
+            elim (has_trains game.events company) as (λ (b : Bool). has_trains game.events company ≡ b → Decided (IsDue game company)) [
+              | true ↦ λ some. inr (λ due. let wrong : true ≡ false = sym some ∙ due.0 in cc)
+              | false ↦ λ none. inl (none, can)
+            ]
+            refl
+      ]
+
+  -- so the end of a turn leads to one game
+  one_end : (by : Operator) (lines : List Numbered) (game : Game) → IsOne (EndLeads by lines game)
+  one_end by lines game =
+      elim (due_decided game by.company) [
+        | inl due ↦ record {
+          it = after_forced by lines game;
+          so = inl (due, refl);
+          only = λ new ends. elim ends [ inl forced ↦ forced.1 | inr none ↦ absurd (none.0 due) ];
+        }
+        | inr none ↦ record {
+          it = after_raises false by game lines;
+          so = inr (none, refl);
+          only = λ new ends. elim ends [ inl forced ↦ absurd (none forced.0) | inr other ↦ other.1 ];
+        }
+      ]
+
+  -- that of a block does
+  one_block_end : (file : List ℕ) (round : Round) (company : Company) (game : Game) (president : Option Seat) →
+      IsOne (BlockEnds file round company game president)
+  one_block_end file round company game None = record { it = game; so = refl; only = λ new ends. ends }
+  one_block_end file round company game (Some seat) =
+      one_end (record { company = company; president = seat }) (block_for file round seat.0 company) game
+
   -- and a turn
   outcome : (file : List ℕ) (round : Round) (company : Company) (old : Game) → IsOne (IsCompanyTurn file round company old)
   outcome file round company old =
-      let block = one_block file round company (begun old company) (president_of old.events company) in
+      let president : Option Seat = president_of old.events company in
+      let block = one_block file round company (begun old company) president in
+      let paid : Game = (settled company block.it).game in
+      let end = one_block_end file round company paid president in
       record {
-        it = (settled company block.it).game;
-        so = record { last = block.it; block = block.so; after = refl };
-        only = λ new turn. turn.after ∙ ap (λ (last : InTurn). (settled company last).game) (block.only turn.last turn.block);
+        it = end.it;
+        so = record { last = block.it; block = block.so; after = end.so };
+        only = λ new turn. end.only new (subst (λ (last : InTurn). BlockEnds file round company (settled company last).game president new) (block.only turn.last turn.block) turn.after);
       }
 
   -- it has at most one outcome

@@ -1,14 +1,13 @@
 -- The purchase of a private that breaks no rule: the company can pay it, so the game can be played on once it is
 -- made; and the rules say the same after the ruling of the line.
-use Rattle.std.proofs.Common.{◌≡◌, ℕ, ◌+◌, ◌≤◌, ◌==◌, ◌||◌, Bool, true, false, not, nat_lt, if◌then◌else◌, List, [], ◌∷◌, ◌++◌, Option, Some, None, is_some, unwrap_or, ℤ, pos, ◌≤ℤ◌, refl, sym, ap, subst, ◌∙◌, arith}
+use Rattle.std.proofs.Common.{◌≡◌, ℕ, ◌+◌, ◌≤◌, ◌==◌, ◌||◌, Bool, true, false, not, nat_lt, if◌then◌else◌, List, [], ◌∷◌, ◌++◌, Option, Some, None, is_some, unwrap_or, ℤ, pos, ◌≤ℤ◌, refl, sym, ap, ◌∙◌, arith}
 use Rattle.std.proofs.lemmas.Bool.Decides.{nat_tests}
-use Rattle.std.proofs.lemmas.Int.{ints}
 use Rattle.std.specs.Int.Signed.{lt_z}
 use Rattle.std.specs.Option.{option_flatten, option_map}
 use Rattle.history.proofs.EventAtEnd.{cash_of_before, last_said_before, president_of_before}
 use Rattle.history.specs.Event.{obeyed_of, ownership_of, party_of_company, phase_set}
 use Rattle.history.specs.LookBack.{Game, cash_of, in_round, owner_of, owner_said, with_event}
-use Rattle.history.specs.Offers.{has_consent, offered_in}
+use Rattle.history.specs.Offers.{offered_in}
 use Rattle.history.specs.Orders.{said_by}
 use Rattle.history.specs.Shares.{president_of}
 use Rattle.history.specs.Trains.{phase_of}

@@ -18,7 +18,7 @@ use Rattle.tables.specs.declared.rolling_stock.Kind.{Kind}
 use Rattle.tables.specs.declared.roster.Company.{Company}
 
 -- what a stable has of a kind
-abbrev has : Kind → Option Company → Game → ℤ
+abbrev pub has : Kind → Option Company → Game → ℤ
 has kind owner game = trains_held game.events owner kind
 
 -- no train leaves another stable than that of the one that rusts
@@ -53,12 +53,12 @@ so_many_back (pos n) low = refl
 so_many_back (negsuc n) low = absurd (omega (arith, ints, low))
 
 -- all of a stable rust
-all_go : (kind : Kind) (owner : Option Company) (game : Game) → pos 0 ≤ℤ has kind owner game → has kind owner (with_stable_rusted owner kind game) ≡ pos 0
+pub all_go : (kind : Kind) (owner : Option Company) (game : Game) → pos 0 ≤ℤ has kind owner game → has kind owner (with_stable_rusted owner kind game) ≡ pos 0
 all_go kind owner game low =
     omega (arith, ints, so_many_less kind owner (so_many (has kind owner game)) game, so_many_back (has kind owner game) low)
 
 -- one stable or another
-by_stable : (P : ℤ → Type 0) (kind : Kind) (owner other : Option Company) (game : Game) → (same_train_place (stable_of owner) (stable_of other) ≡ true → P (has kind owner (with_stable_rusted owner kind game))) → P (has kind other game) → P (has kind other (with_stable_rusted owner kind game))
+pub by_stable : (P : ℤ → Type 0) (kind : Kind) (owner other : Option Company) (game : Game) → (same_train_place (stable_of owner) (stable_of other) ≡ true → P (has kind owner (with_stable_rusted owner kind game))) → P (has kind other game) → P (has kind other (with_stable_rusted owner kind game))
 by_stable P kind owner other game here kept =
     elim (truth (same_train_place (stable_of owner) (stable_of other))) [
       | inl same ↦

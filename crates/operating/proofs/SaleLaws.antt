@@ -11,7 +11,8 @@ use Rattle.history.specs.declared.event.Event.TheVariants as event
 use Rattle.history.specs.declared.event.TrainSeller.TheVariants as seller
 use Rattle.operating.proofs.TrainSteps.{IsPassedOn}
 use Rattle.operating.proofs.TurnEvents.{IsOfTurn, is_agreed}
-use Rattle.operating.proofs.TurnGames.{by_each, of_game_turn}
+use Rattle.operating.proofs.ForcedGames.{forced_bids_none, forced_sells_none, of_game_turn}
+use Rattle.operating.proofs.TurnGames.{by_each}
 use Rattle.operating.specs.BidLaws.{SaysNoBid, TurnsSayNoBid}
 use Rattle.operating.specs.SaleLaws.{AreAgreed, IsAgreed, OthersKeepAgreed, SellersAgree, TurnsKeepAgreed, sells_to_company}
 use Rattle.tables.specs.declared.roster.Company.{Company}
@@ -44,13 +45,17 @@ StillAgree before after = SellersAgree before.events → SellersAgree after.even
 
 pub turns_keep_agreed : TurnsKeepAgreed
 turns_keep_agreed file round company old new turn =
-    let on : IsPassedOn StillAgree = record { same = λ game agreed. agreed; both = λ a b c one two agreed. two (one agreed) } in
+    let on : IsPassedOn StillAgree =
+    record { same = λ game agreed. agreed; both = λ a b c one two agreed. two (one agreed) } in
     of_game_turn company StillAgree
-    (by_each company StillAgree on (λ game its is agreed. one_more [] game.events its agreed (is_agreed company game its is)))
+    (by_each company StillAgree on
+    (λ game its is agreed. one_more [] game.events its agreed (is_agreed company game its is)))
+    (λ game its is no_tile no_train no_phase. others_keep_agreed game.events its (forced_sells_none its is))
     file round old new turn
 
 -- no event of a turn says anything of bids
-no_bid_by : (company : Company) (game : Game) (its : Event) → IsOfTurn company game its → is_none (bidding_of its) ≡ true
+no_bid_by : (company : Company) (game : Game) (its : Event) → IsOfTurn company game its →
+    is_none (bidding_of its) ≡ true
 no_bid_by company game (event.Bids private seat amount) is = absurd is
 no_bid_by company game (event.Sold private buyer price) is = absurd is
 no_bid_by company game other is = refl
@@ -85,4 +90,9 @@ turns_say_no_bid file round company old new turn =
       added = refl;
       no_bid = ap (λ (b : Bool). b && true) (no_bid_by company game its is);
     }))
+    (λ game its is no_tile no_train no_phase. record {
+      more = its ∷ [];
+      added = refl;
+      no_bid = ap (λ (b : Bool). b && true) (forced_bids_none its is);
+    })
     file round old new turn

@@ -23,7 +23,8 @@ use Rattle.map_tables.specs.declared.lay.Lay.{Lay}
 use Rattle.map_tables.specs.declared.tiles.TileNo.{TileNo}
 use Rattle.operating.proofs.AgreedSales.{train_agreed}
 use Rattle.operating.proofs.TrainSteps.{IsPassedOn}
-use Rattle.operating.proofs.TurnGames.{of_game_turn, of_purchase}
+use Rattle.operating.proofs.ForcedGames.{of_game_turn}
+use Rattle.operating.proofs.TurnGames.{of_purchase}
 use Rattle.operating.specs.Ground.{ground_now}
 use Rattle.operating.specs.Turn.{purchase_of}
 use Rattle.operating.specs.TileLaws.{LaysKeepTiles, OthersKeepTiles, TilesAreAll, TilesAreAllAtFirst, TurnsKeepTiles, returned_by, returned_of}
@@ -183,4 +184,5 @@ turns_keep_tiles file round company old new turn =
           (λ now its is no_tile tiles. others_keep_tiles now.events its no_tile tiles) game (purchase_of kind from)
           (train_agreed company game kind from rules);
     })
+    (λ game its is no_tile no_train no_phase tiles. others_keep_tiles game.events its no_tile tiles)
     file round old new turn

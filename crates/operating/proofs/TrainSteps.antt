@@ -57,7 +57,7 @@ of_fold R step on each game (x ∷ xs) =
     on.both game (step game x) (fold step (step game x) xs) (each game x) (of_fold R step on each (step game x) xs)
 
 -- of a step that is repeated
-of_iterate : (R : Game → Game → Type 0) (step : Game → Game) → IsPassedOn R → ((game : Game) → R game (step game)) → (n : ℕ) (game : Game) → R game (iterate step n game)
+pub of_iterate : (R : Game → Game → Type 0) (step : Game → Game) → IsPassedOn R → ((game : Game) → R game (step game)) → (n : ℕ) (game : Game) → R game (iterate step n game)
 of_iterate R step on each zero game = on.same game
 of_iterate R step on each (suc n) game =
     on.both game (iterate step n game) (iterate step (suc n) game) (of_iterate R step on each n game) (each (iterate step n game))
@@ -68,7 +68,7 @@ of_choice R true game a b first second = first
 of_choice R false game a b first second = second
 
 -- of a private that closes
-of_closed : (R : Game → Game → Type 0) → IsPassedOn R → OfClosings R → (game : Game) (private : Private) → R game (with_closed game private)
+pub of_closed : (R : Game → Game → Type 0) → IsPassedOn R → OfClosings R → (game : Game) (private : Private) → R game (with_closed game private)
 of_closed R on closes game private =
     of_choice R (is_some (owner_of game.events private)) game (with_event game (event.Closed private)) game (closes game private) (on.same game)
 
@@ -94,7 +94,7 @@ of_rusted R on rusts new game =
     of_fold R (with_kind_rusted_at new) on (λ now kind. of_choice R (rusts_at (rusting_of kind) new) now (with_kind_rusted now kind) now (of_kind R on kind (rusts kind) now) (on.same now)) game kinds
 
 -- of a train that is discarded
-of_discarded : (R : Game → Game → Type 0) → IsPassedOn R → OfDiscards R → (game : Game) (company : Company) (kind : Option Kind) → R game (with_discarded game company kind)
+pub of_discarded : (R : Game → Game → Type 0) → IsPassedOn R → OfDiscards R → (game : Game) (company : Company) (kind : Option Kind) → R game (with_discarded game company kind)
 of_discarded R on discards game company None = on.same game
 of_discarded R on discards game company (Some kind) = discards game company kind
 

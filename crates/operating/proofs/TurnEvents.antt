@@ -9,8 +9,8 @@ use Rattle.operating.specs.SaleLaws.{IsAgreed}
 use Rattle.tables.specs.Roster.{same_company}
 use Rattle.tables.specs.declared.roster.Company.{Company}
 
--- a company's turn can add this event to a game; its train runs and its withholdings are the company's, and what it buys
--- from a company or a seat is agreed by the list before it
+-- a company's turn can add this event to a game; its train runs and its withholdings are the company's, and what it
+-- buys from a company or a seat is agreed by the list before it
 abbrev pub IsOfTurn : Company → Game → Event → Type 0
 IsOfTurn company game (event.Ruled seat number ruling) = Unit
 IsOfTurn company game (event.Home its at) = Unit
@@ -29,6 +29,9 @@ IsOfTurn company game (event.Closed private) = Unit
 IsOfTurn company game (event.PrivateBought private its seller price) =
     IsAgreed game.events (event.PrivateBought private its seller price)
 IsOfTurn company game (event.Discarded its kind) = Unit
+IsOfTurn company game (event.Forced its) = Unit
+IsOfTurn company game (event.Sells its seat tenths amount) = Unit
+IsOfTurn company game (event.Aid seat its amount) = Unit
 IsOfTurn company game other = ⊥
 
 -- each sale to a company is agreed
@@ -38,7 +41,8 @@ is_agreed company game (event.PrivateBought private its seller price) is = is
 is_agreed company game other is = tt
 
 -- none begins a round
-pub begins_none : (company : Company) (game : Game) (its : Event) → IsOfTurn company game its → is_some (round_of its) ≡ false
+pub begins_none : (company : Company) (game : Game) (its : Event) → IsOfTurn company game its →
+    is_some (round_of its) ≡ false
 begins_none company game (event.Round round) is = absurd is
 begins_none company game other is = refl
 
@@ -48,8 +52,8 @@ named by company other is apart =
     subst (λ (c : Company). is_some (turn_said other (Some c)) ≡ false) (sym is) (ap (λ (b : Bool). is_some (if b then Some company else None)) apart)
 
 -- nobody but the company operates by one
-pub own_alone : (company other : Company) (game : Game) (its : Event) → IsOfTurn company game its → same_company company other ≡ false →
-    is_some (turn_said other (operated_by its)) ≡ false
+pub own_alone : (company other : Company) (game : Game) (its : Event) → IsOfTurn company game its →
+    same_company company other ≡ false → is_some (turn_said other (operated_by its)) ≡ false
 own_alone company other game (event.Runs by revenue) is apart = named by company other is apart
 own_alone company other game (event.Withheld by amount) is apart = named by company other is apart
 own_alone company other game its is apart = refl

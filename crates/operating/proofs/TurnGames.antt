@@ -29,7 +29,7 @@ use Rattle.operating.specs.SaleLaws.{IsAgreed}
 use Rattle.operating.specs.Trains.{cost_of, train_judgement}
 use Rattle.operating.specs.Turn.{IsCompanyTurn, begun, purchase_of, settled}
 use Rattle.operating.specs.declared.purchase.Purchase.{Purchase}
-use Rattle.std.proofs.Common.{◌≡◌, ℕ, ◌==◌, Bool, true, false, if◌then◌else◌, List, [], ◌∷◌, ◌++◌, Option, Some, None, refl, sym, subst}
+use Rattle.std.proofs.Common.{◌≡◌, ℕ, ◌==◌, Bool, true, false, if◌then◌else◌, List, [], ◌∷◌, ◌++◌, Option, Some, None, refl}
 use Rattle.tables.specs.Rules.{first_broken}
 use Rattle.tables.specs.Seat.{all_seats}
 use Rattle.order_grammar.specs.declared.order.TrainSource.{TrainSource}
@@ -163,8 +163,8 @@ module _ (company : Company) (R : Game → Game → Type 0) (of : OfEvents compa
         bought = λ turn kind from rules. of.purchases turn.game kind from rules;
       }
 
-  -- and of the whole
-  pub of_game_turn : (file : List ℕ) (round : Round) (old new : Game) → IsCompanyTurn file round company old new → R old new
-  of_game_turn file round old new turn =
-      subst (R old) (sym turn.after)
-      (of.on.both old (begun old company).game (settled company turn.last).game (of_home old) (of_turn company _ of_steps file round old new turn))
+  -- and of the turn up to where the company has paid or withheld
+  pub of_paid_turn : (file : List ℕ) (round : Round) (old new : Game) (turn : IsCompanyTurn file round company old new) →
+      R old (settled company turn.last).game
+  of_paid_turn file round old new turn =
+      of.on.both old (begun old company).game (settled company turn.last).game (of_home old) (of_turn company _ of_steps file round old new turn)

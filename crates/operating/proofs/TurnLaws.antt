@@ -12,7 +12,8 @@ use Rattle.operating.proofs.Complete.{others_keep_standing, phase_kept}
 use Rattle.operating.proofs.Fleet.{purchases_keep_all}
 use Rattle.operating.proofs.TrainSteps.{IsPassedOn, phases_go_on}
 use Rattle.operating.proofs.TurnEvents.{begins_none}
-use Rattle.operating.proofs.TurnGames.{OfEvents, by_each, of_game_turn, of_steps}
+use Rattle.operating.proofs.ForcedGames.{OfForced, forced_begins_none, of_game_turn}
+use Rattle.operating.proofs.TurnGames.{OfEvents, by_each, of_steps}
 use Rattle.operating.proofs.TurnSteps.{of_line}
 use Rattle.operating.specs.InTurn.{InTurn}
 use Rattle.operating.specs.Laws.{OnlyAdds, TurnOnlyAdds}
@@ -52,9 +53,14 @@ adds_by company =
     by_each company OnlyAdds adds_on
     (λ game its is. record { more = its ∷ []; added = refl; no_round = ap (λ (b : Bool). b || false) (begins_none company game its is) })
 
+-- and of each of a forced purchase
+pub more_adds : OfForced OnlyAdds
+more_adds game its is no_tile no_train no_phase =
+    record { more = its ∷ []; added = refl; no_round = ap (λ (b : Bool). b || false) (forced_begins_none its is) }
+
 -- a turn only adds events, and begins no round
 pub only_adds : TurnOnlyAdds
-only_adds file round company old new turn = of_game_turn company OnlyAdds (adds_by company) file round old new turn
+only_adds file round company old new turn = of_game_turn company OnlyAdds (adds_by company) more_adds file round old new turn
 
 -- a line leaves the seats as they are
 pub line_seats : (by : Operator) (turn : InTurn) (number : ℕ) (reading : Result Order Fault) (new : InTurn) →
@@ -63,20 +69,26 @@ line_seats by turn number reading new leads =
     ap (λ (game : Game). game.seats) (of_line by _ (of_steps by.company OnlyAdds (adds_by by.company)) turn number reading new leads).added
 
 -- trains stand in a later game if they did before
-abbrev StillStand : Game → Game → Type 0
+abbrev pub StillStand : Game → Game → Type 0
 StillStand before after = TrainsStand before.events → TrainsStand after.events
 
--- so it is in a turn
-pub turns_keep_all : TurnsKeepAll
-turns_keep_all file round company old new turn =
-    of_game_turn company StillStand
-    (record {
+-- so they do after each event of a turn, and after each of a forced purchase
+pub stands_by : (company : Company) → OfEvents company StillStand
+stands_by company =
+    record {
       on = record { same = λ game stand. stand; both = λ a b c one two stand. two (one stand) };
       others = λ game its is no_tile no_train no_phase stand. others_keep_standing game.events its no_train no_phase stand;
       lays = λ game asker lay cost rules stand. others_keep_standing game.events (event.Laid company lay cost) refl refl stand;
       purchases = λ game kind from rules. purchases_keep_all game company (purchase_of kind from) rules;
-    })
-    file round old new turn
+    }
+
+pub more_stand : OfForced StillStand
+more_stand game its is no_tile no_train no_phase stand = others_keep_standing game.events its no_train no_phase stand
+
+-- and in a turn
+pub turns_keep_all : TurnsKeepAll
+turns_keep_all file round company old new turn =
+    of_game_turn company StillStand (stands_by company) more_stand file round old new turn
 
 -- the phase is the same in a later game, or a later one
 abbrev GoesOn : Game → Game → Type 0
@@ -92,4 +104,5 @@ phases_go_on_in_turns file round company old new turn =
       lays = λ game asker lay cost rules. omega (arith, ap place_of_kind (phase_kept game.events (event.Laid company lay cost) refl));
       purchases = λ game kind from rules. phases_go_on game company (purchase_of kind from);
     })
+    (λ game its is no_tile no_train no_phase. omega (arith, ap place_of_kind (phase_kept game.events its no_phase)))
     file round old new turn

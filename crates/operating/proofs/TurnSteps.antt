@@ -81,7 +81,7 @@ pub record OfSteps (company : Company) (R : InTurn → InTurn → Type 0) : Type
 
 module _ (company : Company) (R : InTurn → InTurn → Type 0) (steps : OfSteps company R) where
   -- of what the company withholds by itself
-  of_settled : (turn : InTurn) → R turn (settled company turn)
+  pub of_settled : (turn : InTurn) → R turn (settled company turn)
   of_settled turn =
       elim (is_unpaid turn.progress) as (λ (b : Bool). R turn
       (if b then in_turn (withheld turn.game company turn.progress.runs.revenue) (pay_done turn.progress) else turn)) [
@@ -202,6 +202,7 @@ module _ (by : Operator) (R : InTurn → InTurn → Type 0) (steps : OfSteps by.
       (of_train paid number kind from rule refl))
   of_order turn number (order.BuyOwnedPrivate private price) new leads =
       subst (R turn) (sym leads) (of_private turn number private price (private_judgement turn.game by.company private price) refl)
+  of_order turn number (order.Raise company tenths) new leads = subst (R turn) (sym leads) (steps.same turn)
   of_order turn number other new leads = subst (R turn) (sym leads) (of_ruling turn number _)
 
   -- of a line
@@ -217,7 +218,7 @@ module _ (by : Operator) (R : InTurn → InTurn → Type 0) (steps : OfSteps by.
 
 module _ (company : Company) (R : InTurn → InTurn → Type 0) (steps : OfSteps company R) where
   -- of a block
-  of_block : (file : List ℕ) (round : Round) (turn : InTurn) (president : Option Seat) (new : InTurn) →
+  pub of_block : (file : List ℕ) (round : Round) (turn : InTurn) (president : Option Seat) (new : InTurn) →
       BlockLeads file round company turn president new → R turn new
   of_block file round turn None new leads = subst (R turn) (sym leads) (steps.same turn)
   of_block file round turn (Some seat) new leads =

@@ -11,6 +11,7 @@ pub mod Phases
 pub mod Offers
 pub mod Standing
 pub mod Privates
+pub mod Forced
 pub mod Turn
 pub mod LegalRuns
 pub mod Laws
@@ -20,3 +21,4 @@ pub mod ConsentLaws
 pub mod SaleLaws
 pub mod BidLaws
 pub mod PrivateLaws
+pub mod ForcedLaws

@@ -14,7 +14,8 @@ use Rattle.tables.specs.declared.seat.Seat.{Seat}
 
 -- a closed private has no owner
 abbrev pub ClosedHasNoOwner : Type 0
-ClosedHasNoOwner = (events : List Event) (private : Private) → is_closed events private ≡ true → owner_of events private ≡ None
+ClosedHasNoOwner =
+    (events : List Event) (private : Private) → is_closed events private ≡ true → owner_of events private ≡ None
 
 -- each private that is closed by the one list is closed by the other
 abbrev pub KeepsClosed : List Event → List Event → Type 0

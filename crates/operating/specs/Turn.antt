@@ -5,7 +5,8 @@
 -- turn is then past both; a run needs one of the first three, and the turn is then past its token; to pay or to
 -- withhold needs one of the first four, and the turn is then past them. A company whose turn is not past its pay
 -- withholds by itself before a TRAIN line is ruled, whatever becomes of that, and when the block ends. It buys a
--- private anywhere in the block, which leaves the pointer.
+-- private anywhere in the block, which leaves the pointer. The RAISE lines of the block are ruled last, when the
+-- company buys the train that it must, or need not.
 use Rattle.std.specs.Prelude.{◌≡◌, ℕ, if◌then◌else◌, List, [], ◌∷◌, Option, Some, None, Result, Ok, Err, ℤ}
 use Rattle.std.specs.Int.RustNames.{unsigned_abs}
 use Rattle.board.specs.LayRules.{IsLayAnswer}
@@ -25,6 +26,7 @@ use Rattle.map_tables.specs.declared.lay.Lay.{Lay}
 use Rattle.map_tables.specs.declared.place.Place.{Place}
 use Rattle.operating.specs.Act.{after_lay, after_token, with_home, withheld}
 use Rattle.operating.specs.Dividend.{after_pay, after_withhold}
+use Rattle.operating.specs.Forced.{EndLeads}
 use Rattle.operating.specs.Ground.{ground_now}
 use Rattle.operating.specs.InTurn.{InTurn, at_start, in_turn, is_unpaid, lay_done, pay_done, token_done, told}
 use Rattle.operating.specs.Judgement.{asker_of, rule_of_lay, rule_of_token}
@@ -114,6 +116,7 @@ OrderLeads by turn number order.Pay new = new ≡ after_pay by turn number order
 OrderLeads by turn number order.Withhold new = new ≡ after_withhold by turn number order.Withhold
 OrderLeads by turn number (order.BuyTrain kind from) new = new ≡ after_buying by (settled by.company turn) number kind from
 OrderLeads by turn number (order.BuyOwnedPrivate private price) new = new ≡ after_private by turn number private price
+OrderLeads by turn number (order.Raise company tenths) new = new ≡ turn
 OrderLeads by turn number other new = new ≡ told by turn number (Faulty OutOfPlace)
 
 -- a line of the block with this number and this reading leads to new
@@ -136,6 +139,12 @@ BlockLeads file round company turn None new = new ≡ turn
 BlockLeads file round company turn (Some seat) new =
     LinesLead (record { company = company; president = seat }) turn (block_for file round seat.0 company) new
 
+-- the end of a turn leads to new, by the block for a company in the sheet of its president
+abbrev pub BlockEnds : List ℕ → Round → Company → Game → Option Seat → Game → Type 0
+BlockEnds file round company game None new = new ≡ game
+BlockEnds file round company game (Some seat) new =
+    EndLeads (record { company = company; president = seat }) (block_for file round seat.0 company) game new
+
 -- the turn once its home token lies
 abbrev pub begun : Game → Company → InTurn
 begun game company = in_turn (with_home game company) at_start
@@ -144,4 +153,4 @@ begun game company = in_turn (with_home game company) at_start
 pub record IsCompanyTurn (file : List ℕ) (round : Round) (company : Company) (old new : Game) : Type 0 where
   pub last : InTurn
   pub block : BlockLeads file round company (begun old company) (president_of old.events company) last
-  pub after : new ≡ (settled company last).game
+  pub after : BlockEnds file round company (settled company last).game (president_of old.events company) new

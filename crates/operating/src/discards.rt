@@ -1,6 +1,11 @@
 //! Trains that a company discards: by the lines of its president, or else the least that it has.
 ghost use Rattle.std.specs.Prelude.{◌≡◌, OnOk, IfOk};
-ghost use Rattle.operating.specs.Discards.{discard_in as kind_in_order, discard_judgement, discarded_by as discarded_kind, first_held as the_first_held, has_train as company_has, is_no_discard as no_discard, is_president as is_the_president, kinds_then, line_of as kind_of_line, lines_of, next_discard, presides_then, without_first};
+ghost use Rattle.operating.specs.Discards.{discard_in as kind_in_order, discard_judgement};
+ghost use Rattle.operating.specs.Discards.{discarded_by as discarded_kind, first_held as the_first_held};
+ghost use Rattle.operating.specs.Discards.{has_train as company_has, is_no_discard as no_discard};
+ghost use Rattle.operating.specs.Discards.{is_president as is_the_president, kinds_then};
+ghost use Rattle.operating.specs.Discards.{line_of as kind_of_line, lines_of, next_discard, presides_then};
+ghost use Rattle.operating.specs.Discards.{without_first};
 ghost use Rattle.history.specs.Event.{obeyed_of, office_of};
 ghost use Rattle.history.specs.Shares.{president_said};
 ghost use Rattle.tables.specs.Train.{same_kind};

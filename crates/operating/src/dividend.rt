@@ -2,7 +2,8 @@ ghost use Rattle.std.specs.Prelude.{◌≡◌, ◌<◌, ◌≤◌, ◌≤ℤ◌,
 ghost use Rattle.history.specs.Money.{IsParty};
 ghost use Rattle.history.specs.Shares.{shares_of};
 ghost use Rattle.history.specs.declared.event.Party.TheVariants as party;
-ghost use Rattle.operating.specs.Dividend.{after_pay, after_withhold, all_paid, dividend_of, paid_for, paid_out, paid_to, pay_judgement, withhold_judgement};
+ghost use Rattle.operating.specs.Dividend.{after_pay, after_withhold, all_paid, dividend_of, paid_for};
+ghost use Rattle.operating.specs.Dividend.{paid_out, paid_to, pay_judgement, withhold_judgement};
 ghost use Rattle.history.specs.Sound.{IsSound};
 ghost use Rattle.operating.specs.InTurn.{in_turn};
 

@@ -4,15 +4,18 @@
 //! has for it: it may lay a tile, place a token, run its trains, pay out or withhold what they
 //! earned, and buy trains and privates. The steps of the turn stand in order, and a pointer goes over them; an
 //! order for a step that is past is refused. A company that has neither paid nor withheld does so
-//! by itself before it buys trains, and at the end; its token on the chart then moves left.
+//! by itself before it buys trains, and at the end; its token on the chart then moves left. Last, a
+//! company without a train that could run one must buy one, for which its president may have to pay
+//! and to sell what he holds; if he cannot pay, he is bankrupt.
 //!
 //! Reading order: `operator` (whose turn it is), `runs` (what its trains have done), `progress`
 //! (how far the turn has come), `ground` (what lies on the map), `asker` (the company as the rules
 //! of the board see it), `ruling`, `home`, `lay` and `token` (what orders do) with `cost`,
 //! `running`, `withholding`, `dividend`, `purchase` (the rules of trains), `discards`, `phases`
-//! (what a train brings), `train`, `private` (that it buys), `turn` (the lines of a block), `playing`, `standing` (the lines
-//! before the first block) with `offers`, `laws` (what holds of every turn), `train_laws`, `tile_laws`,
-//! `private_laws`, `consent_laws`, `sale_laws`.
+//! (what a train brings), `train`, `private` (that it buys), `forced` (what it must buy), `turn`
+//! (the lines of a block), `playing`, `standing` (the lines before the first block) with `offers`,
+//! `laws` (what holds of every turn), `train_laws`, `tile_laws`, `private_laws`, `consent_laws`,
+//! `sale_laws`, `forced_laws`.
 #![tactic(auto)]
 
 mod asker;
@@ -20,6 +23,8 @@ mod consent_laws;
 mod cost;
 mod discards;
 mod dividend;
+mod forced;
+mod forced_laws;
 mod ground;
 mod home;
 mod laws;
@@ -45,6 +50,9 @@ mod turn;
 mod withholding;
 
 pub use consent_laws::sellers_agree;
+pub use forced_laws::{
+    aid_is_what_lacks, bankruptcy_ends_turns, presidents_stay, turns_end_with_trains,
+};
 pub use laws::{
     company_operates, company_turn_ends, home_token_lies, no_more_is_paid, obeyed_runs_are_legal,
     one_company_turn, turn_only_adds,

@@ -2,7 +2,11 @@
 ghost use Rattle.std.specs.Prelude.{◌≡◌, OnOk, None};
 ghost use Rattle.history.specs.Trains.{so_many};
 ghost use Rattle.history.specs.Sound.{IsSound};
-ghost use Rattle.operating.specs.Phases.{after_train, begins_phase as is_first_of_phase, bought, excess_of, rusts_at, with_all_closed, with_bop_closed, with_closed, with_company_rusted, with_kind_rusted, with_kind_rusted_at, with_limit_kept, with_limits_kept, with_next_discarded, with_phase, with_privates_closed, with_rusted, with_stable_rusted, with_trade};
+ghost use Rattle.operating.specs.Phases.{after_train, begins_phase as is_first_of_phase, bought, excess_of};
+ghost use Rattle.operating.specs.Phases.{rusts_at, with_all_closed, with_bop_closed, with_closed};
+ghost use Rattle.operating.specs.Phases.{with_company_rusted, with_kind_rusted, with_kind_rusted_at};
+ghost use Rattle.operating.specs.Phases.{with_limit_kept, with_limits_kept, with_next_discarded, with_phase};
+ghost use Rattle.operating.specs.Phases.{with_privates_closed, with_rusted, with_stable_rusted, with_trade};
 ghost use Rattle.operating.specs.Trains.{IsSmallPurchase, train_judgement};
 ghost use Rattle.std.specs.List.{fold};
 ghost use Rattle.tables.specs.Roster.{companies};

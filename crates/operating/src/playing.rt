@@ -1,9 +1,11 @@
-ghost use Rattle.std.specs.Prelude.{◌≡◌, ◌≤◌, IfOk, OnOk, length};
+ghost use Rattle.std.specs.Prelude.{◌≡◌, ◌<◌, ◌≤◌, IfOk, IfSome, OnOk, length, true};
+ghost use Rattle.history.specs.Shares.{is_floated};
 ghost use Rattle.history.specs.Sound.{IsSound};
 ghost use Rattle.operating.specs.InTurn.{at_start, in_turn};
-ghost use Rattle.operating.specs.Turn.{BlockLeads, IsCompanyTurn};
+ghost use Rattle.operating.specs.Turn.{BlockEnds, BlockLeads, IsCompanyTurn};
 ghost use Rattle.sheets.specs.File.{players_of};
 
+use crate::forced::end_turn;
 use crate::home::place_home;
 use crate::operator::Operator;
 use crate::progress::Progress;
@@ -15,8 +17,8 @@ use std::alloc::{AllocError, Global};
 use tables::{Company, Round, Seat};
 
 /// Plays the turn of a company in an operating round, with the sheets for it. The list of events
-/// must be sound, and its seats those of the sheets' players. It is meant for a company that has
-/// floated and has not operated in this round. An `Err` comes from want of memory alone, and the
+/// must be sound, and its seats those of the sheets' players; the company has floated. It is meant
+/// for one that has not operated in this round. An `Err` comes from want of memory alone, and the
 /// game is dropped.
 pub fn play_company(
     alloc: Global,
@@ -25,6 +27,7 @@ pub fn play_company(
     round: Round,
     company: Company,
 ) -> Result<History, AllocError>
+    requires floated { is_floated history.events company ≡ true }
     requires sound { IsSound history }
     requires seats { history.seats ≡ length (players_of sheets.now) }
     ensures turn { IfOk result (IsCompanyTurn sheets.now round company history) }
@@ -36,7 +39,33 @@ pub fn play_company(
     place_home(&mut history, company)?;
     let progress = rule_block(alloc, &mut history, sheets, round, company, president)?;
     settle(&mut history, company, progress)?;
+    end_block(alloc, &mut history, sheets, round, company, president)?;
     Ok(history)
+}
+
+/// Ends the turn of a company that has paid or withheld, by the block of its president, if it has
+/// one.
+fn end_block(
+    alloc: Global,
+    history: &mut History,
+    sheets: &Sheets,
+    round: Round,
+    company: Company,
+    president: Option<Seat>,
+) -> Result<(), AllocError>
+    requires few { history.old.seats ≤ 6 }
+    requires at_table { IfSome president (λ seat. seat.0 < history.old.seats) }
+    requires sound { IsSound history.old }
+    ensures turn { OnOk result (BlockEnds sheets.now round company
+        history.old president history.new) }
+    ensures sound { OnOk result (IsSound history.new) }
+{
+    let Some(president) = president else {
+        return Ok(());
+    };
+    let mut block = sheets.block(president, &round, company);
+    let by = Operator { company, president };
+    end_turn(alloc, history, by, &mut block)
 }
 
 /// Rules the block that the sheet of a company's president has for it, if it has a president.

@@ -3,7 +3,10 @@ ghost use Rattle.std.specs.Prelude.{◌≡◌, IfOk, OnOk, None, Some};
 ghost use Rattle.history.specs.LookBack.{owner_of};
 ghost use Rattle.history.specs.Sound.{IsSound};
 ghost use Rattle.operating.specs.InTurn.{in_turn};
-ghost use Rattle.operating.specs.Privates.{after_private, is_given as is_sale_given, is_given_by as is_sale_given_by, is_too_dear as too_dear, is_too_early as too_early, is_wrong_price as wrong_price, private_bought, private_judgement, sold_by};
+ghost use Rattle.operating.specs.Privates.{after_private, private_bought, private_judgement, sold_by};
+ghost use Rattle.operating.specs.Privates.{is_given as is_sale_given, is_given_by as is_sale_given_by};
+ghost use Rattle.operating.specs.Privates.{is_too_dear as too_dear, is_too_early as too_early};
+ghost use Rattle.operating.specs.Privates.{is_wrong_price as wrong_price};
 
 use crate::operator::Operator;
 use crate::progress::Progress;

@@ -1,6 +1,13 @@
 //! The purchase of a train: what is on sale, what it costs, and the rules.
 ghost use Rattle.std.specs.Prelude.{◌≡◌, ◌≤◌, pos};
-ghost use Rattle.operating.specs.Trains.{first_left as the_first_left, first_left_of, is_full as would_be_full, is_left as has_left, is_no_trade_in as no_trade_in, is_on_sale as on_sale, is_too_dear as too_dear, may_be_traded as may_be_given, may_trade as may_be_had_for, price_for_trade as price_with_trade, lacks_consent as has_no_consent, is_not_sellers as none_of_sellers, presidents_agree, cost_of, IsSmallPurchase, price_of_train as the_price_of_train, sells as bank_sells, sells_diesels as bank_sells_diesels, traded_count as count_of_trade, train_judgement};
+ghost use Rattle.operating.specs.Trains.{IsSmallPurchase, cost_of, first_left_of, presidents_agree, train_judgement};
+ghost use Rattle.operating.specs.Trains.{first_left as the_first_left, is_full as would_be_full, is_left as has_left};
+ghost use Rattle.operating.specs.Trains.{is_no_trade_in as no_trade_in, is_on_sale as on_sale, is_too_dear as too_dear};
+ghost use Rattle.operating.specs.Trains.{lacks_consent as has_no_consent, is_not_sellers as none_of_sellers};
+ghost use Rattle.operating.specs.Trains.{may_be_traded as may_be_given, may_trade as may_be_had_for};
+ghost use Rattle.operating.specs.Trains.{price_for_trade as price_with_trade, price_of_train as the_price_of_train};
+ghost use Rattle.operating.specs.Trains.{sells as bank_sells, sells_diesels as bank_sells_diesels};
+ghost use Rattle.operating.specs.Trains.{traded_count as count_of_trade};
 
 use crate::discards::has_train;
 use history::{History, Party, Past, TrainRule, TrainSeller};
@@ -46,7 +53,7 @@ fn price_of_train(kind: Kind, trade_in: Option<Kind>) -> Amount
 }
 
 /// The kinds of which the bank sells only the least that is left.
-const NUMBERED: [Kind; 5] = [Kind::Two, Kind::Three, Kind::Four, Kind::Five, Kind::Six];
+pub(crate) const NUMBERED: [Kind; 5] = [Kind::Two, Kind::Three, Kind::Four, Kind::Five, Kind::Six];
 
 /// The first rule that a purchase by a company breaks; `None` if it breaks none.
 pub(crate) fn judge_purchase(
@@ -99,7 +106,7 @@ fn is_on_sale(past: &Past, from: TrainSeller, kind: Kind) -> bool
 }
 
 /// Whether the bank sells trains of a kind.
-fn sells(past: &Past, kind: Kind) -> bool
+pub(crate) fn sells(past: &Past, kind: Kind) -> bool
     ensures { result ≡ bank_sells past.now.events.now kind }
 {
     first_left(past) == Some(kind) || (kind == Kind::Diesel && sells_diesels(past))

@@ -3,7 +3,8 @@ ghost use Rattle.board.specs.Ground.{position_of};
 ghost use Rattle.history.specs.LookBack.{with_event};
 ghost use Rattle.history.specs.declared.event.Event.TheVariants as event;
 ghost use Rattle.history.specs.Sound.{IsSound};
-ghost use Rattle.operating.specs.Runs.{IsCounted, has_run, judged_run, ran_unless_fault, rule_of_run, rules_of_turn, run_ruled, runs_most};
+ghost use Rattle.operating.specs.Runs.{IsCounted, has_run, judged_run, ran_unless_fault, rule_of_run};
+ghost use Rattle.operating.specs.Runs.{rules_of_turn, run_ruled, runs_most};
 ghost use Rattle.operating.specs.InTurn.{in_turn};
 ghost use Rattle.tables.specs.Rules.{first_broken};
 

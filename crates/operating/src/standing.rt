@@ -1,6 +1,7 @@
 ghost use Rattle.std.specs.Prelude.{◌≡◌, IfOk, OnOk, length};
 ghost use Rattle.history.specs.Sound.{IsSound};
-ghost use Rattle.operating.specs.Standing.{after_standing, after_standing_line, judged, standing_order_ruling, standing_ruling, train_judged as ruling_by};
+ghost use Rattle.operating.specs.Standing.{after_standing, after_standing_line, judged};
+ghost use Rattle.operating.specs.Standing.{standing_order_ruling, standing_ruling, train_judged as ruling_by};
 ghost use Rattle.order_grammar.specs.declared.order.Order.TheVariants.{Discard, Offer as OfferOrder};
 ghost use Rattle.sheets.specs.File.{players_of};
 ghost use Rattle.sheets.specs.Part.{line_read};

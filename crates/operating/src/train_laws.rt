@@ -1,5 +1,6 @@
 //! Laws of trains, each the contract of a function that does nothing.
-ghost use Rattle.operating.specs.TrainLaws.{OthersKeepAll, OthersKeepStanding, PhasesGoOn, PhasesGoOnInTurns, PurchasesKeepAll, TrainsStandAtFirst, TurnsKeepAll};
+ghost use Rattle.operating.specs.TrainLaws.{OthersKeepAll, OthersKeepStanding, PhasesGoOn, PhasesGoOnInTurns};
+ghost use Rattle.operating.specs.TrainLaws.{PurchasesKeepAll, TrainsStandAtFirst, TurnsKeepAll};
 
 /// Phases never go back, by a purchase or by a company's turn.
 pub fn phases_go_on()

@@ -75,7 +75,8 @@ fn rule_line(
 }
 
 /// Rules an order of a company's block, in a line with this number, and does it if it is obeyed.
-/// Answers how far the turn has come then. An order that is not named here has no place.
+/// Answers how far the turn has come then. A RAISE is ruled at the end of the turn. An order that is
+/// not named here has no place.
 fn rule_order(
     alloc: Global,
     history: &mut History,
@@ -106,6 +107,7 @@ fn rule_order(
         Order::BuyOwnedPrivate { private, price } => {
             rule_private(history, by, line, *private, *price, progress)
         }
+        Order::Raise { .. } => Ok(progress),
         _ => {
             let fault = Fault::OutOfPlace;
             tell_ruling(history, by.president, line, KeptRuling::faulty(fault))?;

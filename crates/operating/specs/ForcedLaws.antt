@@ -1,0 +1,60 @@
+-- What holds of each company's turn, be it made to buy a train or not.
+use Rattle.std.specs.Prelude.{◌≡◌, ◌⊎◌, ℕ, true, false, List, [], ◌∷◌, ◌++◌, Some, pos}
+use Rattle.std.specs.Int.Signed.{lt_z}
+use Rattle.board.specs.Ground.{position_of}
+use Rattle.certificate.specs.TwoTrain.{CanRun}
+use Rattle.history.specs.Event.{party_of_company}
+use Rattle.history.specs.LookBack.{Game, bankrupt_in, cash_of}
+use Rattle.history.specs.Shares.{president_of}
+use Rattle.history.specs.declared.event.Event.{Event}
+use Rattle.history.specs.declared.event.Event.TheVariants as event
+use Rattle.operating.specs.Forced.{cheapest, has_trains, lack_of, with_aid}
+use Rattle.operating.specs.Ground.{ground_now}
+use Rattle.operating.specs.TrainLaws.{TrainsStand}
+use Rattle.operating.specs.Trains.{cost_of}
+use Rattle.operating.specs.Turn.{IsCompanyTurn}
+use Rattle.operating.specs.declared.operator.Operator.{Operator}
+use Rattle.tables.specs.declared.roster.Company.{Company}
+use Rattle.tables.specs.declared.round.Round.{Round}
+use Rattle.tables.specs.declared.seat.Seat.{Seat}
+
+-- whoever presides over a company as its turn begins does so at its end: no sale by which money is raised for it
+-- moves its presidency
+abbrev pub PresidentStays : Type 0
+PresidentStays =
+    (file : List ℕ) (round : Round) (company : Company) (old new : Game) →
+    IsCompanyTurn file round company old new → president_of new.events company ≡ president_of old.events company
+
+-- the list ends as this seat goes bankrupt, nobody was before, and nothing was bought: the company has no train
+pub record EndsBankrupt (game : Game) (company : Company) : Type 0 where
+  pub before : List Event
+  pub president : Seat
+  pub presides : president_of game.events company ≡ Some president
+  pub last : game.events ≡ before ++ event.Bankrupt president ∷ []
+  pub first : bankrupt_in before ≡ false
+  pub none : has_trains game.events company ≡ false
+
+-- a bankruptcy is the last event of a company's turn: the president of the company is bankrupt, and it has no train
+abbrev pub BankruptcyEndsTurns : Type 0
+BankruptcyEndsTurns =
+    (file : List ℕ) (round : Round) (company : Company) (old new : Game) →
+    IsCompanyTurn file round company old new → bankrupt_in old.events ≡ false → bankrupt_in new.events ≡ true →
+    EndsBankrupt new company
+
+-- once the president has paid what the company lacks for the cheapest train that is for sale, it has exactly its price
+abbrev pub AidIsWhatLacks : Type 0
+AidIsWhatLacks =
+    (by : Operator) (game : Game) → lt_z (pos 0) (lack_of game by.company) ≡ true →
+    cash_of (with_aid by game).seats (with_aid by game).events (party_of_company by.company) ≡ pos (cost_of (cheapest game.events))
+
+-- where the company lacks nothing he pays nothing
+abbrev pub NoAidWithoutLack : Type 0
+NoAidWithoutLack = (by : Operator) (game : Game) → lt_z (pos 0) (lack_of game by.company) ≡ false → with_aid by game ≡ game
+
+-- after its turn a company that has a president owns a train, or its president is bankrupt, or it could run no train
+abbrev pub TurnsEndWithTrains : Type 0
+TurnsEndWithTrains =
+    (file : List ℕ) (round : Round) (company : Company) (old new : Game) (president : Seat) →
+    TrainsStand old.events → president_of old.events company ≡ Some president → IsCompanyTurn file round company old new →
+    (has_trains new.events company ≡ true)
+    ⊎ ((bankrupt_in new.events ≡ true) ⊎ (¬ CanRun (position_of (ground_now new.events)) company))

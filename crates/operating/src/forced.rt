@@ -1,0 +1,377 @@
+//! The purchase that a company must make at the end of its turn.
+ghost use Rattle.std.specs.Prelude.{◌≡◌, ◌≤◌, ◌<◌, ◌↔◌, IfOk, IsTrue, OnOk, false};
+ghost use Rattle.history.specs.Sound.{IsSound};
+ghost use Rattle.history.specs.Trains.{so_many as as_many};
+ghost use Rattle.operating.specs.Forced.{EndLeads, IsDue, after_forced, after_raise, after_raise_line, after_raises, cheapest as the_cheapest, concluded, falls_short as president_falls_short, first_on_sale as the_first_on_sale, first_to_sell as the_first_to_sell, has_trains as has_any_trains, lack_of, next_to_sell as the_next_to_sell, one_tenth, plain as plain_purchase, raise_rule as rule_of_raise, sale_rule as rule_of_sale, sold_further, sold_singly, with_aid, with_one_sold};
+ghost use Rattle.operating.specs.Trains.{IsSmallPurchase};
+ghost use Rattle.sheets.specs.Part.{line_read};
+
+use crate::ground::board;
+use crate::operator::Operator;
+use crate::phases::buy_train;
+use crate::purchase::{NUMBERED, Purchase, sells};
+use crate::ruling::tell_ruling;
+use certificate::can_run;
+use certs::{Sale, may_sell, sell_block};
+use history::{Event, History, KeptRuling, Party, Past, Refusal, StockRule, TrainSeller, so_many};
+use order_grammar::Order;
+use sheets::{NumberedLine, PartsLeft};
+use std::alloc::{AllocError, Global};
+use tables::{Amount, Company, Kind, Money};
+
+/// Ends the turn of a company that has paid or withheld: it buys a train if it must, and the RAISE
+/// lines of its block are ruled. An `Err` comes from want of memory alone.
+pub(crate) fn end_turn(
+    alloc: Global,
+    history: &mut History,
+    by: Operator,
+    block: &mut PartsLeft,
+) -> Result<(), AllocError>
+    requires few { history.old.seats ≤ 6 }
+    requires at_table { by.president.0 < history.old.seats }
+    requires sound { IsSound history.old }
+    ensures turn { OnOk result (EndLeads by block.old.before history.old history.new) }
+    ensures sound { OnOk result (IsSound history.new) }
+{
+    let due = is_due(alloc, history, by.company)?;
+    if due {
+        buy_by_force(alloc, history, by, block)?;
+        return Ok(());
+    }
+    rule_raises(history, by, block, false)?;
+    Ok(())
+}
+
+/// Whether a company must buy a train: it has none, and could run one of kind 2.
+fn is_due(alloc: Global, history: &History, company: Company) -> Result<bool, AllocError>
+    requires { IsSound history.now }
+    ensures { IfOk result (λ due. IsTrue due ↔ IsDue history.now company) }
+{
+    if has_trains(&history.now(), company) {
+        return Ok(false);
+    }
+    let board = board(alloc, history)?;
+    Ok(can_run(&board, company))
+}
+
+/// Whether a company has a train.
+fn has_trains(past: &Past, company: Company) -> bool
+    ensures { result ≡ has_any_trains past.now.events.now company }
+{
+    past.stable_size(Some(company)) > 0
+}
+
+/// A company buys the train that it must, or its president is bankrupt.
+#[tactic(auto, unfolding(crate::specs::Forced::after_forced))]
+fn buy_by_force(
+    alloc: Global,
+    history: &mut History,
+    by: Operator,
+    block: &mut PartsLeft,
+) -> Result<(), AllocError>
+    requires few { history.old.seats ≤ 6 }
+    requires at_table { by.president.0 < history.old.seats }
+    requires due { IsDue history.old by.company }
+    requires sound { IsSound history.old }
+    ensures after { OnOk result (history.new ≡ after_forced by block.old.before history.old) }
+    ensures sound { OnOk result (IsSound history.new) }
+{
+    history.tell(Event::Forced(by.company))?;
+    rule_raises(history, by, block, true)?;
+    sell_singly(history, by)?;
+    conclude(alloc, history, by)?;
+    Ok(())
+}
+
+/// Rules the RAISE lines of a block, where a purchase is due, or is not.
+fn rule_raises(
+    history: &mut History,
+    by: Operator,
+    block: &mut PartsLeft,
+    due: bool,
+) -> Result<(), AllocError>
+    requires few { history.old.seats ≤ 6 }
+    requires at_table { by.president.0 < history.old.seats }
+    requires sound { IsSound history.old }
+    ensures seats { OnOk result (history.new.seats ≡ history.old.seats) }
+    ensures after { OnOk result (history.new
+        ≡ after_raises due by history.old block.old.before) }
+    ensures sound { OnOk result (IsSound history.new) }
+{
+    while let Some(line) = block.take_line() {
+        rule_if_raise(history, by, &line, due)?;
+    }
+    Ok(())
+}
+
+/// Rules a line of a block if it is a RAISE.
+fn rule_if_raise(
+    history: &mut History,
+    by: Operator,
+    line: &NumberedLine,
+    due: bool,
+) -> Result<(), AllocError>
+    requires few { history.old.seats ≤ 6 }
+    requires at_table { by.president.0 < history.old.seats }
+    requires sound { IsSound history.old }
+    ensures seats { OnOk result (history.new.seats ≡ history.old.seats) }
+    ensures after { OnOk result (history.new ≡ after_raise_line due by history.old
+        (line_read line.now).number (line_read line.now).reading) }
+    ensures sound { OnOk result (IsSound history.new) }
+{
+    match line.order() {
+        Ok(Order::Raise { company, tenths }) => {
+            let (company, tenths) = (*company, *tenths);
+            rule_raise(history, by, line.number, Sale { company, tenths }, due)?;
+            Ok(())
+        }
+        _ => Ok(()),
+    }
+}
+
+/// Rules a RAISE in the line with this number, and sells if it is obeyed.
+fn rule_raise(
+    history: &mut History,
+    by: Operator,
+    line: u32,
+    sale: Sale,
+    due: bool,
+) -> Result<(), AllocError>
+    requires few { history.old.seats ≤ 6 }
+    requires at_table { by.president.0 < history.old.seats }
+    requires sound { IsSound history.old }
+    ensures seats { OnOk result (history.new.seats ≡ history.old.seats) }
+    ensures after { OnOk result (history.new ≡ after_raise due by history.old line sale) }
+    ensures sound { OnOk result (IsSound history.new) }
+{
+    let broken = raise_rule(history, by, sale, due);
+    let (company, tenths) = (sale.company, sale.tenths);
+    let kept = history.keep(&Order::Raise { company, tenths })?;
+    if let Some(rule) = broken {
+        let refused = KeptRuling::refused(Refusal::Stock(rule), kept);
+        tell_ruling(history, by.president, line, refused)?;
+        return Ok(());
+    }
+    tell_ruling(history, by.president, line, KeptRuling::obeyed(kept))?;
+    sell_block(history, by.president, sale)?;
+    Ok(())
+}
+
+/// The first rule that a RAISE breaks, where a purchase is due, or is not.
+#[tactic(auto, unfolding(crate::specs::Forced::raise_rule))]
+fn raise_rule(history: &History, by: Operator, sale: Sale, due: bool) -> Option<StockRule>
+    ensures { result ≡ rule_of_raise due by history.now sale }
+{
+    if due && falls_short(history, by) {
+        sale_rule(history, by, sale)
+    } else {
+        Some(StockRule::NotOfStock)
+    }
+}
+
+/// The first rule that a sale breaks by which money is raised for the company.
+#[tactic(auto, unfolding(crate::specs::Forced::sale_rule))]
+fn sale_rule(history: &History, by: Operator, sale: Sale) -> Option<StockRule>
+    ensures { result ≡ rule_of_sale by history.now sale }
+{
+    match may_sell(history, by.president, sale, Some(by.company)) {
+        Ok(()) => None,
+        Err(rule) => Some(rule),
+    }
+}
+
+/// So many tenths at most can be sold: the pool takes up to five of each company.
+const SALES_MOST: usize = 40;
+
+/// The president sells tenths one at a time, until he does not fall short or may sell none.
+fn sell_singly(history: &mut History, by: Operator) -> Result<(), AllocError>
+    requires few { history.old.seats ≤ 6 }
+    requires at_table { by.president.0 < history.old.seats }
+    requires sound { IsSound history.old }
+    ensures seats { OnOk result (history.new.seats ≡ history.old.seats) }
+    ensures after { OnOk result (history.new ≡ sold_singly by history.old) }
+    ensures sound { OnOk result (IsSound history.new) }
+{
+    if falls_short(history, by) {
+        sell_tenths(history, by)?;
+        return Ok(());
+    }
+    Ok(())
+}
+
+/// The president sells tenths one at a time, as many as can be sold.
+#[tactic(auto, unfolding(crate::specs::Forced::sold_singly))]
+fn sell_tenths(history: &mut History, by: Operator) -> Result<(), AllocError>
+    requires few { history.old.seats ≤ 6 }
+    requires at_table { by.president.0 < history.old.seats }
+    requires sound { IsSound history.old }
+    ensures seats { OnOk result (history.new.seats ≡ history.old.seats) }
+    ensures after { OnOk result (history.new ≡ sold_singly by history.old) }
+    ensures sound { OnOk result (IsSound history.new) }
+{
+    for _ in 0..SALES_MOST {
+        sell_further(history, by)?;
+    }
+    Ok(())
+}
+
+/// The president sells one tenth more, where he falls short and may.
+#[tactic(auto, unfolding(crate::specs::Forced::sold_further))]
+fn sell_further(history: &mut History, by: Operator) -> Result<(), AllocError>
+    requires few { history.old.seats ≤ 6 }
+    requires at_table { by.president.0 < history.old.seats }
+    requires sound { IsSound history.old }
+    ensures seats { OnOk result (history.new.seats ≡ history.old.seats) }
+    ensures after { OnOk result (history.new ≡ sold_further by history.old) }
+    ensures sound { OnOk result (IsSound history.new) }
+{
+    if falls_short(history, by) {
+        sell_next(history, by)?;
+        return Ok(());
+    }
+    Ok(())
+}
+
+/// The president sells one tenth more, where he may.
+fn sell_next(history: &mut History, by: Operator) -> Result<(), AllocError>
+    requires few { history.old.seats ≤ 6 }
+    requires at_table { by.president.0 < history.old.seats }
+    requires sound { IsSound history.old }
+    ensures seats { OnOk result (history.new.seats ≡ history.old.seats) }
+    ensures after { OnOk result (history.new
+        ≡ with_one_sold by history.old (the_next_to_sell by history.old)) }
+    ensures sound { OnOk result (IsSound history.new) }
+{
+    if let Some(company) = next_to_sell(history, by) {
+        sell_block(history, by.president, tenth_of(company))?;
+        return Ok(());
+    }
+    Ok(())
+}
+
+/// One tenth of a company.
+fn tenth_of(company: Company) -> Sale
+    ensures { result ≡ one_tenth company }
+{
+    Sale { company, tenths: 1 }
+}
+
+/// The first company in roster order of which the president may sell a tenth.
+#[tactic(auto, unfolding(crate::specs::Forced::next_to_sell))]
+fn next_to_sell(history: &History, by: Operator) -> Option<Company>
+    ensures { result ≡ the_next_to_sell by history.now }
+{
+    first_to_sell(history, by, &Company::ALL)
+}
+
+/// The first of these companies of which the president may sell a tenth.
+fn first_to_sell(history: &History, by: Operator, among: &[Company]) -> Option<Company>
+    ensures { result ≡ the_first_to_sell by history.now among.now }
+{
+    among.iter().copied().find(|company| sale_rule(history, by, tenth_of(*company)).is_none())
+}
+
+/// The president pays what the company lacks, and it buys; or he falls short, and is bankrupt.
+#[tactic(auto, unfolding(crate::specs::Forced::concluded))]
+fn conclude(alloc: Global, history: &mut History, by: Operator) -> Result<(), AllocError>
+    requires at_table { by.president.0 < history.old.seats }
+    requires none { has_any_trains history.old.events by.company ≡ false }
+    requires sound { IsSound history.old }
+    ensures after { OnOk result (history.new ≡ concluded by history.old) }
+    ensures sound { OnOk result (IsSound history.new) }
+{
+    if falls_short(history, by) {
+        history.tell(Event::Bankrupt(by.president))?;
+        return Ok(());
+    }
+    let purchase = cheapest(&history.now());
+    aid(history, by)?;
+    buy_train(alloc, history, by.company, purchase)?;
+    Ok(())
+}
+
+/// The president pays what the company lacks, if it lacks anything.
+#[tactic(auto, unfolding(crate::specs::Forced::with_aid))]
+fn aid(history: &mut History, by: Operator) -> Result<(), AllocError>
+    requires at_table { by.president.0 < history.old.seats }
+    requires enough { president_falls_short by history.old ≡ false }
+    requires sound { IsSound history.old }
+    ensures after { OnOk result (history.new ≡ with_aid by history.old) }
+    ensures sound { OnOk result (IsSound history.new) }
+{
+    let amount = lacking(history, by.company);
+    if amount == 0 {
+        return Ok(());
+    }
+    history.append(Event::Aid {
+        seat: by.president,
+        company: by.company,
+        amount,
+    })?;
+    Ok(())
+}
+
+/// What a company lacks for the cheapest train that is for sale, in dollars; 0 where it has enough.
+#[tactic(auto, using(crate::proofs::ForcedAid::lack_small))]
+fn lacking(history: &History, company: Company) -> Amount
+    requires { IsSound history.now }
+    ensures amount { result ≡ as_many (lack_of history.now company) }
+    ensures small { result ≤ 1100 }
+{
+    so_many(lack(history, company)) as Amount
+}
+
+/// Whether the president has less free of his bids than the company lacks.
+#[tactic(auto, unfolding(crate::specs::Forced::falls_short))]
+fn falls_short(history: &History, by: Operator) -> bool
+    ensures { result ≡ president_falls_short by history.now }
+{
+    history.free_cash(by.president) < lack(history, by.company)
+}
+
+/// What a company lacks for the cheapest train that is for sale; 0 or less where it has enough.
+#[tactic(auto, unfolding(crate::specs::Forced::lack_of))]
+fn lack(history: &History, company: Company) -> Money
+    ensures { result ≡ lack_of history.now company }
+{
+    let cost = cheapest(&history.now()).price();
+    Money::from(cost) - history.cash(Party::of_company(company))
+}
+
+/// The cheapest train that the bank or the pool sells, the bank's where both sell it.
+#[tactic(auto, unfolding(crate::specs::Forced::cheapest))]
+fn cheapest(past: &Past) -> Purchase
+    ensures purchase { result ≡ the_cheapest past.now.events.now }
+    ensures small { IsSmallPurchase result }
+{
+    first_on_sale(past, &NUMBERED)
+}
+
+/// The first of these kinds that is for sale; a D of the bank where none is.
+#[tactic(auto, unfolding(crate::specs::Forced::first_on_sale))]
+fn first_on_sale(past: &Past, kinds: &[Kind]) -> Purchase
+    ensures purchase { result ≡ the_first_on_sale past.now.events.now kinds.now }
+    ensures small { IsSmallPurchase result }
+{
+    for kind in kinds {
+        if sells(past, *kind) {
+            return plain(*kind, TrainSeller::Bank);
+        }
+        if past.trains(None, *kind) > 0 {
+            return plain(*kind, TrainSeller::BankPool);
+        }
+    }
+    plain(Kind::Diesel, TrainSeller::Bank)
+}
+
+/// The purchase of a train for which none is traded in.
+fn plain(kind: Kind, from: TrainSeller) -> Purchase
+    ensures { result ≡ plain_purchase kind from }
+{
+    Purchase {
+        kind,
+        from,
+        trade_in: None,
+        asked: None,
+    }
+}
