@@ -1,6 +1,6 @@
 -- Files with the same sheets of each player have the same game.
 use Rattle.std.proofs.Common.{◌≡◌, ℕ, zero, suc, List, sym, ◌∙◌}
-use Rattle.rounds.proofs.SameSheets.{same_before, same_posted, same_round}
+use Rattle.rounds.proofs.SameSheets.{same_before, same_goes_on, same_round}
 use Rattle.rounds.specs.Arrival.{ArrivalChangesNoGame}
 use Rattle.rounds.specs.Play.{AreRounds, Between, before_play}
 use Rattle.sheets.specs.File.{players_of, sheet_of}
@@ -13,7 +13,7 @@ all_the_same f g players same zero there played = sym (same_before f g players) 
 all_the_same f g players same (suc rounds) there played = (
   played.0,
   all_the_same f g players same rounds played.0 played.1,
-  same_round f g played.0 there players (λ seat. same seat played.0.next) played.2,
+  same_round f g played.0 there players played.2 (λ seat. same seat played.2.round),
 )
 
 -- in which order the sheets of different players arrive changes nothing in the game
@@ -23,5 +23,5 @@ arrival_no_game nothing f g players sent last plays =
     record {
       rounds = plays.rounds;
       reached = all_the_same f g players same plays.rounds last plays.reached;
-      stopped = sym (same_posted f g last.next players (λ seat. same seat last.next)) ∙ plays.stopped;
+      stopped = sym (same_goes_on f g last.next players (λ round seat. same seat round)) ∙ plays.stopped;
     }

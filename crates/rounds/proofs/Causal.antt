@@ -1,12 +1,15 @@
 -- Later sheets change nothing, since the sequence goes forward and each round is played from its own
 -- sheets alone.
-use Rattle.std.proofs.Common.{◌≡◌, ℕ, zero, suc, false, ◌≤◌, ◌<◌, List, length, sym, ap, ◌∙◌, arith}
+use Rattle.std.proofs.Common.{◌≡◌, ℕ, zero, suc, ◌≤◌, ◌<◌, List, length, sym, ap, ◌∙◌, arith}
+use Rattle.history.specs.LookBack.{broken_in}
 use Rattle.privates.specs.Turn.{all_sold}
+use Rattle.rounds.proofs.Coming.{comes_once, follows}
 use Rattle.rounds.proofs.Forward.{played_forward}
-use Rattle.rounds.proofs.InSet.{StandsInSet, comes_in_set}
+use Rattle.rounds.proofs.InSet.{StandsNext, comes_in_set}
 use Rattle.rounds.proofs.SameSheets.{same_before, same_round}
 use Rattle.rounds.specs.Causality.{AgreeUpTo, LaterSheetsChangeNothing}
 use Rattle.rounds.specs.Play.{AreRounds, Between, IsRound, before_play}
+use Rattle.rounds.specs.declared.following.Next.TheVariants as next
 use Rattle.sheets.specs.File.{players_of}
 use Rattle.sheets.specs.Laws.{SheetsAreNumbered, ThreeToSixPlay}
 use Rattle.tables.specs.Round.{rank_of}
@@ -14,31 +17,32 @@ use Rattle.tables.specs.declared.round.Round.{Round}
 
 module _ (numbered : SheetsAreNumbered) (last : Round) (first second : List ℕ) (some : 0 < length (players_of first)) (agree : AgreeUpTo last first second) where
   -- a round that was played is before the next
-  forward : (old new : Between) → StandsInSet old.next old.in_set → IsRound first old new → rank_of old.next < rank_of new.next
-  forward old new stands round =
-      played_forward numbered first old.next new.next old.in_set (all_sold new.game.events) false some stands round.posted round.next_then
+  forward : (old new : Between) (later : Round) → StandsNext old → (round : IsRound first old new) → new.next ≡ next.Round later →
+      rank_of round.round < rank_of later
+  forward old new later stands round comes =
+      played_forward numbered first round.round later old.in_set (all_sold new.game.events) (broken_in new.game.events) some
+      (stands round.round round.comes) round.posted (follows first old new later round comes)
 
   -- a round up to the last is played alike
-  alike : (old new : Between) → rank_of old.next ≤ rank_of last → IsRound first old new → IsRound second old new
-  alike old new up_to round =
-      same_round first second old new agree.players (λ seat. agree.sheets seat old.next up_to) round
+  alike : (old new : Between) (round : IsRound first old new) → rank_of round.round ≤ rank_of last → IsRound second old new
+  alike old new round up_to =
+      same_round first second old new agree.players round (λ seat. agree.sheets seat round.round up_to)
 
   -- so are those that lead to one up to the last
-  pub all_alike : (rounds : ℕ) (there : Between) → rank_of there.next ≤ rank_of last →
+  pub all_alike : (rounds : ℕ) (there : Between) (upcoming : Round) → there.next ≡ next.Round upcoming → rank_of upcoming ≤ rank_of last →
       AreRounds first rounds (before_play first) there → AreRounds second rounds (before_play second) there
-  all_alike zero there up_to played = sym (same_before first second agree.players) ∙ played
-  all_alike (suc rounds) there up_to played =
-      let before = forward played.0 there (comes_in_set first rounds played.0 played.1) played.2 in
-      let earlier : rank_of played.0.next ≤ rank_of last = omega arith in
-      (played.0, all_alike rounds played.0 earlier played.1, alike played.0 there earlier played.2)
-
-  -- a round that is the last is up to the last
-  pub is_last : (old : Between) → old.next ≡ last → rank_of old.next ≤ rank_of last
-  is_last old comes = let same : rank_of old.next ≡ rank_of last = ap rank_of comes in omega arith
+  all_alike zero there upcoming comes up_to played = sym (same_before first second agree.players) ∙ played
+  all_alike (suc rounds) there upcoming comes up_to played =
+      let round : IsRound first played.0 there = played.2 in
+      let before = forward played.0 there upcoming (comes_in_set first rounds played.0 played.1) round comes in
+      let earlier : rank_of round.round ≤ rank_of last = omega arith in
+      (played.0, all_alike rounds played.0 round.round round.comes earlier played.1, alike played.0 there round earlier)
 
   -- and the last itself
-  pub last_alike : (old new : Between) → old.next ≡ last → IsRound first old new → IsRound second old new
-  last_alike old new comes round = alike old new (is_last old comes) round
+  pub last_alike : (old new : Between) → old.next ≡ next.Round last → IsRound first old new → IsRound second old new
+  last_alike old new comes round =
+      let same : rank_of round.round ≡ rank_of last = ap rank_of (comes_once round.round last (sym round.comes ∙ comes)) in
+      alike old new round (omega (arith, same))
 
 -- later sheets change nothing
 pub later_nothing : SheetsAreNumbered → ThreeToSixPlay → LaterSheetsChangeNothing
@@ -47,7 +51,7 @@ later_nothing numbered players round first second old new accepted agree played 
     let some : 0 < length (players_of first) = omega arith in
     record {
       rounds = played.rounds;
-      before = all_alike numbered round first second some agree played.rounds old (is_last numbered round first second some agree old played.comes) played.before;
+      before = all_alike numbered round first second some agree played.rounds old round played.comes (omega arith) played.before;
       comes = played.comes;
       step = last_alike numbered round first second some agree old new played.comes played.step;
     }

@@ -64,7 +64,7 @@ closed_for_good others sales turns file zero old new private played closed =
     subst (λ (at : Between). is_closed at.game.events private ≡ true) played closed
 closed_for_good others sales turns file (suc rounds) old new private played closed =
     let mid : Between = played.0 in
-    of_rounds others sales turns file mid.next mid.game new.game played.2.played private
+    of_rounds others sales turns file played.2.round mid.game new.game played.2.played private
     (closed_for_good others sales turns file rounds old mid private played.1 closed)
 
 -- sellers agree in each game

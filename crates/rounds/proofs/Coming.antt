@@ -1,6 +1,10 @@
 -- What holds of the round that comes next, if one does.
-use Rattle.std.proofs.Common.{◌≡◌, ℕ, ◌+◌, Bool, true, false, nat_lt, if◌then◌else◌, refl, sym, subst, ◌∙◌}
+use Rattle.std.proofs.Common.{◌≡◌, ℕ, ◌+◌, Bool, true, false, nat_lt, if◌then◌else◌, List, refl, sym, ap, subst, ◌∙◌}
 use Rattle.std.specs.Prelude.{⊤}
+use Rattle.history.specs.LookBack.{bankrupt_in, broken_in}
+use Rattle.history.specs.declared.event.Event.{Event}
+use Rattle.privates.specs.Turn.{all_sold}
+use Rattle.rounds.specs.Play.{Between, IsRound, coming, in_set_before}
 use Rattle.rounds.specs.Sequence.{BankAloneEndsIt, following}
 use Rattle.rounds.specs.declared.following.Next.{Next}
 use Rattle.rounds.specs.declared.following.Next.TheVariants as next
@@ -50,10 +54,25 @@ some_comes (Operating set number) in_set all_sold =
     ]
 
 -- the end is no round
-no_round : (round : Round) → next.Ended ≡ next.Round round → ⊥
+pub no_round : (round : Round) → next.Ended ≡ next.Round round → ⊥
 no_round round same = cc
 
--- so that is not the end
-pub not_over : (round : Round) (in_set : ℕ) (all_sold : Bool) → following round in_set all_sold false ≡ next.Ended → ⊥
-not_over round in_set all_sold over =
-    let later = some_comes round in_set all_sold in no_round later.0 (sym over ∙ later.1)
+-- a round that comes is the one that the sequence says
+in_sequence : (bankrupt : Bool) (says : Next) (later : Round) → (if bankrupt then next.Ended else says) ≡ next.Round later → says ≡ next.Round later
+in_sequence true says later comes = absurd (no_round later comes)
+in_sequence false says later comes = comes
+
+-- so is one that comes after a round
+pub comes_in_sequence : (round later : Round) (in_set : ℕ) (events : List Event) → coming round in_set events ≡ next.Round later →
+    following round in_set (all_sold events) (broken_in events) ≡ next.Round later
+comes_in_sequence round later in_set events comes =
+    in_sequence (bankrupt_in events) (following round in_set (all_sold events) (broken_in events)) later comes
+
+module _ (file : List ℕ) (old new : Between) (later : Round) (round : IsRound file old new) (comes : new.next ≡ next.Round later) where
+  -- so is one that comes after a round that was played
+  pub follows : following round.round old.in_set (all_sold new.game.events) (broken_in new.game.events) ≡ next.Round later
+  follows = comes_in_sequence round.round later old.in_set new.game.events (sym round.next_then ∙ comes)
+
+  -- and its set has so many operating rounds
+  pub in_set_then : new.in_set ≡ in_set_before (next.Round later) new.game.events old.in_set
+  in_set_then = round.in_set_then ∙ ap (λ (it : Next). in_set_before it new.game.events old.in_set) comes

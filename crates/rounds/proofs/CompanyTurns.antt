@@ -179,7 +179,7 @@ operate_once operates_too ordered file round old new played =
       at_most_eight = omega (arith, length_few operates_too ordered file round companies start turned played.turns.turns, idle_few start.events);
       no_second = λ company. at_most_one (has_operated turned.events company) (times company companies) (count company);
       no_one_missed =
-          λ company operating.
-          let all : ◌≡◌ {A = ℕ} (if has_operated turned.events company then 1 else 0) 1 = ap (λ (b : Bool). if b then 1 else 0) (all_have_operated ordered turned.events company played.turns.over_then operating) in
+          λ solvent company operating.
+          let all : ◌≡◌ {A = ℕ} (if has_operated turned.events company then 1 else 0) 1 = ap (λ (b : Bool). if b then 1 else 0) (all_have_operated ordered turned.events company solvent played.turns.over_then operating) in
           omega (arith, all, count company);
     }

@@ -43,7 +43,7 @@ unfolding sheet_of players_of body_of content_of written_lines is_blank begins i
 first_plays =
     record {
       rounds = 1;
-      reached = (before_play first_file, refl, record { posted = refl; played = played; next_then = refl; in_set_then = refl });
+      reached = (before_play first_file, refl, record { round = Opening 1; comes = refl; posted = refl; played = played; next_then = refl; in_set_then = refl });
       stopped = refl;
     }
 

@@ -1,14 +1,17 @@
 -- The sequence goes forward in the order of all rounds, and no sheet is past the last of them: so play
 -- comes to an end.
-use Rattle.std.proofs.Common.{◌≡◌, ℕ, ◌+◌, ◌-◌, ◌<◌, ◌≤◌, Bool, true, false, List, length, is_some, arith, rules}
+use Rattle.std.proofs.Common.{◌≡◌, ℕ, ◌+◌, ◌-◌, ◌<◌, ◌≤◌, Bool, true, false, List, length, is_some, refl, ap, arith, rules}
 use Rattle.std.proofs.lemmas.Bool.{lt-ltb}
 use Rattle.history.specs.declared.event.Event.{Event}
-use Rattle.rounds.proofs.Coming.{OfNext, after_operating, of_coming}
-use Rattle.rounds.proofs.InSet.{StandsInSet, in_any_set}
+use Rattle.history.specs.LookBack.{broken_in}
+use Rattle.privates.specs.Turn.{all_sold}
+use Rattle.rounds.proofs.Coming.{OfNext, after_operating, follows, of_coming}
+use Rattle.rounds.proofs.InSet.{StandsInSet, StandsNext, in_any_set}
 use Rattle.rounds.proofs.Posted.{posted_each}
 use Rattle.rounds.specs.Gifts.{GiftsWait}
-use Rattle.rounds.specs.Play.{all_posted}
+use Rattle.rounds.specs.Play.{Between, IsRound, all_posted}
 use Rattle.rounds.specs.Sequence.{SequenceGoesForward, following, turn_in_set}
+use Rattle.rounds.specs.declared.following.Next.{Next}
 use Rattle.rounds.specs.declared.following.Next.TheVariants as next
 use Rattle.sheets.specs.File.{players_of, sheet_of}
 use Rattle.sheets.specs.Laws.{SheetsAreNumbered, number_of}
@@ -44,6 +47,11 @@ goes_forward round later in_set all_sold broken small turn comes =
 abbrev pub places_left : Round → ℕ
 places_left round = stock_rank (number_most + 1) - rank_of round
 
+-- how many are left where this comes next
+abbrev pub places_to_come : Next → ℕ
+places_to_come (next.Round round) = places_left round
+places_to_come next.Ended = 0
+
 -- each round that a sheet may name has a place left
 before_the_last : (round : Round) → number_of round ≤ number_most → turn_in_set round ≤ operating_most → rank_of round < stock_rank (number_most + 1)
 before_the_last (Opening number) small turn = omega arith
@@ -72,6 +80,25 @@ module _ (numbered : SheetsAreNumbered) (file : List ℕ) (round later : Round) 
       let within = before_the_last round small (in_any_set round in_set stands) in
       let forward = played_forward some stands posted comes in
       omega arith
+
+module _ (numbered : SheetsAreNumbered) (file : List ℕ) (old new : Between) (some : 0 < length (players_of file)) (round : IsRound file old new) (at : StandsInSet round.round old.in_set) where
+  -- fewer places are left after a round that was played, whatever comes next
+  fewer_than_before : (upcoming : Next) → new.next ≡ upcoming → places_to_come upcoming < places_left round.round
+  fewer_than_before (next.Round later) comes =
+      fewer_places numbered file round.round later old.in_set (all_sold new.game.events) (broken_in new.game.events) some at round.posted
+      (follows file old new later round comes)
+  fewer_than_before next.Ended over =
+      let small = posted_small numbered file round.round some round.posted in
+      let within = before_the_last round.round small (in_any_set round.round old.in_set at) in
+      omega (arith, within)
+
+-- so each round that is played leaves fewer
+pub fewer_to_come : SheetsAreNumbered → (file : List ℕ) (old new : Between) → 0 < length (players_of file) → StandsNext old →
+    IsRound file old new → places_to_come new.next < places_to_come old.next
+fewer_to_come numbered file old new some stands round =
+    let is : places_to_come old.next ≡ places_left round.round = ap places_to_come round.comes in
+    let fewer = fewer_than_before numbered file old new some round (stands round.round round.comes) new.next refl in
+    omega (arith, is, fewer)
 
 -- what a round asks holds before the next, if it holds after the one that was played
 gifts_next : (round : Round) (in_set : ℕ) (all_sold broken : Bool) (events : List Event) →

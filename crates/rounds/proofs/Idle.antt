@@ -1,12 +1,13 @@
 -- Which companies have not operated in a round: each turn leaves one fewer.
-use Rattle.std.proofs.Common.{◌≡◌, ℕ, ◌+◌, ◌<◌, ◌≤◌, Bool, true, false, ◌||◌, not, if◌then◌else◌, List, [], ◌∷◌, length, Some, None, refl, sym, ap, subst, ◌∙◌, arith}
+use Rattle.std.proofs.Common.{◌≡◌, ℕ, ◌+◌, ◌<◌, ◌≤◌, Bool, true, false, ◌||◌, not, if◌then◌else◌, List, [], ◌∷◌, length, Option, Some, None, refl, sym, ap, subst, ◌∙◌, arith}
 use Rattle.std.proofs.Math.Bool.{or-true}
 use Rattle.std.specs.Prelude.{find}
 use Rattle.history.proofs.Choices.{same_company_is}
+use Rattle.history.specs.LookBack.{bankrupt_in}
 use Rattle.history.specs.Operating.{has_operated}
 use Rattle.history.specs.declared.event.Event.{Event}
 use Rattle.market.specs.OperatingOrder.{IsOperatingOrder, operates, operating_order_of, times}
-use Rattle.rounds.specs.OperatingRound.{next_company}
+use Rattle.rounds.specs.OperatingRound.{first_idle, next_company}
 use Rattle.tables.specs.Roster.{companies, same_company}
 use Rattle.tables.specs.declared.roster.Company.{Company}
 use Rattle.tables.specs.declared.roster.Company.TheVariants.{Pennsylvania, NewYorkCentral, CanadianPacific, BaltimoreOhio, ChesapeakeOhio, Erie, NewHaven, BostonMaine}
@@ -155,15 +156,27 @@ some_operate : (b : Bool) → 1 ≤ (if b then 1 else 0) → b ≡ true
 some_operate true some = refl
 some_operate false some = absurd (omega arith)
 
+-- a company that is the next is the first that is idle
+next_is_first : (bankrupt : Bool) (first : Option Company) (company : Company) → (if bankrupt then None else first) ≡ Some company → first ≡ Some company
+next_is_first true first company found = absurd (cc)
+next_is_first false first company found = found
+
+-- where there is no next and nobody is bankrupt, none is idle
+none_is_first : (bankrupt : Bool) (first : Option Company) → bankrupt ≡ false → (if bankrupt then None else first) ≡ None → first ≡ None
+none_is_first true first solvent none = absurd (cc)
+none_is_first false first solvent none = none
+
 -- the next company operates, and has not done so in the round
 pub next_is_idle : ((events : List Event) → IsOperatingOrder events (operating_order_of events)) → (events : List Event) (company : Company) → next_company events ≡ Some company → (operates events company ≡ true) × (has_operated events company ≡ false)
 next_is_idle ordered events company found =
-    let there = found_passes (λ company. not (has_operated events company)) (operating_order_of events) company found in
+    let first : first_idle events ≡ Some company = next_is_first (bankrupt_in events) (first_idle events) company found in
+    let there = found_passes (λ company. not (has_operated events company)) (operating_order_of events) company first in
     let count = (ordered events).each_once company in
     (some_operate (operates events company) (omega (arith, there.1, count)), not_so (has_operated events company) there.0)
 
--- where there is no next, each company that operates has done so
-pub all_have_operated : ((events : List Event) → IsOperatingOrder events (operating_order_of events)) → (events : List Event) (company : Company) → next_company events ≡ None → operates events company ≡ true → has_operated events company ≡ true
-all_have_operated ordered events company none operating =
+-- where there is no next and nobody is bankrupt, each company that operates has done so
+pub all_have_operated : ((events : List Event) → IsOperatingOrder events (operating_order_of events)) → (events : List Event) (company : Company) → bankrupt_in events ≡ false → next_company events ≡ None → operates events company ≡ true → has_operated events company ≡ true
+all_have_operated ordered events company solvent none operating =
+    let idle : first_idle events ≡ None = none_is_first (bankrupt_in events) (first_idle events) solvent none in
     let count : times company (operating_order_of events) ≡ 1 = (ordered events).each_once company ∙ ap (λ (b : Bool). if b then 1 else 0) operating in
-    is_so (has_operated events company) (none_passes (λ company. not (has_operated events company)) (operating_order_of events) company none (omega (arith, count)))
+    is_so (has_operated events company) (none_passes (λ company. not (has_operated events company)) (operating_order_of events) company idle (omega (arith, count)))

@@ -1,18 +1,21 @@
 -- The rounds of a game follow one another in the order of all rounds, since each round tells its own
 -- beginning first, begins no other, and comes before the next.
-use Rattle.std.proofs.Common.{◌≡◌, ℕ, zero, suc, false, ◌<◌, List, [], ◌∷◌, ◌++◌, length, refl, sym, ap, subst, ◌∙◌, arith}
+use Rattle.std.proofs.Common.{◌≡◌, ℕ, zero, suc, ◌<◌, List, [], ◌∷◌, ◌++◌, length, refl, sym, ap, subst, ◌∙◌, arith}
 use Rattle.std.specs.Prelude.{⊤}
 use Rattle.std.proofs.lemmas.Bool.{lt-ltb}
 use Rattle.std.proofs.lemmas.List.{append-nil}
+use Rattle.history.specs.LookBack.{broken_in}
 use Rattle.history.specs.declared.event.Event.{Event}
 use Rattle.history.specs.declared.event.Event.TheVariants as event
 use Rattle.operating.specs.Laws.{TurnOnlyAdds}
 use Rattle.privates.specs.Turn.{all_sold}
+use Rattle.rounds.proofs.Coming.{follows}
 use Rattle.rounds.proofs.Forward.{played_forward}
 use Rattle.rounds.proofs.GoingOn.{GoesOn, begun_in_both, round_goes_on}
-use Rattle.rounds.proofs.InSet.{StandsInSet, comes_in_set}
+use Rattle.rounds.proofs.InSet.{StandsNext, comes_in_set}
 use Rattle.rounds.specs.Begun.{AreInOrder, BeginWithRound, IsBeforeEach, RoundsFollowInOrder, rounds_begun}
 use Rattle.rounds.specs.Play.{AreRounds, Between, IsRound, before_play}
+use Rattle.rounds.specs.declared.following.Next.TheVariants as next
 use Rattle.sheets.specs.File.{players_of}
 use Rattle.sheets.specs.Laws.{SheetsAreNumbered, ThreeToSixPlay}
 use Rattle.tables.specs.Round.{rank_of}
@@ -36,22 +39,23 @@ order_goes_on (one ∷ rounds) round order before =
     (one_more_after one rounds round order.0 before.0, order_goes_on rounds round order.1 before.1)
 
 -- rounds that are before a round, and that round, are before the next
-all_before_next : (rounds : List Round) (round next : Round) → AreBefore rounds round → rank_of round < rank_of next → AreBefore (rounds ++ round ∷ []) next
-all_before_next [] round next before later = (later, tt)
-all_before_next (one ∷ rounds) round next before later =
+all_before_next : (rounds : List Round) (round upcoming : Round) → AreBefore rounds round → rank_of round < rank_of upcoming → AreBefore (rounds ++ round ∷ []) upcoming
+all_before_next [] round upcoming before later = (later, tt)
+all_before_next (one ∷ rounds) round upcoming before later =
     let first : rank_of one < rank_of round = before.0 in
-    (omega arith, all_before_next rounds round next before.1 later)
+    (omega arith, all_before_next rounds round upcoming before.1 later)
 
 -- what begins with a round still does once it has gone on
 still_begins : (events : List Event) (round : Round) (more : List Event) → BeginWithRound events → BeginWithRound ((events ++ event.Round round ∷ []) ++ more)
 still_begins [] round more begins = refl
 still_begins (first ∷ events) round more begins = begins
 
--- what a game between rounds tells: it begins with a round, and its rounds are in order and before the next
+-- what a game between rounds tells: it begins with a round, and its rounds are in order and before the next, if one
+-- comes
 record TellsInOrder (there : Between) : Type 0 where
   begins : BeginWithRound there.game.events
   order : AreInOrder (rounds_begun there.game.events)
-  before : AreBefore (rounds_begun there.game.events) there.next
+  before : (upcoming : Round) → there.next ≡ next.Round upcoming → AreBefore (rounds_begun there.game.events) upcoming
 
 -- the rounds of a list that grew by one round
 begun_then : (events new : List Event) (round : Round) → GoesOn (events ++ event.Round round ∷ []) new → rounds_begun new ≡ rounds_begun events ++ round ∷ []
@@ -65,26 +69,31 @@ begun_then events new round grows =
 
 module _ (adds : TurnOnlyAdds) (numbered : SheetsAreNumbered) (file : List ℕ) (some : 0 < length (players_of file)) where
   -- a round that was played is before the next
-  forward : (old new : Between) → StandsInSet old.next old.in_set → IsRound file old new → rank_of old.next < rank_of new.next
-  forward old new stands round =
-      played_forward numbered file old.next new.next old.in_set (all_sold new.game.events) false some stands round.posted round.next_then
+  forward : (old new : Between) (later : Round) → StandsNext old → (round : IsRound file old new) → new.next ≡ next.Round later →
+      rank_of round.round < rank_of later
+  forward old new later stands round comes =
+      played_forward numbered file round.round later old.in_set (all_sold new.game.events) (broken_in new.game.events) some
+      (stands round.round round.comes) round.posted (follows file old new later round comes)
 
   -- so the order goes on
-  round_in_order : (old new : Between) → TellsInOrder old → StandsInSet old.next old.in_set → IsRound file old new → TellsInOrder new
+  round_in_order : (old new : Between) → TellsInOrder old → StandsNext old → IsRound file old new → TellsInOrder new
   round_in_order old new tells stands round =
-      let grows = round_goes_on adds file old.next old.game new.game round.played in
-      let begun : rounds_begun new.game.events ≡ rounds_begun old.game.events ++ old.next ∷ [] = begun_then old.game.events new.game.events old.next grows in
+      let it : Round = round.round in
+      let grows = round_goes_on adds file it old.game new.game round.played in
+      let begun : rounds_begun new.game.events ≡ rounds_begun old.game.events ++ it ∷ [] = begun_then old.game.events new.game.events it grows in
+      let before : AreBefore (rounds_begun old.game.events) it = tells.before it round.comes in
       record {
-        begins = subst BeginWithRound (sym grows.longer) (still_begins old.game.events old.next grows.more tells.begins);
-        order = subst AreInOrder (sym begun) (order_goes_on (rounds_begun old.game.events) old.next tells.order tells.before);
+        begins = subst BeginWithRound (sym grows.longer) (still_begins old.game.events it grows.more tells.begins);
+        order = subst AreInOrder (sym begun) (order_goes_on (rounds_begun old.game.events) it tells.order before);
         before =
-            subst (λ (rounds : List Round). AreBefore rounds new.next) (sym begun)
-            (all_before_next (rounds_begun old.game.events) old.next new.next tells.before (forward old new stands round));
+            λ later comes.
+            subst (λ (rounds : List Round). AreBefore rounds later) (sym begun)
+            (all_before_next (rounds_begun old.game.events) it later before (forward old new later stands round comes));
       }
 
   -- from the beginning
   all_in_order : (rounds : ℕ) (there : Between) → AreRounds file rounds (before_play file) there → TellsInOrder there
-  all_in_order zero there played = subst TellsInOrder played (record { begins = tt; order = tt; before = tt })
+  all_in_order zero there played = subst TellsInOrder played (record { begins = tt; order = tt; before = λ upcoming comes. tt })
   all_in_order (suc rounds) there played =
       round_in_order played.0 there (all_in_order rounds played.0 played.1) (comes_in_set file rounds played.0 played.1) played.2
 

@@ -1,11 +1,11 @@
 -- Each round that comes stands within its set.
 use Rattle.std.proofs.Common.{◌≡◌, ℕ, zero, suc, ◌+◌, ◌<◌, ◌≤◌, Bool, true, false, List, [], length, sym, ap, subst, ◌∙◌, arith}
 use Rattle.std.proofs.lemmas.Bool.{ltb-true}
-use Rattle.history.specs.LookBack.{Game}
+use Rattle.history.specs.LookBack.{Game, broken_in}
 use Rattle.history.specs.Trains.{phase_of}
 use Rattle.history.specs.declared.event.Event.{Event}
 use Rattle.privates.specs.Turn.{all_sold}
-use Rattle.rounds.proofs.Coming.{OfNext, after_operating, of_coming}
+use Rattle.rounds.proofs.Coming.{OfNext, after_operating, comes_once, follows, in_set_then, of_coming}
 use Rattle.rounds.specs.Play.{AreRounds, Between, IsRound, before_play, in_set_before, rounds_of_new_set}
 use Rattle.rounds.specs.Sequence.{following, turn_in_set}
 use Rattle.rounds.specs.declared.following.Next.TheVariants as next
@@ -28,7 +28,7 @@ pub in_any_set : (round : Round) (in_set : ℕ) → StandsInSet round in_set →
 in_any_set round in_set stands = let few = stands.few in let within = stands.within in omega (arith, few, within)
 
 -- the first round does
-pub first_in_set : (file : List ℕ) → StandsInSet (before_play file).next (before_play file).in_set
+first_in_set : (file : List ℕ) → StandsInSet (Opening 1) (before_play file).in_set
 first_in_set file = record { some = omega arith; few = omega arith; within = omega arith }
 
 -- a set that begins has one to three
@@ -48,35 +48,44 @@ new_set set events =
 -- so does what follows each round
 next_in_set : (round : Round) (in_set : ℕ) (all_sold broken : Bool) (events : List Event) →
     StandsInSet round in_set →
-    OfNext (λ later. StandsInSet later (in_set_before later events in_set)) (following round in_set all_sold broken)
+    OfNext (λ later. StandsInSet later (in_set_before (next.Round later) events in_set)) (following round in_set all_sold broken)
 next_in_set (Opening number) in_set true broken events stands = new_set 1 events
 next_in_set (Opening number) in_set false broken events stands =
     record { some = stands.some; few = stands.few; within = stands.within }
 next_in_set (Stock set) in_set all_sold broken events stands =
     let some = stands.some in record { some = stands.some; few = stands.few; within = omega (arith, some) }
 next_in_set (Operating set number) in_set all_sold broken events stands =
-    after_operating (λ (later : Round). StandsInSet later (in_set_before later events in_set)) set number in_set all_sold broken
+    after_operating (λ (later : Round). StandsInSet later (in_set_before (next.Round later) events in_set)) set number in_set all_sold broken
     (λ less. let before : number < in_set = ltb-true number in_set less in record { some = stands.some; few = stands.few; within = omega (arith, before) })
     (λ past. new_set (set + 1) events)
 
 -- so does a round that comes
 pub coming_in_set : (round later : Round) (in_set : ℕ) (all_sold broken : Bool) (events : List Event) →
     StandsInSet round in_set → following round in_set all_sold broken ≡ next.Round later →
-    StandsInSet later (in_set_before later events in_set)
+    StandsInSet later (in_set_before (next.Round later) events in_set)
 coming_in_set round later in_set all_sold broken events stands comes =
-    of_coming (λ (later : Round). StandsInSet later (in_set_before later events in_set)) (following round in_set all_sold broken) later comes
+    of_coming (λ (later : Round). StandsInSet later (in_set_before (next.Round later) events in_set)) (following round in_set all_sold broken) later comes
     (next_in_set round in_set all_sold broken events stands)
 
--- so does what follows a round that was played
-pub round_in_set : (file : List ℕ) (old new : Between) → StandsInSet old.next old.in_set → IsRound file old new → StandsInSet new.next new.in_set
-round_in_set file old new stands round =
-    subst (λ (count : ℕ). StandsInSet new.next count) (sym round.in_set_then)
-    (coming_in_set old.next new.next old.in_set (all_sold new.game.events) false new.game.events stands round.next_then)
+-- the round that comes next, if one does, stands within its set
+abbrev pub StandsNext : Between → Type 0
+StandsNext there = (round : Round) → there.next ≡ next.Round round → StandsInSet round there.in_set
 
--- and each round to which a game comes
-pub comes_in_set : (file : List ℕ) (rounds : ℕ) (there : Between) → AreRounds file rounds (before_play file) there → StandsInSet there.next there.in_set
-comes_in_set file zero there played =
-    subst (λ (at : Between). StandsInSet at.next at.in_set) played (first_in_set file)
+-- so it is after a round that was played
+pub round_in_set : (file : List ℕ) (old new : Between) → StandsNext old → IsRound file old new → StandsNext new
+round_in_set file old new stands round later comes =
+    subst (λ (count : ℕ). StandsInSet later count) (sym (in_set_then file old new later round comes))
+    (coming_in_set round.round later old.in_set (all_sold new.game.events) (broken_in new.game.events) new.game.events
+    (stands round.round round.comes) (follows file old new later round comes))
+
+-- before the first
+pub first_stands : (file : List ℕ) → StandsNext (before_play file)
+first_stands file round comes =
+    subst (λ (at : Round). StandsInSet at (before_play file).in_set) (comes_once (Opening 1) round comes) (first_in_set file)
+
+-- and wherever a game comes
+pub comes_in_set : (file : List ℕ) (rounds : ℕ) (there : Between) → AreRounds file rounds (before_play file) there → StandsNext there
+comes_in_set file zero there played = subst StandsNext played (first_stands file)
 comes_in_set file (suc rounds) there played =
     round_in_set file played.0 there (comes_in_set file rounds played.0 played.1) played.2
 
@@ -84,8 +93,8 @@ comes_in_set file (suc rounds) there played =
 pub begins_so : (file : List ℕ) (history : Game) (seats in_set : ℕ) →
     history ≡ record { seats = seats; events = [] } → seats ≡ length (players_of file) →
     in_set ≡ rounds_of_new_set history.events →
-    before_play file ≡ record { game = history; in_set = in_set; next = Opening 1 }
+    before_play file ≡ record { game = history; in_set = in_set; next = next.Round (Opening 1) }
 begins_so file history seats in_set is_new players counted =
     let game : history ≡ record { seats = length (players_of file); events = [] } = is_new ∙ ap (λ (n : ℕ). record { seats = n; events = [] }) players in
     let count : in_set ≡ rounds_of_new_set [] = counted ∙ ap (λ (g : Game). rounds_of_new_set g.events) game in
-    λ i. record { game = sym game i; in_set = sym count i; next = Opening 1 }
+    λ i. record { game = sym game i; in_set = sym count i; next = next.Round (Opening 1) }

@@ -26,3 +26,4 @@ mod OpeningSteps
 mod OpeningSeats
 mod Closings
 mod Bids
+pub mod GameEnds

@@ -3,11 +3,10 @@ use Rattle.std.proofs.Common.{◌≡◌, ℕ, zero, suc, ◌<◌, List, true, fa
 use Rattle.std.proofs.lemmas.Bool.{cases_order, true≢false}
 use Rattle.history.specs.LookBack.{Game}
 use Rattle.privates.specs.Opening.{IsOpeningRound}
-use Rattle.privates.specs.Turn.{all_sold}
 use Rattle.rounds.proofs.Coming.{comes_once}
 use Rattle.rounds.specs.OperatingRound.{OneOperatingRound}
-use Rattle.rounds.specs.Play.{AreRounds, Between, IsPlayed, IsRound, OneGame, all_posted, before_play, in_set_before}
-use Rattle.rounds.specs.Sequence.{following}
+use Rattle.rounds.specs.Play.{AreRounds, Between, IsPlayed, IsRound, OneGame, before_play, coming, goes_on, in_set_before}
+use Rattle.rounds.specs.declared.following.Next.{Next}
 use Rattle.stock_round.specs.StockRound.{IsStockRound}
 use Rattle.tables.specs.declared.round.Round.{Round}
 use Rattle.tables.specs.declared.round.Round.TheVariants.{Opening, Stock, Operating}
@@ -34,12 +33,16 @@ module _ (one_opening : OneOpeningRound) (one_stock : OneStockRound) (one_operat
   -- a round leads to one place
   round_once : (old a b : Between) → IsRound file old a → IsRound file old b → a ≡ b
   round_once old a b first second =
-      let game : a.game ≡ b.game = played_once old.next old.game a.game b.game first.played second.played in
+      let same : first.round ≡ second.round = comes_once first.round second.round (sym first.comes ∙ second.comes) in
+      let again : IsPlayed file first.round old.game b.game = subst (λ (r : Round). IsPlayed file r old.game b.game) (sym same) second.played in
+      let game : a.game ≡ b.game = played_once first.round old.game a.game b.game first.played again in
       let next : a.next ≡ b.next =
-      comes_once a.next b.next
-      (sym first.next_then ∙ ap (λ (g : Game). following old.next old.in_set (all_sold g.events) false) game ∙ second.next_then)
+      first.next_then
+      ∙ ap (λ (r : Round). coming r old.in_set a.game.events) same
+      ∙ ap (λ (g : Game). coming second.round old.in_set g.events) game
+      ∙ sym second.next_then
       in
-      let in_set : a.in_set ≡ b.in_set = first.in_set_then ∙ ap (λ (r : Round). in_set_before r a.game.events old.in_set) next ∙ ap (λ (g : Game). in_set_before b.next g.events old.in_set) game ∙ sym second.in_set_then in
+      let in_set : a.in_set ≡ b.in_set = first.in_set_then ∙ ap (λ (n : Next). in_set_before n a.game.events old.in_set) next ∙ ap (λ (g : Game). in_set_before b.next g.events old.in_set) game ∙ sym second.in_set_then in
       between_same a b game in_set next
 
   -- so many rounds lead to one place
@@ -50,20 +53,20 @@ module _ (one_opening : OneOpeningRound) (one_stock : OneStockRound) (one_operat
       round_once first.0 a b first.2 (subst (λ (m : Between). IsRound file m b) (sym mid) second.2)
 
   -- before the last round the game could go on
-  could_go_on : (n k : ℕ) (old a : Between) → AreRounds file n old a → k < n → (mid : Between) × AreRounds file k old mid × (all_posted file mid.next ≡ true)
+  could_go_on : (n k : ℕ) (old a : Between) → AreRounds file n old a → k < n → (mid : Between) × AreRounds file k old mid × (goes_on file mid.next ≡ true)
   could_go_on zero k old a rounds fewer = absurd (omega arith)
   could_go_on (suc n) k old a rounds fewer =
       elim (cases_order k n) [
-        | inl same ↦ (rounds.0, subst (λ (m : ℕ). AreRounds file m old rounds.0) (sym same) rounds.1, rounds.2.posted)
+        | inl same ↦ (rounds.0, subst (λ (m : ℕ). AreRounds file m old rounds.0) (sym same) rounds.1, ap (goes_on file) rounds.2.comes ∙ rounds.2.posted)
         | inr apart ↦ could_go_on n k old rounds.0 rounds.1 (elim apart [ inl less ↦ less | inr more ↦ omega arith ])
       ]
 
   -- where the game stopped after k rounds, it didn't go on for more
-  not_more : (k n : ℕ) (old a b : Between) → AreRounds file k old a → all_posted file a.next ≡ false → AreRounds file n old b → k < n → ⊥
+  not_more : (k n : ℕ) (old a b : Between) → AreRounds file k old a → goes_on file a.next ≡ false → AreRounds file n old b → k < n → ⊥
   not_more k n old a b first stopped second more =
       let on = could_go_on n k old b second more in
       let same : a ≡ on.0 = rounds_once k old a on.0 first on.1 in
-      true≢false (sym on.2 ∙ (ap (λ (m : Between). all_posted file m.next) (sym same) ∙ stopped))
+      true≢false (sym on.2 ∙ (ap (λ (m : Between). goes_on file m.next) (sym same) ∙ stopped))
 
 -- a file has at most one game
 pub game_once : OneOpeningRound → OneStockRound → OneOperatingRound → OneGame

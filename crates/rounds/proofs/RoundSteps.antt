@@ -237,5 +237,5 @@ in_each_game P kept file (suc rounds) there played =
           (one holds);
       aside = kept.aside;
     } in
-    of_round (Keeps P) on kept.turns file kept.begins played.0.next played.0.game there.game played.2.played
+    of_round (Keeps P) on kept.turns file kept.begins played.2.round played.0.game there.game played.2.played
     (in_each_game P kept file rounds played.0 played.1)

@@ -10,12 +10,15 @@ use Rattle.history.specs.declared.event.Event.{Event}
 use Rattle.history.specs.declared.event.Event.TheVariants as event
 use Rattle.operating.specs.InTurn.{InTurn}
 use Rattle.operating.specs.Standing as rules
-use Rattle.operating.specs.Turn.{BlockLeads, IsCompanyTurn, LinesLead, begun}
+use Rattle.operating.specs.Forced.{EndLeads}
+use Rattle.operating.specs.Turn.{BlockEnds, BlockLeads, IsCompanyTurn, LinesLead, begun, settled}
 use Rattle.privates.specs.Opening.{IsOpeningRound, groups_for, in_play, opened}
 use Rattle.privates.specs.Standing as opening
 use Rattle.privates.specs.Turn.{opening_turns}
 use Rattle.rounds.specs.OperatingRound as operating
-use Rattle.rounds.specs.Play.{Between, IsPlayed, IsRound, all_posted, before_play, rounds_of_new_set}
+use Rattle.rounds.specs.Play.{Between, IsPlayed, IsRound, all_posted, before_play, goes_on, rounds_of_new_set}
+use Rattle.rounds.specs.declared.following.Next.{Next}
+use Rattle.rounds.specs.declared.following.Next.TheVariants as next
 use Rattle.sheets.specs.Block.{block_in}
 use Rattle.sheets.specs.File.{players_of, sheet_of}
 use Rattle.sheets.specs.Part.{Numbered, groups_of, lines_in, parts_of}
@@ -90,13 +93,19 @@ module _ (first second : List ℕ) where
   same_block round company turn new (Some seat) same leads =
       subst (λ (sheet : Option (List (List ℕ))). LinesLead (record { company = company; president = seat }) turn (block_in company (parts_of round (unwrap_or sheet [])).opened) new) (same seat.0) leads
 
+  -- and its turn ends alike by that block
+  same_end : (round : Round) (company : Company) (game new : Game) (president : Option Seat) → SameFor round → BlockEnds first round company game president new → BlockEnds second round company game president new
+  same_end round company game new None same ends = ends
+  same_end round company game new (Some seat) same ends =
+      subst (λ (sheet : Option (List (List ℕ))). EndLeads (record { company = company; president = seat }) (block_in company (parts_of round (unwrap_or sheet [])).opened) game new) (same seat.0) ends
+
   -- a company takes its turn alike
   same_turn : (round : Round) (company : Company) (old new : Game) → SameFor round → IsCompanyTurn first round company old new → IsCompanyTurn second round company old new
   same_turn round company old new same turn =
       record {
         last = turn.last;
         block = same_block round company (begun old company) turn.last (president_of old.events company) same turn.block;
-        after = turn.after;
+        after = same_end round company (settled company turn.last).game new (president_of old.events company) same turn.after;
       }
 
   -- so do companies one after another
@@ -144,12 +153,21 @@ module _ (first second : List ℕ) where
   same_posted round players same =
       λ i. list_all (λ seat. is_some (same seat i)) (range_with_len 0 (length (players i)))
 
+  -- both files go on, or neither
+  pub same_goes_on : (upcoming : Next) → players_of first ≡ players_of second → ((round : Round) → SameFor round) →
+      goes_on first upcoming ≡ goes_on second upcoming
+  same_goes_on (next.Round round) players same = same_posted round players (same round)
+  same_goes_on next.Ended players same = refl
+
   -- one round is played alike
-  pub same_round : (old new : Between) → players_of first ≡ players_of second → SameFor old.next → IsRound first old new → IsRound second old new
-  same_round old new players same round =
+  pub same_round : (old new : Between) → players_of first ≡ players_of second → (round : IsRound first old new) → SameFor round.round →
+      IsRound second old new
+  same_round old new players round same =
       record {
-        posted = sym (same_posted old.next players same) ∙ round.posted;
-        played = same_played old.next old.game new.game same round.played;
+        round = round.round;
+        comes = round.comes;
+        posted = sym (same_posted round.round players same) ∙ round.posted;
+        played = same_played round.round old.game new.game same round.played;
         next_then = round.next_then;
         in_set_then = round.in_set_then;
       }
@@ -157,4 +175,4 @@ module _ (first second : List ℕ) where
   -- the files begin alike
   pub same_before : players_of first ≡ players_of second → before_play first ≡ before_play second
   same_before players =
-      λ i. record { game = record { seats = length (players i); events = [] }; in_set = rounds_of_new_set []; next = Opening 1 }
+      λ i. record { game = record { seats = length (players i); events = [] }; in_set = rounds_of_new_set []; next = next.Round (Opening 1) }

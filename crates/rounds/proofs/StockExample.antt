@@ -9,6 +9,7 @@ use Rattle.privates.specs.Sale.{settled}
 use Rattle.privates.specs.Turn.{opening_turns}
 use Rattle.rounds.specs.Example.{second_end, second_file, second_opening, second_stock_round}
 use Rattle.rounds.specs.Play.{Between, IsRound, Plays, before_play}
+use Rattle.rounds.specs.declared.following.Next.TheVariants as next
 use Rattle.sheets.specs.File.{begins, body_of, content_of, is_sheet_line, players_of, sheet_of}
 use Rattle.sheets.specs.Part.{Numbered}
 use Rattle.sheets.specs.Text.{is_blank, written_lines}
@@ -73,17 +74,17 @@ stock_played =
 
 -- between the two rounds
 abbrev between_rounds : Between
-between_rounds = record { game = after_opening; in_set = 1; next = Stock 1 }
+between_rounds = record { game = after_opening; in_set = 1; next = next.Round (Stock 1) }
 
 -- the first round
 first_round : IsRound second_file (before_play second_file) between_rounds
 unfolding sheet_of players_of body_of content_of written_lines is_blank begins is_sheet_line settled
-first_round = record { posted = refl; played = opening_played; next_then = refl; in_set_then = refl }
+first_round = record { round = Opening 1; comes = refl; posted = refl; played = opening_played; next_then = refl; in_set_then = refl }
 
 -- the second
 second_round : IsRound second_file between_rounds second_end
 unfolding sheet_of players_of body_of content_of written_lines is_blank begins is_sheet_line
-second_round = record { posted = refl; played = stock_played; next_then = refl; in_set_then = refl }
+second_round = record { round = Stock 1; comes = refl; posted = refl; played = stock_played; next_then = refl; in_set_then = refl }
 
 -- so the game goes
 pub second_plays : Plays second_file second_end

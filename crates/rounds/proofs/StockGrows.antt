@@ -3,6 +3,7 @@ use Rattle.std.proofs.Common.{ℕ, ◌*◌, ◌==◌, List, [], ◌∷◌, ◌++
 use Rattle.std.specs.Prelude.{unwrap_or}
 use Rattle.certs.specs.President.{successor_of}
 use Rattle.certs.specs.Purchase.{market_price_of}
+use Rattle.certs.specs.SaleAct.{after_sale, sold, with_president, with_successor}
 use Rattle.history.specs.LookBack.{Game}
 use Rattle.history.specs.Shares.{par_of, president_of, square_of}
 use Rattle.history.specs.declared.event.Event.{Event}
@@ -17,7 +18,7 @@ use Rattle.order_grammar.specs.declared.order.Order.TheVariants as order
 use Rattle.order_grammar.specs.declared.order.ShareSource.{ShareSource}
 use Rattle.rounds.proofs.Growing.{Grows, GrowsStill, broken_grows, further, in_either, stands_aside, stays, told}
 use Rattle.sheets.specs.Part.{Numbered}
-use Rattle.stock_round.specs.Act.{after_act, after_exchange, after_purchase, after_sale, bought, exchanged, floated_at, is_to_float, sold, with_float, with_president, with_successor}
+use Rattle.stock_round.specs.Act.{after_act, after_exchange, after_purchase, bought, exchanged, floated_at, is_to_float, with_float}
 use Rattle.stock_round.specs.Closing.{all_risen, is_sold_out, risen}
 use Rattle.stock_round.specs.Judgement.{exchange_source, ruling_of}
 use Rattle.stock_round.specs.Standing.{fault_of_standing}

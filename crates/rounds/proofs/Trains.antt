@@ -34,4 +34,4 @@ phases_go_on turns file old new round =
       aside = λ events event says. omega (arith, ap place_of_kind (phase_kept events event says.phase));
     })
     turns file (λ events round. omega (arith, ap place_of_kind (phase_kept events (event.Round round) refl)))
-    old.next old.game new.game round.played
+    round.round old.game new.game round.played

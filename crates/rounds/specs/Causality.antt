@@ -1,6 +1,7 @@
 -- Sheets for later rounds change nothing in the rounds before them.
 use Rattle.std.specs.Prelude.{◌≡◌, ℕ, ◌≤◌, List}
 use Rattle.rounds.specs.Play.{AreRounds, Between, IsRound, before_play}
+use Rattle.rounds.specs.declared.following.Next.TheVariants as next
 use Rattle.sheets.specs.File.{IsAccepted, players_of, sheet_of}
 use Rattle.tables.specs.Round.{rank_of}
 use Rattle.tables.specs.declared.round.Round.{Round}
@@ -14,7 +15,7 @@ pub record AgreeUpTo (last : Round) (first second : List ℕ) : Type 0 where
 pub record PlaysRound (file : List ℕ) (round : Round) (old new : Between) : Type 0 where
   pub rounds : ℕ
   pub before : AreRounds file rounds (before_play file) old
-  pub comes : old.next ≡ round
+  pub comes : old.next ≡ next.Round round
   pub step : IsRound file old new
 
 -- where two files agree up to a round, and the first plays it, the second plays it too, and the same

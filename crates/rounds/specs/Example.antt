@@ -10,6 +10,7 @@ use Rattle.history.specs.declared.ruling.Ruling.TheVariants.{Obeyed}
 use Rattle.order_grammar.specs.declared.order.Order.TheVariants.{BuyPrivate, BuyShare, Par}
 use Rattle.order_grammar.specs.declared.order.ShareSource.TheVariants.{InitialOffering}
 use Rattle.rounds.specs.Play.{Between}
+use Rattle.rounds.specs.declared.following.Next.TheVariants as next
 use Rattle.tables.specs.Seat.{seat_at}
 use Rattle.tables.specs.declared.roster.Company.TheVariants as company
 use Rattle.tables.specs.declared.roster.Private.TheVariants.{SchuylkillValley, ChamplainStLawrence, DelawareHudson, MohawkHudson, CamdenAmboy, BaltimoreOhio}
@@ -33,7 +34,7 @@ first_events =
 
 -- where its game ends
 abbrev pub first_end : Between
-first_end = record { game = record { seats = 3; events = first_events }; in_set = 1; next = Opening 2 }
+first_end = record { game = record { seats = 3; events = first_events }; in_set = 1; next = next.Round (Opening 2) }
 
 -- the order file of the second game
 abbrev pub second_file : List ℕ
@@ -79,4 +80,4 @@ second_stock_round =
 
 -- where it ends
 abbrev pub second_end : Between
-second_end = record { game = record { seats = 3; events = second_opening ++ second_stock_round }; in_set = 1; next = Operating 1 1 }
+second_end = record { game = record { seats = 3; events = second_opening ++ second_stock_round }; in_set = 1; next = next.Round (Operating 1 1) }

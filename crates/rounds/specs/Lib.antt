@@ -10,3 +10,4 @@ pub mod Sets
 pub mod Trains
 pub mod Tiles
 pub mod Privates
+pub mod Ends

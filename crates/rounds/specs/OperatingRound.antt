@@ -1,10 +1,10 @@
 -- An operating round, from a list to a list: the ROUND event, the standing lines seat by seat, and the revenues
 -- of the privates in roster order; then the companies take their turns, and at the end it tells how many lines
 -- of each sheet were not taken up. The next company is the first in operating order, as that is at the time, of
--- those that have not operated in the round; it is over once there is none.
-use Rattle.std.specs.Prelude.{◌≡◌, ℕ, ◌-◌, ◌≤◌, not, true, List, [], ◌∷◌, ◌++◌, length, find, Option, Some, None}
+-- those that have not operated in the round; it is over once there is none, or a president is bankrupt.
+use Rattle.std.specs.Prelude.{◌≡◌, ℕ, ◌-◌, ◌≤◌, not, true, false, if◌then◌else◌, List, [], ◌∷◌, ◌++◌, length, find, Option, Some, None}
 use Rattle.std.specs.List.{range_with_len}
-use Rattle.history.specs.LookBack.{Game}
+use Rattle.history.specs.LookBack.{Game, bankrupt_in}
 use Rattle.history.specs.Operating.{has_operated, rulings_in_round}
 use Rattle.history.specs.Tell.{revenues_told, with_left}
 use Rattle.history.specs.declared.event.Event.{Event}
@@ -23,9 +23,13 @@ abbrev pub opened : List ℕ → Round → Game → Game
 opened file round old =
     revenues_told (record { seats = old.seats; events = after_standing old.seats file round (old.events ++ event.Round round ∷ []) })
 
--- the company whose turn it is: the first in operating order that has not operated in the round
+-- the first company in operating order that has not operated in the round
+abbrev pub first_idle : List Event → Option Company
+first_idle events = find (λ company. not (has_operated events company)) (operating_order_of events)
+
+-- the company whose turn it is: that one; none once a president is bankrupt
 abbrev pub next_company : List Event → Option Company
-next_company events = find (λ company. not (has_operated events company)) (operating_order_of events)
+next_company events = if bankrupt_in events then None else first_idle events
 
 -- a company takes its turn as the next
 pub record TakesTurn (file : List ℕ) (round : Round) (company : Company) (old new : Game) : Type 0 where
@@ -75,11 +79,11 @@ pub record EndsSoon (file : List ℕ) (round : Round) (old : Game) : Type 0 wher
   pub played : IsOperatingRound file round old new
 
 -- in an operating round at most eight companies take turns, none of them twice, and all take one that have
--- floated by its end and whose tokens have a square
+-- floated by its end and whose tokens have a square, unless a president is bankrupt
 pub record OperateOnceEach (companies : List Company) (turned : List Event) : Type 0 where
   pub at_most_eight : length companies ≤ 8
   pub no_second : (company : Company) → times company companies ≤ 1
-  pub no_one_missed : (company : Company) → operates turned company ≡ true → times company companies ≡ 1
+  pub no_one_missed : bankrupt_in turned ≡ false → (company : Company) → operates turned company ≡ true → times company companies ≡ 1
 
 -- so it is in each operating round
 abbrev pub CompaniesOperateOnce : Type 0

@@ -2,6 +2,7 @@
 use Rattle.std.specs.Prelude.{◌≡◌, ℕ, ◌≤◌, List}
 use Rattle.rounds.specs.Play.{AreRounds, Between, IsRound, before_play, rounds_of_new_set}
 use Rattle.rounds.specs.Sequence.{turn_in_set}
+use Rattle.rounds.specs.declared.following.Next.TheVariants as next
 use Rattle.tables.specs.declared.round.Round.{Round}
 use Rattle.tables.specs.declared.round.Round.TheVariants.{Opening, Stock, Operating}
 
@@ -12,18 +13,20 @@ IsOfSet set (Stock its) = its ≡ set
 IsOfSet set (Operating its number) = its ≡ set
 
 -- where a set has begun, and a game has come to a round of it: the set has as many operating rounds as the phase
--- gave it in which it began; the round is not past the last of them; and if the next round is of another set, it
+-- gave it in which it began; the round is not past the last of them; and if a round of another set comes next, it
 -- is the last
-pub record KeepsItsNumber (file : List ℕ) (set : ℕ) (begun there : Between) : Type 0 where
+pub record KeepsItsNumber (file : List ℕ) (set : ℕ) (begun there : Between) (round : Round) : Type 0 where
   pub number : there.in_set ≡ rounds_of_new_set begun.game.events
-  pub within : turn_in_set there.next ≤ rounds_of_new_set begun.game.events
-  pub whole : (after : Between) → IsRound file there after → ¬ IsOfSet set after.next → there.next ≡ Operating set (rounds_of_new_set begun.game.events)
+  pub within : turn_in_set round ≤ rounds_of_new_set begun.game.events
+  pub whole :
+      (after : Between) (later : Round) → IsRound file there after → after.next ≡ next.Round later → ¬ IsOfSet set later →
+      round ≡ Operating set (rounds_of_new_set begun.game.events)
 
 -- so it is in each game of a file, wherever it has come to a stock round, and so many rounds later is still in its
 -- set
 abbrev pub SetsKeepTheirNumber : Type 0
 SetsKeepTheirNumber =
-    (file : List ℕ) (set rounds later : ℕ) (begun there : Between)
-    → AreRounds file rounds (before_play file) begun → begun.next ≡ Stock set
-    → AreRounds file later begun there → IsOfSet set there.next
-    → KeepsItsNumber file set begun there
+    (file : List ℕ) (set rounds later : ℕ) (begun there : Between) (round : Round)
+    → AreRounds file rounds (before_play file) begun → begun.next ≡ next.Round (Stock set)
+    → AreRounds file later begun there → there.next ≡ next.Round round → IsOfSet set round
+    → KeepsItsNumber file set begun there round

@@ -1,8 +1,11 @@
-ghost use Rattle.std.specs.Prelude.{◌≡◌, IfOk, length};
+ghost use Rattle.std.specs.Prelude.{◌≡◌, ◌≤◌, IfOk, MatchOption, false, length};
 ghost use Rattle.history.specs.Sound.{IsSound};
 ghost use Rattle.rounds.specs.Gifts.{GiftsWait};
-ghost use Rattle.rounds.specs.Play.{IsPlayed, IsTheGame, all_posted, in_set_before as set_before, rounds_of_new_set};
+ghost use Rattle.rounds.specs.Play.{IsPlayed, IsTheGame, IsToPlay, all_posted, coming as what_comes, end_of, goes_on, in_set_before as set_before, rounds_of_new_set};
+ghost use Rattle.rounds.specs.Sequence.{turn_in_set};
 ghost use Rattle.sheets.specs.File.{players_of};
+ghost use Rattle.sheets.specs.Laws.{number_of};
+ghost use Rattle.tables.specs.Round.{number_most, operating_most};
 
 use crate::following::Next;
 use crate::operating_round::play_operating;
@@ -20,9 +23,14 @@ use tables::{Round, Seat, rounds_in_set};
 pub enum End {
     /// This round comes next, and some seat has no sheet for it.
     Awaiting(Round),
+    /// The game is over: the bank is broken, and the operating rounds of the set are over in which
+    /// it broke, or of the next where it broke in an opening or a stock round.
+    Bank,
+    /// The game is over: a president is bankrupt.
+    Bankrupt,
 }
 
-/// A game that was played as far as its sheets go.
+/// A game that was played as far as its sheets go, or to its end.
 #[derive(Drop)]
 pub struct Game<'a> {
     sheets: &'a Sheets<'a>,
@@ -75,24 +83,57 @@ pub fn play<'a>(alloc: Global, sheets: &'a Sheets<'a>) -> Result<Game<'a>, Alloc
 {
     let mut history = History::start(alloc, sheets.seats());
     let mut in_set = rounds_of_new_set(&history);
-    let mut upcoming = Round::Opening(1);
+    let mut upcoming = Next::Round(Round::Opening(1));
     // A law, which does nothing when it runs: by it the loop comes to an end.
     sheets_are_numbered();
-    while are_all_posted(sheets, upcoming) {
-        history = play_round(alloc, history, sheets, upcoming)?;
-        let all_sold = history.now().cheapest_unsold().is_none();
-        // Broken or not, the bank ends no game yet: it is given as unbroken, so a round comes next.
-        upcoming = match next(upcoming, in_set, all_sold, false) {
-            Next::Round(round) => round,
-            Next::Ended => unreachable!(),
-        };
+    while let Some(round) = round_to_play(sheets, upcoming) {
+        history = play_round(alloc, history, sheets, round)?;
+        upcoming = coming(&history, round, in_set);
         in_set = in_set_before(&history, upcoming, in_set);
     }
+    let end = end_after(&history, upcoming);
     Ok(Game {
         sheets,
         history,
-        end: End::Awaiting(upcoming),
+        end,
     })
+}
+
+/// The round that comes next, where one does and every seat has a sheet for it.
+fn round_to_play(sheets: &Sheets, upcoming: Next) -> Option<Round>
+    ensures { MatchOption result (goes_on sheets.now upcoming ≡ false)
+        (λ round. IsToPlay sheets.now upcoming round) }
+{
+    match upcoming {
+        Next::Round(round) if are_all_posted(sheets, round) => Some(round),
+        _ => None,
+    }
+}
+
+/// What comes after a round: nothing once a president is bankrupt, else what the sequence says.
+fn coming(history: &History, round: Round, in_set: u8) -> Next
+    requires number { number_of round ≤ number_most }
+    requires least { 1 ≤ in_set }
+    requires most { in_set ≤ operating_most }
+    requires within { turn_in_set round ≤ in_set }
+    ensures { result ≡ what_comes round in_set history.now.events }
+{
+    if history.bankrupt() {
+        return Next::Ended;
+    }
+    let all_sold = history.cheapest_unsold().is_none();
+    next(round, in_set, all_sold, history.broken())
+}
+
+/// Why play stops where this comes next.
+fn end_after(history: &History, upcoming: Next) -> End
+    ensures { result ≡ end_of upcoming history.now.events }
+{
+    match upcoming {
+        Next::Round(round) => End::Awaiting(round),
+        Next::Ended if history.bankrupt() => End::Bankrupt,
+        Next::Ended => End::Bank,
+    }
 }
 
 /// Plays a round, by its kind. An `Err` comes from want of memory alone, and the game is dropped.
@@ -124,14 +165,14 @@ fn rounds_of_new_set(history: &History) -> u8
     rounds_in_set(history.phase())
 }
 
-/// How many operating rounds the set has where this round comes next: the number is fixed as the
-/// stock round of the set comes.
-fn in_set_before(history: &History, upcoming: Round, in_set: u8) -> u8
+/// How many operating rounds the set has where this comes next: the number is fixed as the stock
+/// round of the set comes.
+fn in_set_before(history: &History, upcoming: Next, in_set: u8) -> u8
     ensures { result ≡ set_before upcoming history.now.events in_set }
 {
     match upcoming {
-        Round::Stock(_) => rounds_of_new_set(history),
-        Round::Opening(_) | Round::Operating { .. } => in_set,
+        Next::Round(Round::Stock(_)) => rounds_of_new_set(history),
+        Next::Round(Round::Opening(_) | Round::Operating { .. }) | Next::Ended => in_set,
     }
 }
 

@@ -4,6 +4,7 @@ ghost use Rattle.history.specs.LookBack.{Game};
 ghost use Rattle.rounds.specs.Arrival.{ArrivalChangesNoGame};
 ghost use Rattle.rounds.specs.Begun.{RoundsFollowInOrder};
 ghost use Rattle.rounds.specs.Causality.{LaterSheetsChangeNothing};
+ghost use Rattle.rounds.specs.Ends.{BankruptcyEndsGames, BrokenBankEndsSets, GamesEndOnce, NoSetAfterBroken, NoTurnAfterBankruptcy, NothingElseEndsGames};
 ghost use Rattle.rounds.specs.Example.{first_end, first_file, second_end, second_file};
 ghost use Rattle.rounds.specs.OperatingRound.{CompaniesOperateOnce, EndsSoon, OneOperatingRound};
 ghost use Rattle.rounds.specs.Play.{OneGame, Plays, SomeGame};
@@ -44,7 +45,7 @@ pub fn operating_round_ends()
 }
 
 /// In an operating round at most eight companies take turns, none of them a second, and none is
-/// missed that has floated by its end and whose token has a square.
+/// missed that has floated by its end and whose token has a square, unless a president is bankrupt.
 pub fn companies_operate_once()
     ensures { CompaniesOperateOnce }
 {
@@ -142,10 +143,33 @@ pub fn sellers_agree_in_each_game()
     sellers_agree_in_turns()
 }
 
-/// While the bank is not broken, some round follows each round.
+/// While the bank is not broken, some round follows each round in the sequence.
 pub fn bank_alone_ends_it()
     ensures { BankAloneEndsIt }
 {}
+
+/// Each game ends at most once, and nothing follows its end, whatever the sheets say. Nothing ends
+/// it but a bankruptcy, and a bank that is broken after the last operating round of a set.
+pub fn games_end_once()
+    ensures once { GamesEndOnce }
+    ensures only { NothingElseEndsGames }
+{}
+
+/// The bankruptcy of a president ends the game at once: no company takes a turn after it, and no
+/// round is played after its own.
+pub fn bankruptcy_ends_games()
+    ensures turns { NoTurnAfterBankruptcy }
+    ensures rounds { BankruptcyEndsGames }
+{}
+
+/// A broken bank ends the game once the operating rounds of a set are over, be it that they were
+/// under way as it broke or came next: no round of another set is played.
+pub fn broken_bank_ends_games()
+    ensures sets { NoSetAfterBroken }
+    ensures rounds { BrokenBankEndsSets }
+{
+    turn_only_adds()
+}
 
 /// In which order the sheets of different players arrive changes nothing in the game.
 pub fn arrival_changes_no_game()

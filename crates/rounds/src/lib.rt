@@ -1,7 +1,8 @@
 //! The sequence of rounds, and the one game of an order file.
 //!
 //! A game is played by whole rounds, each once every seat has a sheet for it, until a sheet is
-//! missing. An opening and a stock round are played by crates of their own; an operating round is
+//! missing, or the game is over: a president is bankrupt, or the bank is broken and its set has
+//! ended. An opening and a stock round are played by crates of their own; an operating round is
 //! played here, company by company, each company's turn by the crate `operating`.
 //!
 //! Reading order: `following`, `sequence` (`next`), `operating_round`, `game` (`Game`, `play`),
@@ -18,10 +19,10 @@ pub use following::Next;
 pub use game::{End, Game, play};
 pub use laws::{
     all_tiles_are_there_in_each_game, all_trains_are_there_in_each_game, arrival_changes_no_game,
-    bank_alone_ends_it, bids_rise_in_each_game, closed_for_good_in_each_game,
-    companies_operate_once, empty_example, first_example, later_sheets_change_nothing, one_game,
-    one_operating_round, operating_round_ends, phases_go_on_in_rounds, rounds_follow_in_order,
-    second_example, sellers_agree_in_each_game, sequence_goes_forward, sets_keep_their_number,
-    some_game,
+    bank_alone_ends_it, bankruptcy_ends_games, bids_rise_in_each_game, broken_bank_ends_games,
+    closed_for_good_in_each_game, companies_operate_once, empty_example, first_example,
+    games_end_once, later_sheets_change_nothing, one_game, one_operating_round,
+    operating_round_ends, phases_go_on_in_rounds, rounds_follow_in_order, second_example,
+    sellers_agree_in_each_game, sequence_goes_forward, sets_keep_their_number, some_game,
 };
 pub use sequence::next;

@@ -3,7 +3,7 @@ ghost use Rattle.history.specs.LookBack.{with_event};
 ghost use Rattle.history.specs.Sound.{IsSound};
 ghost use Rattle.history.specs.Tell.{with_left};
 ghost use Rattle.history.specs.declared.event.Event.TheVariants as event;
-ghost use Rattle.rounds.specs.OperatingRound.{IsOperatingRound, TurnsLead, finished, lines_left, next_company as company_to_operate};
+ghost use Rattle.rounds.specs.OperatingRound.{IsOperatingRound, TurnsLead, finished, first_idle as first_to_operate, lines_left, next_company as company_to_operate};
 ghost use Rattle.sheets.specs.File.{players_of};
 
 use history::{Event, History, rulings_are_counted};
@@ -48,7 +48,8 @@ fn begin(history: &mut History, round: Round) -> Result<(), AllocError>
     Ok(())
 }
 
-/// The companies take their turns, until each that operates has had one.
+/// The companies take their turns, until each that operates has had one, or a president is
+/// bankrupt.
 fn take_turns(
     alloc: Global,
     mut history: History,
@@ -71,9 +72,20 @@ fn take_turns(
     Ok(history)
 }
 
-/// The company whose turn it is: the first in operating order that has not operated in the round.
+/// The company whose turn it is: the first in operating order that has not operated in the round;
+/// none once a president is bankrupt.
 fn next_company(history: &History) -> Option<Company>
     ensures { result ≡ company_to_operate history.now.events }
+{
+    if history.bankrupt() {
+        return None;
+    }
+    first_idle(history)
+}
+
+/// The first company in operating order that has not operated in the round.
+fn first_idle(history: &History) -> Option<Company>
+    ensures { result ≡ first_to_operate history.now.events }
 {
     operating_order(history)
         .as_slice()

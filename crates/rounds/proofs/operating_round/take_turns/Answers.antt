@@ -1,7 +1,21 @@
-use Rattle.std.proofs.Common.{[], ◌∷◌, ◌++◌, sym, ◌∙◌}
+use Rattle.std.proofs.Common.{◌≡◌, Bool, true, false, ◌&&◌, [], ◌∷◌, ◌++◌, refl, is_some, sym, ◌∙◌}
+use Rattle.history.specs.Shares.{is_floated, square_of}
+use Rattle.rounds.proofs.Idle.{next_is_idle}
 use Rattle.rounds.proofs.CompanyTurns.{one_more_turn, turn_leaves_fewer}
 use Rattle.rounds.specs.OperatingRound.{TakesTurn}
 use Rattle.rounds.proofs.operating_round.take_turns.Goals as goal
+
+-- the first of two tests
+first_of : (a b : Bool) → (a && b) ≡ true → a ≡ true
+first_of true b both = refl
+first_of false b both = cc
+
+-- the next company has floated
+pub play_company-requires-clause-floated : goal.play_company-requires-clause-floated
+play_company-requires-clause-floated c =
+    let events = c.loop-company.history.events in
+    first_of (is_floated events c.in-Some.company) (is_some (square_of events c.in-Some.company))
+    (next_is_idle c.floated_companies_in_order.ensures events c.in-Some.company (sym c.next_company.ensures ∙ c.in-Some.is)).0
 
 pub loop-company-preserved : goal.loop-company-preserved
 loop-company-preserved c =
