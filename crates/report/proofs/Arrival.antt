@@ -3,7 +3,7 @@ use Rattle.std.proofs.Common.{◌≡◌, ℕ, List, [], ◌∷◌, ◌++◌, len
 use Rattle.std.specs.Prelude.{Option, Some, None, Result, Ok, Err, IsOk}
 use Rattle.std.specs.List.{flat_map, range_with_len}
 use Rattle.history.specs.declared.event.Event.{Event}
-use Rattle.history.specs.declared.event.Event.TheVariants.{Round, Ruled, Passes, Left, Sold, Bids, Price, Revenue, Given, Par, President, Bought, Sells, Exchanged, Floats, Moves, Home, Laid, Token, Withheld, Runs, Dividend, Traded, Train, Phase, Rusted, Discarded, Closed, PrivateBought, Broken}
+use Rattle.history.specs.declared.event.Event.TheVariants.{Round, Ruled, Passes, Left, Sold, Bids, Price, Revenue, Given, Par, President, Bought, Sells, Exchanged, Floats, Moves, Home, Laid, Token, Withheld, Runs, Dividend, Traded, Train, Phase, Rusted, Discarded, Closed, PrivateBought, Forced, Aid, Bankrupt, Broken}
 use Rattle.history.specs.declared.event.Holder.{Holder}
 use Rattle.history.specs.declared.event.Holder.TheVariants as holder
 use Rattle.history.specs.Shares.{president_of, square_of}
@@ -15,10 +15,11 @@ use Rattle.report.specs.Laws.{ArrivalChangesNoReport}
 use Rattle.report.specs.Line.{event_line, holder_text}
 use Rattle.report.specs.Report.{IsReportOf, end_text, header, name_owing, owing, report_text, rounds_in, texts_of_rounds}
 use Rattle.report.specs.Statement.{company_line, company_lines, line_on_square, player_line, player_lines, president_name, started_line, statement}
+use Rattle.report.specs.Worth.{worth_lines}
 use Rattle.rounds.specs.Arrival.{ArrivalChangesNoGame}
 use Rattle.rounds.specs.Play.{end_of}
 use Rattle.rounds.specs.declared.game.End.{End}
-use Rattle.rounds.specs.declared.game.End.TheVariants.{Awaiting}
+use Rattle.rounds.specs.declared.game.End.TheVariants.{Awaiting, Bank, Bankrupt}
 use Rattle.sheets.specs.File.{Content, content_of, players_of, sheet_of, unread_of}
 use Rattle.sheets.specs.Laws.{ArrivalChangesNothing, SentTheSame}
 use Rattle.sheets.specs.declared.fault.FileFault.{FileFault}
@@ -60,6 +61,9 @@ event_same f g (Rusted owner kind) players = refl
 event_same f g (Discarded company kind) players = refl
 event_same f g (Closed private) players = refl
 event_same f g (PrivateBought private company seller price) players = refl
+event_same f g (Forced company) players = refl
+event_same f g (Aid seat company amount) players = rw players refl
+event_same f g (Bankrupt seat) players = rw players refl
 event_same f g Broken players = refl
 
 -- the same players have the same lines
@@ -122,14 +126,22 @@ owing_same f g round players sheets =
     names_same f g round (range_with_len 0 (length (players_of f))) players sheets
     ∙ ap (λ (names : List (List ℕ)). flat_map (λ seat. name_owing g round seat) (range_with_len 0 (length names))) players
 
+-- the same players are worth the same
+worths_same : (f g : List ℕ) (seats : ℕ) (events : List Event) → players_of f ≡ players_of g → worth_lines f seats events ≡ worth_lines g seats events
+unfolding worth_lines
+worths_same f g seats events players = rw players refl
+
 -- the same end is printed the same
-end_same : (f g : List ℕ) (end : End) → players_of f ≡ players_of g → ((seat : ℕ) (round : table.Round) → sheet_of f seat round ≡ sheet_of g seat round) → end_text f end ≡ end_text g end
-end_same f g (Awaiting round) players sheets = rw (owing_same f g round players sheets)
+end_same : (f g : List ℕ) (seats : ℕ) (events : List Event) (end : End) → players_of f ≡ players_of g →
+    ((seat : ℕ) (round : table.Round) → sheet_of f seat round ≡ sheet_of g seat round) → end_text f seats events end ≡ end_text g seats events end
+end_same f g seats events (Awaiting round) players sheets = rw (owing_same f g round players sheets)
+end_same f g seats events Bank players sheets = rw (worths_same f g seats events players) refl
+end_same f g seats events Bankrupt players sheets = rw (worths_same f g seats events players) refl
 
 -- the same game is reported the same
 report_same : (f g : List ℕ) (seats : ℕ) (events : List Event) (end : End) → players_of f ≡ players_of g → ((seat : ℕ) (round : table.Round) → sheet_of f seat round ≡ sheet_of g seat round) → unread_of f ≡ unread_of g → report_text f seats events end ≡ report_text g seats events end
 report_same f g seats events end players sheets unread =
-    rw (header_same f g players, rounds_same f g seats [] (rounds_in events) players, unread, end_same f g end players sheets)
+    rw (header_same f g players, rounds_same f g seats [] (rounds_in events) players, unread, end_same f g seats events end players sheets)
 
 -- a report is that of the other file too
 report_carried : ArrivalChangesNoGame → ArrivalChangesNothing → (f g : List ℕ) (of_f of_g : Result Content FileFault) → IsOk of_f → IsOk of_g → players_of f ≡ players_of g → SentTheSame f g → unread_of f ≡ unread_of g → (text : List ℕ) → IsReportOf f of_f text → IsReportOf g of_g text
@@ -137,7 +149,7 @@ report_carried no_game nothing f g (Ok a) (Ok b) ok_f ok_g players sent unread t
     record {
       last = report.last;
       game = no_game f g players sent report.last report.game;
-      is = report.is ∙ report_same f g report.last.game.seats report.last.game.events (end_of report.last.next) players (nothing f g sent) unread;
+      is = report.is ∙ report_same f g report.last.game.seats report.last.game.events (end_of report.last.next report.last.game.events) players (nothing f g sent) unread;
     }
 report_carried no_game nothing f g (Ok a) (Err fault) ok_f ok_g players sent unread text report = absurd cc
 report_carried no_game nothing f g (Err fault) of_g ok_f ok_g players sent unread text report = absurd cc

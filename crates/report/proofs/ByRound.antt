@@ -7,7 +7,7 @@ use Rattle.history.specs.Event.{round_of}
 use Rattle.history.specs.LookBack.{Game}
 use Rattle.history.specs.declared.event.Event.{Event}
 use Rattle.report.specs.Laws.{ReportIsItsParts}
-use Rattle.report.specs.Report.{end_text, ends_round, header, is_round, is_the_round, lines_of_round, round_begun, rounds_in, text_of_one, texts_of_rounds, unread_lines, with_event}
+use Rattle.report.specs.Report.{end_of_play, ends_round, header, is_round, is_the_round, lines_of_round, round_begun, rounds_in, text_of_one, texts_of_rounds, unread_lines, with_event}
 use Rattle.rounds.specs.Begun.{AreInOrder, BeginWithRound, IsBeforeEach, RoundsFollowInOrder, rounds_begun, with_round}
 use Rattle.sheets.specs.File.{unread_of}
 use Rattle.tables.specs.Round.{is_before, same_round}
@@ -202,5 +202,5 @@ texts_in_order file seats events told =
 pub parts_of_report : RoundsFollowInOrder → ReportIsItsParts
 parts_of_report follow played accepted is_game =
     let told : BeginWithRound played.game.events × AreInOrder (rounds_begun played.game.events) = subst (λ (game : Game). BeginWithRound game.events × AreInOrder (rounds_begun game.events)) (sym is_game.game) (follow played.file is_game.last accepted is_game.plays) in
-    ap (λ text. header played.file ++ text ++ unread_lines 0 (unread_of played.file) ++ end_text played.file played.end)
+    ap (λ text. header played.file ++ text ++ unread_lines 0 (unread_of played.file) ++ end_of_play played)
     (texts_in_order played.file played.game.seats played.game.events told)

@@ -4,3 +4,4 @@ pub mod Seats
 pub mod Rounds
 pub mod ByRound
 pub mod Taken
+pub mod Worths

@@ -2,7 +2,7 @@
 -- and the report is its parts, one after the other.
 use Rattle.std.specs.Prelude.{◌≡◌, ℕ, List, ◌++◌}
 use Rattle.std.specs.List.{flat_map}
-use Rattle.report.specs.Report.{IsReport, end_text, header, report_of, round_text_of, unread_lines}
+use Rattle.report.specs.Report.{IsReport, end_of_play, header, report_of, round_text_of, unread_lines}
 use Rattle.rounds.specs.Begun.{rounds_begun}
 use Rattle.rounds.specs.Play.{IsTheGame, Played}
 use Rattle.sheets.specs.File.{IsAccepted, players_of, unread_of}
@@ -31,4 +31,4 @@ ReportIsItsParts =
     → IsTheGame played
     → report_of played
     ≡ header played.file ++ flat_map (round_text_of played) (rounds_begun played.game.events)
-    ++ unread_lines 0 (unread_of played.file) ++ end_text played.file played.end
+    ++ unread_lines 0 (unread_of played.file) ++ end_of_play played

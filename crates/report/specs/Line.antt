@@ -2,7 +2,7 @@
 use Rattle.std.specs.Prelude.{ℕ, Bool, if◌then◌else◌, List, [], ◌∷◌, ◌++◌, Option, Some, None, map, codes, decimal, unwrap_or, slice_get, ⊤}
 use Rattle.history.specs.Event.{code_of_refusal}
 use Rattle.history.specs.declared.event.Event.{Event}
-use Rattle.history.specs.declared.event.Event.TheVariants.{Round, Ruled, Passes, Left, Sold, Bids, Price, Revenue, Given, Par, President, Bought, Sells, Exchanged, Floats, Moves, Home, Laid, Token, Withheld, Runs, Dividend, Traded, Train, Phase, Rusted, Discarded, Closed, PrivateBought, Broken}
+use Rattle.history.specs.declared.event.Event.TheVariants.{Round, Ruled, Passes, Left, Sold, Bids, Price, Revenue, Given, Par, President, Bought, Sells, Exchanged, Floats, Moves, Home, Laid, Token, Withheld, Runs, Dividend, Traded, Train, Phase, Rusted, Discarded, Closed, PrivateBought, Forced, Aid, Bankrupt, Broken}
 use Rattle.history.specs.declared.event.Holder.{Holder}
 use Rattle.history.specs.declared.event.Holder.TheVariants as holder
 use Rattle.history.specs.declared.event.TrainSeller.{TrainSeller}
@@ -131,6 +131,10 @@ event_line file (Rusted owner kind) = line_of (codes "RUSTED") (text_of_stable o
 event_line file (Discarded company kind) = line_of (codes "DISCARDED") (code_of_company company ∷ code_of_kind kind ∷ [])
 event_line file (Closed private) = line_of (codes "CLOSED") (code_of_private private ∷ [])
 event_line file (PrivateBought private company seller price) = private_line file (codes "PRIVATE") private (holder.Company company) price
+event_line file (Forced company) = line_of (codes "FORCED") (code_of_company company ∷ [])
+event_line file (Aid seat company amount) =
+    line_of (codes "AID") (name_of file seat ∷ code_of_company company ∷ decimal amount ∷ [])
+event_line file (Bankrupt seat) = line_of (codes "BANKRUPT") (name_of file seat ∷ [])
 event_line file Broken = line_of (codes "BROKEN") []
 
 -- the event tells of a private: of its sale, of a bid on it, of its revenue, of its closing, of its purchase by a
@@ -180,6 +184,13 @@ IsOfTrains (Phase kind) = ⊤
 IsOfTrains (Rusted owner kind) = ⊤
 IsOfTrains (Discarded company kind) = ⊤
 IsOfTrains other = ⊥
+
+-- the event tells of a forced purchase: that it is due, of what the president pays, or that he is bankrupt
+abbrev pub IsOfForce : Event → Type 0
+IsOfForce (Forced company) = ⊤
+IsOfForce (Aid seat company amount) = ⊤
+IsOfForce (Bankrupt seat) = ⊤
+IsOfForce other = ⊥
 
 -- a field of a line as its text
 abbrev pub field_text : List ℕ → Field → List ℕ

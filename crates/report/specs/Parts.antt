@@ -1,7 +1,7 @@
 -- The text of a report that is still to come, and what is taken of it.
 use Rattle.std.specs.Global.{Global}
 use Rattle.std.specs.Prelude.{◌≡◌, ℕ, ◌≤◌, List, [], ◌++◌, Vec, length, take, drop, Option, Some, None}
-use Rattle.report.specs.Report.{end_text, report_of, rounds_in, texts_of_rounds, unread_lines}
+use Rattle.report.specs.Report.{end_of_play, report_of, rounds_in, texts_of_rounds, unread_lines}
 use Rattle.report.specs.declared.parts.Stage.{Stage}
 use Rattle.report.specs.declared.parts.Stage.TheVariants.{Header, Rounds, Done}
 use Rattle.rounds.specs.Play.{Played}
@@ -14,7 +14,7 @@ rounds_from played begun =
 
 -- what follows the rounds: the unread lines and the end
 abbrev pub after_rounds : Played → List ℕ
-after_rounds played = unread_lines 0 (unread_of played.file) ++ end_text played.file played.end
+after_rounds played = unread_lines 0 (unread_of played.file) ++ end_of_play played
 
 -- the report from a stage on
 abbrev pub text_from : Played → Stage → List ℕ

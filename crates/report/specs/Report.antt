@@ -7,11 +7,12 @@ use Rattle.history.specs.declared.event.Event.{Event}
 use Rattle.order_grammar.specs.Fault.{code_of as code_of_fault}
 use Rattle.order_grammar.specs.Print.{spaced, text_of_round}
 use Rattle.order_grammar.specs.declared.fault.Fault.{Fault}
-use Rattle.report.specs.Line.{name_of, event_line}
+use Rattle.report.specs.Line.{event_line, line_of, name_of}
 use Rattle.report.specs.Statement.{statement}
+use Rattle.report.specs.Worth.{worth_lines}
 use Rattle.rounds.specs.Play.{Between, Played, Plays, end_of}
 use Rattle.rounds.specs.declared.game.End.{End}
-use Rattle.rounds.specs.declared.game.End.TheVariants.{Awaiting}
+use Rattle.rounds.specs.declared.game.End.TheVariants.{Awaiting, Bank, Bankrupt}
 use Rattle.sheets.specs.File.{Content, content_of, code_of_fault as code_of_file_fault, sheet_of, players_of, unread_of}
 use Rattle.sheets.specs.declared.fault.FileFault.{FileFault}
 use Rattle.tables.specs.Round.{same_round}
@@ -108,14 +109,24 @@ owing file round = flat_map (λ seat. name_owing file round seat) (range_with_le
 abbrev pub awaiting_text : List ℕ → round.Round → List ℕ
 awaiting_text file round = codes "AWAITING " ++ text_of_round round ++ owing file round ++ 10 ∷ []
 
+-- that the game is over, and for what, and what each player is worth
+abbrev pub over_text : List ℕ → ℕ → List Event → List ℕ → List ℕ
+over_text file seats events word = line_of (codes "END") (word ∷ []) ++ worth_lines file seats events
+
 -- why play stopped
-abbrev pub end_text : List ℕ → End → List ℕ
-end_text file (Awaiting round) = awaiting_text file round
+abbrev pub end_text : List ℕ → ℕ → List Event → End → List ℕ
+end_text file seats events (Awaiting round) = awaiting_text file round
+end_text file seats events Bank = over_text file seats events (codes "BANK")
+end_text file seats events Bankrupt = over_text file seats events (codes "BANKRUPT")
+
+-- why play of a game stopped
+abbrev pub end_of_play : Played → List ℕ
+end_of_play played = end_text played.file played.game.seats played.game.events played.end
 
 -- the report of a file whose game has these events and this end
 abbrev pub report_text : List ℕ → ℕ → List Event → End → List ℕ
 report_text file seats events end =
-    header file ++ rounds_text file seats events ++ unread_lines 0 (unread_of file) ++ end_text file end
+    header file ++ rounds_text file seats events ++ unread_lines 0 (unread_of file) ++ end_text file seats events end
 
 -- the report of a game that was played
 abbrev pub report_of : Played → List ℕ
@@ -125,7 +136,7 @@ report_of played = report_text played.file played.game.seats played.game.events 
 pub record IsGameReport (file text : List ℕ) : Type 0 where
   pub last : Between
   pub game : Plays file last
-  pub is : text ≡ report_text file last.game.seats last.game.events (end_of last.next)
+  pub is : text ≡ report_text file last.game.seats last.game.events (end_of last.next last.game.events)
 
 -- the text is the report of the file, by what the file says
 abbrev pub IsReportOf : List ℕ → Result Content FileFault → List ℕ → Type 0

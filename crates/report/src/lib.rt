@@ -1,14 +1,14 @@
 //! The report of an order file. For a file that is refused it is the one line that says why; else
 //! the header, the lines of each round's events and the statement after them, the lines that are
-//! in no sheet, and why play stopped.
+//! in no sheet, and why play stopped, with what each player is worth where the game is over.
 //!
 //! `refusal_text` and `report` write it, `Parts` gives it part by part, and `round_text` writes one
 //! round of it: byte for byte the text that `specs/Report` defines, or the error that memory is
 //! refused. Each file has a report and no second.
 //!
 //! Reading order: `column` (numbers and names in columns), `line` (an event as a line), `statement`
-//! (what each player and the bank hold), `text` (`refusal_text`, `round_text`), `parts` (`Parts`,
-//! `report`), `laws`.
+//! (what each player and the bank hold), `worth` (what each player is worth at the end), `text`
+//! (`refusal_text`, `round_text`), `parts` (`Parts`, `report`), `laws`.
 #![tactic(auto)]
 
 mod column;
@@ -17,6 +17,7 @@ mod line;
 mod parts;
 mod statement;
 mod text;
+mod worth;
 
 pub use laws::{arrival_changes_no_report, one_report, report_is_its_parts, some_report};
 pub use parts::{Parts, report};

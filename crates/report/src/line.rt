@@ -1,7 +1,7 @@
 ghost use Rattle.std.specs.Prelude.{◌≡◌, OnOk};
 ghost use Rattle.history.specs.declared.ruling.Ruling.TheVariants.{Obeyed, Refused};
 ghost use Rattle.report.specs.Column.{Adds};
-ghost use Rattle.report.specs.Line.{IsOfCompany, IsOfPrivate, IsOfTenths, IsOfTrains, IsOfTurn, event_line, exchange_line, field_text, lay_line, line_of_company, line_of_fields, line_of_seat, line_of_word, name_of, private_line, ruled_line, text_of_seller, text_of_square, text_of_stable};
+ghost use Rattle.report.specs.Line.{IsOfCompany, IsOfForce, IsOfPrivate, IsOfTenths, IsOfTrains, IsOfTurn, event_line, exchange_line, field_text, lay_line, line_of_company, line_of_fields, line_of_seat, line_of_word, name_of, private_line, ruled_line, text_of_seller, text_of_square, text_of_stable};
 
 use Field::{At, Holds, In, Name, Number, OfRound, On, Source, Spelt, Tenths, Tile, Turned, Word};
 use history::{Event, Holder, KeptRuling, Refusal, Ruling, TrainSeller};
@@ -81,6 +81,9 @@ pub(crate) fn push_event(
         | Event::Phase(_)
         | Event::Rusted { .. }
         | Event::Discarded { .. } => { push_of_trains(out, sheets, event) }
+        Event::Forced(_) | Event::Aid { .. } | Event::Bankrupt(_) => {
+            push_of_force(out, sheets, event)
+        }
         Event::Broken => tell(out, sheets, "BROKEN", &[]),
     }
 }
@@ -263,6 +266,27 @@ fn push_of_trains(out: &mut Vec<u8>, sheets: &Sheets, event: &Event) -> Result<(
         Event::Discarded { company, kind } => {
             tell_company(out, sheets, "DISCARDED", *company, &[Word(kind.code())])
         }
+        _ => unreachable!(),
+    }
+}
+
+/// Adds an event of a forced purchase as its line: that it is due, what the president pays, or that
+/// he is bankrupt.
+fn push_of_force(out: &mut Vec<u8>, sheets: &Sheets, event: &Event) -> Result<(), AllocError>
+    requires { IsOfForce event.now }
+    ensures { OnOk result (Adds out.old out.new (event_line sheets.now event.now)) }
+{
+    match event {
+        Event::Forced(company) => tell(out, sheets, "FORCED", &[Word(company.code())]),
+        Event::Aid {
+            seat,
+            company,
+            amount,
+        } => {
+            let fields = [Name(*seat), Word(company.code()), Number(*amount)];
+            tell(out, sheets, "AID", &fields)
+        }
+        Event::Bankrupt(seat) => tell(out, sheets, "BANKRUPT", &[Name(*seat)]),
         _ => unreachable!(),
     }
 }

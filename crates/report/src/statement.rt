@@ -161,7 +161,7 @@ fn push_private(
 }
 
 /// Whether the seat owns the private.
-fn owns(owners: &Owners, seat: Seat, private: Private) -> bool
+pub(crate) fn owns(owners: &Owners, seat: Seat, private: Private) -> bool
     ensures { result ≡ is_seat seat (owner_in owners.now private) }
 {
     match owners.owner(private) {

@@ -1,9 +1,10 @@
 ghost use Rattle.std.specs.Prelude.{◌≡◌, ◌≤◌, IfOk, OnOk, length};
 ghost use Rattle.report.specs.Column.{Adds};
-ghost use Rattle.report.specs.Report.{IsLengthOfRound, awaiting_text, end_text, ends_round as ends_a_round, header, is_round as is_the_round, name_owing, refusal_line, round_text_of, text_between, unread_lines};
+ghost use Rattle.report.specs.Report.{IsLengthOfRound, awaiting_text, end_of_play, ends_round as ends_a_round, header, is_round as is_the_round, name_owing, over_text, refusal_line, round_text_of, text_between, unread_lines};
 
 use crate::line::{push_event, push_name};
 use crate::statement::push_statement;
+use crate::worth::push_worths;
 use history::{Event, Past};
 use order_grammar::{Fault, print_number, print_round};
 use rounds::{End, Game};
@@ -127,10 +128,24 @@ pub(crate) fn push_unread(out: &mut Vec<u8>, unread: &[Fault]) -> Result<(), All
 }
 
 pub(crate) fn push_end(out: &mut Vec<u8>, game: &Game) -> Result<(), AllocError>
-    ensures { OnOk result (Adds out.old out.new (end_text game.now.file game.now.end)) }
+    ensures { OnOk result (Adds out.old out.new (end_of_play game.now)) }
 {
-    let End::Awaiting(round) = game.outcome();
-    push_awaiting(out, game.sheets(), &round)
+    match game.outcome() {
+        End::Awaiting(round) => push_awaiting(out, game.sheets(), &round),
+        End::Bank => push_over(out, game, "BANK"),
+        End::Bankrupt => push_over(out, game, "BANKRUPT"),
+    }
+}
+
+/// Adds that the game is over, for what a word names, and what each player is worth.
+fn push_over(out: &mut Vec<u8>, game: &Game, word: &str) -> Result<(), AllocError>
+    ensures { OnOk result (Adds out.old out.new
+        (over_text game.now.file game.now.game.seats game.now.game.events word.now)) }
+{
+    out.extend_from_slice(b"END ")?;
+    out.extend_from_slice(word.as_bytes())?;
+    out.push(b'\n')?;
+    push_worths(out, game.sheets(), &game.history().now())
 }
 
 /// Adds the line of the round that can't be played: the names of those who owe a sheet for it.

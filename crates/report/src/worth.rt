@@ -1,0 +1,96 @@
+//! What each player is worth at the end of a game.
+ghost use Rattle.std.specs.Prelude.{◌≡◌, ◌≤◌, ◌^◌, OnOk, length};
+ghost use Rattle.report.specs.Column.{Adds};
+ghost use Rattle.report.specs.Statement.{AreOwnersIn};
+ghost use Rattle.report.specs.Worth.{worth_line_at, worth_lines_at, worth_of, worth_of_all_tenths, worth_of_private, worth_of_privates, worth_of_tenths};
+ghost use Rattle.sheets.specs.File.{players_of};
+
+use crate::line::push_name;
+use crate::statement::owns;
+use certs::market_price;
+use history::{Owners, Party, Past, Shareholder, so_many};
+use order_grammar::print_number;
+use sheets::Sheets;
+use std::alloc::AllocError;
+use tables::{Amount, Company, Money, Private, Seat, face};
+
+/// Adds the line of what each player is worth.
+#[tactic(auto, unfolding(crate::specs::Worth::worth_lines))]
+pub(crate) fn push_worths(out: &mut Vec<u8>, sheets: &Sheets, past: &Past) -> Result<(), AllocError>
+    requires { past.now.seats ≡ length (players_of sheets.now) }
+    ensures { OnOk result (Adds out.old out.new (worth_lines_at sheets.now past.now)) }
+{
+    for seat in 0..sheets.seats() {
+        push_worth(out, sheets, past, Seat(seat as u8))?;
+    }
+    Ok(())
+}
+
+/// Adds the line of what a player is worth.
+fn push_worth(out: &mut Vec<u8>, sheets: &Sheets, past: &Past, seat: Seat) -> Result<(), AllocError>
+    ensures { OnOk result (Adds out.old out.new (worth_line_at sheets.now past.now seat)) }
+{
+    out.extend_from_slice(b"WORTH ")?;
+    push_name(out, sheets, seat)?;
+    out.push(b' ')?;
+    print_number(out, worth(past, seat))?;
+    out.push(b'\n')?;
+    Ok(())
+}
+
+/// What a seat is worth, in dollars: its cash, its tenths at the market price, and its privates at
+/// their face value.
+fn worth(past: &Past, seat: Seat) -> Money
+    ensures { result ≡ worth_of past.now.seats past.now.events.now seat }
+{
+    let owned = tenths_worth(past, seat) + u128::from(privates_worth(past, seat));
+    past.cash(Party::of_seat(seat)) + owned as Money
+}
+
+/// What all tenths that a seat has are worth, in dollars.
+fn tenths_worth(past: &Past, seat: Seat) -> u128
+    ensures sum { result ≡ worth_of_all_tenths past.now.events.now seat }
+    ensures small { result ≤ 2 ^ 112 }
+{
+    let mut sum = 0;
+    for company in Company::ALL {
+        sum += company_worth(past, seat, company);
+    }
+    sum
+}
+
+/// What the tenths of a company that a seat has are worth, in dollars: nothing where the company has
+/// no market price.
+fn company_worth(past: &Past, seat: Seat, company: Company) -> u128
+    ensures worth { result ≡ worth_of_tenths past.now.events.now seat company }
+    ensures small { result ≤ 2 ^ 109 }
+{
+    let tenths = so_many(past.shares(company, Shareholder::Seat(seat)));
+    tenths * u128::from(market_price(past, company))
+}
+
+/// What all privates are worth that a seat owns, in dollars.
+fn privates_worth(past: &Past, seat: Seat) -> Amount
+    ensures sum { result ≡ worth_of_privates past.now.events.now seat }
+    ensures small { result ≤ 1320 }
+{
+    let owners = past.owners();
+    let mut sum = 0;
+    for private in Private::ALL {
+        sum += private_worth(past, &owners, seat, private);
+    }
+    sum
+}
+
+/// What a private is worth to a seat, in dollars: nothing where another owns it.
+fn private_worth(past: &Past, owners: &Owners, seat: Seat, private: Private) -> Amount
+    requires { AreOwnersIn past.now.events.now owners.now }
+    ensures worth { result ≡ worth_of_private past.now.events.now seat private }
+    ensures small { result ≤ 220 }
+{
+    if owns(owners, seat, private) {
+        face(private)
+    } else {
+        0
+    }
+}
