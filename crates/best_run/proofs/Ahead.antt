@@ -1,5 +1,5 @@
 -- What lies ahead of a run is found piece by piece, and what is found is all that the run may come to.
-use Rattle.std.proofs.Common.{◌≡◌, ℕ, zero, suc, ◌+◌, ◌<◌, ◌≤◌, Bool, true, false, ◌⊎◌, inl, inr, Option, Some, None, List, [], ◌∷◌, length, get_or, set, replicate, slice_get, refl, sym, ap, subst, ◌∙◌, arith, le_trans, get_or-set_same}
+use Rattle.std.proofs.Common.{◌≡◌, ℕ, zero, suc, ◌+◌, ◌<◌, ◌≤◌, Bool, true, false, inl, inr, Some, List, [], ◌∷◌, length, get_or, set, replicate, slice_get, sym, ap, subst, ◌∙◌, arith, le_trans, get_or-set_same}
 use Rattle.reach.proofs.Collected.{none_marked}
 use Rattle.reach.proofs.Marking.{set_cases, set_keeps}
 use Rattle.best_run.specs.declared.task.Node.{Node}
@@ -8,7 +8,6 @@ use Rattle.best_run.specs.declared.task.Task.{Task}
 use Rattle.best_run.specs.declared.state.Settled.{Settled}
 use Rattle.best_run.specs.declared.state.Standing.{Standing}
 use Rattle.best_run.specs.Ahead.{IsGoneOver, IsOutlook, LiesAhead, Widens, WidensBelow, WidensBy, WidensFrom}
-use Rattle.best_run.specs.Fit.{unused}
 use Rattle.best_run.specs.Moves.{LeadsFrom, can_take, ends_in, node_at, own_in, pieces_in}
 use Rattle.best_run.proofs.Marks.{set_fewer}
 use Rattle.best_run.proofs.Places.{below_next, place_low}

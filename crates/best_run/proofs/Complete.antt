@@ -12,14 +12,14 @@ use Rattle.reach.specs.declared.walk.Spot.{Spot}
 use Rattle.reach.specs.declared.walk.Step.{Step}
 use Rattle.tables.specs.declared.rolling_stock.Kind.{Kind}
 use Rattle.tables.specs.declared.roster.Company.{Company}
-use Rattle.certificate.specs.Legal.{AreDistinct, EndsAtStop, HasSuch, border_at, crossed, listed, visited}
+use Rattle.certificate.specs.Legal.{AreDistinct, EndsAtStop, HasSuch, border_at, crossed, earned, listed, visited}
 use Rattle.certificate.proofs.Marks.{among_both}
 use Rattle.best_run.specs.declared.task.Piece.{Piece}
 use Rattle.best_run.specs.declared.task.Task.{Task}
 use Rattle.best_run.specs.declared.state.Settled.{Settled}
 use Rattle.best_run.specs.declared.state.Standing.{Standing}
 use Rattle.best_run.specs.Described.{Describes, GoesFrom, HasPieceOf, IsPieceOf, IsSideNode, IsStopNode}
-use Rattle.best_run.specs.Moves.{Completes, LeadsFrom, Move, State, along, between, can_take, ends_in, go, may_come, misses, node_at, settle, settling, standing, stop_in, total_after, using}
+use Rattle.best_run.specs.Moves.{Completes, LeadsFrom, Move, State, along, between, can_take, ends_in, go, may_come, may_earn, misses, node_at, settle, settling, standing, stop_in, total_after, using}
 use Rattle.best_run.proofs.Advance.{IsMarked, Tells, free_misses, node_left, to_side, to_stop}
 use Rattle.best_run.proofs.Prefix.{Holds, distinct_apart, holds_first, onto}
 
@@ -116,17 +116,19 @@ module _ (position : Position) (company : Company) (kinds : List Kind) (task : T
       (subst (λ o. IfSome o (λ s. ¬ (is_red position s ≡ true))) same red, subst (λ o. IfSome o (λ s. ¬ IsFull position s company)) same full)
 
   -- the rest of a run, if what comes after it can be finished
-  pub finish_run : (later : List Step) (step : Step) (before : List Step) (settled : Settled) (run : Standing) (total : ℕ) → Told (left_at step) (visited (step ∷ before)) (crossed (step ∷ before)) settled run → Holds position company most others (onto later (step ∷ before)) → EndsAtStop (onto later (step ∷ before)) → HasSuch (λ stop. HasToken position stop company) (visited (onto later (step ∷ before))) → ((last : Spot) (after : Settled) (done : Standing) → after.next ≡ settled.next → after.total ≡ settled.total → Told last (visited (onto later (step ∷ before))) (crossed (onto later (step ∷ before))) after done → CanFinish task (between (settling after done)) total) → CanFinish task (standing settled run) total
-  finish_run [] step before settled run total tells holds ends own done =
-      let rest : CanFinish task (between (settling settled run)) total = done (left_at step) settled run refl refl tells in
+  pub finish_run : (later : List Step) (step : Step) (before : List Step) (settled : Settled) (run : Standing) (total : ℕ) → Told (left_at step) (visited (step ∷ before)) (crossed (step ∷ before)) settled run → Holds position company most others (onto later (step ∷ before)) → EndsAtStop (onto later (step ∷ before)) → HasSuch (λ stop. HasToken position stop company) (visited (onto later (step ∷ before))) → may_earn settled.kind settled.cap run.most (earned position (onto later (step ∷ before))) ≡ true → ((last : Spot) (after : Settled) (done : Standing) → after.next ≡ settled.next → after.total ≡ settled.total → done.most ≡ run.most → Told last (visited (onto later (step ∷ before))) (crossed (onto later (step ∷ before))) after done → CanFinish task (between (settling after done)) total) → CanFinish task (standing settled run) total
+  finish_run [] step before settled run total tells holds ends own may done =
+      let rest : CanFinish task (between (settling settled run)) total = done (left_at step) settled run refl refl refl tells in
       let node : IsStopNode position company ends.0 (node_at task (spot_number (left_at step))) = node_left position company kinds task describes (left_at step) (Some ends.0) ends.1 in
       let stops : stop_in (node_at task run.head) ≡ true = subst (λ (n : ℕ). stop_in (node_at task n) ≡ true) (sym tells.head) node.stops in
-      (settle ∷ rest.0, (both run.own (stop_in (node_at task run.head)) (tells.own.1 own) stops, rest.1), rest.2)
-  finish_run (next ∷ later) step before settled run total tells holds ends own done =
+      let earns : may_earn settled.kind settled.cap run.most run.value ≡ true = subst (λ (v : ℕ). may_earn settled.kind settled.cap run.most v ≡ true) (sym tells.value) may in
+      let here : (run.own && stop_in (node_at task run.head)) ≡ true = both run.own (stop_in (node_at task run.head)) (tells.own.1 own) stops in
+      (settle ∷ rest.0, (both (run.own && stop_in (node_at task run.head)) (may_earn settled.kind settled.cap run.most run.value) here earns, rest.1), rest.2)
+  finish_run (next ∷ later) step before settled run total tells holds ends own may done =
       let first : Holds position company most others (next ∷ step ∷ before) = holds_first position company most others later next (step ∷ before) holds in
       let goes : GoesFrom run.head next = record { spot = left_at step; number_is = sym tells.head; joined = first.walk.1 } in
       let go_next : CanGo (left_at step) (visited (step ∷ before)) (crossed (step ∷ before)) settled run next = can_go (left_at step) (visited (step ∷ before)) (crossed (step ∷ before)) settled run tells next (describes.complete run.head next first.walk.0 goes) first.stops first.few first.borders first.free in
       let passes : ends_in (node_at task run.head) ≡ false = passes_by (left_at step) (stop_of (left_at step)) refl run.head tells.head (entered_at next) first.walk.1 first.red.0 first.full.0 in
       let rest : CanFinish task (standing (using settled go_next.piece) (along task run go_next.piece)) total =
-      finish_run later next (step ∷ before) (using settled go_next.piece) (along task run go_next.piece) total go_next.told holds ends own done in
+      finish_run later next (step ∷ before) (using settled go_next.piece) (along task run go_next.piece) total go_next.told holds ends own may done in
       (go go_next.index go_next.piece ∷ rest.0, (record { passes = passes; leads = go_next.leads; taken = go_next.taken }, rest.1), rest.2)

@@ -1,12 +1,11 @@
 -- Ways to the end stay open where fewer borders are used, and earn as much more: so the trains that are left never earn
 -- more than they do by themselves.
-use Rattle.std.proofs.Common.{◌≡◌, ℕ, zero, suc, ◌+◌, ◌-◌, ◌<◌, ◌≤◌, Bool, true, false, ◌&&◌, ◌⊎◌, inl, inr, Some, List, [], ◌∷◌, ◌++◌, length, get_or, set, replicate, slice_get, refl, sym, ap, subst, ◌∙◌, arith, add-one, le_trans}
-use Rattle.reach.specs.Position.{IsAmong}
+use Rattle.std.proofs.Common.{◌≡◌, ℕ, zero, suc, ◌+◌, ◌-◌, ◌≤◌, Bool, true, false, ◌&&◌, ◌⊎◌, inl, inr, Some, List, [], ◌∷◌, ◌++◌, length, set, replicate, slice_get, refl, sym, ap, subst, ◌∙◌, arith, add-one, le_trans}
 use Rattle.best_run.specs.declared.task.Piece.{Piece}
 use Rattle.best_run.specs.declared.task.Task.{Task}
 use Rattle.best_run.specs.declared.state.Settled.{Settled}
 use Rattle.best_run.specs.declared.state.Standing.{Standing}
-use Rattle.best_run.specs.Moves.{CanEarn, Completes, Explores, IsOpen, Move, State, along, begin, begun, between, can_take, go, marked_all, may_come, misses, node_at, pass, passed, settle, settling, standing, start, stop_in, total_after, total_of, using}
+use Rattle.best_run.specs.Moves.{CanEarn, Completes, Explores, IsOpen, Move, State, along, begin, begun, between, can_take, go, marked_all, may_come, may_earn, misses, node_at, pass, passed, settle, settling, standing, start, stop_in, total_after, total_of, using}
 use Rattle.best_run.specs.Suffix.{AreBounds, EarnAtMost, FallShort, IsSolved, nothing_before}
 use Rattle.best_run.proofs.Advance.{IsMarked, free_misses, misses_free}
 
@@ -50,20 +49,30 @@ freer_take task run used others piece freer =
     (λ free. free_misses others piece.borders.items (λ border among marked. misses_free used piece.borders.items free border among (freer_marked used others border freer marked)))
 
 -- the same trains are settled, with other earnings and other marks
-abbrev eased : Settled → ℕ → List Bool → Settled
-eased settled total used = record { next = settled.next; total = total; used = used }
+-- and, if they are free, no cap
+abbrev unless : Bool → ℕ → ℕ
+unless true number = 0
+unless false number = number
 
-abbrev eased_state : State → ℕ → List Bool → State
-eased_state (between settled) total used = between (eased settled total used)
-eased_state (standing settled run) total used = standing (eased settled total used) run
+abbrev eased : Bool → Settled → ℕ → List Bool → Settled
+eased free settled total used =
+    record { next = settled.next; total = total; kind = unless free settled.kind; cap = unless free settled.cap; used = used }
+
+abbrev eased_state : Bool → State → ℕ → List Bool → State
+eased_state free (between settled) total used = between (eased free settled total used)
+eased_state free (standing settled run) total used = standing (eased free settled total used) run
+
+earns_eased : (free : Bool) (kind cap most value : ℕ) → may_earn kind cap most value ≡ true → may_earn (unless free kind) (unless free cap) most value ≡ true
+earns_eased true kind cap most value may = refl
+earns_eased false kind cap most value may = may
 
 abbrev marks_of : State → List Bool
 marks_of (between settled) = settled.used
 marks_of (standing settled run) = settled.used
 
-record Eased (task : Task) (state : State) (moves : List Move) (total : ℕ) (used : List Bool) : Type 0 where
-  pub completes : Completes task (eased_state state total used) moves
-  pub earns : total_after task state moves + total ≡ total_after task (eased_state state total used) moves + total_of state
+record Eased (task : Task) (free : Bool) (state : State) (moves : List Move) (total : ℕ) (used : List Bool) : Type 0 where
+  pub completes : Completes task (eased_state free state total used) moves
+  pub earns : total_after task state moves + total ≡ total_after task (eased_state free state total used) moves + total_of state
 
 -- what a run earns is earned in both
 less_both : (a b total value settled : ℕ) → a + (total + value) ≡ b + (settled + value) → a + total ≡ b + settled
@@ -72,40 +81,40 @@ less_both a b total value settled same = omega arith
 within : (a b total bound best : ℕ) → a + 0 ≡ b + total → b ≤ bound → total + bound ≤ best → a ≤ best
 within a b total bound best same low enough = omega arith
 
-ease : (task : Task) (moves : List Move) (state : State) (total : ℕ) (used : List Bool) → Freer (marks_of state) used → Completes task state moves → Eased task state moves total used
-ease task [] (between settled) total used freer completes = record { completes = completes; earns = omega arith }
-ease task [] (standing settled run) total used freer completes = absurd completes
-ease task (pass ∷ moves) (between settled) total used freer completes =
-    let rest : Eased task (between (passed settled)) moves total used = ease task moves (between (passed settled)) total used freer completes.1 in
+ease : (task : Task) (moves : List Move) (free : Bool) (state : State) (total : ℕ) (used : List Bool) → Freer (marks_of state) used → Completes task state moves → Eased task free state moves total used
+ease task [] free (between settled) total used freer completes = record { completes = completes; earns = omega arith }
+ease task [] free (standing settled run) total used freer completes = absurd completes
+ease task (pass ∷ moves) free (between settled) total used freer completes =
+    let rest : Eased task free (between (passed settled)) moves total used = ease task moves free (between (passed settled)) total used freer completes.1 in
     record { completes = (completes.0, rest.completes); earns = rest.earns }
-ease task (pass ∷ moves) (standing settled run) total used freer completes = absurd completes.0
-ease task (begin stop index piece ∷ moves) (between settled) total used freer completes =
-    let rest : Eased task (standing (using settled piece) (along task (begun task settled stop) piece)) moves total (marked_all used piece.borders.items) = ease task moves (standing (using settled piece) (along task (begun task settled stop) piece)) total (marked_all used piece.borders.items) (freer_all piece.borders.items settled.used used freer) completes.1 in
+ease task (pass ∷ moves) free (standing settled run) total used freer completes = absurd completes.0
+ease task (begin stop index piece ∷ moves) free (between settled) total used freer completes =
+    let rest : Eased task free (standing (using settled piece) (along task (begun task settled stop) piece)) moves total (marked_all used piece.borders.items) = ease task moves free (standing (using settled piece) (along task (begun task settled stop) piece)) total (marked_all used piece.borders.items) (freer_all piece.borders.items settled.used used freer) completes.1 in
     record {
       completes = (record { train = completes.0.train; begins = completes.0.begins; leads = completes.0.leads; taken = freer_take task (begun task settled stop) settled.used used piece freer completes.0.taken }, rest.completes);
       earns = rest.earns;
     }
-ease task (begin stop index piece ∷ moves) (standing settled run) total used freer completes = absurd completes.0
-ease task (go index piece ∷ moves) (between settled) total used freer completes = absurd completes.0
-ease task (go index piece ∷ moves) (standing settled run) total used freer completes =
-    let rest : Eased task (standing (using settled piece) (along task run piece)) moves total (marked_all used piece.borders.items) = ease task moves (standing (using settled piece) (along task run piece)) total (marked_all used piece.borders.items) (freer_all piece.borders.items settled.used used freer) completes.1 in
+ease task (begin stop index piece ∷ moves) free (standing settled run) total used freer completes = absurd completes.0
+ease task (go index piece ∷ moves) free (between settled) total used freer completes = absurd completes.0
+ease task (go index piece ∷ moves) free (standing settled run) total used freer completes =
+    let rest : Eased task free (standing (using settled piece) (along task run piece)) moves total (marked_all used piece.borders.items) = ease task moves free (standing (using settled piece) (along task run piece)) total (marked_all used piece.borders.items) (freer_all piece.borders.items settled.used used freer) completes.1 in
     record {
       completes = (record { passes = completes.0.passes; leads = completes.0.leads; taken = freer_take task run settled.used used piece freer completes.0.taken }, rest.completes);
       earns = rest.earns;
     }
-ease task (settle ∷ moves) (between settled) total used freer completes = absurd completes.0
-ease task (settle ∷ moves) (standing settled run) total used freer completes =
-    let rest : Eased task (between (settling settled run)) moves (total + run.value) used = ease task moves (between (settling settled run)) (total + run.value) used freer completes.1 in
+ease task (settle ∷ moves) free (between settled) total used freer completes = absurd completes.0
+ease task (settle ∷ moves) free (standing settled run) total used freer completes =
+    let rest : Eased task false (between (settling settled run)) moves (total + run.value) used = ease task moves false (between (settling settled run)) (total + run.value) used freer completes.1 in
     record {
-      completes = (completes.0, rest.completes);
-      earns = less_both (total_after task (between (settling settled run)) moves) (total_after task (between (eased (settling settled run) (total + run.value) used)) moves) total run.value settled.total rest.earns;
+      completes = (both_true (run.own && stop_in (node_at task run.head)) (may_earn settled.kind settled.cap run.most run.value) (may_earn (unless free settled.kind) (unless free settled.cap) run.most run.value) (earns_eased free settled.kind settled.cap run.most run.value) completes.0, rest.completes);
+      earns = less_both (total_after task (between (settling settled run)) moves) (total_after task (between (eased false (settling settled run) (total + run.value) used)) moves) total run.value settled.total rest.earns;
     }
 
 -- what is settled and what the trains that are left earn by themselves
 pub rest_low : (task : Task) (settled : Settled) (bound : ℕ) → EarnAtMost task settled.next bound → length settled.used ≡ 279 → (moves : List Move) → Completes task (between settled) moves → total_after task (between settled) moves ≤ settled.total + bound
 rest_low task settled bound most whole moves completes =
     let freer : Freer settled.used (replicate 279 false) = subst (λ (n : ℕ). Freer settled.used (replicate n false)) whole (freer_none settled.used) in
-    let easy : Eased task (between settled) moves 0 (replicate 279 false) = ease task moves (between settled) 0 (replicate 279 false) freer completes in
+    let easy : Eased task true (between settled) moves 0 (replicate 279 false) = ease task moves true (between settled) 0 (replicate 279 false) freer completes in
     within (total_after task (between settled) moves) (total_after task (between (nothing_before settled.next)) moves) settled.total bound (settled.total + bound) easy.earns (most moves easy.completes) (omega arith)
 
 -- what falls short need not be tried

@@ -14,12 +14,12 @@ use Rattle.best_run.specs.Moves.{CanEarn, Explores, between, start, total_after}
 use Rattle.best_run.proofs.Complete.{CanFinish}
 use Rattle.best_run.proofs.Few.{length_replicate}
 use Rattle.best_run.proofs.Runs.{Used, finish_set}
-use Rattle.best_run.proofs.Sets.{Avoids}
-use Rattle.best_run.proofs.Sound.{RunsTold, sound_from}
+use Rattle.best_run.proofs.Sets.{Avoids, IsWithin}
+use Rattle.best_run.proofs.Sound.{RunsTold, sound_from, two_at_least}
 
 -- nothing is settled at first
 abbrev nothing : Settled
-nothing = record { next = 0; total = 0; used = replicate 279 false }
+nothing = record { next = 0; total = 0; kind = 0; cap = 0; used = replicate 279 false }
 
 none_used : Used [] nothing
 none_used =
@@ -33,11 +33,17 @@ avoid_none : (runs : List TrainRun) → AllByRecursion (Avoids []) runs
 avoid_none [] = tt
 avoid_none (run ∷ runs) = ((λ border here none. none), avoid_none runs)
 
+-- no train has run, so no run has a cap
+within_none : (position : Position) (runs : List TrainRun) → AllByRecursion (IsWithin position 0 0) runs
+within_none position [] = tt
+within_none position (run ∷ runs) =
+    ((λ same. absurd (omega (arith, same, two_at_least run.kind))), within_none position runs)
+
 module _ (position : Position) (company : Company) (lawful : IsLawful position) (kinds : List Kind) (task : Task) (describes : Describes position company kinds task) where
   -- each legal set can be earned
   can_earn : (runs : List TrainRun) → IsLegalSet position company kinds runs → CanEarn task (revenue_of position runs)
   can_earn runs set =
-      let found : CanFinish task (between nothing) (0 + revenue_of position runs) = finish_set position company kinds task describes lawful kinds runs [] nothing none_used describes.trains (record { legal = set.legal; each_once = set.each_once; apart = set.apart; avoid = avoid_none runs }) in
+      let found : CanFinish task (between nothing) (0 + revenue_of position runs) = finish_set position company kinds task describes lawful kinds runs [] nothing none_used describes.trains (record { legal = set.legal; each_once = set.each_once; apart = set.apart; avoid = avoid_none runs }) (within_none position runs) in
       (found.0, found.1, omega (arith, found.2))
 
   no_runs : IsLegalSet position company kinds []

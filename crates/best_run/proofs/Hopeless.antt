@@ -10,11 +10,12 @@ use Rattle.best_run.specs.declared.state.Settled.{Settled}
 use Rattle.best_run.specs.declared.state.Standing.{Standing}
 use Rattle.best_run.specs.Ahead.{EndsAtMost, IsGoneOver, IsOutlook, LiesAhead, NoTokenAhead, beyond}
 use Rattle.best_run.specs.Fit.{IsFit, PieceFits}
-use Rattle.best_run.specs.Moves.{Completes, Explores, LeadsFrom, Move, along, begin, between, can_take, ends_in, go, left_after, marked_all, may_come, misses, node_at, own_in, pass, pieces_in, settle, settling, standing, stop_in, total_after, using, value_in}
-use Rattle.best_run.specs.Suffix.{EarnAtMost}
-use Rattle.best_run.proofs.Advance.{IsMarked, free_misses, marks_more, misses_free}
+use Rattle.best_run.specs.Moves.{Completes, Explores, LeadsFrom, Move, along, begin, between, can_take, ends_in, go, left_after, marked_all, may_come, may_earn, misses, node_at, own_in, pass, pieces_in, settle, settling, standing, stop_in, total_after, using, value_in}
+use Rattle.best_run.specs.Suffix.{AreCapped, AreEqual, EarnAtMost}
+use Rattle.best_run.proofs.Advance.{free_misses, marks_more, misses_free}
 use Rattle.best_run.proofs.Ahead.{falsely}
 use Rattle.best_run.proofs.Eased.{rest_low}
+use Rattle.best_run.proofs.Equal.{low_settled}
 use Rattle.best_run.proofs.Marks.{length_marked}
 use Rattle.best_run.proofs.Places.{side_value}
 
@@ -162,6 +163,7 @@ module _ (task : Task) (fit : IsFit task) (first : Settled) (begun : Standing) (
     pub takes : (piece : Piece) → can_take task run settled.used piece ≡ true → can_take task begun first.used piece ≡ true
     pub head : IsGoneOver task first begun ahead run.head
     pub next : settled.next ≡ first.next
+    pub most : run.most ≡ begun.most
     pub whole : length settled.used ≡ 279
     pub spots : length run.visited ≡ 744
 
@@ -175,6 +177,7 @@ module _ (task : Task) (fit : IsFit task) (first : Settled) (begun : Standing) (
         takes = λ other is. follows.takes other (take_before task settled run fits.0 piece fits.1 follows.whole follows.spots other is);
         head = look.all piece.to (lies_there settled run follows index piece passes leads taken);
         next = follows.next;
+        most = follows.most;
         whole = length_marked settled.used piece.borders.items ∙ follows.whole;
         spots = length-set run.visited piece.to true ∙ follows.spots;
       }
@@ -213,6 +216,21 @@ module _ (task : Task) (fit : IsFit task) (first : Settled) (begun : Standing) (
       let rest : total_after task (between (settling settled run)) moves ≤ settled.total + run.value + later = rest_low task (settling settled run) later here follows.whole moves completes.1 in
       omega arith
 
+  -- all ways on, if the next trains are of the same kind
+  low_alike : (level most : ℕ) → 0 < begun.most → (equal later : ℕ) → AreEqual task (first.next + 1) equal begun.most → EarnAtMost task (first.next + 1 + equal) later → (moves : List Move) (settled : Settled) (run : Standing) → Follows settled run → run.value + still level run ≤ most → Completes task (standing settled run) moves → total_after task (standing settled run) moves ≤ settled.total + most + (equal * most + later)
+  low_alike level most some equal later alike bound [] settled run follows low completes = absurd completes
+  low_alike level most some equal later alike bound (pass ∷ moves) settled run follows low completes = absurd completes.0
+  low_alike level most some equal later alike bound (begin stop index piece ∷ moves) settled run follows low completes = absurd completes.0
+  low_alike level most some equal later alike bound (go index piece ∷ moves) settled run follows low completes =
+      let may = completes.0 in
+      low_alike level most some equal later alike bound moves (using settled piece) (along task run piece) (follows_go settled run follows index piece may.passes may.leads may.taken)
+      (omega (arith, low, still_go level settled run follows index piece may.passes may.leads may.taken)) completes.1
+  low_alike level most some equal later alike bound (settle ∷ moves) settled run follows low completes =
+      let here : AreEqual task (settled.next + 1) equal begun.most = subst (λ (n : ℕ). AreEqual task (n + 1) equal begun.most) (sym follows.next) alike in
+      let there : EarnAtMost task (settled.next + 1 + equal) later = subst (λ (n : ℕ). EarnAtMost task (n + 1 + equal) later) (sym follows.next) bound in
+      let rest : total_after task (between (settling settled run)) moves ≤ settled.total + run.value + (equal * most + later) = low_settled task begun.most most later some equal (settling settled run) here follows.most (omega (arith, low)) follows.whole there moves completes.1 in
+      omega (arith, rest, low)
+
   -- no way on has a token
   no_way : ((spot : ℕ) → LiesAhead ahead spot → own_in (node_at task spot) ≡ false) → (moves : List Move) (settled : Settled) (run : Standing) → Follows settled run → run.own ≡ false → Completes task (standing settled run) moves → ⊥
   no_way none [] settled run follows own completes = completes
@@ -223,11 +241,11 @@ module _ (task : Task) (fit : IsFit task) (first : Settled) (begun : Standing) (
       no_way none moves (using settled piece) (along task run piece) (follows_go settled run follows index piece may.passes may.leads may.taken)
       (neither_is run.own (own_in (node_at task piece.to)) own (none piece.to (lies_there settled run follows index piece may.passes may.leads may.taken))) completes.1
   no_way none (settle ∷ moves) settled run follows own completes =
-      falsely run.own (both_first run.own (stop_in (node_at task run.head)) completes.0) own
+      falsely run.own (both_first run.own (stop_in (node_at task run.head)) (both_first (run.own && stop_in (node_at task run.head)) (may_earn settled.kind settled.cap run.most run.value) completes.0)) own
 
   first_follows : length first.used ≡ 279 → length begun.visited ≡ 744 → Follows first begun
   first_follows whole spots =
-      record { takes = λ piece taken. taken; head = look.head; next = refl; whole = whole; spots = spots }
+      record { takes = λ piece taken. taken; head = look.head; next = refl; most = refl; whole = whole; spots = spots }
 
   -- a run without a token
   pub ends_without : NoTokenAhead task begun ahead → length first.used ≡ 279 → length begun.visited ≡ 744 → (best : ℕ) → EndsAtMost task first begun best
@@ -239,6 +257,12 @@ module _ (task : Task) (fit : IsFit task) (first : Settled) (begun : Standing) (
   unfolding still
   ends_low level later best bound whole spots low moves completes =
       omega (arith, low_by level later bound moves first begun (first_follows whole spots) completes, gains_low level task.spots.items ahead begun.visited)
+
+  -- a run that earns too little with those of its kind
+  pub ends_alike : (level most best : ℕ) → AreCapped task (first.next + 1) begun.most most (first.total + most) best → length first.used ≡ 279 → length begun.visited ≡ 744 → begun.value + (begun.left * level + beyond level task.spots.items ahead) ≤ most → EndsAtMost task first begun best
+  unfolding still
+  ends_alike level most best capped whole spots low moves completes =
+      omega (arith, capped.short, low_alike level most capped.some capped.equal capped.bound capped.are_equal capped.rest moves first begun (first_follows whole spots) (omega (arith, low, gains_low level task.spots.items ahead begun.visited)) completes)
 
 -- what cannot earn more need not be tried
 pub explores_hopeless : (task : Task) (settled : Settled) (run : Standing) (best : ℕ) → EndsAtMost task settled run best → Explores task (standing settled run) best best

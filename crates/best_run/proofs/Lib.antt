@@ -4,8 +4,10 @@ pub mod Places
 pub mod Advance
 pub mod Ahead
 pub mod Eased
+pub mod Equal
 pub mod Beyond
 pub mod Hopeless
+pub mod Sorted
 pub mod Prefix
 pub mod Complete
 pub mod Sets

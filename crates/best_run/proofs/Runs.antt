@@ -18,12 +18,12 @@ use Rattle.certificate.proofs.Marks.{among_both}
 use Rattle.best_run.specs.declared.task.Task.{Task}
 use Rattle.best_run.specs.declared.state.Settled.{Settled}
 use Rattle.best_run.specs.Described.{Describes, GoesFrom, IsStopNode, most_of, most_of_all}
-use Rattle.best_run.specs.Moves.{along, begin, begun, between, node_at, pass, passed, settling, standing, using}
+use Rattle.best_run.specs.Moves.{along, begin, begun, between, may_earn, node_at, pass, passed, settling, standing, using}
 use Rattle.best_run.proofs.Advance.{IsMarked, Tells, mark_more, node_left, one_number, same_spot, spot_low}
 use Rattle.best_run.proofs.Complete.{CanFinish, CanGo, can_go, finish_run}
 use Rattle.best_run.proofs.Few.{few_stops, length_replicate}
 use Rattle.best_run.proofs.Prefix.{Holds, holds_first, onto, onto_back}
-use Rattle.best_run.proofs.Sets.{Avoids, IsSetFor, all_out, apart_out, find_run, none_left, revenue_out, with_first, without_first}
+use Rattle.best_run.proofs.Sets.{Avoids, IsBelow, IsSetFor, IsWithin, all_out, apart_out, find_greatest, may_by, none_left, one_kind, revenue_out, with_first, without_first}
 
 -- what is settled, with the borders that are used
 pub record Used (others : List ℕ) (settled : Settled) : Type 0 where
@@ -84,8 +84,8 @@ module _ (position : Position) (company : Company) (kinds : List Kind) (task : T
       }
 
   -- a run of the next train, if what comes after it can be finished
-  begin_run : (others : List ℕ) (settled : Settled) → Used others settled → (most total : ℕ) → settled.next < length task.trains.items → get_or task.trains.items settled.next 0 ≡ most → (later : List Step) (step : Step) → Holds position company most others (onto later (step ∷ [])) → EndsAtStop (onto later (step ∷ [])) → HasSuch (λ stop. HasToken position stop company) (visited (onto later (step ∷ []))) → ((after : Settled) → after.next ≡ settled.next + 1 → after.total ≡ settled.total + earned position (onto later (step ∷ [])) → Used (crossed (onto later (step ∷ [])) ++ others) after → CanFinish task (between after) total) → CanFinish task (between settled) total
-  begin_run others settled used most total train most_is later step holds ends own done =
+  begin_run : (others : List ℕ) (settled : Settled) → Used others settled → (most total : ℕ) → settled.next < length task.trains.items → get_or task.trains.items settled.next 0 ≡ most → (later : List Step) (step : Step) → Holds position company most others (onto later (step ∷ [])) → EndsAtStop (onto later (step ∷ [])) → HasSuch (λ stop. HasToken position stop company) (visited (onto later (step ∷ []))) → may_earn settled.kind settled.cap most (earned position (onto later (step ∷ []))) ≡ true → ((after : Settled) → after.next ≡ settled.next + 1 → after.total ≡ settled.total + earned position (onto later (step ∷ [])) → after.kind ≡ most → after.cap ≡ earned position (onto later (step ∷ [])) → Used (crossed (onto later (step ∷ [])) ++ others) after → CanFinish task (between after) total) → CanFinish task (between settled) total
+  begin_run others settled used most total train most_is later step holds ends own may done =
       let first : Holds position company most others (step ∷ []) = holds_first position company most others later step [] holds in
       let at = entered_at step in
       let stop = first.begins.0 in
@@ -102,8 +102,9 @@ module _ (position : Position) (company : Company) (kinds : List Kind) (task : T
       let told = subst (λ vs. Tells position company most others (left_at step) vs (crossed (step ∷ [])) (using settled can.piece) (along task (begun task settled (spot_number at)) can.piece)) (sym visits) can.told in
       let rest : CanFinish task (standing (using settled can.piece) (along task (begun task settled (spot_number at)) can.piece)) total =
       finish_run position company kinds task describes most others later step [] (using settled can.piece) (along task (begun task settled (spot_number at)) can.piece) total told holds ends own
-      (λ last after run next_is total_is tells_last.
-      done (settling after run) (omega (arith, next_is)) (omega (arith, total_is, tells_last.value))
+      (subst (λ (m : ℕ). may_earn settled.kind settled.cap m (earned position (onto later (step ∷ []))) ≡ true) (sym most_is) may)
+      (λ last after run next_is total_is most_same tells_last.
+      done (settling after run) (omega (arith, next_is)) (omega (arith, total_is, tells_last.value)) (most_same ∙ most_is) tells_last.value
       (record {
         used = λ border. let all : IsAmong border (crossed (onto later (step ∷ [])) ++ others) ↔ (IsAmong border (crossed (onto later (step ∷ []))) ⊎ IsAmong border others) = among_both border (crossed (onto later (step ∷ []))) others in
             (λ marked. all.1 ((tells_last.used border).0 marked), λ among. (tells_last.used border).1 (all.0 among));
@@ -132,37 +133,42 @@ module _ (position : Position) (company : Company) (kinds : List Kind) (task : T
       elim ((among_both border (crossed run.steps) others).0 there) [ inl own ↦ share border own here | inr used ↦ avoids border here used ]
 
   -- a run of the next train, step by step
-  run_first : IsLawful position → (kind : Kind) (others : List ℕ) (settled : Settled) → Used others settled → (total : ℕ) → settled.next < length task.trains.items → get_or task.trains.items settled.next 0 ≡ most_of (stops_of kind) → (run : TrainRun) → RunsLegally position company run → run.kind ≡ kind → Avoids others run → ((after : Settled) → after.next ≡ settled.next + 1 → after.total ≡ settled.total + earned position run.steps → Used (crossed run.steps ++ others) after → CanFinish task (between after) total) → CanFinish task (between settled) total
-  run_first lawful kind others settled used total train most_is run legal is avoids done =
+  run_first : IsLawful position → (kind : Kind) (others : List ℕ) (settled : Settled) → Used others settled → (total : ℕ) → settled.next < length task.trains.items → get_or task.trains.items settled.next 0 ≡ most_of (stops_of kind) → (run : TrainRun) → RunsLegally position company run → run.kind ≡ kind → Avoids others run → may_earn settled.kind settled.cap (most_of (stops_of kind)) (earned position run.steps) ≡ true → ((after : Settled) → after.next ≡ settled.next + 1 → after.total ≡ settled.total + earned position run.steps → after.kind ≡ most_of (stops_of kind) → after.cap ≡ earned position run.steps → Used (crossed run.steps ++ others) after → CanFinish task (between after) total) → CanFinish task (between settled) total
+  run_first lawful kind others settled used total train most_is run legal is avoids may done =
       by_steps (onto run.steps []) (onto_back run.steps)
     where
       by_steps : (forward : List Step) → onto forward [] ≡ run.steps → CanFinish task (between settled) total
       by_steps [] back = absurd (subst (λ steps. BeginsAt (λ stop. Unit {0}) steps) (sym back) legal.begins)
       by_steps (step ∷ later) back =
-          let Done : List Step → Type 0 = λ steps. (after : Settled) → after.next ≡ settled.next + 1 → after.total ≡ settled.total + earned position steps → Used (crossed steps ++ others) after → CanFinish task (between after) total in
+          let Done : List Step → Type 0 = λ steps. (after : Settled) → after.next ≡ settled.next + 1 → after.total ≡ settled.total + earned position steps → after.kind ≡ most_of (stops_of kind) → after.cap ≡ earned position steps → Used (crossed steps ++ others) after → CanFinish task (between after) total in
           begin_run others settled used (most_of (stops_of kind)) total train most_is later step
           (subst (Holds position company (most_of (stops_of kind)) others) (sym back) (legal_holds lawful kind others run legal is avoids))
           (subst EndsAtStop (sym back) legal.ends)
           (subst (λ steps. HasSuch (λ stop. HasToken position stop company) (visited steps)) (sym back) legal.own_token)
+          (subst (λ steps. may_earn settled.kind settled.cap (most_of (stops_of kind)) (earned position steps) ≡ true) (sym back) may)
           (subst Done (sym back) done)
 
   -- all runs of a set, train by train
-  pub finish_set : IsLawful position → (left : List Kind) (runs : List TrainRun) (others : List ℕ) (settled : Settled) → Used others settled → drop settled.next task.trains.items ≡ most_of_all left → IsSetFor position company left others runs → CanFinish task (between settled) (settled.total + revenue_of position runs)
-  finish_set lawful [] runs others settled used trains set =
+  pub finish_set : IsLawful position → (left : List Kind) (runs : List TrainRun) (others : List ℕ) (settled : Settled) → Used others settled → drop settled.next task.trains.items ≡ most_of_all left → IsSetFor position company left others runs → AllByRecursion (IsWithin position settled.kind settled.cap) runs → CanFinish task (between settled) (settled.total + revenue_of position runs)
+  finish_set lawful [] runs others settled used trains set within =
       let none : runs ≡ [] = none_left runs set.each_once in
       let earns : revenue_of position runs ≡ 0 = ap (revenue_of position) none in
       ([], drop_none task.trains.items settled.next trains, omega arith)
-  finish_set lawful (kind ∷ left) runs others settled used trains set =
+  finish_set lawful (kind ∷ left) runs others settled used trains set within =
       let next : (settled.next < length task.trains.items) × (get_or task.trains.items settled.next 0 ≡ most_of (stops_of kind)) × (drop (settled.next + 1) task.trains.items ≡ most_of_all left) = drop_first task.trains.items settled.next (most_of (stops_of kind)) (most_of_all left) trains in
-      elim (find_run kind runs) [
+      elim (find_greatest position kind runs) [
         | inl has ↦
             let whole : IsSetFor position company (kind ∷ left) others (has.front ++ has.run ∷ has.later) = subst (IsSetFor position company (kind ∷ left) others) has.is set in
             let legal : RunsLegally position company has.run × AllByRecursion (RunsLegally position company) (has.front ++ has.later) = all_out (RunsLegally position company) has.front has.run has.later whole.legal in
             let avoid : Avoids others has.run × AllByRecursion (Avoids others) (has.front ++ has.later) = all_out (Avoids others) has.front has.run has.later whole.avoid in
             let apart : AllByRecursion (λ other. ShareNoBorder has.run.steps other.steps) (has.front ++ has.later) × AreApart (has.front ++ has.later) = apart_out has.front has.run has.later whole.apart in
+            let low : IsWithin position settled.kind settled.cap has.run × AllByRecursion (IsWithin position settled.kind settled.cap) (has.front ++ has.later) = all_out (IsWithin position settled.kind settled.cap) has.front has.run has.later (subst (AllByRecursion (IsWithin position settled.kind settled.cap)) has.is within) in
+            let below : IsBelow position kind has.run has.run × AllByRecursion (IsBelow position kind has.run) (has.front ++ has.later) = all_out (IsBelow position kind has.run) has.front has.run has.later (subst (AllByRecursion (IsBelow position kind has.run)) has.is has.greatest) in
             let earns : revenue_of position runs ≡ earned position has.run.steps + revenue_of position (has.front ++ has.later) = ap (revenue_of position) has.is ∙ revenue_out position has.front has.run has.later in
             run_first lawful kind others settled used (settled.total + revenue_of position runs) next.0 next.1 has.run legal.0 has.kind_is avoid.0
-            (λ after next_is total_is used_after.
+            (may_by settled.kind settled.cap (most_of (stops_of kind)) (earned position has.run.steps)
+            (λ same. low.0 (same ∙ ap (λ (k : Kind). most_of (stops_of k)) (sym has.kind_is))))
+            (λ after next_is total_is kind_is cap_is used_after.
             let rest : CanFinish task (between after) (after.total + revenue_of position (has.front ++ has.later)) =
             finish_set lawful left (has.front ++ has.later) (crossed has.run.steps ++ others) after used_after (ap (λ n. drop n task.trains.items) next_is ∙ next.2)
             (record {
@@ -171,10 +177,14 @@ module _ (position : Position) (company : Company) (kinds : List Kind) (task : T
               apart = apart.1;
               avoid = all_both (λ other. ShareNoBorder has.run.steps other.steps) (Avoids others) (Avoids (crossed has.run.steps ++ others)) (avoid_both others has.run) (has.front ++ has.later) apart.0 avoid.1;
             })
+            (all_both (IsBelow position kind has.run) (IsBelow position kind has.run) (IsWithin position after.kind after.cap)
+            (λ other under under_too same. omega (arith, cap_is, under (sym (one_kind kind other.kind (sym kind_is ∙ same)))))
+            (has.front ++ has.later) below.1 below.1)
             in (rest.0, rest.1, let total = rest.2 in omega arith))
         | inr none ↦
             let rest : CanFinish task (between (passed settled)) (settled.total + revenue_of position runs) =
             finish_set lawful left runs others (passed settled) (record { used = used.used; whole = used.whole }) next.2
             (record { legal = set.legal; each_once = without_first kind left runs none set.each_once; apart = set.apart; avoid = set.avoid })
+            within
             in (pass ∷ rest.0, (next.0, rest.1), rest.2)
       ]

@@ -1,13 +1,15 @@
 -- Sets of runs: a run of a kind taken out of a set, and what is left for the other trains.
-use Rattle.std.proofs.Common.{◌≡◌, ℕ, zero, suc, ◌+◌, ◌≤◌, Bool, true, false, if◌then◌else◌, ◌⊎◌, inl, inr, List, [], ◌∷◌, ◌++◌, refl, sym, ap, ◌∙◌, arith}
+use Rattle.std.proofs.Common.{◌≡◌, ℕ, zero, suc, ◌+◌, ◌-◌, ◌≤◌, ◌==◌, Bool, true, false, not, ◌||◌, nat_le, if◌then◌else◌, ◌⊎◌, inl, inr, List, [], ◌∷◌, ◌++◌, refl, sym, ap, ◌∙◌, arith, le_trans}
 use Rattle.std.specs.List.{AllByRecursion}
-use Rattle.std.proofs.lemmas.Bool.{eqb-true, eq-eqb}
+use Rattle.std.proofs.lemmas.Bool.{eqb-true, eq-eqb, le-leb}
 use Rattle.reach.specs.Position.{Position, IsAmong}
-use Rattle.tables.specs.Train.{place_of_kind, same_kind}
+use Rattle.tables.specs.Train.{place_of_kind, same_kind, stops_of}
 use Rattle.tables.specs.declared.rolling_stock.Kind.{Kind}
 use Rattle.tables.specs.declared.rolling_stock.Kind.TheVariants.{Two, Three, Four, Five, Six, Diesel}
 use Rattle.tables.specs.declared.roster.Company.{Company}
 use Rattle.certificate.specs.Legal.{crossed, earned}
+use Rattle.best_run.specs.Described.{most_of}
+use Rattle.best_run.specs.Moves.{may_earn}
 use Rattle.certificate.specs.Set.{AreApart, AreTakenFrom, RunsLegally, ShareNoBorder, TrainRun, in_number, revenue_of, trains_that_run}
 
 -- a kind is one of six
@@ -68,29 +70,121 @@ apart_out (first ∷ front) run later apart =
     let shares : ShareNoBorder first.steps run.steps × AllByRecursion (λ other. ShareNoBorder first.steps other.steps) (front ++ later) = all_out (λ other. ShareNoBorder first.steps other.steps) front run later apart.0 in
     ((share_back first run shares.0, rest.0), (shares.1, rest.1))
 
--- a run of a kind, among others
-pub record HasRun (kind : Kind) (runs : List TrainRun) : Type 0 where
+in_order : (a b : ℕ) → (a ≤ b) ⊎ (b ≤ a)
+in_order zero b = inl (omega arith)
+in_order (suc a) zero = inr (omega arith)
+in_order (suc a) (suc b) = elim (in_order a b) [ inl low ↦ inl (omega (arith, low)) | inr low ↦ inr (omega (arith, low)) ]
+
+-- a run earns no more than a cap, if it is of the kind that the cap is for
+abbrev pub IsWithin : Position → ℕ → ℕ → TrainRun → Type 0
+IsWithin position most cap run = most ≡ most_of (stops_of run.kind) → earned position run.steps ≤ cap
+
+either_third : (a b c : Bool) → (b ≡ true → c ≡ true) → ((a || not b) || c) ≡ true
+either_third true b c makes = refl
+either_third false true c makes = makes refl
+either_third false false c makes = refl
+
+pub may_by : (kind cap most value : ℕ) → (kind ≡ most → value ≤ cap) → may_earn kind cap most value ≡ true
+may_by kind cap most value low =
+    either_third (kind == 0) (kind == most) (nat_le value cap) (λ same. le-leb value cap (low (eqb-true kind most same)))
+
+kind_with : (kind : Kind) → kind_at (most_of (stops_of kind) - 2) ≡ kind
+kind_with Two = refl
+kind_with Three = refl
+kind_with Four = refl
+kind_with Five = refl
+kind_with Six = refl
+kind_with Diesel = refl
+
+-- kinds that may visit equally many stops are one
+pub one_kind : (a b : Kind) → most_of (stops_of a) ≡ most_of (stops_of b) → a ≡ b
+one_kind a b same = sym (kind_with a) ∙ (ap (λ (n : ℕ). kind_at (n - 2)) same ∙ kind_with b)
+
+-- another run, if it is of a kind, earns no more than a run
+abbrev pub IsBelow : Position → Kind → TrainRun → TrainRun → Type 0
+IsBelow position kind run other = other.kind ≡ kind → earned position other.steps ≤ earned position run.steps
+
+-- a run of a kind that earns the most of those of its kind, among others
+pub record HasGreatest (position : Position) (kind : Kind) (runs : List TrainRun) : Type 0 where
   pub front : List TrainRun
   pub run : TrainRun
   pub later : List TrainRun
   pub is : runs ≡ front ++ run ∷ later
   pub kind_is : run.kind ≡ kind
+  pub greatest : AllByRecursion (IsBelow position kind run) runs
 
 one_or_none : (test : Bool) (n : ℕ) → test ≡ false → n ≡ 0 → (if test then 1 else 0) + n ≡ 0
 one_or_none true n fails none = absurd cc
 one_or_none false n fails none = omega arith
 
--- a set has a run of a kind, or none
-pub find_run : (kind : Kind) (runs : List TrainRun) → HasRun kind runs ⊎ (in_number kind (trains_that_run runs) ≡ 0)
-find_run kind [] = inr refl
-find_run kind (first ∷ runs) = by_test (find_run kind runs) (same_kind first.kind kind) refl
+none_here : (test : Bool) (n : ℕ) → (if test then 1 else 0) + n ≡ 0 → (test ≡ true → ⊥) × (n ≡ 0)
+none_here true n none = absurd (omega (arith, none))
+none_here false n none = ((λ is. let wrong : false ≡ true = is in cc), omega (arith, none))
+
+-- no run is of the kind
+none_below : (position : Position) (kind : Kind) (run : TrainRun) (runs : List TrainRun) → in_number kind (trains_that_run runs) ≡ 0 → AllByRecursion (IsBelow position kind run) runs
+none_below position kind run [] none = tt
+none_below position kind run (first ∷ runs) none =
+    let parts : (same_kind first.kind kind ≡ true → ⊥) × (in_number kind (trains_that_run runs) ≡ 0) = none_here (same_kind first.kind kind) (in_number kind (trains_that_run runs)) none in
+    ((λ is. absurd (parts.0 (ap (λ k. same_kind k kind) is ∙ same_itself kind))), none_below position kind run runs parts.1)
+
+-- a run that earns more
+below_more : (position : Position) (kind : Kind) (run more : TrainRun) → earned position run.steps ≤ earned position more.steps → (runs : List TrainRun) → AllByRecursion (IsBelow position kind run) runs → AllByRecursion (IsBelow position kind more) runs
+below_more position kind run more low [] below = tt
+below_more position kind run more low (other ∷ runs) below =
+    ((λ is. le_trans (below.0 is) low), below_more position kind run more low runs below.1)
+
+-- a set has a run of a kind that earns the most of them, or none
+pub find_greatest : (position : Position) (kind : Kind) (runs : List TrainRun) → HasGreatest position kind runs ⊎ (in_number kind (trains_that_run runs) ≡ 0)
+find_greatest position kind [] = inr refl
+find_greatest position kind (first ∷ runs) = by_test (find_greatest position kind runs) (same_kind first.kind kind) refl
   where
-    by_rest : same_kind first.kind kind ≡ false → HasRun kind runs ⊎ (in_number kind (trains_that_run runs) ≡ 0) → HasRun kind (first ∷ runs) ⊎ (in_number kind (trains_that_run (first ∷ runs)) ≡ 0)
-    by_rest fails (inl has) = inl (record { front = first ∷ has.front; run = has.run; later = has.later; is = ap (λ rs. first ∷ rs) has.is; kind_is = has.kind_is })
+    by_rest : same_kind first.kind kind ≡ false → HasGreatest position kind runs ⊎ (in_number kind (trains_that_run runs) ≡ 0) → HasGreatest position kind (first ∷ runs) ⊎ (in_number kind (trains_that_run (first ∷ runs)) ≡ 0)
+    by_rest fails (inl has) =
+        inl (record {
+          front = first ∷ has.front;
+          run = has.run;
+          later = has.later;
+          is = ap (λ rs. first ∷ rs) has.is;
+          kind_is = has.kind_is;
+          greatest = ((λ is. absurd (let wrong : true ≡ false = sym (same_itself kind) ∙ (sym (ap (λ k. same_kind k kind) is) ∙ fails) in cc)), has.greatest);
+        })
     by_rest fails (inr none) = inr (one_or_none (same_kind first.kind kind) (in_number kind (trains_that_run runs)) fails none)
 
-    by_test : HasRun kind runs ⊎ (in_number kind (trains_that_run runs) ≡ 0) → (test : Bool) → same_kind first.kind kind ≡ test → HasRun kind (first ∷ runs) ⊎ (in_number kind (trains_that_run (first ∷ runs)) ≡ 0)
-    by_test rest true is = inl (record { front = []; run = first; later = runs; is = refl; kind_is = kind_is first.kind kind is })
+    by_order : same_kind first.kind kind ≡ true → (has : HasGreatest position kind runs) → (earned position has.run.steps ≤ earned position first.steps) ⊎ (earned position first.steps ≤ earned position has.run.steps) → HasGreatest position kind (first ∷ runs)
+    by_order is has (inl more) =
+        record {
+          front = [];
+          run = first;
+          later = runs;
+          is = refl;
+          kind_is = kind_is first.kind kind is;
+          greatest = ((λ same. omega arith), below_more position kind has.run first more runs has.greatest);
+        }
+    by_order is has (inr less) =
+        record {
+          front = first ∷ has.front;
+          run = has.run;
+          later = has.later;
+          is = ap (λ rs. first ∷ rs) has.is;
+          kind_is = has.kind_is;
+          greatest = ((λ same. less), has.greatest);
+        }
+
+    by_found : same_kind first.kind kind ≡ true → HasGreatest position kind runs ⊎ (in_number kind (trains_that_run runs) ≡ 0) → HasGreatest position kind (first ∷ runs)
+    by_found is (inl has) = by_order is has (in_order (earned position has.run.steps) (earned position first.steps))
+    by_found is (inr none) =
+        record {
+          front = [];
+          run = first;
+          later = runs;
+          is = refl;
+          kind_is = kind_is first.kind kind is;
+          greatest = ((λ same. omega arith), none_below position kind first runs none);
+        }
+
+    by_test : HasGreatest position kind runs ⊎ (in_number kind (trains_that_run runs) ≡ 0) → (test : Bool) → same_kind first.kind kind ≡ test → HasGreatest position kind (first ∷ runs) ⊎ (in_number kind (trains_that_run (first ∷ runs)) ≡ 0)
+    by_test rest true is = inl (by_found is rest)
     by_test rest false is = by_rest is rest
 
 if_one : (test : Bool) → test ≡ true → ◌≡◌ {A = ℕ} (if test then 1 else 0) 1

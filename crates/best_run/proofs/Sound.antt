@@ -25,7 +25,7 @@ use Rattle.best_run.specs.declared.task.Task.{Task}
 use Rattle.best_run.specs.declared.state.Settled.{Settled}
 use Rattle.best_run.specs.declared.state.Standing.{Standing}
 use Rattle.best_run.specs.Described.{Describes, IsPieceOf, IsSideNode, IsStepFrom, IsStopNode, most_of, most_of_all}
-use Rattle.best_run.specs.Moves.{Allows, Completes, Move, State, along, begin, begun, between, can_take, ends_in, go, may_come, misses, node_at, pass, passed, settle, settling, standing, stop_in, total_after, using}
+use Rattle.best_run.specs.Moves.{Allows, Completes, Move, State, along, begin, begun, between, can_take, ends_in, go, may_come, may_earn, misses, node_at, pass, passed, settle, settling, standing, stop_in, total_after, using}
 use Rattle.best_run.proofs.Advance.{IsMarked, Tells, misses_free, node_left, one_number, to_side, to_stop}
 use Rattle.best_run.proofs.Complete.{next_stop}
 use Rattle.best_run.proofs.Prefix.{Holds}
@@ -73,7 +73,7 @@ none_of [] = tt
 none_of (border ∷ borders) = ((λ none. none), none_of borders)
 
 -- each train may visit at least two stops
-two_at_least : (kind : Kind) → 0 < most_of (stops_of kind)
+pub two_at_least : (kind : Kind) → 0 < most_of (stops_of kind)
 two_at_least Two = omega arith
 two_at_least Three = omega arith
 two_at_least Four = omega arith
@@ -332,4 +332,4 @@ module _ (position : Position) (company : Company) (lawful : IsLawful position) 
       has_gone settled run index piece (total_after task (standing (using settled piece) (along task run piece)) moves) completes.0 (sound_from moves (standing (using settled piece) (along task run piece)) completes.1)
   sound_from (settle ∷ moves) (between settled) completes = absurd completes.0
   sound_from (settle ∷ moves) (standing settled run) completes =
-      has_settled settled run (total_after task (between (settling settled run)) moves) completes.0 (sound_from moves (between (settling settled run)) completes.1)
+      has_settled settled run (total_after task (between (settling settled run)) moves) (first_true (run.own && stop_in (node_at task run.head)) (may_earn settled.kind settled.cap run.most run.value) completes.0) (sound_from moves (between (settling settled run)) completes.1)

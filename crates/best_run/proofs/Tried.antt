@@ -1,10 +1,10 @@
 -- What has been tried: moves of one sort after those of another, a piece as a move, and all moves of a state.
-use Rattle.std.proofs.Common.{◌≡◌, ℕ, ◌<◌, ◌≤◌, true, false, ◌&&◌, ◌⊎◌, inl, inr, Some, List, [], ◌∷◌, length, slice_get, sym, ap, subst, ◌∙◌, arith, le_trans}
+use Rattle.std.proofs.Common.{◌≡◌, ℕ, ◌<◌, ◌≤◌, true, false, ◌⊎◌, inl, inr, Some, List, [], ◌∷◌, length, slice_get, sym, ap, subst, ◌∙◌, arith, le_trans}
 use Rattle.best_run.specs.declared.task.Piece.{Piece}
 use Rattle.best_run.specs.declared.task.Task.{Task}
 use Rattle.best_run.specs.declared.state.Settled.{Settled}
 use Rattle.best_run.specs.declared.state.Standing.{Standing}
-use Rattle.best_run.specs.Moves.{Allows, Any, Completes, Explores, IsBegin, IsBeginAt, IsGo, LeadsFrom, Move, State, Takes, Tries, along, begin, begun, between, can_take, ends_in, go, node_at, pass, passed, pieces_in, settle, settling, standing, stop_in, total_after, using}
+use Rattle.best_run.specs.Moves.{Allows, Any, Completes, Explores, IsBegin, IsBeginAt, IsGo, LeadsFrom, Move, State, Takes, Tries, along, begin, begun, between, can_take, ends_in, go, may_settle, node_at, pass, passed, pieces_in, settle, settling, standing, stop_in, total_after, using}
 
 -- nothing has been tried
 pub tries_none : (task : Task) (state : State) (P : Move → Type 0) (best : ℕ) → ((move : Move) → P move → Allows task state move → ⊥) → Tries task state P best best
@@ -122,7 +122,7 @@ explores_between task settled old middle new before first second =
     by_moves (settle ∷ moves) completes = absurd completes.0
 
 -- the run has been settled, if it may be, and has gone on
-pub explores_standing : (task : Task) (settled : Settled) (run : Standing) (old middle new : ℕ) → (run.own && stop_in (node_at task run.head)) ≡ true → Explores task (between (settling settled run)) old middle → Tries task (standing settled run) (IsGo Any) middle new → Explores task (standing settled run) old new
+pub explores_standing : (task : Task) (settled : Settled) (run : Standing) (old middle new : ℕ) → may_settle task settled run ≡ true → Explores task (between (settling settled run)) old middle → Tries task (standing settled run) (IsGo Any) middle new → Explores task (standing settled run) old new
 explores_standing task settled run old middle new own first second =
     record {
       grows = le_trans first.grows second.grows;
@@ -137,7 +137,7 @@ explores_standing task settled run old middle new own first second =
     by_moves (go i found ∷ moves) completes = second.most (go i found) moves tt completes
     by_moves (settle ∷ moves) completes = le_trans (first.most moves completes.1) second.grows
 
-pub explores_on : (task : Task) (settled : Settled) (run : Standing) (old new : ℕ) → (run.own && stop_in (node_at task run.head)) ≡ false → Tries task (standing settled run) (IsGo Any) old new → Explores task (standing settled run) old new
+pub explores_on : (task : Task) (settled : Settled) (run : Standing) (old new : ℕ) → may_settle task settled run ≡ false → Tries task (standing settled run) (IsGo Any) old new → Explores task (standing settled run) old new
 explores_on task settled run old new none second =
     record {
       grows = second.grows;

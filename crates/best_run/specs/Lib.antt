@@ -3,3 +3,4 @@ pub mod Fit
 pub mod Described
 pub mod Suffix
 pub mod Ahead
+pub mod Kinds

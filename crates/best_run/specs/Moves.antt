@@ -1,7 +1,7 @@
 -- What the search goes over: from nothing settled, move by move, to all trains settled. The next train passes, or
 -- begins a run at a stop by a piece of plain track; a run that has begun goes on from where it stands, or is
 -- settled, if it has come by a token of the company.
-use Rattle.std.specs.Prelude.{◌≡◌, ℕ, ◌+◌, ◌-◌, ◌<◌, ◌≤◌, Bool, true, false, not, ◌&&◌, ◌||◌, nat_lt, Option, Some, None, List, [], ◌∷◌, length, get_or, set, slice_get, replicate}
+use Rattle.std.specs.Prelude.{◌≡◌, ℕ, ◌+◌, ◌-◌, ◌<◌, ◌≤◌, Bool, true, false, not, ◌&&◌, ◌||◌, nat_lt, nat_le, ◌==◌, Option, Some, None, List, [], ◌∷◌, length, get_or, set, slice_get, replicate}
 use Rattle.std.specs.List.{list_any}
 use Rattle.best_run.specs.declared.task.Node.{Node}
 use Rattle.best_run.specs.declared.task.Piece.{Piece}
@@ -65,6 +65,7 @@ abbrev pub begun : Task → Settled → ℕ → Standing
 begun task settled stop =
     record {
       head = stop;
+      most = get_or task.trains.items settled.next 0;
       left = get_or task.trains.items settled.next 0 - 1;
       value = value_in (node_at task stop);
       own = own_in (node_at task stop);
@@ -92,7 +93,18 @@ passed settled = record settled { next = settled.next + 1 }
 
 -- the run begun is settled
 abbrev pub settling : Settled → Standing → Settled
-settling settled run = record settled { next = settled.next + 1; total = settled.total + run.value }
+settling settled run =
+    record settled { next = settled.next + 1; total = settled.total + run.value; kind = run.most; cap = run.value }
+
+-- Equal trains may change their runs, so only such ways are gone that none of them earns more than the one before:
+-- a run earns no more than the last one, if that is of a train of the same kind.
+abbrev pub may_earn : ℕ → ℕ → ℕ → ℕ → Bool
+may_earn kind cap most value = (kind == 0 || not (kind == most)) || nat_le value cap
+
+-- a run may be settled: it has come by a token of the company, stands at a stop, and earns no more than it may
+abbrev pub may_settle : Task → Settled → Standing → Bool
+may_settle task settled run =
+    (run.own && stop_in (node_at task run.head)) && may_earn settled.kind settled.cap run.most run.value
 
 -- a state of the search
 pub data State : Type 0 where
@@ -126,7 +138,7 @@ Allows task (between settled) settle = ⊥
 Allows task (standing settled run) pass = ⊥
 Allows task (standing settled run) (begin stop index piece) = ⊥
 Allows task (standing settled run) (go index piece) = MayGo task settled run index piece
-Allows task (standing settled run) settle = (run.own && stop_in (node_at task run.head)) ≡ true
+Allows task (standing settled run) settle = may_settle task settled run ≡ true
 
 -- the state after a move
 abbrev pub after : Task → State → Move → State
@@ -162,7 +174,7 @@ total_after task state (move ∷ moves) = total_after task (after task state mov
 
 -- nothing is settled
 abbrev pub start : State
-start = between (record { next = 0; total = 0; used = replicate 279 false })
+start = between (record { next = 0; total = 0; kind = 0; cap = 0; used = replicate 279 false })
 
 -- some moves lead from the start to the end, and earn so much
 abbrev pub CanEarn : Task → ℕ → Type 0

@@ -1,12 +1,13 @@
--- What the last trains earn by themselves, where no border is used: none of them earns more behind other trains.
-use Rattle.std.specs.Prelude.{◌≡◌, ℕ, ◌+◌, ◌-◌, ◌≤◌, false, Some, List, length, slice_get, replicate}
+-- What the last trains earn by themselves, where no border is used: none of them earns more behind other trains. Of
+-- equal trains none earns more than the one before.
+use Rattle.std.specs.Prelude.{◌≡◌, ℕ, ◌+◌, ◌-◌, ◌*◌, ◌<◌, ◌≤◌, false, Some, List, length, get_or, slice_get, replicate}
 use Rattle.best_run.specs.declared.task.Task.{Task}
 use Rattle.best_run.specs.declared.state.Settled.{Settled}
 use Rattle.best_run.specs.Moves.{CanEarn, Completes, Move, between, total_after}
 
 -- the trains before one do not run, and nothing is used
 abbrev pub nothing_before : ℕ → Settled
-nothing_before next = record { next = next; total = 0; used = replicate 279 false }
+nothing_before next = record { next = next; total = 0; kind = 0; cap = 0; used = replicate 279 false }
 
 -- the trains from one on earn at most so much
 abbrev pub EarnAtMost : Task → ℕ → ℕ → Type 0
@@ -22,6 +23,20 @@ AreBounds task bounds =
 abbrev pub FallShort : Task → List ℕ → Settled → ℕ → Type 0
 FallShort task bounds settled best =
     (bound : ℕ) × (slice_get bounds (length task.trains.items - settled.next) ≡ Some bound) × (settled.total + bound ≤ best)
+
+-- so many trains from one on may visit so many stops
+abbrev pub AreEqual : Task → ℕ → ℕ → ℕ → Type 0
+AreEqual task next count most = (train : ℕ) → train < count → get_or task.trains.items (next + train) 0 ≡ most
+
+-- some trains from one on are of the kind that ran last, and each of them earns no more than the cap: with what is
+-- settled, they and the others that are left can earn no more than has been found
+pub record AreCapped (task : Task) (next kind cap total best : ℕ) : Type 0 where
+  pub some : 0 < kind
+  pub equal : ℕ
+  pub bound : ℕ
+  pub are_equal : AreEqual task next equal kind
+  pub rest : EarnAtMost task (next + equal) bound
+  pub short : total + (equal * cap + bound) ≤ best
 
 -- no train, the last one, the last two, .., so many in all, are solved for by themselves: what is found bounds what
 -- they earn, and the best found can be earned, if what was found before can be

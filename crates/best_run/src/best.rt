@@ -6,6 +6,7 @@ ghost use Rattle.certificate.specs.Set.{IsGreatest};
 
 use crate::state::{BORDERS, Settled};
 use crate::task::Task;
+use crate::trains::greatest_first;
 use reach::Network;
 use std::alloc::{AllocError, Global};
 use tables::{Amount, Company, Kind};
@@ -22,6 +23,8 @@ impl Task {
         let nothing = Settled {
             next: self.trains.len() - count,
             total: 0,
+            kind: 0,
+            cap: 0,
             used: [false; BORDERS],
         };
         self.settle_next(&nothing, bounds, best);
@@ -67,7 +70,8 @@ pub fn greatest_revenue<N: Network>(
         IfOk result (IsGreatest position company trains.now) }
 {
     network.keeps_laws();
-    let task = Task::of(alloc, network, company, trains)?;
+    let sorted = greatest_first(alloc, trains)?;
+    let task = Task::of(alloc, network, company, &sorted)?;
     let revenue = task.greatest(alloc)?;
     Ok(revenue)
 }

@@ -1,4 +1,4 @@
-ghost use Rattle.std.specs.Prelude.{◌≡◌, ◌+◌, ◌*◌, ◌<◌, ◌≤◌, IsTrue, false, length};
+ghost use Rattle.std.specs.Prelude.{◌≡◌, ◌+◌, ◌*◌, ◌<◌, ◌≤◌, IsTrue, false, length, ℕ};
 ghost use Rattle.best_run.specs.Ahead.{EndsAtMost, IsOutlook, NoTokenAhead, WidensBy, WidensFrom, beyond};
 ghost use Rattle.best_run.specs.Fit.{HasRoom, IsFit, BordersFit};
 ghost use Rattle.best_run.specs.Suffix.{AreBounds};
@@ -9,6 +9,18 @@ use tables::Amount;
 
 /// How many tens of dollars a stop is worth at most.
 const TENS: usize = 8;
+
+/// How many hexes the map has.
+const HEXES: usize = 93;
+
+/// How many ends a hex has: six sides, and two stops behind them.
+const ENDS: usize = 8;
+
+/// The number of the first stop among the ends of its hex.
+const FIRST_STOP: usize = 6;
+
+/// How many stops the map may have: two in each hex.
+const STOPS: usize = 186;
 
 impl Task {
     /// Adds to what lies ahead of a run what it may come to from a spot.
@@ -84,10 +96,13 @@ impl Task {
         requires { IsFit self.now }
     {
         let mut counts: [usize; TENS + 1] = [0; TENS + 1];
-        for spot in 0..SPOTS {
-            if ahead[spot] {
-                let tens = (self.spots[spot].value / 10) as usize;
-                counts[tens] = counts[tens].saturating_add(1);
+        for hex in 0..HEXES {
+            for end in FIRST_STOP..ENDS {
+                let spot = ENDS * hex + end;
+                if ahead[spot] {
+                    let tens = (self.spots[spot].value / 10) as usize;
+                    counts[tens] = counts[tens].saturating_add(1);
+                }
             }
         }
         counts
@@ -99,6 +114,9 @@ impl Task {
         requires { IsFit self.now }
         ensures { result ≤ 80 }
     {
+        if run.left >= STOPS {
+            return 0;
+        }
         let counts = self.tally(ahead);
         let mut more: usize = 0;
         for below in 0..TENS {
@@ -151,12 +169,29 @@ impl Task {
         }
         let level = self.level(run, ahead);
         let ahead = run.left as Amount * level + self.beyond(level, ahead);
-        let most = settled.total + run.value + ahead;
-        most <= best && bounds[later] <= best - most
+        let most = run.value + ahead;
+        let total = settled.total + most;
+        if total > best {
+            return false;
+        }
+        if bounds[later] <= best - total {
+            return true;
+        }
+        self.are_capped(settled.next + 1, run.most, most, total, bounds, best)
+    }
+
+    /// Whether a run earns more than it may, behind another one of a train of its kind.
+    fn earns_too_much(&self, settled: &Settled, run: &Standing) -> bool
+        ensures { IsTrue result → (best : ℕ) → EndsAtMost self.now settled.now run.now best }
+    {
+        if settled.kind == 0 || settled.kind != run.most {
+            return false;
+        }
+        run.value > settled.cap
     }
 
     /// Whether no way on from a run can earn more than what has been found. It is not told of all
-    /// such runs.
+    /// such runs, and of none that stands at a side: that costs more time than it saves.
     pub(crate) fn is_hopeless(
         &self,
         settled: &Settled,
@@ -171,6 +206,12 @@ impl Task {
         requires room { settled.now.total + run.now.value ≤ 44720 }
         ensures { IsTrue result → EndsAtMost self.now settled.now run.now best }
     {
+        if self.earns_too_much(settled, run) {
+            return true;
+        }
+        if !self.spots[run.head].stop {
+            return false;
+        }
         let ahead = self.outlook(settled, run);
         if !self.may_have_token(run, &ahead) {
             return true;

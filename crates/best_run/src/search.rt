@@ -1,6 +1,6 @@
 ghost use Rattle.std.specs.Prelude.{◌≡◌, ◌+◌, ◌<◌, ◌≤◌, true, IsTrue, length};
 ghost use Rattle.best_run.specs.Fit.{HasRoom, IsFit, PieceFits, credit};
-ghost use Rattle.best_run.specs.Suffix.{AreBounds, FallShort};
+ghost use Rattle.best_run.specs.Suffix.{AreBounds, AreCapped, AreEqual, FallShort};
 ghost use Rattle.best_run.specs.Moves.{Any, Explores, IsBegin, IsBeginAt, IsGo, Takes, Tries, between, node_at, standing, stop_in};
 
 use crate::state::{Settled, Standing};
@@ -19,6 +19,51 @@ impl Task {
         left < bounds.len() && settled.total <= best && bounds[left] <= best - settled.total
     }
 
+    /// How many trains from a place on may visit so many stops, of the first eight of them.
+    fn equals(&self, next: usize, most: usize) -> usize
+        requires { next ≤ length self.now.trains.items }
+        ensures equal { AreEqual self.now next result most }
+        ensures within { next + result ≤ length self.now.trains.items }
+        ensures few { result ≤ 8 }
+    {
+        for count in 0..8 {
+            if count >= self.trains.len() - next {
+                return count;
+            }
+            if self.trains[next + count] != most {
+                return count;
+            }
+        }
+        8
+    }
+
+    /// Whether the trains from a place on can earn no more than what has been found, since those of
+    /// the kind that ran last each earn no more than the cap, in dollars. It is not told of all.
+    pub(crate) fn are_capped(
+        &self,
+        next: usize,
+        kind: usize,
+        cap: Amount,
+        total: Amount,
+        bounds: &[Amount],
+        best: Amount,
+    ) -> bool
+        requires next { next ≤ length self.now.trains.items }
+        requires bounds { AreBounds self.now bounds.now }
+        ensures { IsTrue result → AreCapped self.now next kind cap total best }
+    {
+        if kind == 0 || cap > 200_000 {
+            return false;
+        }
+        let equal = self.equals(next, kind);
+        let left = self.trains.len() - next - equal;
+        let most = equal as Amount * cap;
+        if left >= bounds.len() || total > best || most > best - total {
+            return false;
+        }
+        bounds[left] <= best - total - most
+    }
+
     /// Tries all ways from a state between runs to the end.
     #[cycle(explore)]
     pub(crate) fn settle_next(&self, settled: &Settled, bounds: &[Amount], best: &mut Amount)
@@ -35,6 +80,17 @@ impl Task {
             return;
         }
         if self.falls_short(settled, bounds, *best) {
+            return;
+        }
+        let cap = settled.cap;
+        if self.are_capped(
+            settled.next,
+            settled.kind,
+            cap,
+            settled.total,
+            bounds,
+            *best,
+        ) {
             return;
         }
         let passed = settled.passed();
@@ -115,7 +171,7 @@ impl Task {
         if self.is_hopeless(settled, run, bounds, *best) {
             return;
         }
-        if self.may_settle(run) {
+        if self.may_settle(settled, run) {
             let settling = settled.settling(run);
             self.settle_next(&settling, bounds, best);
         }

@@ -1,6 +1,6 @@
-ghost use Rattle.std.specs.Prelude.{◌≡◌, ◌+◌, ◌-◌, ◌*◌, ◌^◌, ◌<◌, ◌≤◌, ◌&&◌, false, length};
+ghost use Rattle.std.specs.Prelude.{◌≡◌, ◌+◌, ◌-◌, ◌*◌, ◌^◌, ◌<◌, ◌≤◌, false, length};
 ghost use Rattle.best_run.specs.Fit.{BordersFit, IsFit};
-ghost use Rattle.best_run.specs.Moves.{along, begun, can_take, left_after, marked_all, may_come, misses, node_at, passed, settling, stop_in, using};
+ghost use Rattle.best_run.specs.Moves.{along, begun, can_take, left_after, marked_all, may_come, may_earn, may_settle, misses, passed, settling, using};
 
 use crate::task::{Piece, Task};
 use tables::Amount;
@@ -18,6 +18,10 @@ pub(crate) struct Settled {
     pub(crate) next: usize,
     /// What the runs so far earn, in dollars.
     pub(crate) total: Amount,
+    /// The most stops of the last train that ran; 0 where none has run.
+    pub(crate) kind: usize,
+    /// What the last run earned, in dollars: no later run of a train of this kind may earn more.
+    pub(crate) cap: Amount,
     /// The borders that runs cross, that of the run begun too.
     pub(crate) used: [bool; BORDERS],
 }
@@ -27,6 +31,8 @@ pub(crate) struct Settled {
 pub(crate) struct Standing {
     /// Where it stands.
     pub(crate) head: usize,
+    /// The most stops of its train.
+    pub(crate) most: usize,
     /// How many more stops it may visit.
     pub(crate) left: usize,
     /// What its stops are worth, in dollars.
@@ -46,8 +52,17 @@ impl Settled {
         Settled {
             next: self.next + 1,
             total: self.total,
+            kind: self.kind,
+            cap: self.cap,
             used: self.used,
         }
+    }
+
+    /// Whether a run earns no more than the last one of a train of its kind.
+    fn may_earn(&self, run: &Standing) -> bool
+        ensures { result ≡ may_earn self.now.kind self.now.cap run.now.most run.now.value }
+    {
+        self.kind == 0 || self.kind != run.most || run.value <= self.cap
     }
 
     /// The run begun is settled.
@@ -59,6 +74,8 @@ impl Settled {
         Settled {
             next: self.next + 1,
             total: self.total + run.value,
+            kind: run.most,
+            cap: run.value,
             used: self.used,
         }
     }
@@ -74,6 +91,8 @@ impl Settled {
         Settled {
             next: self.next,
             total: self.total,
+            kind: self.kind,
+            cap: self.cap,
             used,
         }
     }
@@ -146,6 +165,7 @@ impl Task {
         visited[stop] = true;
         Standing {
             head: stop,
+            most: self.trains[settled.next],
             left: self.trains[settled.next].saturating_sub(1),
             value: self.spots[stop].value,
             own: self.spots[stop].own,
@@ -154,12 +174,12 @@ impl Task {
     }
 
     /// Whether a run may be settled.
-    pub(crate) fn may_settle(&self, run: &Standing) -> bool
+    pub(crate) fn may_settle(&self, settled: &Settled, run: &Standing) -> bool
         requires fit { IsFit self.now }
         requires head { run.now.head < 744 }
-        ensures { result ≡ (run.now.own && stop_in (node_at self.now run.now.head)) }
+        ensures { result ≡ may_settle self.now settled.now run.now }
     {
-        run.own && self.spots[run.head].stop
+        run.own && self.spots[run.head].stop && settled.may_earn(run)
     }
 
     /// A run after a piece.
@@ -173,6 +193,7 @@ impl Task {
         visited[piece.to] = true;
         Standing {
             head: piece.to,
+            most: run.most,
             left: left_after(self.spots[piece.to].stop, run.left),
             value: run.value + self.spots[piece.to].value,
             own: run.own || self.spots[piece.to].own,

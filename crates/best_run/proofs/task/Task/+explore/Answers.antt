@@ -5,6 +5,7 @@ use Rattle.best_run.specs.declared.state.Standing.{Standing}
 use Rattle.best_run.specs.Fit.{PieceFits}
 use Rattle.best_run.specs.Moves.{Any, Below, Explores, IsBeginAt, IsGo, Takes, Tries, between, can_take, ends_in, node_at, standing, stop_in}
 use Rattle.best_run.proofs.Eased.{falls_short}
+use Rattle.best_run.proofs.Equal.{explores_capped}
 use Rattle.best_run.proofs.Hopeless.{explores_hopeless}
 use Rattle.best_run.proofs.Places.{begin_all, begin_next, go_all, go_next, leads_at, less_after, node_is, one_low, piece_fits, room_after, value_low}
 use Rattle.best_run.proofs.Tried.{explores_between, explores_on, explores_standing, over_better, over_no_better, take_begin, take_go, tries_both, tries_fewer}
@@ -66,6 +67,10 @@ pub settle_next-returns-then-falls_short : goal.settle_next-returns-then-falls_s
 settle_next-returns-then-falls_short t c =
     falls_short c.args.self.now c.args.bounds.now c.args.settled.now c.args.best.now c.requires.bounds c.falls_short.ensures.whole c.requires.next
     (c.falls_short.ensures.short c.if-falls_short.true)
+
+pub settle_next-returns-then-are_capped : goal.settle_next-returns-then-are_capped
+settle_next-returns-then-are_capped t c =
+    explores_capped c.args.self.now c.args.settled.now c.args.best.now c.falls_short.ensures.whole (c.are_capped.ensures c.if-are_capped.true)
 
 pub settle_next-returns : goal.settle_next-returns
 settle_next-returns t c =

@@ -1,5 +1,5 @@
 -- The next spot is added.
-use Rattle.std.proofs.Common.{◌≡◌, ◌+◌, ◌-◌, ◌<◌, ◌≤◌, Some, length, slice_index_or, sym, arith}
+use Rattle.std.proofs.Common.{arith}
 use Rattle.best_run.proofs.Beyond.{beyond_end, beyond_none, beyond_one, worth_low}
 use Rattle.best_run.proofs.task.Task.beyond.Goals as goal
 use Rattle.best_run.proofs.task.Task.beyond.Goals.{then-ahead-spot, else-ahead-spot}

@@ -1,17 +1,22 @@
 -- The level that was chosen bounds what the run earns.
-use Rattle.std.proofs.Common.{◌≡◌, ◌+◌, ◌-◌, ◌*◌, ◌≤◌, Some, length, slice_get, slice_index_or, arith}
+use Rattle.std.proofs.Common.{◌+◌, ◌-◌, slice_index_or, arith}
 use Rattle.std.proofs.lemmas.Bool.{leb-true}
 use Rattle.std.proofs.lemmas.Option.{slice_get-get_or}
 use Rattle.best_run.specs.Suffix.{EarnAtMost}
-use Rattle.best_run.proofs.Hopeless.{ends_low}
+use Rattle.best_run.proofs.Hopeless.{ends_alike, ends_low}
 use Rattle.best_run.proofs.task.Task.earns_too_little.Goals as goal
 
-pub returns-then-most-best : goal.returns-then-most-best
-returns-then-most-best c told =
+pub returns-then-bounds-later : goal.returns-then-bounds-later
+returns-then-bounds-later c told =
     let task = c.args.self.now in
     let settled = c.args.settled.now in
     let later = c.len.result - settled.next - 1 in
     let bound = slice_index_or c.args.bounds.now later 0 in
     let most : EarnAtMost task (settled.next + 1) bound = c.requires.bounds later bound (settled.next + 1) (slice_get-get_or c.args.bounds.now later 0 c.if-later-bounds.false) (omega (arith, c.len.ensures, c.requires.next)) in
     ends_low task c.requires.fit settled c.args.run.now c.args.ahead.now c.requires.ahead c.level-level.result bound c.args.best most c.requires.borders c.requires.spots
-    (omega (arith, c.beyond.ensures.sum, c.if-most-best.true, leb-true _ _ told))
+    (omega (arith, c.beyond.ensures.sum, c.if-total-best.false, c.if-bounds-later.true))
+
+pub returns : goal.returns
+returns c told =
+    ends_alike c.args.self.now c.requires.fit c.args.settled.now c.args.run.now c.args.ahead.now c.requires.ahead c.level-level.result _ c.args.best (c.are_capped.ensures told) c.requires.borders c.requires.spots
+    (omega (arith, c.beyond.ensures.sum))

@@ -1,7 +1,6 @@
 -- The next spot has no token, or does not lie ahead.
-use Rattle.std.proofs.Common.{◌≡◌, ℕ, ◌+◌, ◌<◌, false, inl, inr, Some, sym, ap, subst, ◌∙◌, arith}
-use Rattle.best_run.specs.Ahead.{LiesAhead}
-use Rattle.best_run.specs.Moves.{node_at, own_in}
+use Rattle.std.proofs.Common.{ap, ◌∙◌, arith}
+use Rattle.best_run.specs.Moves.{own_in}
 use Rattle.best_run.proofs.Ahead.{falsely, lies_within, none_next}
 use Rattle.best_run.proofs.Places.{node_is}
 use Rattle.best_run.proofs.task.Task.may_have_token.Goals as goal

@@ -1,0 +1,9 @@
+-- Such a run is never settled.
+use Rattle.std.proofs.Common.{arith}
+use Rattle.std.proofs.lemmas.Bool.{ltb-true}
+use Rattle.best_run.proofs.Equal.{no_dearer}
+use Rattle.best_run.proofs.task.Task.earns_too_much.Goals as goal
+
+pub returns : goal.returns
+returns c told best moves completes =
+    absurd (no_dearer c.args.self.now moves c.args.settled.now c.args.run.now (omega arith) (omega arith) (ltb-true _ _ told) completes)

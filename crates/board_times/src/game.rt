@@ -1,0 +1,145 @@
+use crate::fault::Fault;
+use best_run::greatest_revenue;
+use board::Board;
+use map_tables::{Hex, Lay, Place, Rotation, TileNo};
+use std::alloc::{AllocError, Global};
+use tables::{Amount, Company, Kind};
+
+/// What the lines of a board say.
+#[derive(Drop)]
+pub struct Game {
+    number: u32,
+    is_begun: bool,
+    phase: Kind,
+    company: Option<Company>,
+    trains: Vec<Kind>,
+    lays: Vec<Lay>,
+    tokens: Vec<(Place, Company)>,
+}
+
+impl Game {
+    /// No board.
+    pub fn new(alloc: Global) -> Game {
+        Game {
+            number: 0,
+            is_begun: false,
+            phase: Kind::Two,
+            company: None,
+            trains: Vec::new(alloc),
+            lays: Vec::new(alloc),
+            tokens: Vec::new(alloc),
+        }
+    }
+
+    /// Whether a line begins a board.
+    pub fn is_board(&self, line: &str) -> bool {
+        line.starts_with("BOARD")
+    }
+
+    /// Whether a line of the board was read.
+    pub fn is_begun(&self) -> bool {
+        self.is_begun
+    }
+
+    /// The board's number; 0 where it has none.
+    pub fn number(&self) -> u32 {
+        self.number
+    }
+
+    /// The greatest revenue of the company's trains on the board, in dollars. The errors are `Company`,
+    /// `Board` and `Memory`.
+    pub fn revenue(&self, alloc: Global) -> Result<Amount, Fault> {
+        let Some(company) = self.company else {
+            return Err(Fault::Company);
+        };
+        let board = Board::of(alloc, &self.lays, &self.tokens, self.phase)?;
+        Ok(greatest_revenue(alloc, &board, company, &self.trains)?)
+    }
+
+    /// Reads a line. The errors are `Line` and `Memory`.
+    pub fn read_line(&mut self, line: &str) -> Result<(), Fault> {
+        let mut words = line.split_whitespace();
+        let Some(first) = words.next() else {
+            return Ok(());
+        };
+        self.is_begun = true;
+        if first == "TRAINS" {
+            for word in words {
+                push(&mut self.trains, kind_of(word)?)?;
+            }
+            return Ok(());
+        }
+        let second = words.next().unwrap_or("");
+        let third = words.next().unwrap_or("");
+        let fourth = words.next().unwrap_or("");
+        let swap = words.next() == Some("SWAP");
+        self.put(first, second, third, fourth, swap)
+    }
+
+    /// Takes the words of a line. The errors are `Line` and `Memory`.
+    fn put(
+        &mut self,
+        first: &str,
+        second: &str,
+        third: &str,
+        fourth: &str,
+        swap: bool,
+    ) -> Result<(), Fault> {
+        match first {
+            "BOARD" => self.number = number_of(second)?,
+            "PHASE" => self.phase = kind_of(second)?,
+            "COMPANY" => self.company = Some(company_of(second)?),
+            "LAY" => push(&mut self.lays, lay_of(second, third, fourth, swap)?)?,
+            "TOKEN" => push(&mut self.tokens, (place_of(second)?, company_of(third)?))?,
+            "GREATEST" => {}
+            _ => return Err(Fault::Line),
+        }
+        Ok(())
+    }
+}
+
+/// Appends an item. The only error is want of memory.
+fn push<T: Drop>(items: &mut Vec<T>, item: T) -> Result<(), AllocError> {
+    items.push(item)?;
+    Ok(())
+}
+
+/// A number in decimal digits. The error is `Line`.
+fn number_of(word: &str) -> Result<u32, Fault> {
+    word.parse::<u32>().map_err(|_| Fault::Line)
+}
+
+/// The kind of train that a word names. The error is `Line`.
+fn kind_of(word: &str) -> Result<Kind, Fault> {
+    for kind in Kind::ALL {
+        if kind.code() == word {
+            return Ok(kind);
+        }
+    }
+    Err(Fault::Line)
+}
+
+/// The company that a word names. The error is `Line`.
+fn company_of(word: &str) -> Result<Company, Fault> {
+    for company in Company::ALL {
+        if company.code() == word {
+            return Ok(company);
+        }
+    }
+    Err(Fault::Line)
+}
+
+/// The stop that a word names. The error is `Line`.
+fn place_of(word: &str) -> Result<Place, Fault> {
+    Place::from_text(word.as_bytes()).ok_or(Fault::Line)
+}
+
+/// A tile with its hex and rotation. The error is `Line`.
+fn lay_of(tile: &str, hex: &str, rotation: &str, swap: bool) -> Result<Lay, Fault> {
+    Ok(Lay {
+        hex: Hex::from_text(hex.as_bytes()).ok_or(Fault::Line)?,
+        tile: TileNo::from_text(tile.as_bytes()).ok_or(Fault::Line)?,
+        rot: Rotation::from_text(rotation.as_bytes()).ok_or(Fault::Line)?,
+        swap,
+    })
+}

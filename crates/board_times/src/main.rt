@@ -1,0 +1,49 @@
+//! Reads boards from standard input, and prints for each its number and the greatest revenue of the
+//! company's trains there, in dollars. A board is lines of words: `BOARD number`, `PHASE kind`,
+//! `COMPANY company`, `TRAINS kind ..`, then `LAY tile hex rotation`, with `SWAP` behind it where the
+//! stops are swapped, and `TOKEN place company`. A line `GREATEST ..` is passed over. The status is 2
+//! where a line is none of these or the tiles and tokens cannot lie, 4 where memory ran out or a read
+//! or a write failed.
+#![tactic(auto)]
+
+mod fault;
+mod game;
+
+use fault::Fault;
+use game::Game;
+use std::process::ExitCode;
+use std::rt::Runtime;
+
+fn main(rt: HostRuntime) -> ExitCode {
+    match read_all(&rt) {
+        Ok(()) => ExitCode::SUCCESS,
+        Err(fault) => {
+            let _ = eprintln!(rt; "{fault}");
+            ExitCode::from(fault.status())
+        }
+    }
+}
+
+/// Reads boards to the end, and prints what each earns.
+fn read_all(rt: &HostRuntime) -> Result<(), Fault> {
+    let mut game = Game::new(rt.alloc());
+    for line in rt.lines(rt.alloc()) {
+        let line = line?;
+        if game.is_board(line.as_str()) {
+            print(rt, &game)?;
+            game = Game::new(rt.alloc());
+        }
+        game.read_line(line.as_str())?;
+    }
+    print(rt, &game)
+}
+
+/// Prints what a board earns, if one was begun.
+fn print(rt: &HostRuntime, game: &Game) -> Result<(), Fault> {
+    if !game.is_begun() {
+        return Ok(());
+    }
+    let revenue = game.revenue(rt.alloc())?;
+    println!(rt; "{} {revenue}", game.number())?;
+    Ok(())
+}
