@@ -7,7 +7,7 @@ use Rattle.map_tables.specs.declared.hex.Hex.{Hex}
 use Rattle.map_tables.specs.declared.place.Stop.{Stop}
 use Rattle.map_tables.specs.declared.track.End.{End}
 use Rattle.map_tables.specs.declared.track.End.TheVariants.{Side as AtSide, Stop as AtStop}
-use Rattle.reach.specs.Position.{Position, HasToken, IsAmong}
+use Rattle.reach.specs.Position.{Position, IsAmong}
 use Rattle.reach.specs.Search.{number_at, spot_number}
 use Rattle.reach.specs.Walk.{entered_at, left_at, stop_of}
 use Rattle.reach.specs.declared.walk.Spot.{Spot}
@@ -16,7 +16,7 @@ use Rattle.reach.proofs.Hexes.{index_low, side_low, stop_index_low}
 use Rattle.reach.proofs.Spots.{are_one, stop_number}
 use Rattle.tables.specs.declared.rolling_stock.Kind.{Kind}
 use Rattle.tables.specs.declared.roster.Company.{Company}
-use Rattle.certificate.specs.Legal.{HasSuch, border_at, worth}
+use Rattle.certificate.specs.Legal.{border_at, worth}
 use Rattle.certificate.proofs.Kept.{border_low}
 use Rattle.certificate.proofs.Marks.{among_both}
 use Rattle.best_run.specs.declared.task.Piece.{Piece}
@@ -25,7 +25,8 @@ use Rattle.best_run.specs.declared.state.Settled.{Settled}
 use Rattle.best_run.specs.declared.state.Standing.{Standing}
 use Rattle.best_run.specs.Described.{Describes, IsNodeAt, IsPieceOf, IsSideNode, IsStopNode}
 use Rattle.best_run.specs.Fit.{BordersFit}
-use Rattle.best_run.specs.Moves.{along, left_after, marked_all, misses, node_at, own_in, stop_in, using}
+use Rattle.best_run.specs.Moves.{along, left_after, marked_all, marked_if, misses, node_at, own_before, stop_in, turned_back, using}
+use Rattle.best_run.proofs.Backwards.{AreAlike}
 use Rattle.best_run.proofs.Marks.{length_marked}
 
 -- a border is marked
@@ -33,12 +34,11 @@ abbrev pub IsMarked : List Bool → ℕ → Type 0
 IsMarked marks number = get_or marks number false ≡ true
 
 -- what a state tells of a run: where it stands, its stops and its borders, beside those of other runs
-pub record Tells (position : Position) (company : Company) (most : ℕ) (others : List ℕ) (at : Spot) (stops : List Stop) (borders : List ℕ) (settled : Settled) (run : Standing) : Type 0 where
+pub record Tells (task : Task) (position : Position) (company : Company) (most : ℕ) (others : List ℕ) (at : Spot) (stops : List Stop) (borders : List ℕ) (settled : Settled) (run : Standing) : Type 0 where
   pub head : run.head ≡ spot_number at
   pub left : run.left + length stops ≡ most
   pub value : run.value ≡ worth position stops
-  pub own : (run.own ≡ true) ↔ HasSuch (λ stop. HasToken position stop company) stops
-  pub visited : (spot : Spot) (stop : Stop) → stop_of spot ≡ Some stop → IsMarked run.visited (spot_number spot) ↔ IsAmong stop stops
+  pub visited : (spot : Spot) (stop : Stop) → stop_of spot ≡ Some stop → IsMarked run.visited (spot_number spot) ↔ (IsAmong stop stops ⊎ IsMarked (own_before task run.home) (spot_number spot))
   pub used : (border : ℕ) → IsMarked settled.used border ↔ (IsAmong border borders ⊎ IsAmong border others)
   pub spots : length run.visited ≡ 744
   pub whole : length settled.used ≡ 279
@@ -74,10 +74,6 @@ or_left false b is = absurd cc
 or_right : (a b : Bool) → b ≡ true → (a || b) ≡ true
 or_right true b is = refl
 or_right false b is = is
-
-or_cases : (a b : Bool) → (a || b) ≡ true → (a ≡ true) ⊎ (b ≡ true)
-or_cases true b is = inl refl
-or_cases false b is = inr is
 
 or_neither : (a b : Bool) → (a ≡ true → ⊥) → (b ≡ true → ⊥) → (a || b) ≡ false
 or_neither true b first second = absurd (first refl)
@@ -133,7 +129,7 @@ module _ (position : Position) (company : Company) (kinds : List Kind) (task : T
   pub node_left : (spot : Spot) (found : Option Stop) → stop_of spot ≡ found → IsNodeAt position company found (node_at task (spot_number spot))
   node_left spot found is = subst (λ o. IsNodeAt position company o (node_at task (spot_number spot))) is (describes.spots spot)
 
-  used_more : (most : ℕ) (others : List ℕ) (at : Spot) (stops : List Stop) (borders : List ℕ) (settled : Settled) (run : Standing) → Tells position company most others at stops borders settled run → (step : Step) (piece : Piece) → IsPieceOf step piece → (border : ℕ) → IsMarked (using settled piece).used border ↔ (IsAmong border (border_at (entered_at step).hex (entered_at step).end ++ borders) ⊎ IsAmong border others)
+  used_more : (most : ℕ) (others : List ℕ) (at : Spot) (stops : List Stop) (borders : List ℕ) (settled : Settled) (run : Standing) → Tells task position company most others at stops borders settled run → (step : Step) (piece : Piece) → IsPieceOf step piece → (border : ℕ) → IsMarked (using settled piece).used border ↔ (IsAmong border (border_at (entered_at step).hex (entered_at step).end ++ borders) ⊎ IsAmong border others)
   used_more most others at stops borders settled run tells step piece is border =
       let new = border_at (entered_at step).hex (entered_at step).end in
       let fits : BordersFit piece.borders.items = subst BordersFit (sym is.borders) (border_fits (entered_at step).hex (entered_at step).end) in
@@ -154,62 +150,75 @@ module _ (position : Position) (company : Company) (kinds : List Kind) (task : T
       )
 
   -- a step to a stop
-  pub to_stop : (most : ℕ) (others : List ℕ) (at : Spot) (stops : List Stop) (borders : List ℕ) (settled : Settled) (run : Standing) → Tells position company most others at stops borders settled run → (step : Step) (piece : Piece) → IsPieceOf step piece → (stop : Stop) → stop_of (left_at step) ≡ Some stop → 0 < run.left → Tells position company most others (left_at step) (stop ∷ stops) (border_at (entered_at step).hex (entered_at step).end ++ borders) (using settled piece) (along task run piece)
+  pub to_stop : (most : ℕ) (others : List ℕ) (at : Spot) (stops : List Stop) (borders : List ℕ) (settled : Settled) (run : Standing) → Tells task position company most others at stops borders settled run → (step : Step) (piece : Piece) → IsPieceOf step piece → (stop : Stop) → stop_of (left_at step) ≡ Some stop → 0 < run.left → Tells task position company most others (left_at step) (stop ∷ stops) (border_at (entered_at step).hex (entered_at step).end ++ borders) (using settled piece) (along task run piece)
   to_stop most others at stops borders settled run tells step piece is stop there some =
       let node : IsStopNode position company stop (node_at task (spot_number (left_at step))) = node_left (left_at step) (Some stop) there in
       let here : IsStopNode position company stop (node_at task piece.to) = subst (λ (n : ℕ). IsStopNode position company stop (node_at task n)) (sym is.to) node in
       let left : left_after (stop_in (node_at task piece.to)) run.left ≡ run.left - 1 = ap (λ b. left_after b run.left) here.stops in
       let low : piece.to < length run.visited = omega (arith, tells.spots, is.to, spot_low (left_at step)) in
+      let marks : marked_if (stop_in (node_at task piece.to)) run.visited piece.to ≡ set run.visited piece.to true = ap (λ b. marked_if b run.visited piece.to) here.stops in
       record {
         head = is.to;
         left = omega (arith, tells.left);
         value = omega (arith, tells.value, here.value);
-        own = (
-          λ own. elim (or_cases run.own (own_in (node_at task piece.to)) own) [ inl before ↦ inr (tells.own.0 before) | inr now ↦ inl (here.own.0 now) ],
-          λ has. elim has [ inl now ↦ or_right run.own (own_in (node_at task piece.to)) (here.own.1 now) | inr before ↦ or_left run.own (own_in (node_at task piece.to)) (tells.own.1 before) ],
-        );
         visited = λ spot other other_is.
             let one : IsMarked (set run.visited piece.to true) (spot_number spot) ↔ ((spot_number spot ≡ piece.to) ⊎ IsMarked run.visited (spot_number spot)) = mark_more run.visited piece.to (spot_number spot) low in
-            let old = tells.visited spot other other_is in (
+            let old = tells.visited spot other other_is in
+            subst (λ (marks : List Bool). IsMarked marks (spot_number spot) ↔ (IsAmong other (stop ∷ stops) ⊎ IsMarked (own_before task run.home) (spot_number spot))) (sym marks) (
               λ marked. elim (one.0 marked) [
-                | inl same ↦ inl (sym (same_spot spot (left_at step) other stop other_is there (same ∙ is.to)))
-                | inr before ↦ inr (old.0 before)
+                | inl same ↦ inl (inl (sym (same_spot spot (left_at step) other stop other_is there (same ∙ is.to))))
+                | inr before ↦ elim (old.0 before) [ inl among ↦ inl (inr among) | inr passed ↦ inr passed ]
               ],
-              λ among. elim among [
-                | inl same ↦ one.1 (inl (one_number spot (left_at step) other other_is (there ∙ ap (λ (s : Stop). Some s) same) ∙ sym is.to))
-                | inr before ↦ one.1 (inr (old.1 before))
+              λ either. elim either [
+                | inl among ↦ elim among [
+                  | inl same ↦ one.1 (inl (one_number spot (left_at step) other other_is (there ∙ ap (λ (s : Stop). Some s) same) ∙ sym is.to))
+                  | inr before ↦ one.1 (inr (old.1 (inl before)))
+                ]
+                | inr passed ↦ one.1 (inr (old.1 (inr passed)))
               ],
             );
         used = used_more most others at stops borders settled run tells step piece is;
-        spots = length-set run.visited piece.to true ∙ tells.spots;
+        spots = ap (λ (marks : List Bool). length marks) marks ∙ (length-set run.visited piece.to true ∙ tells.spots);
         whole = length_marked settled.used piece.borders.items ∙ tells.whole;
       }
 
   -- a step to a side
-  pub to_side : (most : ℕ) (others : List ℕ) (at : Spot) (stops : List Stop) (borders : List ℕ) (settled : Settled) (run : Standing) → Tells position company most others at stops borders settled run → (step : Step) (piece : Piece) → IsPieceOf step piece → stop_of (left_at step) ≡ None → Tells position company most others (left_at step) stops (border_at (entered_at step).hex (entered_at step).end ++ borders) (using settled piece) (along task run piece)
+  pub to_side : (most : ℕ) (others : List ℕ) (at : Spot) (stops : List Stop) (borders : List ℕ) (settled : Settled) (run : Standing) → Tells task position company most others at stops borders settled run → (step : Step) (piece : Piece) → IsPieceOf step piece → stop_of (left_at step) ≡ None → Tells task position company most others (left_at step) stops (border_at (entered_at step).hex (entered_at step).end ++ borders) (using settled piece) (along task run piece)
   to_side most others at stops borders settled run tells step piece is side =
       let node : IsSideNode (node_at task (spot_number (left_at step))) = node_left (left_at step) None side in
       let here : IsSideNode (node_at task piece.to) = subst (λ (n : ℕ). IsSideNode (node_at task n)) (sym is.to) node in
       let left : left_after (stop_in (node_at task piece.to)) run.left ≡ run.left = ap (λ b. left_after b run.left) here.stops in
-      let low : piece.to < length run.visited = omega (arith, tells.spots, is.to, spot_low (left_at step)) in
+      let marks : marked_if (stop_in (node_at task piece.to)) run.visited piece.to ≡ run.visited = ap (λ b. marked_if b run.visited piece.to) here.stops in
       record {
         head = is.to;
         left = omega (arith, tells.left);
         value = omega (arith, tells.value, here.value);
-        own = (
-          λ own. elim (or_cases run.own (own_in (node_at task piece.to)) own) [ inl before ↦ tells.own.0 before | inr now ↦ absurd (let wrong : true ≡ false = sym now ∙ here.own in cc) ],
-          λ has. or_left run.own (own_in (node_at task piece.to)) (tells.own.1 has),
-        );
         visited = λ spot other other_is.
-            let one : IsMarked (set run.visited piece.to true) (spot_number spot) ↔ ((spot_number spot ≡ piece.to) ⊎ IsMarked run.visited (spot_number spot)) = mark_more run.visited piece.to (spot_number spot) low in
-            let old = tells.visited spot other other_is in (
-              λ marked. elim (one.0 marked) [
-                | inl same ↦ absurd (let wrong : Some other ≡ None = sym other_is ∙ ((are_one spot (left_at step) (same ∙ is.to)).0 ∙ side) in cc)
-                | inr before ↦ old.0 before
-              ],
-              λ among. one.1 (inr (old.1 among)),
-            );
+            subst (λ (seen : List Bool). IsMarked seen (spot_number spot) ↔ (IsAmong other stops ⊎ IsMarked (own_before task run.home) (spot_number spot))) (sym marks) (tells.visited spot other other_is);
         used = used_more most others at stops borders settled run tells step piece is;
-        spots = length-set run.visited piece.to true ∙ tells.spots;
+        spots = ap (λ (seen : List Bool). length seen) marks ∙ tells.spots;
         whole = length_marked settled.used piece.borders.items ∙ tells.whole;
+      }
+
+  -- a run that turns back stands where it began; its stops and borders may be told in another order
+  pub to_home : (most : ℕ) (others : List ℕ) (at : Spot) (stops : List Stop) (borders : List ℕ) (settled : Settled) (run : Standing) → Tells task position company most others at stops borders settled run → (home : Spot) (seen : List Stop) (gone : List ℕ) → run.home ≡ spot_number home → AreAlike stops seen → worth position stops ≡ worth position seen → AreAlike borders gone → Tells task position company most others home seen gone settled (turned_back run)
+  to_home most others at stops borders settled run tells home seen gone is alike earns same =
+      record {
+        head = is;
+        left = omega (arith, tells.left, alike.long);
+        value = tells.value ∙ earns;
+        visited = λ spot stop there.
+            let old = tells.visited spot stop there in
+            let among = alike.among stop in (
+              λ marked. elim (old.0 marked) [ inl here ↦ inl (among.0 here) | inr passed ↦ inr passed ],
+              λ either. elim either [ inl here ↦ old.1 (inl (among.1 here)) | inr passed ↦ old.1 (inr passed) ],
+            );
+        used = λ border.
+            let old = tells.used border in
+            let among = same.among border in (
+              λ marked. elim (old.0 marked) [ inl here ↦ inl (among.0 here) | inr other ↦ inr other ],
+              λ either. elim either [ inl here ↦ old.1 (inl (among.1 here)) | inr other ↦ old.1 (inr other) ],
+            );
+        spots = tells.spots;
+        whole = tells.whole;
       }

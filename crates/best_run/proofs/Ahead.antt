@@ -1,5 +1,5 @@
 -- What lies ahead of a run is found piece by piece, and what is found is all that the run may come to.
-use Rattle.std.proofs.Common.{◌≡◌, ℕ, zero, suc, ◌+◌, ◌<◌, ◌≤◌, Bool, true, false, inl, inr, Some, List, [], ◌∷◌, length, get_or, set, replicate, slice_get, sym, ap, subst, ◌∙◌, arith, le_trans, get_or-set_same}
+use Rattle.std.proofs.Common.{◌≡◌, ℕ, ◌+◌, ◌<◌, ◌≤◌, Bool, true, false, ◌⊎◌, inl, inr, Some, List, length, get_or, set, replicate, slice_get, sym, ap, subst, ◌∙◌, arith, le_trans, get_or-set_same}
 use Rattle.reach.proofs.Collected.{none_marked}
 use Rattle.reach.proofs.Marking.{set_cases, set_keeps}
 use Rattle.best_run.specs.declared.task.Node.{Node}
@@ -8,7 +8,7 @@ use Rattle.best_run.specs.declared.task.Task.{Task}
 use Rattle.best_run.specs.declared.state.Settled.{Settled}
 use Rattle.best_run.specs.declared.state.Standing.{Standing}
 use Rattle.best_run.specs.Ahead.{IsGoneOver, IsOutlook, LiesAhead, Widens, WidensBelow, WidensBy, WidensFrom}
-use Rattle.best_run.specs.Moves.{LeadsFrom, can_take, ends_in, node_at, own_in, pieces_in}
+use Rattle.best_run.specs.Moves.{LeadsFrom, can_take, ends_in, node_at, pieces_in}
 use Rattle.best_run.proofs.Marks.{set_fewer}
 use Rattle.best_run.proofs.Places.{below_next, place_low}
 
@@ -94,27 +94,27 @@ module _ (task : Task) (settled : Settled) (run : Standing) where
       }
 
   -- where nothing lay ahead, all has been gone over
-  pub outlook_from : (ahead : List Bool) → WidensFrom task settled run run.head (replicate 744 false) ahead → IsOutlook task settled run ahead
-  outlook_from ahead from =
+  all_over : (ahead : List Bool) → ((spot : ℕ) → LiesAhead ahead spot → LiesAhead (replicate 744 false) spot ⊎ IsGoneOver task settled run ahead spot) → (spot : ℕ) → LiesAhead ahead spot → IsGoneOver task settled run ahead spot
+  all_over ahead over spot lies =
+      elim (over spot lies) [
+        | inl none ↦ absurd (falsely (get_or (replicate 744 false) spot false) none (none_marked 744 spot))
+        | inr over ↦ over
+      ]
+
+  -- from where it stands alone, if it has turned back
+  pub outlook_from : (ahead : List Bool) → run.turned ≡ true → WidensFrom task settled run run.head (replicate 744 false) ahead → IsOutlook task settled run ahead
+  outlook_from ahead turned from =
       record {
         head = from.here;
-        all = λ spot lies. elim (from.widens.over spot lies) [
-          | inl none ↦ absurd (falsely (get_or (replicate 744 false) spot false) none (none_marked 744 spot))
-          | inr over ↦ over
-        ];
+        home = λ not_turned. absurd (falsely run.turned turned not_turned);
+        all = all_over ahead from.widens.over;
       }
 
--- one spot more has no token
-pub none_next : (task : Task) (ahead : List Bool) (most : ℕ) → ((other : ℕ) → other < most → LiesAhead ahead other → own_in (node_at task other) ≡ false) → (LiesAhead ahead most → own_in (node_at task most) ≡ false) → (other : ℕ) → other < most + 1 → LiesAhead ahead other → own_in (node_at task other) ≡ false
-none_next task ahead most before here other low lies =
-    elim (below_next other most low) [
-      | inl less ↦ before other less lies
-      | inr same ↦
-          subst (λ (n : ℕ). own_in (node_at task n) ≡ false) (sym same) (here (subst (LiesAhead ahead) same lies))
-    ]
-
--- what lies ahead is a spot
-pub lies_within : (ahead : List Bool) (spot : ℕ) → LiesAhead ahead spot → spot < length ahead
-lies_within [] spot lies = let wrong : false ≡ true = lies in absurd cc
-lies_within (mark ∷ ahead) zero lies = omega arith
-lies_within (mark ∷ ahead) (suc spot) lies = let rest = lies_within ahead spot lies in omega arith
+  -- else from where it began as well
+  pub outlook_both : (middle ahead : List Bool) → WidensFrom task settled run run.head (replicate 744 false) middle → WidensFrom task settled run run.home middle ahead → IsOutlook task settled run ahead
+  outlook_both middle ahead first second =
+      record {
+        head = over_more middle ahead second.widens.kept run.head first.here;
+        home = λ not_turned. second.here;
+        all = all_over ahead (widens_both (replicate 744 false) middle ahead first.widens second.widens).over;
+      }

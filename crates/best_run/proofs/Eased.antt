@@ -5,7 +5,7 @@ use Rattle.best_run.specs.declared.task.Piece.{Piece}
 use Rattle.best_run.specs.declared.task.Task.{Task}
 use Rattle.best_run.specs.declared.state.Settled.{Settled}
 use Rattle.best_run.specs.declared.state.Standing.{Standing}
-use Rattle.best_run.specs.Moves.{CanEarn, Completes, Explores, IsOpen, Move, State, along, begin, begun, between, can_take, go, marked_all, may_come, may_earn, misses, node_at, pass, passed, settle, settling, standing, start, stop_in, total_after, total_of, using}
+use Rattle.best_run.specs.Moves.{CanEarn, Completes, Explores, IsOpen, Move, State, along, begin, begun, between, can_take, go, marked_all, may_come, may_earn, misses, node_at, pass, passed, settle, settling, standing, start, stop_in, total_after, total_of, turn, turned_back, using}
 use Rattle.best_run.specs.Suffix.{AreBounds, EarnAtMost, FallShort, IsSolved, nothing_before}
 use Rattle.best_run.proofs.Advance.{IsMarked, free_misses, misses_free}
 
@@ -89,9 +89,9 @@ ease task (pass ∷ moves) free (between settled) total used freer completes =
     record { completes = (completes.0, rest.completes); earns = rest.earns }
 ease task (pass ∷ moves) free (standing settled run) total used freer completes = absurd completes.0
 ease task (begin stop index piece ∷ moves) free (between settled) total used freer completes =
-    let rest : Eased task free (standing (using settled piece) (along task (begun task settled stop) piece)) moves total (marked_all used piece.borders.items) = ease task moves free (standing (using settled piece) (along task (begun task settled stop) piece)) total (marked_all used piece.borders.items) (freer_all piece.borders.items settled.used used freer) completes.1 in
+    let rest : Eased task free (standing (using settled piece) (along task (begun task settled stop index) piece)) moves total (marked_all used piece.borders.items) = ease task moves free (standing (using settled piece) (along task (begun task settled stop index) piece)) total (marked_all used piece.borders.items) (freer_all piece.borders.items settled.used used freer) completes.1 in
     record {
-      completes = (record { train = completes.0.train; begins = completes.0.begins; leads = completes.0.leads; taken = freer_take task (begun task settled stop) settled.used used piece freer completes.0.taken }, rest.completes);
+      completes = (record { train = completes.0.train; begins = completes.0.begins; token = completes.0.token; leads = completes.0.leads; taken = freer_take task (begun task settled stop index) settled.used used piece freer completes.0.taken }, rest.completes);
       earns = rest.earns;
     }
 ease task (begin stop index piece ∷ moves) free (standing settled run) total used freer completes = absurd completes.0
@@ -102,11 +102,19 @@ ease task (go index piece ∷ moves) free (standing settled run) total used free
       completes = (record { passes = completes.0.passes; leads = completes.0.leads; taken = freer_take task run settled.used used piece freer completes.0.taken }, rest.completes);
       earns = rest.earns;
     }
+ease task (turn index piece ∷ moves) free (between settled) total used freer completes = absurd completes.0
+ease task (turn index piece ∷ moves) free (standing settled run) total used freer completes =
+    let may = completes.0 in
+    let rest : Eased task free (standing (using settled piece) (along task (turned_back run) piece)) moves total (marked_all used piece.borders.items) = ease task moves free (standing (using settled piece) (along task (turned_back run) piece)) total (marked_all used piece.borders.items) (freer_all piece.borders.items settled.used used freer) completes.1 in
+    record {
+      completes = (record { once = may.once; stands = may.stands; later = may.later; passes = may.passes; leads = may.leads; taken = freer_take task (turned_back run) settled.used used piece freer may.taken }, rest.completes);
+      earns = rest.earns;
+    }
 ease task (settle ∷ moves) free (between settled) total used freer completes = absurd completes.0
 ease task (settle ∷ moves) free (standing settled run) total used freer completes =
     let rest : Eased task false (between (settling settled run)) moves (total + run.value) used = ease task moves false (between (settling settled run)) (total + run.value) used freer completes.1 in
     record {
-      completes = (both_true (run.own && stop_in (node_at task run.head)) (may_earn settled.kind settled.cap run.most run.value) (may_earn (unless free settled.kind) (unless free settled.cap) run.most run.value) (earns_eased free settled.kind settled.cap run.most run.value) completes.0, rest.completes);
+      completes = (both_true (stop_in (node_at task run.head)) (may_earn settled.kind settled.cap run.most run.value) (may_earn (unless free settled.kind) (unless free settled.cap) run.most run.value) (earns_eased free settled.kind settled.cap run.most run.value) completes.0, rest.completes);
       earns = less_both (total_after task (between (settling settled run)) moves) (total_after task (between (eased false (settling settled run) (total + run.value) used)) moves) total run.value settled.total rest.earns;
     }
 

@@ -6,7 +6,7 @@ use Rattle.best_run.specs.declared.task.Piece.{Piece}
 use Rattle.best_run.specs.declared.task.Task.{Task}
 use Rattle.best_run.specs.declared.state.Settled.{Settled}
 use Rattle.best_run.specs.declared.state.Standing.{Standing}
-use Rattle.best_run.specs.Moves.{Completes, Explores, Move, State, along, begin, begun, between, go, may_earn, node_at, pass, passed, settle, settling, standing, stop_in, total_after, total_of, using}
+use Rattle.best_run.specs.Moves.{Completes, Explores, Move, State, along, begin, begun, between, go, may_earn, node_at, pass, passed, settle, settling, standing, stop_in, total_after, total_of, turn, turned_back, using}
 use Rattle.best_run.specs.Suffix.{AreCapped, AreEqual, EarnAtMost}
 use Rattle.best_run.proofs.Eased.{rest_low}
 use Rattle.best_run.proofs.Marks.{length_marked}
@@ -35,8 +35,10 @@ no_dearer task (pass ∷ moves) settled run some same dear completes = completes
 no_dearer task (begin stop index piece ∷ moves) settled run some same dear completes = completes.0
 no_dearer task (go index piece ∷ moves) settled run some same dear completes =
     no_dearer task moves (using settled piece) (along task run piece) some same (omega (arith, dear)) completes.1
+no_dearer task (turn index piece ∷ moves) settled run some same dear completes =
+    no_dearer task moves (using settled piece) (along task (turned_back run) piece) some same (omega (arith, dear)) completes.1
 no_dearer task (settle ∷ moves) settled run some same dear completes =
-    let low : run.value ≤ settled.cap = capped_value settled.kind settled.cap run.most run.value some same (second_of (run.own && stop_in (node_at task run.head)) (may_earn settled.kind settled.cap run.most run.value) completes.0) in
+    let low : run.value ≤ settled.cap = capped_value settled.kind settled.cap run.most run.value some same (second_of (stop_in (node_at task run.head)) (may_earn settled.kind settled.cap run.most run.value) completes.0) in
     absurd (omega (arith, low, dear))
 
 one_more : (all total count cap bound : ℕ) → all ≤ total + (count * cap + bound) → all ≤ total + (suc count * cap + bound)
@@ -92,9 +94,9 @@ module _ (task : Task) (most cap bound : ℕ) (some : 0 < most) where
   next_is settled count left =
       let here : settled.next + 0 ≡ settled.next = omega arith in subst (λ (n : ℕ). get_or task.trains.items n 0 ≡ most) here (left.equal 0 (omega arith))
 
-  small_value : (settled : Settled) (run : Standing) (count : ℕ) → run.most ≡ most → Left settled count → ((run.own && stop_in (node_at task run.head)) && may_earn settled.kind settled.cap run.most run.value) ≡ true → run.value ≤ cap
+  small_value : (settled : Settled) (run : Standing) (count : ℕ) → run.most ≡ most → Left settled count → (stop_in (node_at task run.head) && may_earn settled.kind settled.cap run.most run.value) ≡ true → run.value ≤ cap
   small_value settled run count same left may =
-      let under : run.value ≤ settled.cap = capped_value settled.kind settled.cap run.most run.value (omega (arith, left.kind, some)) (left.kind ∙ sym same) (second_of (run.own && stop_in (node_at task run.head)) (may_earn settled.kind settled.cap run.most run.value) may) in
+      let under : run.value ≤ settled.cap = capped_value settled.kind settled.cap run.most run.value (omega (arith, left.kind, some)) (left.kind ∙ sym same) (second_of (stop_in (node_at task run.head)) (may_earn settled.kind settled.cap run.most run.value) may) in
       omega (arith, under, left.within)
 
   no_more : (settled : Settled) → Left settled 0 → (moves : List Move) → Completes task (between settled) moves → total_after task (between settled) moves ≤ settled.total + (0 * cap + bound)
@@ -112,11 +114,14 @@ module _ (task : Task) (most cap bound : ℕ) (some : 0 < most) where
   low_from (pass ∷ moves) (standing settled run) count left completes = absurd completes.0
   low_from (begin stop index piece ∷ moves) (between settled) zero left completes = no_more settled left (begin stop index piece ∷ moves) completes
   low_from (begin stop index piece ∷ moves) (between settled) (suc count) left completes =
-      low_from moves (standing (using settled piece) (along task (begun task settled stop) piece)) (suc count) (omega arith, next_is settled count left, left_using settled piece (suc count) left) completes.1
+      low_from moves (standing (using settled piece) (along task (begun task settled stop index) piece)) (suc count) (omega arith, next_is settled count left, left_using settled piece (suc count) left) completes.1
   low_from (begin stop index piece ∷ moves) (standing settled run) count left completes = absurd completes.0
   low_from (go index piece ∷ moves) (between settled) count left completes = absurd completes.0
   low_from (go index piece ∷ moves) (standing settled run) count left completes =
       low_from moves (standing (using settled piece) (along task run piece)) count (left.0, left.1, left_using settled piece count left.2) completes.1
+  low_from (turn index piece ∷ moves) (between settled) count left completes = absurd completes.0
+  low_from (turn index piece ∷ moves) (standing settled run) count left completes =
+      low_from moves (standing (using settled piece) (along task (turned_back run) piece)) count (left.0, left.1, left_using settled piece count left.2) completes.1
   low_from (settle ∷ moves) (between settled) count left completes = absurd completes.0
   low_from (settle ∷ moves) (standing settled run) zero left completes = absurd (omega (arith, left.0))
   low_from (settle ∷ moves) (standing settled run) (suc count) left completes =

@@ -13,7 +13,8 @@ use Rattle.best_run.specs.Described.{Describes}
 use Rattle.best_run.specs.Moves.{CanEarn, Explores, between, start, total_after}
 use Rattle.best_run.proofs.Complete.{CanFinish}
 use Rattle.best_run.proofs.Few.{length_replicate}
-use Rattle.best_run.proofs.Runs.{Used, finish_set}
+use Rattle.best_run.proofs.Arms.{Used}
+use Rattle.best_run.proofs.Runs.{finish_set}
 use Rattle.best_run.proofs.Sets.{Avoids, IsWithin}
 use Rattle.best_run.proofs.Sound.{RunsTold, sound_from, two_at_least}
 

@@ -1,6 +1,6 @@
 -- A run earns at most what it has, the level for each stop that is left, what the stops ahead are worth beyond the
 -- level, and what the later trains earn by themselves.
-use Rattle.std.proofs.Common.{◌≡◌, ℕ, zero, suc, ◌+◌, ◌-◌, ◌*◌, ◌<◌, ◌≤◌, Bool, true, false, not, ◌&&◌, ◌||◌, nat_lt, Option, Some, None, inr, List, [], ◌∷◌, length, get_or, set, slice_get, refl, sym, ap, subst, ◌∙◌, arith, length-set, suc-mul}
+use Rattle.std.proofs.Common.{◌≡◌, ℕ, zero, suc, ◌+◌, ◌-◌, ◌*◌, ◌<◌, ◌≤◌, Bool, true, false, not, ◌&&◌, nat_lt, Option, Some, None, inr, List, [], ◌∷◌, length, get_or, set, slice_get, refl, sym, ap, subst, ◌∙◌, arith, length-set, suc-mul}
 use Rattle.std.proofs.lemmas.Bool.{lt-ltb}
 use Rattle.reach.proofs.Marking.{set_keeps}
 use Rattle.best_run.specs.declared.task.Node.{Node}
@@ -8,9 +8,9 @@ use Rattle.best_run.specs.declared.task.Piece.{Piece}
 use Rattle.best_run.specs.declared.task.Task.{Task}
 use Rattle.best_run.specs.declared.state.Settled.{Settled}
 use Rattle.best_run.specs.declared.state.Standing.{Standing}
-use Rattle.best_run.specs.Ahead.{EndsAtMost, IsGoneOver, IsOutlook, LiesAhead, NoTokenAhead, beyond}
+use Rattle.best_run.specs.Ahead.{EndsAtMost, IsGoneOver, IsOutlook, LiesAhead, beyond}
 use Rattle.best_run.specs.Fit.{IsFit, PieceFits}
-use Rattle.best_run.specs.Moves.{Completes, Explores, LeadsFrom, Move, along, begin, between, can_take, ends_in, go, left_after, marked_all, may_come, may_earn, misses, node_at, own_in, pass, pieces_in, settle, settling, standing, stop_in, total_after, using, value_in}
+use Rattle.best_run.specs.Moves.{Completes, Explores, LeadsFrom, Move, along, begin, between, can_take, ends_in, go, left_after, marked_all, marked_if, may_come, misses, node_at, pass, pieces_in, settle, settling, standing, stop_in, total_after, turn, turned_back, using, value_in}
 use Rattle.best_run.specs.Suffix.{AreCapped, AreEqual, EarnAtMost}
 use Rattle.best_run.proofs.Advance.{free_misses, marks_more, misses_free}
 use Rattle.best_run.proofs.Ahead.{falsely}
@@ -61,15 +61,6 @@ gain_all true true more lies was = let wrong : true ≡ false = was in absurd cc
 gain_all true false more lies was = refl
 gain_all false was more lies free = let wrong : false ≡ true = lies in absurd cc
 
--- a spot more is visited
-gains_fall : (level : ℕ) (nodes : List Node) (ahead visited : List Bool) (n : ℕ) → gains level nodes ahead (set visited n true) ≤ gains level nodes ahead visited
-unfolding gains
-gains_fall level [] ahead visited n = omega arith
-gains_fall level (node ∷ nodes) [] visited n = omega arith
-gains_fall level (node ∷ nodes) (lies ∷ ahead) [] n = omega arith
-gains_fall level (node ∷ nodes) (lies ∷ ahead) (was ∷ visited) zero = omega (arith, gain_gone lies (node.value - level))
-gains_fall level (node ∷ nodes) (lies ∷ ahead) (was ∷ visited) (suc n) = omega (arith, gains_fall level nodes ahead visited n)
-
 -- a stop ahead is visited
 gains_spent : (level : ℕ) (nodes : List Node) (ahead visited : List Bool) (n : ℕ) → n < length visited → get_or ahead n false ≡ true → get_or visited n false ≡ false → (value_in (slice_get nodes n) - level) + gains level nodes ahead (set visited n true) ≤ gains level nodes ahead visited
 unfolding gains
@@ -97,10 +88,6 @@ both_are : (a b : Bool) → a ≡ true → b ≡ true → (a && b) ≡ true
 both_are true b first second = second
 both_are false b first second = absurd cc
 
-neither_is : (a b : Bool) → a ≡ false → b ≡ false → (a || b) ≡ false
-neither_is true b first second = absurd cc
-neither_is false b first second = second
-
 not_is : (b : Bool) → not b ≡ true → b ≡ false
 not_is true is = absurd cc
 not_is false is = refl
@@ -125,14 +112,22 @@ one_fewer zero level is = let wrong : false ≡ true = is in absurd cc
 one_fewer (suc left) level is =
     let less : suc left - 1 ≡ left = omega arith in rw less (sym (suc-mul left level))
 
+mark_keeps : (b : Bool) (marks : List Bool) (n spot : ℕ) → n < length marks → get_or marks spot false ≡ true → get_or (marked_if b marks n) spot false ≡ true
+mark_keeps true marks n spot low was = set_keeps marks n spot low was
+mark_keeps false marks n spot low was = was
+
+mark_length : (b : Bool) (marks : List Bool) (n : ℕ) → length (marked_if b marks n) ≡ length marks
+mark_length true marks n = length-set marks n true
+mark_length false marks n = refl
+
 come_before : (task : Task) (run : Standing) (piece : Piece) → piece.to < length run.visited → (stop : Bool) (spot : ℕ) → may_come stop (along task run piece) spot ≡ true → may_come stop run spot ≡ true
 come_before task run piece low false spot is = refl
 come_before task run piece low true spot is =
     both_are (nat_lt 0 run.left) (not (get_or run.visited spot false))
-    (left_before (stop_in (node_at task piece.to)) run.left (both_first (nat_lt 0 (left_after (stop_in (node_at task piece.to)) run.left)) (not (get_or (set run.visited piece.to true) spot false)) is))
+    (left_before (stop_in (node_at task piece.to)) run.left (both_first (nat_lt 0 (left_after (stop_in (node_at task piece.to)) run.left)) (not (get_or (marked_if (stop_in (node_at task piece.to)) run.visited piece.to) spot false)) is))
     (is_not (get_or run.visited spot false) (false_or (get_or run.visited spot false) (λ was.
-    falsely (get_or (set run.visited piece.to true) spot false) (set_keeps run.visited piece.to spot low was)
-    (not_is (get_or (set run.visited piece.to true) spot false) (both_second (nat_lt 0 (left_after (stop_in (node_at task piece.to)) run.left)) (not (get_or (set run.visited piece.to true) spot false)) is)))))
+    falsely (get_or (marked_if (stop_in (node_at task piece.to)) run.visited piece.to) spot false) (mark_keeps (stop_in (node_at task piece.to)) run.visited piece.to spot low was)
+    (not_is (get_or (marked_if (stop_in (node_at task piece.to)) run.visited piece.to) spot false) (both_second (nat_lt 0 (left_after (stop_in (node_at task piece.to)) run.left)) (not (get_or (marked_if (stop_in (node_at task piece.to)) run.visited piece.to) spot false)) is)))))
 
 no_such : {A : Type 0} (index : ℕ) (x : A) → slice_get [] index ≡ Some x → ⊥
 no_such zero x is = cc
@@ -157,11 +152,20 @@ take_before task settled run from piece fits whole spots other is =
     (free_misses settled.used other.borders.items (λ border among marked.
     misses_free (marked_all settled.used piece.borders.items) other.borders.items missed border among ((marks_more settled.used piece.borders.items fits.borders whole border).1 (inr marked))))
 
+-- a run that turns back may take the same pieces
+pub take_back : (task : Task) (run : Standing) (used : List Bool) (piece : Piece) → can_take task (turned_back run) used piece ≡ can_take task run used piece
+take_back task run used piece = ap (λ b. b && misses used piece.borders.items) (by_stop (stop_in (node_at task piece.to)))
+  where
+    by_stop : (stop : Bool) → may_come stop (turned_back run) piece.to ≡ may_come stop run piece.to
+    by_stop true = refl
+    by_stop false = refl
+
 module _ (task : Task) (fit : IsFit task) (first : Settled) (begun : Standing) (ahead : List Bool) (look : IsOutlook task first begun ahead) where
   -- a run that goes on from where the first one stands
   record Follows (settled : Settled) (run : Standing) : Type 0 where
     pub takes : (piece : Piece) → can_take task run settled.used piece ≡ true → can_take task begun first.used piece ≡ true
     pub head : IsGoneOver task first begun ahead run.head
+    pub home : run.turned ≡ false → IsGoneOver task first begun ahead run.home
     pub next : settled.next ≡ first.next
     pub most : run.most ≡ begun.most
     pub whole : length settled.used ≡ 279
@@ -176,10 +180,24 @@ module _ (task : Task) (fit : IsFit task) (first : Settled) (begun : Standing) (
       record {
         takes = λ other is. follows.takes other (take_before task settled run fits.0 piece fits.1 follows.whole follows.spots other is);
         head = look.all piece.to (lies_there settled run follows index piece passes leads taken);
+        home = follows.home;
         next = follows.next;
         most = follows.most;
         whole = length_marked settled.used piece.borders.items ∙ follows.whole;
-        spots = length-set run.visited piece.to true ∙ follows.spots;
+        spots = mark_length (stop_in (node_at task piece.to)) run.visited piece.to ∙ follows.spots;
+      }
+
+  -- a run that turns back goes on from where it began
+  follows_back : (settled : Settled) (run : Standing) → Follows settled run → run.turned ≡ false → Follows settled (turned_back run)
+  follows_back settled run follows once =
+      record {
+        takes = λ piece taken. follows.takes piece (sym (take_back task run settled.used piece) ∙ taken);
+        head = follows.home once;
+        home = λ wrong. absurd (falsely true refl wrong);
+        next = follows.next;
+        most = follows.most;
+        whole = follows.whole;
+        spots = follows.spots;
       }
 
   -- what a run may still earn, at a level
@@ -187,13 +205,13 @@ module _ (task : Task) (fit : IsFit task) (first : Settled) (begun : Standing) (
   still level run = run.left * level + gains level task.spots.items ahead run.visited
 
   -- a piece leaves no more to be earned
-  still_by : (level : ℕ) (run : Standing) (piece : Piece) → length run.visited ≡ 744 → piece.to < 744 → LiesAhead ahead piece.to → (stop : Bool) → stop_in (node_at task piece.to) ≡ stop → may_come stop run piece.to ≡ true → value_in (node_at task piece.to) + (left_after stop run.left * level + gains level task.spots.items ahead (set run.visited piece.to true)) ≤ run.left * level + gains level task.spots.items ahead run.visited
+  still_by : (level : ℕ) (run : Standing) (piece : Piece) → length run.visited ≡ 744 → piece.to < 744 → LiesAhead ahead piece.to → (stop : Bool) → stop_in (node_at task piece.to) ≡ stop → may_come stop run piece.to ≡ true → value_in (node_at task piece.to) + (left_after stop run.left * level + gains level task.spots.items ahead (marked_if stop run.visited piece.to)) ≤ run.left * level + gains level task.spots.items ahead run.visited
   still_by level run piece spots low lies true is may =
       let free : get_or run.visited piece.to false ≡ false = not_is (get_or run.visited piece.to false) (both_second (nat_lt 0 run.left) (not (get_or run.visited piece.to false)) may) in
       let spent = gains_spent level task.spots.items ahead run.visited piece.to (omega (arith, spots, low)) lies free in
       omega (arith, one_fewer run.left level (both_first (nat_lt 0 run.left) (not (get_or run.visited piece.to false)) may))
   still_by level run piece spots low lies false is may =
-      omega (arith, side_value task fit piece.to is, gains_fall level task.spots.items ahead run.visited piece.to)
+      omega (arith, side_value task fit piece.to is)
 
   still_go : (level : ℕ) (settled : Settled) (run : Standing) → Follows settled run → (index : ℕ) (piece : Piece) → ends_in (node_at task run.head) ≡ false → LeadsFrom task run.head index piece → can_take task run settled.used piece ≡ true → value_in (node_at task piece.to) + still level (along task run piece) ≤ still level run
   unfolding still
@@ -201,6 +219,10 @@ module _ (task : Task) (fit : IsFit task) (first : Settled) (begun : Standing) (
       let fits = leading_fits task fit run.head index piece leads in
       still_by level run piece follows.spots fits.1.to (lies_there settled run follows index piece passes leads taken) (stop_in (node_at task piece.to)) refl
       (both_first (may_come (stop_in (node_at task piece.to)) run piece.to) (misses settled.used piece.borders.items) taken)
+
+  still_back : (level : ℕ) (run : Standing) → still level (turned_back run) ≡ still level run
+  unfolding still
+  still_back level run = refl
 
   -- all ways on
   low_by : (level later : ℕ) → EarnAtMost task (first.next + 1) later → (moves : List Move) (settled : Settled) (run : Standing) → Follows settled run → Completes task (standing settled run) moves → total_after task (standing settled run) moves ≤ settled.total + run.value + still level run + later
@@ -211,6 +233,11 @@ module _ (task : Task) (fit : IsFit task) (first : Settled) (begun : Standing) (
       let may = completes.0 in
       let rest : total_after task (standing (using settled piece) (along task run piece)) moves ≤ settled.total + (run.value + value_in (node_at task piece.to)) + still level (along task run piece) + later = low_by level later bound moves (using settled piece) (along task run piece) (follows_go settled run follows index piece may.passes may.leads may.taken) completes.1 in
       omega (arith, rest, still_go level settled run follows index piece may.passes may.leads may.taken)
+  low_by level later bound (turn index piece ∷ moves) settled run follows completes =
+      let may = completes.0 in
+      let back = follows_back settled run follows may.once in
+      let rest : total_after task (standing (using settled piece) (along task (turned_back run) piece)) moves ≤ settled.total + (run.value + value_in (node_at task piece.to)) + still level (along task (turned_back run) piece) + later = low_by level later bound moves (using settled piece) (along task (turned_back run) piece) (follows_go settled (turned_back run) back index piece may.passes may.leads may.taken) completes.1 in
+      omega (arith, rest, still_go level settled (turned_back run) back index piece may.passes may.leads may.taken, still_back level run)
   low_by level later bound (settle ∷ moves) settled run follows completes =
       let here : EarnAtMost task (settling settled run).next later = subst (λ (n : ℕ). EarnAtMost task (n + 1) later) (sym follows.next) bound in
       let rest : total_after task (between (settling settled run)) moves ≤ settled.total + run.value + later = rest_low task (settling settled run) later here follows.whole moves completes.1 in
@@ -225,32 +252,20 @@ module _ (task : Task) (fit : IsFit task) (first : Settled) (begun : Standing) (
       let may = completes.0 in
       low_alike level most some equal later alike bound moves (using settled piece) (along task run piece) (follows_go settled run follows index piece may.passes may.leads may.taken)
       (omega (arith, low, still_go level settled run follows index piece may.passes may.leads may.taken)) completes.1
+  low_alike level most some equal later alike bound (turn index piece ∷ moves) settled run follows low completes =
+      let may = completes.0 in
+      let back = follows_back settled run follows may.once in
+      low_alike level most some equal later alike bound moves (using settled piece) (along task (turned_back run) piece) (follows_go settled (turned_back run) back index piece may.passes may.leads may.taken)
+      (omega (arith, low, still_go level settled (turned_back run) back index piece may.passes may.leads may.taken, still_back level run)) completes.1
   low_alike level most some equal later alike bound (settle ∷ moves) settled run follows low completes =
       let here : AreEqual task (settled.next + 1) equal begun.most = subst (λ (n : ℕ). AreEqual task (n + 1) equal begun.most) (sym follows.next) alike in
       let there : EarnAtMost task (settled.next + 1 + equal) later = subst (λ (n : ℕ). EarnAtMost task (n + 1 + equal) later) (sym follows.next) bound in
       let rest : total_after task (between (settling settled run)) moves ≤ settled.total + run.value + (equal * most + later) = low_settled task begun.most most later some equal (settling settled run) here follows.most (omega (arith, low)) follows.whole there moves completes.1 in
       omega (arith, rest, low)
 
-  -- no way on has a token
-  no_way : ((spot : ℕ) → LiesAhead ahead spot → own_in (node_at task spot) ≡ false) → (moves : List Move) (settled : Settled) (run : Standing) → Follows settled run → run.own ≡ false → Completes task (standing settled run) moves → ⊥
-  no_way none [] settled run follows own completes = completes
-  no_way none (pass ∷ moves) settled run follows own completes = completes.0
-  no_way none (begin stop index piece ∷ moves) settled run follows own completes = completes.0
-  no_way none (go index piece ∷ moves) settled run follows own completes =
-      let may = completes.0 in
-      no_way none moves (using settled piece) (along task run piece) (follows_go settled run follows index piece may.passes may.leads may.taken)
-      (neither_is run.own (own_in (node_at task piece.to)) own (none piece.to (lies_there settled run follows index piece may.passes may.leads may.taken))) completes.1
-  no_way none (settle ∷ moves) settled run follows own completes =
-      falsely run.own (both_first run.own (stop_in (node_at task run.head)) (both_first (run.own && stop_in (node_at task run.head)) (may_earn settled.kind settled.cap run.most run.value) completes.0)) own
-
   first_follows : length first.used ≡ 279 → length begun.visited ≡ 744 → Follows first begun
   first_follows whole spots =
-      record { takes = λ piece taken. taken; head = look.head; next = refl; most = refl; whole = whole; spots = spots }
-
-  -- a run without a token
-  pub ends_without : NoTokenAhead task begun ahead → length first.used ≡ 279 → length begun.visited ≡ 744 → (best : ℕ) → EndsAtMost task first begun best
-  ends_without none whole spots best moves completes =
-      absurd (no_way none.none moves first begun (first_follows whole spots) none.behind completes)
+      record { takes = λ piece taken. taken; head = look.head; home = look.home; next = refl; most = refl; whole = whole; spots = spots }
 
   -- a run that earns too little
   pub ends_low : (level later best : ℕ) → EarnAtMost task (first.next + 1) later → length first.used ≡ 279 → length begun.visited ≡ 744 → first.total + begun.value + (begun.left * level + beyond level task.spots.items ahead) + later ≤ best → EndsAtMost task first begun best

@@ -1,7 +1,6 @@
 pub mod Marks
 pub mod Tried
 pub mod Places
-pub mod Advance
 pub mod Ahead
 pub mod Eased
 pub mod Equal
@@ -9,9 +8,13 @@ pub mod Beyond
 pub mod Hopeless
 pub mod Sorted
 pub mod Prefix
+pub mod Backwards
+pub mod Advance
 pub mod Complete
-pub mod Sets
 pub mod Few
+pub mod Split
+pub mod Arms
+pub mod Sets
 pub mod Runs
 pub mod Sound
 pub mod Greatest

@@ -7,7 +7,7 @@ use Rattle.best_run.specs.declared.task.Task.{Task}
 use Rattle.best_run.specs.declared.state.Settled.{Settled}
 use Rattle.best_run.specs.declared.state.Standing.{Standing}
 use Rattle.best_run.specs.Fit.{HasRoom, IsFit, PieceFits, credit, unused}
-use Rattle.best_run.specs.Moves.{Allows, Any, Below, IsBeginAt, IsGo, LeadsFrom, Move, along, begin, between, can_take, go, marked_all, may_come, misses, node_at, pass, pieces_in, settle, standing, stop_in, using, value_in}
+use Rattle.best_run.specs.Moves.{Allows, Any, Below, IsBeginAt, IsGo, IsTurn, LeadsFrom, Move, along, begin, between, can_take, go, marked_all, may_come, misses, node_at, pass, pieces_in, settle, standing, stop_in, turn, using, value_in}
 use Rattle.best_run.proofs.Marks.{marked_fewer, marked_most}
 
 -- the stop at a number
@@ -42,6 +42,7 @@ pub go_next : (index : ℕ) (move : Move) → IsGo (Below (index + 1)) move → 
 go_next index pass is = absurd is
 go_next index (begin token i piece) is = absurd is
 go_next index (go i piece) is = below_next i index is
+go_next index (turn i piece) is = absurd is
 go_next index settle is = absurd is
 
 pub begin_next : (stop index : ℕ) (move : Move) → IsBeginAt stop (Below (index + 1)) move → IsBeginAt stop (Below index) move ⊎ IsBeginAt stop (λ i. i ≡ index) move
@@ -49,6 +50,7 @@ begin_next stop index pass is = absurd is
 begin_next stop index (begin token i piece) is =
     elim (below_next i index is.1) [ inl less ↦ inl (is.0, less) | inr same ↦ inr (is.0, same) ]
 begin_next stop index (go i piece) is = absurd is
+begin_next stop index (turn i piece) is = absurd is
 begin_next stop index settle is = absurd is
 
 -- all places
@@ -56,6 +58,7 @@ pub go_all : (task : Task) (settled : Settled) (run : Standing) (node : Node) (i
 go_all task settled run node index there all pass is may = absurd is
 go_all task settled run node index there all (begin token i piece) is may = absurd is
 go_all task settled run node index there all (go i piece) is may = omega (arith, place_low task run.head node there i piece may.leads)
+go_all task settled run node index there all (turn i piece) is may = absurd is
 go_all task settled run node index there all settle is may = absurd is
 
 pub begin_all : (task : Task) (settled : Settled) (stop : ℕ) (node : Node) (index : ℕ) → node_at task stop ≡ Some node → length node.pieces.items ≤ index → (move : Move) → IsBeginAt stop Any move → Allows task (between settled) move → IsBeginAt stop (Below index) move
@@ -63,7 +66,23 @@ begin_all task settled stop node index there all pass is may = absurd is
 begin_all task settled stop node index there all (begin token i piece) is may =
     (is.0, let low : i < length node.pieces.items = place_low task stop node there i piece (subst (λ (s : ℕ). LeadsFrom task s i piece) is.0 may.leads) in omega arith)
 begin_all task settled stop node index there all (go i piece) is may = absurd is
+begin_all task settled stop node index there all (turn i piece) is may = absurd is
 begin_all task settled stop node index there all settle is may = absurd is
+
+-- one more place among those where a run began, before which it may be that none is tried
+pub turn_next : (index : ℕ) (move : Move) → IsTurn (Below (index + 1)) move → IsTurn (Below index) move ⊎ IsTurn (λ i. i ≡ index) move
+turn_next index pass is = absurd is
+turn_next index (begin token i piece) is = absurd is
+turn_next index (go i piece) is = absurd is
+turn_next index (turn i piece) is = below_next i index is
+turn_next index settle is = absurd is
+
+pub turn_all : (task : Task) (settled : Settled) (run : Standing) (node : Node) (index : ℕ) → node_at task run.home ≡ Some node → length node.pieces.items ≤ index → (move : Move) → IsTurn Any move → Allows task (standing settled run) move → IsTurn (Below index) move
+turn_all task settled run node index there all pass is may = absurd is
+turn_all task settled run node index there all (begin token i piece) is may = absurd is
+turn_all task settled run node index there all (go i piece) is may = absurd is
+turn_all task settled run node index there all (turn i piece) is may = omega (arith, place_low task run.home node there i piece may.leads)
+turn_all task settled run node index there all settle is may = absurd is
 
 -- a stop is worth at most 80 dollars
 pub value_low : (task : Task) → IsFit task → (stop : ℕ) → value_in (node_at task stop) ≤ 80
@@ -134,3 +153,8 @@ pub one_low : (b : Bool) → one_if b ≤ 1
 unfolding one_if
 one_low true = omega arith
 one_low false = omega arith
+
+pub one_of : (b : Bool) → b ≡ true → one_if b ≡ 1
+unfolding one_if
+one_of true is = refl
+one_of false is = let wrong : false ≡ true = is in absurd cc

@@ -1,34 +1,23 @@
 -- A run from its first step on, and all runs of a set, one train after another.
-use Rattle.std.proofs.Common.{◌≡◌, ◌↔◌, ℕ, zero, suc, ◌+◌, ◌<◌, ◌≤◌, true, false, ◌⊎◌, inl, inr, Some, List, [], ◌∷◌, ◌++◌, length, get_or, set, drop, replicate, refl, sym, ap, subst, ◌∙◌, arith, length-append, length-set, add-one}
+use Rattle.std.proofs.Common.{◌≡◌, ℕ, zero, suc, ◌+◌, ◌<◌, ◌≤◌, true, inl, inr, List, [], ◌∷◌, ◌++◌, length, get_or, set, drop, sym, ap, subst, ◌∙◌, arith, add-one}
 use Rattle.std.specs.List.{AllByRecursion}
-use Rattle.map_tables.specs.declared.place.Stop.{Stop}
-use Rattle.reach.specs.Position.{Position, HasToken, IsAmong}
-use Rattle.reach.specs.Search.{spot_number}
-use Rattle.reach.specs.Walk.{BeginsAt, entered_at, left_at, stop_of}
-use Rattle.reach.specs.declared.walk.Spot.{Spot}
-use Rattle.reach.specs.declared.walk.Step.{Step}
-use Rattle.reach.proofs.Collected.{none_marked}
+use Rattle.reach.specs.Position.{Position}
 use Rattle.reach.specs.Lawful.{IsLawful}
 use Rattle.tables.specs.Train.{stops_of}
 use Rattle.tables.specs.declared.rolling_stock.Kind.{Kind}
 use Rattle.tables.specs.declared.roster.Company.{Company}
-use Rattle.certificate.specs.Legal.{AreAtMost, AreDistinct, EndsAtStop, HasSuch, crossed, earned, listed, visited}
+use Rattle.certificate.specs.Legal.{AreAtMost, crossed, earned, visited}
 use Rattle.certificate.specs.Set.{AreApart, RunsLegally, ShareNoBorder, TrainRun, revenue_of}
 use Rattle.certificate.proofs.Marks.{among_both}
 use Rattle.best_run.specs.declared.task.Task.{Task}
 use Rattle.best_run.specs.declared.state.Settled.{Settled}
-use Rattle.best_run.specs.Described.{Describes, GoesFrom, IsStopNode, most_of, most_of_all}
-use Rattle.best_run.specs.Moves.{along, begin, begun, between, may_earn, node_at, pass, passed, settling, standing, using}
-use Rattle.best_run.proofs.Advance.{IsMarked, Tells, mark_more, node_left, one_number, same_spot, spot_low}
-use Rattle.best_run.proofs.Complete.{CanFinish, CanGo, can_go, finish_run}
-use Rattle.best_run.proofs.Few.{few_stops, length_replicate}
-use Rattle.best_run.proofs.Prefix.{Holds, holds_first, onto, onto_back}
+use Rattle.best_run.specs.Described.{Describes, most_of, most_of_all}
+use Rattle.best_run.specs.Moves.{between, may_earn, pass, passed}
+use Rattle.best_run.proofs.Arms.{Used, run_by}
+use Rattle.best_run.proofs.Complete.{CanFinish}
+use Rattle.best_run.proofs.Few.{few_stops}
+use Rattle.best_run.proofs.Prefix.{Holds}
 use Rattle.best_run.proofs.Sets.{Avoids, IsBelow, IsSetFor, IsWithin, all_out, apart_out, find_greatest, may_by, none_left, one_kind, revenue_out, with_first, without_first}
-
--- what is settled, with the borders that are used
-pub record Used (others : List ℕ) (settled : Settled) : Type 0 where
-  pub used : (border : ℕ) → IsMarked settled.used border ↔ IsAmong border others
-  pub whole : length settled.used ≡ 279
 
 -- of a list from a place on, what stands there, and what comes after it
 drop_suc : (xs : List ℕ) (n x : ℕ) (later : List ℕ) → drop n xs ≡ x ∷ later → (n < length xs) × (get_or xs n 0 ≡ x) × (drop (suc n) xs ≡ later)
@@ -57,62 +46,6 @@ all_both P Q R makes [] first second = tt
 all_both P Q R makes (x ∷ xs) first second = (makes x first.0 second.0, all_both P Q R makes xs first.1 second.1)
 
 module _ (position : Position) (company : Company) (kinds : List Kind) (task : Task) (describes : Describes position company kinds task) where
-  -- a run that is to begin
-  pub begun_tells : (others : List ℕ) (settled : Settled) → Used others settled → (most : ℕ) → get_or task.trains.items settled.next 0 ≡ most → 0 < most → (at : Spot) (stop : Stop) → stop_of at ≡ Some stop → Tells position company most others at (stop ∷ []) [] settled (begun task settled (spot_number at))
-  begun_tells others settled used most most_is some at stop there =
-      let node : IsStopNode position company stop (node_at task (spot_number at)) = node_left position company kinds task describes at (Some stop) there in
-      let low : spot_number at < length (replicate 744 false) = omega (arith, length_replicate 744 false, spot_low at) in
-      record {
-        head = refl;
-        left = omega arith;
-        value = omega (arith, node.value);
-        own = (λ own. inl (node.own.0 own), λ has. elim has [ inl here ↦ node.own.1 here | inr none ↦ absurd none ]);
-        visited = λ spot other other_is.
-            let one : IsMarked (set (replicate 744 false) (spot_number at) true) (spot_number spot) ↔ ((spot_number spot ≡ spot_number at) ⊎ IsMarked (replicate 744 false) (spot_number spot)) = mark_more (replicate 744 false) (spot_number at) (spot_number spot) low in (
-              λ marked. elim (one.0 marked) [
-                | inl same ↦ inl (sym (same_spot spot at other stop other_is there same))
-                | inr before ↦ absurd (let wrong : true ≡ false = sym before ∙ none_marked 744 (spot_number spot) in cc)
-              ],
-              λ among. elim among [
-                | inl same ↦ one.1 (inl (one_number spot at other other_is (there ∙ ap (λ (s : Stop). Some s) same)))
-                | inr none ↦ absurd none
-              ],
-            );
-        used = λ border. (λ marked. inr ((used.used border).0 marked), λ among. elim among [ inl none ↦ absurd none | inr other ↦ (used.used border).1 other ]);
-        spots = length-set (replicate 744 false) (spot_number at) true ∙ length_replicate 744 false;
-        whole = used.whole;
-      }
-
-  -- a run of the next train, if what comes after it can be finished
-  begin_run : (others : List ℕ) (settled : Settled) → Used others settled → (most total : ℕ) → settled.next < length task.trains.items → get_or task.trains.items settled.next 0 ≡ most → (later : List Step) (step : Step) → Holds position company most others (onto later (step ∷ [])) → EndsAtStop (onto later (step ∷ [])) → HasSuch (λ stop. HasToken position stop company) (visited (onto later (step ∷ []))) → may_earn settled.kind settled.cap most (earned position (onto later (step ∷ []))) ≡ true → ((after : Settled) → after.next ≡ settled.next + 1 → after.total ≡ settled.total + earned position (onto later (step ∷ [])) → after.kind ≡ most → after.cap ≡ earned position (onto later (step ∷ [])) → Used (crossed (onto later (step ∷ [])) ++ others) after → CanFinish task (between after) total) → CanFinish task (between settled) total
-  begin_run others settled used most total train most_is later step holds ends own may done =
-      let first : Holds position company most others (step ∷ []) = holds_first position company most others later step [] holds in
-      let at = entered_at step in
-      let stop = first.begins.0 in
-      let there : stop_of at ≡ Some stop = first.begins.1 in
-      let node : IsStopNode position company stop (node_at task (spot_number at)) = node_left position company kinds task describes at (Some stop) there in
-      let visits : visited (step ∷ []) ≡ listed (stop_of (left_at step)) ++ (stop ∷ []) = ap (λ o. listed (stop_of (left_at step)) ++ (listed o ++ [])) there in
-      let some : 0 < most = omega (arith, first.few, ap length visits, length-append (listed (stop_of (left_at step))) (stop ∷ [])) in
-      let tells = begun_tells others settled used most most_is some at stop there in
-      let goes : GoesFrom (spot_number at) step = record { spot = at; number_is = refl; joined = inl (stop, there, there) } in
-      let can : CanGo position company kinds task describes most others at (stop ∷ []) [] settled (begun task settled (spot_number at)) step =
-      can_go position company kinds task describes most others at (stop ∷ []) [] settled (begun task settled (spot_number at)) tells step (describes.complete (spot_number at) step first.walk.0 goes)
-      (subst AreDistinct visits first.stops) (subst (λ vs. length vs ≤ most) visits first.few) first.borders first.free
-      in
-      let told = subst (λ vs. Tells position company most others (left_at step) vs (crossed (step ∷ [])) (using settled can.piece) (along task (begun task settled (spot_number at)) can.piece)) (sym visits) can.told in
-      let rest : CanFinish task (standing (using settled can.piece) (along task (begun task settled (spot_number at)) can.piece)) total =
-      finish_run position company kinds task describes most others later step [] (using settled can.piece) (along task (begun task settled (spot_number at)) can.piece) total told holds ends own
-      (subst (λ (m : ℕ). may_earn settled.kind settled.cap m (earned position (onto later (step ∷ []))) ≡ true) (sym most_is) may)
-      (λ last after run next_is total_is most_same tells_last.
-      done (settling after run) (omega (arith, next_is)) (omega (arith, total_is, tells_last.value)) (most_same ∙ most_is) tells_last.value
-      (record {
-        used = λ border. let all : IsAmong border (crossed (onto later (step ∷ [])) ++ others) ↔ (IsAmong border (crossed (onto later (step ∷ []))) ⊎ IsAmong border others) = among_both border (crossed (onto later (step ∷ []))) others in
-            (λ marked. all.1 ((tells_last.used border).0 marked), λ among. (tells_last.used border).1 (all.0 among));
-        whole = tells_last.whole;
-      }))
-      in
-      (begin (spot_number at) can.index can.piece ∷ rest.0, (record { train = train; begins = node.stops; leads = can.leads; taken = can.taken }, rest.1), rest.2)
-
   -- a legal run holds
   legal_holds : IsLawful position → (kind : Kind) (others : List ℕ) (run : TrainRun) → RunsLegally position company run → run.kind ≡ kind → Avoids others run → Holds position company (most_of (stops_of kind)) others run.steps
   legal_holds lawful kind others run legal is avoids =
@@ -135,18 +68,8 @@ module _ (position : Position) (company : Company) (kinds : List Kind) (task : T
   -- a run of the next train, step by step
   run_first : IsLawful position → (kind : Kind) (others : List ℕ) (settled : Settled) → Used others settled → (total : ℕ) → settled.next < length task.trains.items → get_or task.trains.items settled.next 0 ≡ most_of (stops_of kind) → (run : TrainRun) → RunsLegally position company run → run.kind ≡ kind → Avoids others run → may_earn settled.kind settled.cap (most_of (stops_of kind)) (earned position run.steps) ≡ true → ((after : Settled) → after.next ≡ settled.next + 1 → after.total ≡ settled.total + earned position run.steps → after.kind ≡ most_of (stops_of kind) → after.cap ≡ earned position run.steps → Used (crossed run.steps ++ others) after → CanFinish task (between after) total) → CanFinish task (between settled) total
   run_first lawful kind others settled used total train most_is run legal is avoids may done =
-      by_steps (onto run.steps []) (onto_back run.steps)
-    where
-      by_steps : (forward : List Step) → onto forward [] ≡ run.steps → CanFinish task (between settled) total
-      by_steps [] back = absurd (subst (λ steps. BeginsAt (λ stop. Unit {0}) steps) (sym back) legal.begins)
-      by_steps (step ∷ later) back =
-          let Done : List Step → Type 0 = λ steps. (after : Settled) → after.next ≡ settled.next + 1 → after.total ≡ settled.total + earned position steps → after.kind ≡ most_of (stops_of kind) → after.cap ≡ earned position steps → Used (crossed steps ++ others) after → CanFinish task (between after) total in
-          begin_run others settled used (most_of (stops_of kind)) total train most_is later step
-          (subst (Holds position company (most_of (stops_of kind)) others) (sym back) (legal_holds lawful kind others run legal is avoids))
-          (subst EndsAtStop (sym back) legal.ends)
-          (subst (λ steps. HasSuch (λ stop. HasToken position stop company) (visited steps)) (sym back) legal.own_token)
-          (subst (λ steps. may_earn settled.kind settled.cap (most_of (stops_of kind)) (earned position steps) ≡ true) (sym back) may)
-          (subst Done (sym back) done)
+      run_by position company lawful kinds task describes others settled used (most_of (stops_of kind)) train most_is total run.steps
+      (legal_holds lawful kind others run legal is avoids) legal.ends legal.own_token may done
 
   -- all runs of a set, train by train
   pub finish_set : IsLawful position → (left : List Kind) (runs : List TrainRun) (others : List ℕ) (settled : Settled) → Used others settled → drop settled.next task.trains.items ≡ most_of_all left → IsSetFor position company left others runs → AllByRecursion (IsWithin position settled.kind settled.cap) runs → CanFinish task (between settled) (settled.total + revenue_of position runs)

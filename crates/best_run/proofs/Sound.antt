@@ -7,9 +7,9 @@ use Rattle.map_tables.specs.declared.place.Stop.{Stop}
 use Rattle.map_tables.specs.declared.track.End.{End}
 use Rattle.map_tables.specs.declared.track.End.TheVariants.{Side as AtSide, Stop as AtStop}
 use Rattle.reach.specs.Lawful.{IsLawful}
-use Rattle.reach.specs.Position.{Position, IsAmong, IsFull, is_red}
+use Rattle.reach.specs.Position.{Position, HasToken, IsAmong, IsFull, is_red}
 use Rattle.reach.specs.Search.{spot_number}
-use Rattle.reach.specs.Walk.{AreJoined, BeginsAt, IsTrack, across, entered_at, left_at, stop_of}
+use Rattle.reach.specs.Walk.{AreJoined, BeginsAt, IsTrack, across, begins_at, entered_at, left_at, stop_of}
 use Rattle.reach.specs.declared.walk.Spot.{Spot}
 use Rattle.reach.specs.declared.walk.Step.{Step}
 use Rattle.reach.proofs.Spots.{are_one, back}
@@ -17,7 +17,7 @@ use Rattle.tables.specs.Train.{stops_of}
 use Rattle.tables.specs.declared.rolling_stock.Kind.{Kind}
 use Rattle.tables.specs.declared.rolling_stock.Kind.TheVariants.{Two, Three, Four, Five, Six, Diesel}
 use Rattle.tables.specs.declared.roster.Company.{Company}
-use Rattle.certificate.specs.Legal.{AreAtMost, AreDistinct, border_at, border_of, crossed, earned, first_stop, listed, visited}
+use Rattle.certificate.specs.Legal.{AreAtMost, AreDistinct, EndsAtStop, HasSuch, border_at, border_of, crossed, earned, first_stop, listed, visited}
 use Rattle.certificate.specs.Set.{RunsLegally, ShareNoBorder, TrainRun, revenue_of}
 use Rattle.certificate.proofs.Marks.{among_both}
 use Rattle.best_run.specs.declared.task.Piece.{Piece}
@@ -25,11 +25,14 @@ use Rattle.best_run.specs.declared.task.Task.{Task}
 use Rattle.best_run.specs.declared.state.Settled.{Settled}
 use Rattle.best_run.specs.declared.state.Standing.{Standing}
 use Rattle.best_run.specs.Described.{Describes, IsPieceOf, IsSideNode, IsStepFrom, IsStopNode, most_of, most_of_all}
-use Rattle.best_run.specs.Moves.{Allows, Completes, Move, State, along, begin, begun, between, can_take, ends_in, go, may_come, may_earn, misses, node_at, pass, passed, settle, settling, standing, stop_in, total_after, using}
-use Rattle.best_run.proofs.Advance.{IsMarked, Tells, misses_free, node_left, one_number, to_side, to_stop}
+use Rattle.best_run.specs.Moves.{Allows, Completes, Move, State, along, begin, begun, between, can_take, ends_in, go, may_come, may_earn, misses, node_at, pass, passed, settle, settling, standing, stop_in, total_after, turn, turned_back, using}
+use Rattle.best_run.proofs.Advance.{IsMarked, Tells, misses_free, node_left, one_number, to_home, to_side, to_stop}
 use Rattle.best_run.proofs.Complete.{next_stop}
 use Rattle.best_run.proofs.Prefix.{Holds}
-use Rattle.best_run.proofs.Runs.{Used, begun_tells, drop_first, drop_none}
+use Rattle.best_run.proofs.Arms.{AreOne, Used, begun_tells, one_turned}
+use Rattle.best_run.proofs.Backwards.{Turned, turned_about}
+use Rattle.best_run.proofs.Split.{such_alike, such_later}
+use Rattle.best_run.proofs.Runs.{drop_first, drop_none}
 use Rattle.best_run.proofs.Sets.{Avoids, IsSetFor}
 
 first_true : (a b : Bool) → (a && b) ≡ true → a ≡ true
@@ -83,7 +86,7 @@ two_at_least Diesel = omega arith
 
 module _ (position : Position) (company : Company) (lawful : IsLawful position) (kinds : List Kind) (task : Task) (describes : Describes position company kinds task) where
   abbrev Told : ℕ → List ℕ → Spot → List Stop → List ℕ → Settled → Standing → Type 0
-  Told most others at stops borders settled run = Tells position company most others at stops borders settled run
+  Told most others at stops borders settled run = Tells task position company most others at stops borders settled run
 
   -- what a piece that is taken tells of its step
   record Went (most : ℕ) (others : List ℕ) (stops : List Stop) (borders : List ℕ) (settled : Settled) (run : Standing) (step : Step) (piece : Piece) : Type 0 where
@@ -114,7 +117,7 @@ module _ (position : Position) (company : Company) (lawful : IsLawful position) 
         told = subst (λ o. Told most others (left_at step) (listed o ++ stops) (border_at (entered_at step).hex (entered_at step).end ++ borders) (using settled piece) (along task run piece)) (sym there)
             (to_stop position company kinds task describes most others at stops borders settled run tells step piece is stop there left);
         stops_once = λ once. subst (λ o. AreDistinct (listed o ++ stops)) (sym there)
-            ((λ among. fresh (subst (IsMarked run.visited) (sym is.to) ((tells.visited (left_at step) stop there).1 among))), once);
+            ((λ among. fresh (subst (IsMarked run.visited) (sym is.to) ((tells.visited (left_at step) stop there).1 (inl among)))), once);
         few = subst (λ o. length (listed o ++ stops) ≤ most) (sym there) (omega (arith, tells.left));
         new = λ border here before. misses_free settled.used piece.borders.items free border (subst (IsAmong border) (sym is.borders) here) ((tells.used border).1 (inl before));
         free = λ border here other. misses_free settled.used piece.borders.items free border (subst (IsAmong border) (sym is.borders) here) ((tells.used border).1 (inr other));
@@ -163,11 +166,15 @@ module _ (position : Position) (company : Company) (lawful : IsLawful position) 
   keep_settled others kind left settled piece total told =
       record { steps = told.steps; legal = told.legal; avoids = told.avoids; runs = told.runs; set = told.set; earns = told.earns }
 
+  -- a run that has not turned back began where its walk does
+  abbrev pub BeginsHome : Standing → Step → List Step → Type 0
+  BeginsHome run step before = run.turned ≡ false → run.home ≡ spot_number (begins_at step before)
+
   abbrev pub SoundFrom : State → ℕ → Type 0
   SoundFrom (between settled) total =
       (others : List ℕ) (left : List Kind) → Used others settled → drop settled.next task.trains.items ≡ most_of_all left → RunsTold others left settled total
   SoundFrom (standing settled run) total =
-      (others : List ℕ) (kind : Kind) (left : List Kind) (step : Step) (before : List Step) → Told (most_of (stops_of kind)) others (left_at step) (visited (step ∷ before)) (crossed (step ∷ before)) settled run → Holds position company (most_of (stops_of kind)) others (step ∷ before) → drop (settled.next + 1) task.trains.items ≡ most_of_all left → RunTold others kind left settled total
+      (others : List ℕ) (kind : Kind) (left : List Kind) (step : Step) (before : List Step) → Told (most_of (stops_of kind)) others (left_at step) (visited (step ∷ before)) (crossed (step ∷ before)) settled run → Holds position company (most_of (stops_of kind)) others (step ∷ before) → HasSuch (λ stop. HasToken position stop company) (visited (step ∷ before)) → BeginsHome run step before → drop (settled.next + 1) task.trains.items ≡ most_of_all left → RunTold others kind left settled total
 
   -- the end: all trains are settled
   at_end : (settled : Settled) → length task.trains.items ≤ settled.next → SoundFrom (between settled) settled.total
@@ -189,14 +196,14 @@ module _ (position : Position) (company : Company) (lawful : IsLawful position) 
       }
 
   -- a run is settled
-  has_settled : (settled : Settled) (run : Standing) (total : ℕ) → (run.own && stop_in (node_at task run.head)) ≡ true → SoundFrom (between (settling settled run)) total → SoundFrom (standing settled run) total
-  has_settled settled run total may rest others kind left step before tells holds trains =
+  has_settled : (settled : Settled) (run : Standing) (total : ℕ) → stop_in (node_at task run.head) ≡ true → SoundFrom (between (settling settled run)) total → SoundFrom (standing settled run) total
+  has_settled settled run total may rest others kind left step before tells holds own home trains =
       ends_by (stop_of (left_at step)) refl
     where
       ends_by : (found : Option Stop) → stop_of (left_at step) ≡ found → RunTold others kind left settled total
       ends_by None side =
           let node : IsSideNode (node_at task (spot_number (left_at step))) = node_left position company kinds task describes (left_at step) None side in
-          let stops : stop_in (node_at task (spot_number (left_at step))) ≡ true = subst (λ (n : ℕ). stop_in (node_at task n) ≡ true) tells.head (second_true run.own (stop_in (node_at task run.head)) may) in
+          let stops : stop_in (node_at task (spot_number (left_at step))) ≡ true = subst (λ (n : ℕ). stop_in (node_at task n) ≡ true) tells.head may in
           absurd (let wrong : true ≡ false = sym stops ∙ node.stops in cc)
       ends_by (Some stop) there =
           let told : RunsTold (crossed (step ∷ before) ++ others) left (settling settled run) total =
@@ -218,7 +225,7 @@ module _ (position : Position) (company : Company) (lawful : IsLawful position) 
               two = two;
               most = at_most (stops_of kind) (length (visited (step ∷ before))) holds.few;
               no_stop_twice = holds.stops;
-              own_token = tells.own.0 (first_true run.own (stop_in (node_at task run.head)) may);
+              own_token = own;
               no_border_twice = holds.borders;
               no_used_border = none_of (crossed (step ∷ before));
               no_red_inside = holds.red;
@@ -232,7 +239,7 @@ module _ (position : Position) (company : Company) (lawful : IsLawful position) 
 
   -- a run goes on
   has_gone : (settled : Settled) (run : Standing) (index : ℕ) (piece : Piece) (total : ℕ) → Allows task (standing settled run) (go index piece) → SoundFrom (standing (using settled piece) (along task run piece)) total → SoundFrom (standing settled run) total
-  has_gone settled run index piece total may rest others kind left step before tells holds trains =
+  has_gone settled run index piece total may rest others kind left step before tells holds own home trains =
       let from : IsStepFrom position run.head piece = describes.sound run.head index piece may.leads in
       let next = from.step in
       let joined : AreJoined (left_at step) (entered_at next) = joined_here (left_at step) run.head tells.head from.goes.spot (entered_at next) from.goes.number_is from.goes.joined in
@@ -250,8 +257,29 @@ module _ (position : Position) (company : Company) (lawful : IsLawful position) 
         red = (passes.0, holds.red);
         full = (passes.1, holds.full);
       })
-      trains
+      (such_later (λ stop. HasToken position stop company) (listed (stop_of (left_at next))) (visited (step ∷ before)) own) home trains
       in keep_settled others kind left settled piece total told
+
+  -- where a run stands at a stop, its walk ends at one
+  ends_there : (step : Step) (before : List Step) (number : ℕ) → number ≡ spot_number (left_at step) → stop_in (node_at task number) ≡ true → (found : Option Stop) → stop_of (left_at step) ≡ found → EndsAtStop (step ∷ before)
+  ends_there step before number is stops None side =
+      let node : IsSideNode (node_at task (spot_number (left_at step))) = node_left position company kinds task describes (left_at step) None side in
+      absurd (let wrong : false ≡ true = sym node.stops ∙ (ap (λ (n : ℕ). stop_in (node_at task n)) (sym is) ∙ stops) in cc)
+  ends_there step before number is stops (Some stop) there = (stop, there)
+
+  -- a run turns back: its walk is turned about, and goes on where it began
+  has_turned : (settled : Settled) (run : Standing) (index : ℕ) (piece : Piece) (total : ℕ) → Allows task (standing settled run) (turn index piece) → SoundFrom (standing (using settled piece) (along task (turned_back run) piece)) total → SoundFrom (standing settled run) total
+  has_turned settled run index piece total may rest others kind left step before tells holds own home trains =
+      let most = most_of (stops_of kind) in
+      let ends : EndsAtStop (step ∷ before) = ends_there step before run.head tells.head may.stands (stop_of (left_at step)) refl in
+      let turned : Turned position lawful company most others step before = turned_about position lawful company most others step before holds ends in
+      let walk = turned.last ∷ turned.rest in
+      let one : AreOne position (step ∷ before) walk = one_turned position company lawful kinds task describes most others step before turned in
+      let at_home : run.home ≡ spot_number (left_at turned.last) = home may.once ∙ ap spot_number (sym turned.stands) in
+      let tells_back : Told most others (left_at turned.last) (visited walk) (crossed walk) settled (turned_back run) = to_home position company kinds task describes most others (left_at step) (visited (step ∷ before)) (crossed (step ∷ before)) settled run tells (left_at turned.last) (visited walk) (crossed walk) at_home one.stops one.worth one.borders in
+      has_gone settled (turned_back run) index piece total (record { passes = may.passes; leads = may.leads; taken = may.taken }) rest others kind left turned.last turned.rest tells_back turned.holds
+      (such_alike (λ stop. HasToken position stop company) (visited (step ∷ before)) (visited walk) one.stops own)
+      (λ once. absurd (let wrong : true ≡ false = once in cc)) trains
 
   -- a step leads from a stop with this number
   enters_stop : (number : ℕ) → stop_in (node_at task number) ≡ true → (spot next : Spot) → spot_number spot ≡ number → AreJoined spot next → (found : Option Stop) → stop_of spot ≡ found → (stop : Stop) × (stop_of next ≡ Some stop) × (number ≡ spot_number next)
@@ -301,7 +329,7 @@ module _ (position : Position) (company : Company) (lawful : IsLawful position) 
       avoid_by (run ∷ runs) avoid = ((λ border here there. avoid.0 border here ((among_both border (crossed told.steps) others).1 (inr there))), avoid_by runs avoid.1)
 
   -- a run begins
-  has_begun : (settled : Settled) (number index : ℕ) (piece : Piece) (total : ℕ) → Allows task (between settled) (begin number index piece) → SoundFrom (standing (using settled piece) (along task (begun task settled number) piece)) total → SoundFrom (between settled) total
+  has_begun : (settled : Settled) (number index : ℕ) (piece : Piece) (total : ℕ) → Allows task (between settled) (begin number index piece) → SoundFrom (standing (using settled piece) (along task (begun task settled number index) piece)) total → SoundFrom (between settled) total
   has_begun settled number index piece total may rest others [] used trains = absurd (omega (arith, may.train, drop_none task.trains.items settled.next trains))
   has_begun settled number index piece total may rest others (kind ∷ left) used trains =
       let most = most_of (stops_of kind) in
@@ -311,13 +339,15 @@ module _ (position : Position) (company : Company) (lawful : IsLawful position) 
       let entered = enters_stop number may.begins from.goes.spot (entered_at step) from.goes.number_is from.goes.joined (stop_of from.goes.spot) refl in
       let stop = entered.0 in
       let some : 0 < most = two_at_least kind in
-      let tells = begun_tells position company kinds task describes others settled used most next.1 some (entered_at step) stop entered.1 in
-      let here : Tells position company most others (entered_at step) (stop ∷ []) [] settled (begun task settled number) = subst (λ (n : ℕ). Tells position company most others (entered_at step) (stop ∷ []) [] settled (begun task settled n)) (sym entered.2) tells in
-      let went : Went most others (stop ∷ []) [] settled (begun task settled number) step piece = went_by most others (entered_at step) (stop ∷ []) [] settled (begun task settled number) here step piece from.piece_is may.taken (stop_of (left_at step)) refl in
+      let tells = begun_tells position company lawful kinds task describes others settled used most index next.1 some (entered_at step) stop entered.1 in
+      let here : Tells task position company most others (entered_at step) (stop ∷ []) [] settled (begun task settled number index) = subst (λ (n : ℕ). Tells task position company most others (entered_at step) (stop ∷ []) [] settled (begun task settled n index)) (sym entered.2) tells in
+      let went : Went most others (stop ∷ []) [] settled (begun task settled number index) step piece = went_by most others (entered_at step) (stop ∷ []) [] settled (begun task settled number index) here step piece from.piece_is may.taken (stop_of (left_at step)) refl in
       let visits : visited (step ∷ []) ≡ listed (stop_of (left_at step)) ++ (stop ∷ []) = ap (λ o. listed (stop_of (left_at step)) ++ (listed o ++ [])) entered.1 in
-      let told = subst (λ vs. Tells position company most others (left_at step) vs (crossed (step ∷ [])) (using settled piece) (along task (begun task settled number) piece)) (sym visits) went.told in
+      let told = subst (λ vs. Tells task position company most others (left_at step) vs (crossed (step ∷ [])) (using settled piece) (along task (begun task settled number index) piece)) (sym visits) went.told in
+      let node : IsStopNode position company stop (node_at task number) = subst (λ (n : ℕ). IsStopNode position company stop (node_at task n)) (sym entered.2) (node_left position company kinds task describes (entered_at step) (Some stop) entered.1) in
+      let own : HasSuch (λ s. HasToken position s company) (visited (step ∷ [])) = subst (HasSuch (λ s. HasToken position s company)) (sym visits) (such_later (λ s. HasToken position s company) (listed (stop_of (left_at step))) (stop ∷ []) (inl (node.own.0 may.token))) in
       set_more others kind left settled total
-      (keep_settled others kind left settled piece total (rest others kind left step [] told (first_holds most others settled (begun task settled number) step piece stop entered.1 from.track went) next.2))
+      (keep_settled others kind left settled piece total (rest others kind left step [] told (first_holds most others settled (begun task settled number index) step piece stop entered.1 from.track went) own (λ once. entered.2) next.2))
 
   pub sound_from : (moves : List Move) (state : State) → Completes task state moves → SoundFrom state (total_after task state moves)
   sound_from [] (between settled) completes = at_end settled completes
@@ -325,11 +355,14 @@ module _ (position : Position) (company : Company) (lawful : IsLawful position) 
   sound_from (pass ∷ moves) (between settled) completes = has_passed settled (total_after task (between (passed settled)) moves) completes.0 (sound_from moves (between (passed settled)) completes.1)
   sound_from (pass ∷ moves) (standing settled run) completes = absurd completes.0
   sound_from (begin number index piece ∷ moves) (between settled) completes =
-      has_begun settled number index piece (total_after task (standing (using settled piece) (along task (begun task settled number) piece)) moves) completes.0 (sound_from moves (standing (using settled piece) (along task (begun task settled number) piece)) completes.1)
+      has_begun settled number index piece (total_after task (standing (using settled piece) (along task (begun task settled number index) piece)) moves) completes.0 (sound_from moves (standing (using settled piece) (along task (begun task settled number index) piece)) completes.1)
   sound_from (begin number index piece ∷ moves) (standing settled run) completes = absurd completes.0
   sound_from (go index piece ∷ moves) (between settled) completes = absurd completes.0
   sound_from (go index piece ∷ moves) (standing settled run) completes =
       has_gone settled run index piece (total_after task (standing (using settled piece) (along task run piece)) moves) completes.0 (sound_from moves (standing (using settled piece) (along task run piece)) completes.1)
+  sound_from (turn index piece ∷ moves) (between settled) completes = absurd completes.0
+  sound_from (turn index piece ∷ moves) (standing settled run) completes =
+      has_turned settled run index piece (total_after task (standing (using settled piece) (along task (turned_back run) piece)) moves) completes.0 (sound_from moves (standing (using settled piece) (along task (turned_back run) piece)) completes.1)
   sound_from (settle ∷ moves) (between settled) completes = absurd completes.0
   sound_from (settle ∷ moves) (standing settled run) completes =
-      has_settled settled run (total_after task (between (settling settled run)) moves) (first_true (run.own && stop_in (node_at task run.head)) (may_earn settled.kind settled.cap run.most run.value) completes.0) (sound_from moves (between (settling settled run)) completes.1)
+      has_settled settled run (total_after task (between (settling settled run)) moves) (first_true (stop_in (node_at task run.head)) (may_earn settled.kind settled.cap run.most run.value) completes.0) (sound_from moves (between (settling settled run)) completes.1)

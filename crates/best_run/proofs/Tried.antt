@@ -1,10 +1,21 @@
 -- What has been tried: moves of one sort after those of another, a piece as a move, and all moves of a state.
-use Rattle.std.proofs.Common.{◌≡◌, ℕ, ◌<◌, ◌≤◌, true, false, ◌⊎◌, inl, inr, Some, List, [], ◌∷◌, length, slice_get, sym, ap, subst, ◌∙◌, arith, le_trans}
+use Rattle.std.proofs.Common.{◌≡◌, ℕ, ◌+◌, ◌<◌, ◌≤◌, true, false, ◌⊎◌, inl, inr, Option, Some, None, List, [], ◌∷◌, length, slice_get, refl, sym, ap, subst, ◌∙◌, arith, le_trans}
+use Rattle.std.proofs.lemmas.Option.{slice_get_within}
+use Rattle.best_run.specs.declared.task.Node.{Node}
 use Rattle.best_run.specs.declared.task.Piece.{Piece}
 use Rattle.best_run.specs.declared.task.Task.{Task}
 use Rattle.best_run.specs.declared.state.Settled.{Settled}
 use Rattle.best_run.specs.declared.state.Standing.{Standing}
-use Rattle.best_run.specs.Moves.{Allows, Any, Completes, Explores, IsBegin, IsBeginAt, IsGo, LeadsFrom, Move, State, Takes, Tries, along, begin, begun, between, can_take, ends_in, go, may_settle, node_at, pass, passed, pieces_in, settle, settling, standing, stop_in, total_after, using}
+use Rattle.best_run.specs.Moves.{Allows, Any, Below, Completes, Explores, IsBegin, IsBeginAt, IsGo, IsTurn, LeadsFrom, Move, State, Takes, Tries, along, begin, begun, between, can_take, ends_in, go, may_settle, node_at, own_in, pass, passed, pieces_in, settle, settling, standing, stop_in, total_after, turn, turned_back, using}
+use Rattle.best_run.proofs.Places.{below_next}
+
+-- a move by which a run goes on
+abbrev pub IsOn : Move → Type 0
+IsOn pass = ⊥
+IsOn (begin stop index piece) = ⊥
+IsOn (go index piece) = Unit {0}
+IsOn (turn index piece) = Unit {0}
+IsOn settle = ⊥
 
 -- nothing has been tried
 pub tries_none : (task : Task) (state : State) (P : Move → Type 0) (best : ℕ) → ((move : Move) → P move → Allows task state move → ⊥) → Tries task state P best best
@@ -51,6 +62,7 @@ go_most task settled run index piece new leads most pass moves is completes = ab
 go_most task settled run index piece new leads most (begin token i found) moves is completes = absurd is
 go_most task settled run index piece new leads most (go i found) moves is completes =
     subst (MostBy task settled run new) (same_piece task run.head index i piece found leads completes.0.leads is) most completes.0.taken moves completes.1
+go_most task settled run index piece new leads most (turn i found) moves is completes = absurd is
 go_most task settled run index piece new leads most settle moves is completes = absurd is
 
 -- a piece from where the run stands has been tried
@@ -62,22 +74,70 @@ take_go task settled run index piece old new passes leads takes =
       most = go_most task settled run index piece new leads takes.most;
     }
 
-begin_most : (task : Task) (settled : Settled) (there index : ℕ) (piece : Piece) (new : ℕ) → LeadsFrom task there index piece → MostBy task settled (begun task settled there) new piece → (move : Move) (moves : List Move) → IsBeginAt there (λ i. i ≡ index) move → Completes task (between settled) (move ∷ moves) → total_after task (between settled) (move ∷ moves) ≤ new
+turn_most : (task : Task) (settled : Settled) (run : Standing) (index : ℕ) (piece : Piece) (new : ℕ) → LeadsFrom task run.home index piece → MostBy task settled (turned_back run) new piece → (move : Move) (moves : List Move) → IsTurn (λ i. i ≡ index) move → Completes task (standing settled run) (move ∷ moves) → total_after task (standing settled run) (move ∷ moves) ≤ new
+turn_most task settled run index piece new leads most pass moves is completes = absurd is
+turn_most task settled run index piece new leads most (begin token i found) moves is completes = absurd is
+turn_most task settled run index piece new leads most (go i found) moves is completes = absurd is
+turn_most task settled run index piece new leads most (turn i found) moves is completes =
+    subst (MostBy task settled (turned_back run) new) (same_piece task run.home index i piece found leads completes.0.leads is) most completes.0.taken moves completes.1
+turn_most task settled run index piece new leads most settle moves is completes = absurd is
+
+-- a piece from where the run began has been tried
+pub take_turn : (task : Task) (settled : Settled) (run : Standing) (index : ℕ) (piece : Piece) (old new : ℕ) → run.turned ≡ false → stop_in (node_at task run.head) ≡ true → run.first ≤ index → ends_in (node_at task run.home) ≡ false → LeadsFrom task run.home index piece → Takes task settled (turned_back run) piece old new → Tries task (standing settled run) (IsTurn (λ i. i ≡ index)) old new
+take_turn task settled run index piece old new once stands later passes leads takes =
+    record {
+      grows = takes.grows;
+      earned = λ possible. takes.earned (λ taken moves completes. possible (turn index piece ∷ moves) (record { once = once; stands = stands; later = later; passes = passes; leads = leads; taken = taken }, completes));
+      most = turn_most task settled run index piece new leads takes.most;
+    }
+
+-- no turn by a piece before the first is allowed
+pub turn_early : (task : Task) (settled : Settled) (run : Standing) (index best : ℕ) → index < run.first → Tries task (standing settled run) (IsTurn (λ i. i ≡ index)) best best
+turn_early task settled run index best early = tries_none task (standing settled run) (IsTurn (λ i. i ≡ index)) best none
+  where
+    none : (move : Move) → IsTurn (λ i. i ≡ index) move → Allows task (standing settled run) move → ⊥
+    none pass is may = is
+    none (begin token i found) is may = is
+    none (go i found) is may = is
+    none (turn i found) is may = absurd (omega (arith, early, is, may.later))
+    none settle is may = is
+
+-- nor any turn of a run that has turned back, that stands at a side, or that began where none passes
+pub turn_none : (task : Task) (settled : Settled) (run : Standing) (best : ℕ) → ((run.turned ≡ true) ⊎ ((ends_in (node_at task run.home) ≡ true) ⊎ (stop_in (node_at task run.head) ≡ false))) → Tries task (standing settled run) (IsTurn Any) best best
+turn_none task settled run best why = tries_none task (standing settled run) (IsTurn Any) best none
+  where
+    none : (move : Move) → IsTurn Any move → Allows task (standing settled run) move → ⊥
+    none pass is may = is
+    none (begin token i found) is may = is
+    none (go i found) is may = is
+    none (turn i found) is may =
+        elim why [
+          | inl turned ↦ let wrong : true ≡ false = sym turned ∙ may.once in cc
+          | inr other ↦ elim other [
+            | inl ends ↦ let wrong : true ≡ false = sym ends ∙ may.passes in cc
+            | inr side ↦ let wrong : false ≡ true = sym side ∙ may.stands in cc
+          ]
+        ]
+    none settle is may = is
+
+begin_most : (task : Task) (settled : Settled) (there index : ℕ) (piece : Piece) (new : ℕ) → LeadsFrom task there index piece → MostBy task settled (begun task settled there index) new piece → (move : Move) (moves : List Move) → IsBeginAt there (λ i. i ≡ index) move → Completes task (between settled) (move ∷ moves) → total_after task (between settled) (move ∷ moves) ≤ new
 begin_most task settled there index piece new leads most pass moves is completes = absurd is
 begin_most task settled there index piece new leads most (begin stop i found) moves is completes =
     let finds : LeadsFrom task there i found = subst (λ (t : ℕ). LeadsFrom task t i found) is.0 completes.0.leads in
-    let most_found : MostBy task settled (begun task settled there) new found = subst (MostBy task settled (begun task settled there) new) (same_piece task there index i piece found leads finds is.1) most in
-    let most_there : MostBy task settled (begun task settled stop) new found = subst (λ (t : ℕ). MostBy task settled (begun task settled t) new found) (sym is.0) most_found in
-    most_there completes.0.taken moves completes.1
+    let most_found : MostBy task settled (begun task settled there index) new found = subst (MostBy task settled (begun task settled there index) new) (same_piece task there index i piece found leads finds is.1) most in
+    let most_there : MostBy task settled (begun task settled stop index) new found = subst (λ (t : ℕ). MostBy task settled (begun task settled t index) new found) (sym is.0) most_found in
+    let most_here : MostBy task settled (begun task settled stop i) new found = subst (λ (k : ℕ). MostBy task settled (begun task settled stop k) new found) (sym is.1) most_there in
+    most_here completes.0.taken moves completes.1
 begin_most task settled there index piece new leads most (go i found) moves is completes = absurd is
+begin_most task settled there index piece new leads most (turn i found) moves is completes = absurd is
 begin_most task settled there index piece new leads most settle moves is completes = absurd is
 
 -- a first piece from a stop has been tried
-pub take_begin : (task : Task) (settled : Settled) (there index : ℕ) (piece : Piece) (old new : ℕ) → settled.next < length task.trains.items → stop_in (node_at task there) ≡ true → LeadsFrom task there index piece → Takes task settled (begun task settled there) piece old new → Tries task (between settled) (IsBeginAt there (λ i. i ≡ index)) old new
-take_begin task settled there index piece old new train begins leads takes =
+pub take_begin : (task : Task) (settled : Settled) (there index : ℕ) (piece : Piece) (old new : ℕ) → settled.next < length task.trains.items → stop_in (node_at task there) ≡ true → own_in (node_at task there) ≡ true → LeadsFrom task there index piece → Takes task settled (begun task settled there index) piece old new → Tries task (between settled) (IsBeginAt there (λ i. i ≡ index)) old new
+take_begin task settled there index piece old new train begins token leads takes =
     record {
       grows = takes.grows;
-      earned = λ possible. takes.earned (λ taken moves completes. possible (begin there index piece ∷ moves) (record { train = train; begins = begins; leads = leads; taken = taken }, completes));
+      earned = λ possible. takes.earned (λ taken moves completes. possible (begin there index piece ∷ moves) (record { train = train; begins = begins; token = token; leads = leads; taken = taken }, completes));
       most = begin_most task settled there index piece new leads takes.most;
     }
 
@@ -87,6 +147,7 @@ over_most task settled new over low [] completes = low
 over_most task settled new over low (pass ∷ moves) completes = let before : settled.next < length task.trains.items = completes.0 in absurd (omega arith)
 over_most task settled new over low (begin token i found ∷ moves) completes = absurd (omega (arith, completes.0.train))
 over_most task settled new over low (go i found ∷ moves) completes = absurd completes.0
+over_most task settled new over low (turn i found ∷ moves) completes = absurd completes.0
 over_most task settled new over low (settle ∷ moves) completes = absurd completes.0
 
 pub over_better : (task : Task) (settled : Settled) (old : ℕ) → length task.trains.items ≤ settled.next → old ≤ settled.total → Explores task (between settled) old settled.total
@@ -119,10 +180,23 @@ explores_between task settled old middle new before first second =
     by_moves (pass ∷ moves) completes = le_trans (first.most moves completes.1) second.grows
     by_moves (begin token i found ∷ moves) completes = second.most (begin token i found) moves tt completes
     by_moves (go i found ∷ moves) completes = absurd completes.0
+    by_moves (turn i found ∷ moves) completes = absurd completes.0
     by_moves (settle ∷ moves) completes = absurd completes.0
 
+-- the run has gone on from where it stands, and then from where it began
+pub tries_on : (task : Task) (settled : Settled) (run : Standing) (old middle new : ℕ) → Tries task (standing settled run) (IsGo Any) old middle → Tries task (standing settled run) (IsTurn Any) middle new → Tries task (standing settled run) IsOn old new
+tries_on task settled run old middle new first second =
+    tries_both task (standing settled run) (IsGo Any) (IsTurn Any) IsOn old middle new first second either
+  where
+    either : (move : Move) → IsOn move → Allows task (standing settled run) move → IsGo Any move ⊎ IsTurn Any move
+    either pass is may = absurd is
+    either (begin stop i found) is may = absurd is
+    either (go i found) is may = inl tt
+    either (turn i found) is may = inr tt
+    either settle is may = absurd is
+
 -- the run has been settled, if it may be, and has gone on
-pub explores_standing : (task : Task) (settled : Settled) (run : Standing) (old middle new : ℕ) → may_settle task settled run ≡ true → Explores task (between (settling settled run)) old middle → Tries task (standing settled run) (IsGo Any) middle new → Explores task (standing settled run) old new
+pub explores_standing : (task : Task) (settled : Settled) (run : Standing) (old middle new : ℕ) → may_settle task settled run ≡ true → Explores task (between (settling settled run)) old middle → Tries task (standing settled run) IsOn middle new → Explores task (standing settled run) old new
 explores_standing task settled run old middle new own first second =
     record {
       grows = le_trans first.grows second.grows;
@@ -135,9 +209,10 @@ explores_standing task settled run old middle new own first second =
     by_moves (pass ∷ moves) completes = absurd completes.0
     by_moves (begin stop i found ∷ moves) completes = absurd completes.0
     by_moves (go i found ∷ moves) completes = second.most (go i found) moves tt completes
+    by_moves (turn i found ∷ moves) completes = second.most (turn i found) moves tt completes
     by_moves (settle ∷ moves) completes = le_trans (first.most moves completes.1) second.grows
 
-pub explores_on : (task : Task) (settled : Settled) (run : Standing) (old new : ℕ) → may_settle task settled run ≡ false → Tries task (standing settled run) (IsGo Any) old new → Explores task (standing settled run) old new
+pub explores_on : (task : Task) (settled : Settled) (run : Standing) (old new : ℕ) → may_settle task settled run ≡ false → Tries task (standing settled run) IsOn old new → Explores task (standing settled run) old new
 explores_on task settled run old new none second =
     record {
       grows = second.grows;
@@ -150,4 +225,48 @@ explores_on task settled run old new none second =
     by_moves (pass ∷ moves) completes = absurd completes.0
     by_moves (begin stop i found ∷ moves) completes = absurd completes.0
     by_moves (go i found ∷ moves) completes = second.most (go i found) moves tt completes
+    by_moves (turn i found ∷ moves) completes = second.most (turn i found) moves tt completes
     by_moves (settle ∷ moves) completes = absurd (let wrong : true ≡ false = sym completes.0 ∙ none in cc)
+
+-- all runs from the stops before one have been tried, and then those from there
+pub begin_more : (task : Task) (settled : Settled) (stop old middle new : ℕ) → Tries task (between settled) (IsBegin (Below stop)) old middle → Tries task (between settled) (IsBeginAt stop Any) middle new → Tries task (between settled) (IsBegin (Below (stop + 1))) old new
+begin_more task settled stop old middle new first second =
+    tries_both task (between settled) (IsBegin (Below stop)) (IsBeginAt stop Any) (IsBegin (Below (stop + 1))) old middle new first second either
+  where
+    either : (move : Move) → IsBegin (Below (stop + 1)) move → Allows task (between settled) move → IsBegin (Below stop) move ⊎ IsBeginAt stop Any move
+    either pass is may = absurd is
+    either (begin there i found) is may = elim (below_next there stop is) [ inl less ↦ inl less | inr same ↦ inr (same, tt) ]
+    either (go i found) is may = absurd is
+    either (turn i found) is may = absurd is
+    either settle is may = absurd is
+
+-- none begins where the company has no token
+pub begin_none : (task : Task) (settled : Settled) (stop best : ℕ) → ((stop_in (node_at task stop) ≡ false) ⊎ (own_in (node_at task stop) ≡ false)) → Tries task (between settled) (IsBeginAt stop Any) best best
+begin_none task settled stop best why = tries_none task (between settled) (IsBeginAt stop Any) best none
+  where
+    none : (move : Move) → IsBeginAt stop Any move → Allows task (between settled) move → ⊥
+    none pass is may = is
+    none (begin there i found) is may =
+        elim why [
+          | inl side ↦ let wrong : false ≡ true = sym side ∙ (ap (λ (n : ℕ). stop_in (node_at task n)) (sym is.0) ∙ may.begins) in cc
+          | inr other ↦ let wrong : false ≡ true = sym other ∙ (ap (λ (n : ℕ). own_in (node_at task n)) (sym is.0) ∙ may.token) in cc
+        ]
+    none (go i found) is may = is
+    none (turn i found) is may = is
+    none settle is may = is
+
+-- there is no stop beyond the last one
+pub begin_every : (task : Task) (settled : Settled) (count old new : ℕ) → length task.spots.items ≤ count → Tries task (between settled) (IsBegin (Below count)) old new → Tries task (between settled) (IsBegin Any) old new
+begin_every task settled count old new all tries =
+    tries_fewer task (between settled) (IsBegin (Below count)) (IsBegin Any) old new tries within
+  where
+    is_there : (there : ℕ) (node : Option Node) → node_at task there ≡ node → stop_in node ≡ true → there < count
+    is_there there None is stops = absurd (let wrong : false ≡ true = stops in cc)
+    is_there there (Some node) is stops = let low : there < length task.spots.items = slice_get_within task.spots.items there node is in omega arith
+
+    within : (move : Move) → IsBegin Any move → Allows task (between settled) move → IsBegin (Below count) move
+    within pass is may = absurd is
+    within (begin there i found) is may = is_there there (node_at task there) refl may.begins
+    within (go i found) is may = absurd is
+    within (turn i found) is may = absurd is
+    within settle is may = absurd is

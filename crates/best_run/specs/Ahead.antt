@@ -9,7 +9,7 @@ use Rattle.best_run.specs.declared.task.Task.{Task}
 use Rattle.best_run.specs.declared.state.Settled.{Settled}
 use Rattle.best_run.specs.declared.state.Standing.{Standing}
 use Rattle.best_run.specs.Fit.{unused}
-use Rattle.best_run.specs.Moves.{Completes, LeadsFrom, Move, can_take, ends_in, node_at, own_in, standing, total_after}
+use Rattle.best_run.specs.Moves.{Completes, LeadsFrom, Move, can_take, ends_in, node_at, standing, total_after}
 
 -- a spot lies ahead
 abbrev pub LiesAhead : List Bool → ℕ → Type 0
@@ -44,12 +44,8 @@ pub record WidensBelow (task : Task) (settled : Settled) (run : Standing) (spot 
 -- all spots that a run may still come to lie ahead
 pub record IsOutlook (task : Task) (settled : Settled) (run : Standing) (ahead : List Bool) : Type 0 where
   pub head : IsGoneOver task settled run ahead run.head
+  pub home : run.turned ≡ false → IsGoneOver task settled run ahead run.home
   pub all : (spot : ℕ) → LiesAhead ahead spot → IsGoneOver task settled run ahead spot
-
--- the company has no token on the run, nor ahead of it
-pub record NoTokenAhead (task : Task) (run : Standing) (ahead : List Bool) : Type 0 where
-  pub behind : run.own ≡ false
-  pub none : (spot : ℕ) → LiesAhead ahead spot → own_in (node_at task spot) ≡ false
 
 -- what spots ahead are worth beyond a level, in dollars
 abbrev pub beyond : ℕ → List Node → List Bool → ℕ

@@ -1,7 +1,9 @@
 -- What the search goes over: from nothing settled, move by move, to all trains settled. The next train passes, or
--- begins a run at a stop by a piece of plain track; a run that has begun goes on from where it stands, or is
--- settled, if it has come by a token of the company.
-use Rattle.std.specs.Prelude.{◌≡◌, ℕ, ◌+◌, ◌-◌, ◌<◌, ◌≤◌, Bool, true, false, not, ◌&&◌, ◌||◌, nat_lt, nat_le, ◌==◌, Option, Some, None, List, [], ◌∷◌, length, get_or, set, slice_get, replicate}
+-- begins a run at a token of the company by a piece of plain track; a run that has begun goes on from where it stands;
+-- once, it may turn back to the token, and go on from there by a piece that is not before the one by which it began;
+-- and it may be settled at a stop. So each run is met once: from the first of its tokens, by their numbers, since the
+-- tokens before that one are passed over, and not from both its ends.
+use Rattle.std.specs.Prelude.{◌≡◌, ℕ, zero, suc, ◌+◌, ◌-◌, ◌<◌, ◌≤◌, Bool, true, false, not, ◌&&◌, ◌||◌, nat_lt, nat_le, ◌==◌, Option, Some, None, List, [], ◌∷◌, length, get_or, set, slice_get, replicate}
 use Rattle.std.specs.List.{list_any}
 use Rattle.best_run.specs.declared.task.Node.{Node}
 use Rattle.best_run.specs.declared.task.Piece.{Piece}
@@ -60,17 +62,32 @@ abbrev pub left_after : Bool → ℕ → ℕ
 left_after true left = left - 1
 left_after false left = left
 
--- a run that stands at the stop where it begins
-abbrev pub begun : Task → Settled → ℕ → Standing
-begun task settled stop =
+-- the company's tokens before a number
+abbrev pub marked_if : Bool → List Bool → ℕ → List Bool
+marked_if true marks number = set marks number true
+marked_if false marks number = marks
+
+abbrev pub own_before : Task → ℕ → List Bool
+own_before task zero = replicate 744 false
+own_before task (suc number) = marked_if (own_in (node_at task number)) (own_before task number) number
+
+-- a run that stands at the token where it begins, by the piece at a place; the tokens before that one are passed over
+abbrev pub begun : Task → Settled → ℕ → ℕ → Standing
+begun task settled stop first =
     record {
+      home = stop;
+      first = first;
+      turned = false;
       head = stop;
       most = get_or task.trains.items settled.next 0;
       left = get_or task.trains.items settled.next 0 - 1;
       value = value_in (node_at task stop);
-      own = own_in (node_at task stop);
-      visited = set (replicate 744 false) stop true;
+      visited = set (own_before task stop) stop true;
     }
+
+-- a run that has turned back to the token where it began
+abbrev pub turned_back : Standing → Standing
+turned_back run = record run { turned = true; head = run.home }
 
 -- a run after a piece
 abbrev pub along : Task → Standing → Piece → Standing
@@ -79,8 +96,7 @@ along task run piece =
       head = piece.to;
       left = left_after (stop_in (node_at task piece.to)) run.left;
       value = run.value + value_in (node_at task piece.to);
-      own = run.own || own_in (node_at task piece.to);
-      visited = set run.visited piece.to true;
+      visited = marked_if (stop_in (node_at task piece.to)) run.visited piece.to;
     }
 
 -- the borders of a piece are used
@@ -101,10 +117,10 @@ settling settled run =
 abbrev pub may_earn : ℕ → ℕ → ℕ → ℕ → Bool
 may_earn kind cap most value = (kind == 0 || not (kind == most)) || nat_le value cap
 
--- a run may be settled: it has come by a token of the company, stands at a stop, and earns no more than it may
+-- a run may be settled: it stands at a stop, and earns no more than it may
 abbrev pub may_settle : Task → Settled → Standing → Bool
 may_settle task settled run =
-    (run.own && stop_in (node_at task run.head)) && may_earn settled.kind settled.cap run.most run.value
+    stop_in (node_at task run.head) && may_earn settled.kind settled.cap run.most run.value
 
 -- a state of the search
 pub data State : Type 0 where
@@ -116,40 +132,55 @@ pub data Move : Type 0 where
   pass : Move
   begin : ℕ → ℕ → Piece → Move
   go : ℕ → Piece → Move
+  turn : ℕ → Piece → Move
   settle : Move
 
 pub record MayBegin (task : Task) (settled : Settled) (stop index : ℕ) (piece : Piece) : Type 0 where
   pub train : settled.next < length task.trains.items
   pub begins : stop_in (node_at task stop) ≡ true
+  pub token : own_in (node_at task stop) ≡ true
   pub leads : LeadsFrom task stop index piece
-  pub taken : can_take task (begun task settled stop) settled.used piece ≡ true
+  pub taken : can_take task (begun task settled stop index) settled.used piece ≡ true
 
 pub record MayGo (task : Task) (settled : Settled) (run : Standing) (index : ℕ) (piece : Piece) : Type 0 where
   pub passes : ends_in (node_at task run.head) ≡ false
   pub leads : LeadsFrom task run.head index piece
   pub taken : can_take task run settled.used piece ≡ true
 
+pub record MayTurn (task : Task) (settled : Settled) (run : Standing) (index : ℕ) (piece : Piece) : Type 0 where
+  pub once : run.turned ≡ false
+  pub stands : stop_in (node_at task run.head) ≡ true
+  pub later : run.first ≤ index
+  pub passes : ends_in (node_at task run.home) ≡ false
+  pub leads : LeadsFrom task run.home index piece
+  pub taken : can_take task (turned_back run) settled.used piece ≡ true
+
 -- a move may be made in a state
 abbrev pub Allows : Task → State → Move → Type 0
 Allows task (between settled) pass = settled.next < length task.trains.items
 Allows task (between settled) (begin stop index piece) = MayBegin task settled stop index piece
 Allows task (between settled) (go index piece) = ⊥
+Allows task (between settled) (turn index piece) = ⊥
 Allows task (between settled) settle = ⊥
 Allows task (standing settled run) pass = ⊥
 Allows task (standing settled run) (begin stop index piece) = ⊥
 Allows task (standing settled run) (go index piece) = MayGo task settled run index piece
+Allows task (standing settled run) (turn index piece) = MayTurn task settled run index piece
 Allows task (standing settled run) settle = may_settle task settled run ≡ true
 
 -- the state after a move
 abbrev pub after : Task → State → Move → State
 after task (between settled) pass = between (passed settled)
 after task (between settled) (begin stop index piece) =
-    standing (using settled piece) (along task (begun task settled stop) piece)
+    standing (using settled piece) (along task (begun task settled stop index) piece)
 after task (between settled) (go index piece) = between settled
+after task (between settled) (turn index piece) = between settled
 after task (between settled) settle = between settled
 after task (standing settled run) pass = between settled
 after task (standing settled run) (begin stop index piece) = between settled
 after task (standing settled run) (go index piece) = standing (using settled piece) (along task run piece)
+after task (standing settled run) (turn index piece) =
+    standing (using settled piece) (along task (turned_back run) piece)
 after task (standing settled run) settle = between (settling settled run)
 
 -- all trains are settled
@@ -208,19 +239,29 @@ abbrev pub IsBegin : (ℕ → Type 0) → Move → Type 0
 IsBegin P pass = ⊥
 IsBegin P (begin stop index piece) = P stop
 IsBegin P (go index piece) = ⊥
+IsBegin P (turn index piece) = ⊥
 IsBegin P settle = ⊥
 
 abbrev pub IsBeginAt : ℕ → (ℕ → Type 0) → Move → Type 0
 IsBeginAt there P pass = ⊥
 IsBeginAt there P (begin stop index piece) = (stop ≡ there) × P index
 IsBeginAt there P (go index piece) = ⊥
+IsBeginAt there P (turn index piece) = ⊥
 IsBeginAt there P settle = ⊥
 
 abbrev pub IsGo : (ℕ → Type 0) → Move → Type 0
 IsGo P pass = ⊥
 IsGo P (begin stop index piece) = ⊥
 IsGo P (go index piece) = P index
+IsGo P (turn index piece) = ⊥
 IsGo P settle = ⊥
+
+abbrev pub IsTurn : (ℕ → Type 0) → Move → Type 0
+IsTurn P pass = ⊥
+IsTurn P (begin stop index piece) = ⊥
+IsTurn P (go index piece) = ⊥
+IsTurn P (turn index piece) = P index
+IsTurn P settle = ⊥
 
 -- any number
 abbrev pub Any : ℕ → Type 0

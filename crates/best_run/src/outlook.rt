@@ -1,5 +1,5 @@
 ghost use Rattle.std.specs.Prelude.{◌≡◌, ◌+◌, ◌*◌, ◌<◌, ◌≤◌, IsTrue, false, length, ℕ};
-ghost use Rattle.best_run.specs.Ahead.{EndsAtMost, IsOutlook, NoTokenAhead, WidensBy, WidensFrom, beyond};
+ghost use Rattle.best_run.specs.Ahead.{EndsAtMost, IsOutlook, WidensBy, WidensFrom, beyond};
 ghost use Rattle.best_run.specs.Fit.{HasRoom, IsFit, BordersFit};
 ghost use Rattle.best_run.specs.Suffix.{AreBounds};
 
@@ -66,29 +66,17 @@ impl Task {
     fn outlook(&self, settled: &Settled, run: &Standing) -> [bool; SPOTS]
         requires fit { IsFit self.now }
         requires head { run.now.head < 744 }
+        requires home { run.now.home < 744 }
         ensures outlook { IsOutlook self.now settled.now run.now result }
         ensures borders { length settled.now.used ≡ 279 }
         ensures spots { length run.now.visited ≡ 744 }
     {
         let mut ahead = [false; SPOTS];
         self.look_from(settled, run, run.head, &mut ahead);
+        if !run.turned {
+            self.look_from(settled, run, run.home, &mut ahead);
+        }
         ahead
-    }
-
-    /// Whether a run has come by a token of the company, or may still do so.
-    fn may_have_token(&self, run: &Standing, ahead: &[bool; SPOTS]) -> bool
-        requires { IsFit self.now }
-        ensures { result ≡ false → NoTokenAhead self.now run.now ahead.now }
-    {
-        if run.own {
-            return true;
-        }
-        for spot in 0..SPOTS {
-            if ahead[spot] && self.spots[spot].own {
-                return true;
-            }
-        }
-        false
     }
 
     /// How many stops ahead are worth so many tens of dollars, for each number of tens.
@@ -203,6 +191,7 @@ impl Task {
         requires bounds { AreBounds self.now bounds.now }
         requires next { settled.now.next < length self.now.trains.items }
         requires head { run.now.head < 744 }
+        requires home { run.now.home < 744 }
         requires room { settled.now.total + run.now.value ≤ 44720 }
         ensures { IsTrue result → EndsAtMost self.now settled.now run.now best }
     {
@@ -213,9 +202,6 @@ impl Task {
             return false;
         }
         let ahead = self.outlook(settled, run);
-        if !self.may_have_token(run, &ahead) {
-            return true;
-        }
         self.earns_too_little(settled, run, &ahead, bounds, best)
     }
 }

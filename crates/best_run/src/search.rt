@@ -1,7 +1,7 @@
 ghost use Rattle.std.specs.Prelude.{◌≡◌, ◌+◌, ◌<◌, ◌≤◌, true, IsTrue, length};
 ghost use Rattle.best_run.specs.Fit.{HasRoom, IsFit, PieceFits, credit};
 ghost use Rattle.best_run.specs.Suffix.{AreBounds, AreCapped, AreEqual, FallShort};
-ghost use Rattle.best_run.specs.Moves.{Any, Explores, IsBegin, IsBeginAt, IsGo, Takes, Tries, between, node_at, standing, stop_in};
+ghost use Rattle.best_run.specs.Moves.{Any, Explores, IsBegin, IsBeginAt, IsGo, IsTurn, Takes, Tries, between, node_at, own_in, standing, stop_in};
 
 use crate::state::{Settled, Standing};
 use crate::task::{Piece, Task};
@@ -98,7 +98,7 @@ impl Task {
         self.begin_runs(settled, bounds, best);
     }
 
-    /// Tries all runs of the next train, from each stop.
+    /// Tries all runs of the next train, from each token of the company.
     #[cycle(explore)]
     fn begin_runs(&self, settled: &Settled, bounds: &[Amount], best: &mut Amount)
         requires fit { IsFit self.now }
@@ -108,13 +108,14 @@ impl Task {
         ensures { Tries self.now (between settled.now) (IsBegin Any) best.old best.new }
     {
         for stop in 0..self.spots.len() {
-            if self.spots[stop].stop {
+            let node = &self.spots[stop];
+            if node.stop && node.own {
                 self.begin_at(settled, stop, bounds, best);
             }
         }
     }
 
-    /// Tries all runs of the next train that begin at a stop.
+    /// Tries all runs of the next train that begin at a token of the company.
     #[cycle(explore)]
     fn begin_at(&self, settled: &Settled, stop: usize, bounds: &[Amount], best: &mut Amount)
         requires fit { IsFit self.now }
@@ -123,11 +124,12 @@ impl Task {
         requires room { HasRoom settled.now.used settled.now.total 44640 }
         requires stop { stop < 744 }
         requires begins { stop_in (node_at self.now stop) ≡ true }
+        requires token { own_in (node_at self.now stop) ≡ true }
         ensures { Tries self.now (between settled.now) (IsBeginAt stop Any) best.old best.new }
     {
         let node = &self.spots[stop];
-        let run = self.begun(settled, stop);
         for index in 0..node.pieces.len() {
+            let run = self.begun(settled, stop, index);
             self.take(settled, &run, &node.pieces[index], bounds, best);
         }
     }
@@ -147,6 +149,8 @@ impl Task {
         requires next { settled.now.next < length self.now.trains.items }
         requires piece { let from = stop_in (node_at self.now run.now.head) in
             PieceFits self.now from piece.now }
+        requires home { run.now.home < 744 }
+        requires begun { stop_in (node_at self.now run.now.home) ≡ true }
         requires room { HasRoom settled.now.used (settled.now.total + run.now.value) 44720 }
         ensures { Takes self.now settled.now run.now piece.now best.old best.new }
     {
@@ -164,6 +168,8 @@ impl Task {
         requires bounds { AreBounds self.now bounds.now }
         requires next { settled.now.next < length self.now.trains.items }
         requires head { run.now.head < 744 }
+        requires home { run.now.home < 744 }
+        requires begun { stop_in (node_at self.now run.now.home) ≡ true }
         requires room { let more = credit (stop_in (node_at self.now run.now.head)) in
             HasRoom settled.now.used (settled.now.total + (run.now.value + more)) 44720 }
         ensures { Explores self.now (standing settled.now run.now) best.old best.new }
@@ -176,6 +182,7 @@ impl Task {
             self.settle_next(&settling, bounds, best);
         }
         self.go_on(settled, run, bounds, best);
+        self.turn_back(settled, run, bounds, best);
     }
 
     /// Tries all ways on from where a run stands.
@@ -185,6 +192,8 @@ impl Task {
         requires bounds { AreBounds self.now bounds.now }
         requires next { settled.now.next < length self.now.trains.items }
         requires head { run.now.head < 744 }
+        requires home { run.now.home < 744 }
+        requires begun { stop_in (node_at self.now run.now.home) ≡ true }
         requires room { let more = credit (stop_in (node_at self.now run.now.head)) in
             HasRoom settled.now.used (settled.now.total + (run.now.value + more)) 44720 }
         ensures { Tries self.now (standing settled.now run.now) (IsGo Any) best.old best.new }
@@ -195,6 +204,31 @@ impl Task {
         }
         for index in 0..head.pieces.len() {
             self.take(settled, run, &head.pieces[index], bounds, best);
+        }
+    }
+
+    /// Tries all ways on from where a run began, if it stands at a stop and has not turned back before.
+    #[cycle(explore)]
+    fn turn_back(&self, settled: &Settled, run: &Standing, bounds: &[Amount], best: &mut Amount)
+        requires fit { IsFit self.now }
+        requires bounds { AreBounds self.now bounds.now }
+        requires next { settled.now.next < length self.now.trains.items }
+        requires head { run.now.head < 744 }
+        requires home { run.now.home < 744 }
+        requires begun { stop_in (node_at self.now run.now.home) ≡ true }
+        requires room { let more = credit (stop_in (node_at self.now run.now.head)) in
+            HasRoom settled.now.used (settled.now.total + (run.now.value + more)) 44720 }
+        ensures { Tries self.now (standing settled.now run.now) (IsTurn Any) best.old best.new }
+    {
+        let home = &self.spots[run.home];
+        if run.turned || home.ends || !self.spots[run.head].stop {
+            return;
+        }
+        let back = run.turned_back();
+        for index in 0..home.pieces.len() {
+            if run.first <= index {
+                self.take(settled, &back, &home.pieces[index], bounds, best);
+            }
         }
     }
 }

@@ -1,6 +1,6 @@
 ghost use Rattle.std.specs.Prelude.{◌≡◌, ◌+◌, ◌-◌, ◌*◌, ◌^◌, ◌<◌, ◌≤◌, false, length};
 ghost use Rattle.best_run.specs.Fit.{BordersFit, IsFit};
-ghost use Rattle.best_run.specs.Moves.{along, begun, can_take, left_after, marked_all, may_come, may_earn, may_settle, misses, passed, settling, using};
+ghost use Rattle.best_run.specs.Moves.{along, begun, can_take, left_after, marked_all, may_come, may_earn, may_settle, misses, own_before, passed, settling, turned_back, using};
 
 use crate::task::{Piece, Task};
 use tables::Amount;
@@ -29,6 +29,12 @@ pub(crate) struct Settled {
 /// A run that has begun.
 #[derive(Clone, Copy)]
 pub(crate) struct Standing {
+    /// Where it began: at a token of the company.
+    pub(crate) home: usize,
+    /// By which of the pieces from there.
+    pub(crate) first: usize,
+    /// It has turned back to where it began, and goes on from there.
+    pub(crate) turned: bool,
     /// Where it stands.
     pub(crate) head: usize,
     /// The most stops of its train.
@@ -37,9 +43,7 @@ pub(crate) struct Standing {
     pub(crate) left: usize,
     /// What its stops are worth, in dollars.
     pub(crate) value: Amount,
-    /// It has come by a token of the company.
-    pub(crate) own: bool,
-    /// The stops that it visits.
+    /// The stops that it visits, and the company's tokens that are passed over.
     pub(crate) visited: [bool; SPOTS],
 }
 
@@ -123,6 +127,22 @@ fn misses(used: &[bool; BORDERS], borders: &[usize]) -> bool
 }
 
 impl Standing {
+    /// The run turns back to where it began.
+    pub(crate) fn turned_back(&self) -> Standing
+        ensures { result ≡ turned_back self.now }
+    {
+        Standing {
+            home: self.home,
+            first: self.first,
+            turned: true,
+            head: self.home,
+            most: self.most,
+            left: self.left,
+            value: self.value,
+            visited: self.visited,
+        }
+    }
+
     /// Whether the run may come to a spot, which may be a stop.
     fn may_come(&self, stop: bool, spot: usize) -> bool
         requires { spot < 744 }
@@ -154,21 +174,38 @@ impl Task {
         run.may_come(self.spots[piece.to].stop, piece.to) && misses(&settled.used, &piece.borders)
     }
 
-    /// A run that stands at the stop where it begins.
-    pub(crate) fn begun(&self, settled: &Settled, stop: usize) -> Standing
+    /// Marks the company's tokens before a number.
+    fn own_before(&self, number: usize) -> [bool; SPOTS]
+        requires fit { IsFit self.now }
+        requires number { number ≤ 744 }
+        ensures { result ≡ own_before self.now number }
+    {
+        let mut marks = [false; SPOTS];
+        for other in 0..number {
+            if self.spots[other].own {
+                marks[other] = true;
+            }
+        }
+        marks
+    }
+
+    /// A run that stands at the token where it begins, by the piece at a place.
+    pub(crate) fn begun(&self, settled: &Settled, stop: usize, first: usize) -> Standing
         requires fit { IsFit self.now }
         requires stop { stop < 744 }
         requires next { settled.now.next < length self.now.trains.items }
-        ensures { result ≡ begun self.now settled.now stop }
+        ensures { result ≡ begun self.now settled.now stop first }
     {
-        let mut visited = [false; SPOTS];
+        let mut visited = self.own_before(stop);
         visited[stop] = true;
         Standing {
+            home: stop,
+            first,
+            turned: false,
             head: stop,
             most: self.trains[settled.next],
             left: self.trains[settled.next].saturating_sub(1),
             value: self.spots[stop].value,
-            own: self.spots[stop].own,
             visited,
         }
     }
@@ -179,7 +216,7 @@ impl Task {
         requires head { run.now.head < 744 }
         ensures { result ≡ may_settle self.now settled.now run.now }
     {
-        run.own && self.spots[run.head].stop && settled.may_earn(run)
+        self.spots[run.head].stop && settled.may_earn(run)
     }
 
     /// A run after a piece.
@@ -189,14 +226,19 @@ impl Task {
         requires room { run.now.value ≤ 50000 }
         ensures { result ≡ along self.now run.now piece.now }
     {
+        let node = &self.spots[piece.to];
         let mut visited = run.visited;
-        visited[piece.to] = true;
+        if node.stop {
+            visited[piece.to] = true;
+        }
         Standing {
+            home: run.home,
+            first: run.first,
+            turned: run.turned,
             head: piece.to,
             most: run.most,
-            left: left_after(self.spots[piece.to].stop, run.left),
-            value: run.value + self.spots[piece.to].value,
-            own: run.own || self.spots[piece.to].own,
+            left: left_after(node.stop, run.left),
+            value: run.value + node.value,
             visited,
         }
     }

@@ -189,7 +189,7 @@ joined_over spot other (inl stop) none = absurd (let wrong : None ≡ Some stop.
 joined_over spot other (inr over) none = over
 
 -- the two sides of a border are one border
-one_border : NeighboursPair → (spot other : Spot) → across spot ≡ Some other → border_at spot.hex spot.end ≡ border_at other.hex other.end
+pub one_border : NeighboursPair → (spot other : Spot) → across spot ≡ Some other → border_at spot.hex spot.end ≡ border_at other.hex other.end
 one_border pair spot other over = by_end spot.end over
   where
     by_hex : (side : Side) (beyond : Option Hex) → neighbour_of spot.hex side ≡ beyond → option_map (λ next. spot_at next (AtSide (facing_of side))) beyond ≡ Some other → border_at spot.hex (AtSide side) ≡ border_at other.hex other.end

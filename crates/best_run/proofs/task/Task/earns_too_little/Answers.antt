@@ -1,6 +1,5 @@
 -- The level that was chosen bounds what the run earns.
 use Rattle.std.proofs.Common.{◌+◌, ◌-◌, slice_index_or, arith}
-use Rattle.std.proofs.lemmas.Bool.{leb-true}
 use Rattle.std.proofs.lemmas.Option.{slice_get-get_or}
 use Rattle.best_run.specs.Suffix.{EarnAtMost}
 use Rattle.best_run.proofs.Hopeless.{ends_alike, ends_low}

@@ -1,6 +1,11 @@
 -- Nothing lay ahead at first.
-use Rattle.best_run.proofs.Ahead.{outlook_from}
+use Rattle.best_run.proofs.Ahead.{outlook_both, outlook_from}
 use Rattle.best_run.proofs.task.Task.outlook.Goals as goal
 
-pub returns-clause-outlook : goal.returns-clause-outlook
-returns-clause-outlook c = outlook_from c.args.self.now c.args.settled.now c.args.run.now _ c.look_from.ensures
+pub returns-then-not-run-clause-outlook : goal.returns-then-not-run-clause-outlook
+returns-then-not-run-clause-outlook c =
+    outlook_both c.args.self.now c.args.settled.now c.args.run.now _ _ c.look_from.ensures c.look_from-then-not-run.ensures
+
+pub returns-else-not-run-clause-outlook : goal.returns-else-not-run-clause-outlook
+returns-else-not-run-clause-outlook c =
+    outlook_from c.args.self.now c.args.settled.now c.args.run.now _ c.if-not-run.false c.look_from.ensures
