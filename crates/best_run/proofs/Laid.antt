@@ -1,5 +1,5 @@
 -- The steps of a position, and the pieces from its spots, as they are collected.
-use Rattle.std.proofs.Common.{◌≡◌, ◌↔◌, ℕ, zero, suc, ◌+◌, ◌/◌, ◌%◌, ◌<◌, ◌≤◌, Bool, true, false, ◌⊎◌, inl, inr, Some, None, List, [], ◌∷◌, ◌++◌, length, get_or, slice_get, take, refl, sym, ap, subst, ◌∙◌, arith, length-append}
+use Rattle.std.proofs.Common.{◌≡◌, ◌↔◌, ℕ, zero, suc, ◌+◌, ◌/◌, ◌%◌, ◌<◌, ◌≤◌, Bool, true, false, ◌⊎◌, inl, inr, Option, Some, None, List, [], ◌∷◌, ◌++◌, length, get_or, slice_get, take, refl, sym, ap, subst, ◌∙◌, arith, length-append}
 use Rattle.std.proofs.lemmas.List.{take_all, take_more}
 use Rattle.std.proofs.lemmas.Option.{slice_get_within}
 use Rattle.map_tables.specs.Hex.{index_of}
@@ -13,7 +13,7 @@ use Rattle.map_tables.specs.declared.track.Link.{Link}
 use Rattle.reach.specs.Lawful.{IsLawful}
 use Rattle.reach.specs.Position.{Position, IsAmong, links_of}
 use Rattle.reach.specs.Search.{number_at, spot_number}
-use Rattle.reach.specs.Walk.{IsTrack, stop_at_end, stop_of}
+use Rattle.reach.specs.Walk.{IsTrack, entered_at, stop_at_end, stop_of}
 use Rattle.reach.specs.declared.walk.Spot.{Spot}
 use Rattle.reach.specs.declared.walk.Step.{Step}
 use Rattle.reach.proofs.Collected.{hexes_more, own_hex}
@@ -24,7 +24,7 @@ use Rattle.tables.specs.declared.rolling_stock.Kind.{Kind}
 use Rattle.tables.specs.declared.roster.Company.{Company}
 use Rattle.best_run.specs.declared.task.Node.{Node}
 use Rattle.best_run.specs.declared.task.Piece.{Piece}
-use Rattle.best_run.specs.Described.{Adds, AreNumbered, ArePiecesFrom, ComesFrom, IsNumbered, IsPieceOf, most_of, most_of_all}
+use Rattle.best_run.specs.Described.{Adds, AreNumbered, ArePiecesFrom, ComesFrom, IsNumbered, IsPieceOf, code_before, codes_before, most_of, most_of_all, number_before, number_or_none}
 
 -- a link taken in a direction
 abbrev pub taking : Link → Bool → Step
@@ -109,6 +109,38 @@ pub steps_all : (position : Position) (steps : List Step) (index : ℕ) → 93 �
 steps_all position steps index all before step =
     (before.only step, λ track. before.added step (omega (arith, index_low step.link.hex)) track)
 
+-- the codes of some steps, one by one
+pub codes_more : (steps : List Step) (i : ℕ) (d : Step) → i < length steps → codes_before (take (i + 1) steps) ≡ codes_before (take i steps) ++ code_before (get_or steps i d) ∷ []
+codes_more steps i d low = ap codes_before (take_more steps i d low) ∙ codes_end (take i steps) (get_or steps i d)
+  where
+    codes_end : (first : List Step) (step : Step) → codes_before (first ++ step ∷ []) ≡ codes_before first ++ code_before step ∷ []
+    codes_end [] step = refl
+    codes_end (other ∷ first) step = ap (λ codes. code_before other ∷ codes) (codes_end first step)
+
+pub codes_all : (steps : List Step) (i : ℕ) → length steps ≤ i → codes_before (take i steps) ≡ codes_before steps
+codes_all steps i all = ap codes_before (take_all i steps all)
+
+pub codes_length : (steps : List Step) → length (codes_before steps) ≡ length steps
+codes_length [] = refl
+codes_length (step ∷ steps) = ap suc (codes_length steps)
+
+code_at : (steps : List Step) (i d : ℕ) (other : Step) → i < length steps → get_or (codes_before steps) i d ≡ code_before (get_or steps i other)
+code_at [] i d other low = absurd (omega arith)
+code_at (step ∷ steps) zero d other low = refl
+code_at (step ∷ steps) (suc i) d other low = code_at steps i d other (omega arith)
+
+-- a step comes from a spot exactly where its code is the spot's number
+code_comes : (number : ℕ) (found : Option ℕ) → number < 744 → (number_or_none found ≡ number) ↔ (found ≡ Some number)
+code_comes number None low = (λ is. absurd (omega (arith, low, is)), λ is. absurd cc)
+code_comes number (Some other) low = (λ is. ap (λ (n : ℕ). Some n) is, λ is. let same : other ≡ number = cc in same)
+
+pub comes_by_code : (steps : List Step) (i d number : ℕ) (other : Step) → i < length steps → number < 744 → (get_or (codes_before steps) i d ≡ number) ↔ ComesFrom number (get_or steps i other)
+comes_by_code steps i d number other low few =
+    let at = entered_at (get_or steps i other) in
+    let code : get_or (codes_before steps) i d ≡ code_before (get_or steps i other) = code_at steps i d other low in
+    let comes = code_comes number (number_before at.hex at.end) few in
+    (λ is. comes.0 (sym code ∙ is), λ is. code ∙ comes.1 is)
+
 -- no step has come
 pub pieces_none : (number : ℕ) (steps : List Step) → ArePiecesFrom number (take 0 steps) []
 pieces_none number steps =
@@ -129,6 +161,11 @@ pieces_same number steps pieces i d low fails before =
         | inr next ↦ absurd (fails (subst (ComesFrom number) (sym next) comes))
       ];
     }
+
+pub pieces_next : (number : ℕ) (steps : List Step) (pieces : List Piece) (i : ℕ) → i < length steps → number < 744 → (get_or (codes_before steps) i 0 ≡ number → ⊥) → ArePiecesFrom number (take i steps) pieces → ArePiecesFrom number (take (i + 1) steps) pieces
+pieces_next number [] pieces i low few other before = absurd (omega (arith, low))
+pieces_next number (step ∷ steps) pieces i low few other before =
+    pieces_same number (step ∷ steps) pieces i step low (λ comes. other ((comes_by_code (step ∷ steps) i 0 number step low few).1 comes)) before
 
 -- the piece of the next step is added
 pub pieces_more : (number : ℕ) (steps : List Step) (pieces : List Piece) (i : ℕ) (d : Step) → i < length steps → ComesFrom number (get_or steps i d) → (piece : Piece) → IsPieceOf (get_or steps i d) piece → ArePiecesFrom number (take i steps) pieces → ArePiecesFrom number (take (i + 1) steps) (pieces ++ piece ∷ [])

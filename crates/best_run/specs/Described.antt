@@ -88,6 +88,19 @@ number_before hex (AtStop number) = Some (spot_number (spot_at hex (AtStop numbe
 abbrev pub ComesFrom : ℕ → Step → Type 0
 ComesFrom number step = number_before (entered_at step).hex (entered_at step).end ≡ Some number
 
+-- the number of the spot from which a step may be taken, or a number that no spot has
+abbrev pub number_or_none : Option ℕ → ℕ
+number_or_none (Some number) = number
+number_or_none None = 744
+
+abbrev pub code_before : Step → ℕ
+code_before step = number_or_none (number_before (entered_at step).hex (entered_at step).end)
+
+-- the same for each of some steps
+abbrev pub codes_before : List Step → List ℕ
+codes_before [] = []
+codes_before (step ∷ steps) = code_before step ∷ codes_before steps
+
 -- these are all steps of a position
 abbrev pub AreSteps : Position → List Step → Type 0
 AreSteps position steps = (step : Step) → IsAmong step steps ↔ IsTrack position step

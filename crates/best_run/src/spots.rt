@@ -1,6 +1,6 @@
 //! The spots of a position, with the pieces of track that lead from them.
 ghost use Rattle.std.specs.Prelude.{◌≡◌, ◌+◌, ◌<◌, ◌≤◌, ◌/◌, ◌%◌, ◌↔◌, length, IfOk, IsTrue, OnOk, Some};
-ghost use Rattle.best_run.specs.Described.{Adds, ArePiecesFrom, AreNumbered, AreSteps, ComesFrom, Describes, IsNumbered, IsPieceOf, IsSideNode, IsStopNode, most_of, most_of_all, number_before};
+ghost use Rattle.best_run.specs.Described.{Adds, ArePiecesFrom, AreNumbered, AreSteps, Describes, IsNumbered, IsPieceOf, IsSideNode, IsStopNode, code_before, codes_before, most_of, most_of_all, number_before};
 ghost use Rattle.best_run.specs.Fit.{IsFit};
 ghost use Rattle.certificate.specs.Legal.{border_of};
 ghost use Rattle.map_tables.specs.Hex.{index_of};
@@ -16,6 +16,9 @@ use map_tables::{End, HEXES, Hex, Link, Side, Stop, StopNumber, joined_stop, nei
 use reach::{Network, Spot, Step};
 use std::alloc::{AllocError, Global};
 use tables::{Company, Kind};
+
+/// How many numbers the spots of the map have.
+const SPOTS: usize = 744;
 
 /// The number of a spot: eight for each hex. A stop that lies in two hexes has one number.
 fn number_of(spot: Spot) -> usize
@@ -126,28 +129,43 @@ fn push_both(link: Link, steps: &mut Vec<Step>) -> Result<(), AllocError>
     Ok(())
 }
 
-/// Whether a step may be taken from the spot with a number.
-fn comes_from(step: Step, number: usize) -> bool
-    ensures { IsTrue result ↔ ComesFrom number step }
+/// The number of the spot from which a step may be taken; `SPOTS` where there is none.
+fn code_before(step: Step) -> usize
+    ensures { result ≡ code_before step }
 {
     match number_before(step.entered()) {
-        Some(from) => from == number,
-        None => false,
+        Some(number) => number,
+        None => SPOTS,
     }
 }
 
-/// The pieces of those steps that may be taken from a spot.
+/// For each of some steps, the number of the spot from which it may be taken.
+fn codes_before(alloc: Global, steps: &[Step]) -> Result<Vec<usize>, AllocError>
+    ensures { IfOk result (λ codes. codes.items ≡ codes_before steps.now) }
+{
+    let mut codes = Vec::new(alloc);
+    for step in steps {
+        codes.push(code_before(*step))?;
+    }
+    Ok(codes)
+}
+
+/// The pieces of those steps that may be taken from a spot. The codes are the numbers of the spots
+/// from which the steps may be taken.
 pub(crate) fn pieces_from(
     alloc: Global,
     steps: &[Step],
+    codes: &[usize],
     number: usize,
 ) -> Result<Vec<Piece>, AllocError>
+    requires codes { codes.now ≡ codes_before steps.now }
+    requires number { number < 744 }
     ensures { IfOk result (λ pieces. ArePiecesFrom number steps.now pieces.items) }
 {
     let mut pieces = Vec::new(alloc);
-    for step in steps {
-        if comes_from(*step, number) {
-            pieces.push(piece_of(alloc, *step)?)?;
+    for index in 0..codes.len() {
+        if codes[index] == number {
+            pieces.push(piece_of(alloc, steps[index])?)?;
         }
     }
     Ok(pieces)
@@ -216,13 +234,15 @@ fn node_of<N: Network>(
     network: &N,
     company: Company,
     steps: &[Step],
+    codes: &[usize],
     number: usize,
 ) -> Result<Node, AllocError>
-    requires { number < 744 }
+    requires codes { codes.now ≡ codes_before steps.now }
+    requires number { number < 744 }
     ensures { let position = N.position network.now in
         IfOk result (IsNumbered position company steps.now number) }
 {
-    let pieces = pieces_from(alloc, steps, number)?;
+    let pieces = pieces_from(alloc, steps, codes, number)?;
     if is_side(number) {
         return Ok(side_node(pieces));
     }
@@ -232,9 +252,6 @@ fn node_of<N: Network>(
     };
     Ok(stop_node(network, company, stop, pieces))
 }
-
-/// How many numbers the spots of the map have.
-const SPOTS: usize = 744;
 
 /// All spots, by their numbers.
 fn all_spots<N: Network>(
@@ -246,9 +263,10 @@ fn all_spots<N: Network>(
     ensures { let position = N.position network.now in
         IfOk result (λ nodes. AreNumbered position company steps.now 744 nodes.items) }
 {
+    let codes = codes_before(alloc, steps)?;
     let mut nodes = Vec::new(alloc);
     for number in 0..SPOTS {
-        nodes.push(node_of(alloc, network, company, steps, number)?)?;
+        nodes.push(node_of(alloc, network, company, steps, &codes, number)?)?;
     }
     Ok(nodes)
 }

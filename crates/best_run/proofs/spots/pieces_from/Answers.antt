@@ -1,19 +1,30 @@
--- The piece of the step in hand is pushed, if it may be taken from the spot.
-use Rattle.std.proofs.Common.{◌≡◌, true, false, sym, ◌∙◌}
-use Rattle.best_run.proofs.Laid.{pieces_all, pieces_more, pieces_same}
+-- The piece of the step in hand is pushed, if its code is the number of the spot.
+use Rattle.std.proofs.Common.{◌≡◌, ◌<◌, ℕ, List, length, get_or, ap, sym, ◌∙◌, subst, arith}
+use Rattle.best_run.specs.Described.{codes_before}
+use Rattle.best_run.proofs.Laid.{codes_length, comes_by_code, pieces_all, pieces_more, pieces_next}
 use Rattle.best_run.proofs.spots.pieces_from.Goals as goal
-use Rattle.best_run.proofs.spots.pieces_from.Goals.{then-comes_from+in_ok-piece_of+in_ok-push, else-comes_from}
+use Rattle.best_run.proofs.spots.pieces_from.Goals.{then-codes-index+in_ok-piece_of+in_ok-push, else-codes-index}
 
-pub loop-step-preserved : goal.loop-step-preserved
-loop-step-preserved c =
-    elim c.if-comes_from.branch [
-      | then-comes_from+in_ok-piece_of+in_ok-push w ↦
+-- there are as many codes as steps
+pub bounds-steps-index : goal.bounds-steps-index
+bounds-steps-index c = omega (arith, ap (λ (codes : List ℕ). length codes) c.requires.codes, codes_length c.args.steps.now)
+
+pub loop-index-preserved : goal.loop-index-preserved
+loop-index-preserved c =
+    let steps = c.args.steps.now in
+    let index = c.loop-index.index in
+    let low : index < length steps = omega (arith, c.loop-index-test.true, ap (λ (codes : List ℕ). length codes) c.requires.codes, codes_length steps) in
+    let code : get_or c.args.codes.now index 0 ≡ get_or (codes_before steps) index 0 = ap (λ (codes : List ℕ). get_or codes index 0) c.requires.codes in
+    elim c.if-codes-index.branch [
+      | then-codes-index+in_ok-piece_of+in_ok-push w ↦
           rw (w.pieces-is, w.in_ok-push.ensures.items)
-          (pieces_more c.args.number c.args.steps.now c.loop-step.pieces.items c.loop-step.step-index _ c.loop-step-test.true (c.comes_from.ensures.0 w.if-comes_from.true) _ w.in_ok-piece_of.ensures c.loop-step.invariant)
-      | else-comes_from w ↦
+          (pieces_more c.args.number steps c.loop-index.pieces.items index _ low ((comes_by_code steps index 0 c.args.number _ low c.requires.number).0 (sym code ∙ w.if-codes-index.true)) _ w.in_ok-piece_of.ensures c.loop-index.invariant)
+      | else-codes-index w ↦
           rw w.pieces-is
-          (pieces_same c.args.number c.args.steps.now c.loop-step.pieces.items c.loop-step.step-index _ c.loop-step-test.true (λ comes. let found : true ≡ false = sym (c.comes_from.ensures.1 comes) ∙ w.if-comes_from.false in cc) c.loop-step.invariant)
+          (pieces_next c.args.number steps c.loop-index.pieces.items index low c.requires.number (λ is. w.if-codes-index.false (code ∙ is)) c.loop-index.invariant)
     ]
 
 pub returns : goal.returns
-returns c = pieces_all c.args.number c.args.steps.now _ c.loop-step.step-index c.loop-step-test.false c.loop-step.invariant
+returns c =
+    pieces_all c.args.number c.args.steps.now _ c.loop-index.index
+    (omega (arith, c.loop-index-test.false, ap (λ (codes : List ℕ). length codes) c.requires.codes, codes_length c.args.steps.now)) c.loop-index.invariant

@@ -3,5 +3,5 @@ use Rattle.std.proofs.Common.{take}
 use Rattle.best_run.specs.Described.{ArePiecesFrom}
 use Rattle.best_run.proofs.spots.pieces_from.Given as goal
 
-abbrev pub invariant-loop-step : goal.invariant-loop-step
-invariant-loop-step l = ArePiecesFrom l.number (take l.step-index l.steps) l.pieces.items
+abbrev pub invariant-loop-index : goal.invariant-loop-index
+invariant-loop-index l = ArePiecesFrom l.number (take l.index l.steps) l.pieces.items
