@@ -27,13 +27,13 @@ use Rattle.best_run.specs.Moves.{LeadsFrom, node_at, pieces_in, stop_in}
 use Rattle.best_run.proofs.Advance.{border_fits, one_number, spot_low}
 
 -- what stands at a place is among a list
-among_place : {A : Type 0} (xs : List A) (i : ℕ) (x : A) → slice_get xs i ≡ Some x → IsAmong x xs
+pub among_place : {A : Type 0} (xs : List A) (i : ℕ) (x : A) → slice_get xs i ≡ Some x → IsAmong x xs
 among_place [] i x is = absurd (omega (arith, slice_get_within [] i x is))
 among_place (y ∷ ys) zero x is = inl (let same : y ≡ x = cc in same)
 among_place (y ∷ ys) (suc i) x is = inr (among_place ys i x is)
 
 -- what is among a list has a place
-place_among : {A : Type 0} (xs : List A) (x : A) → IsAmong x xs → (i : ℕ) × (slice_get xs i ≡ Some x)
+pub place_among : {A : Type 0} (xs : List A) (x : A) → IsAmong x xs → (i : ℕ) × (slice_get xs i ≡ Some x)
 place_among [] x among = absurd among
 place_among (y ∷ ys) x (inl is) = (0, ap (λ z. Some z) is)
 place_among (y ∷ ys) x (inr later) = let rest = place_among ys x later in (suc rest.0, rest.1)

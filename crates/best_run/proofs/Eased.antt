@@ -10,13 +10,13 @@ use Rattle.best_run.specs.Suffix.{AreBounds, EarnAtMost, FallShort, IsSolved, no
 use Rattle.best_run.proofs.Advance.{IsMarked, free_misses, misses_free}
 
 -- what is marked in the second is marked in the first
-abbrev Freer : List Bool → List Bool → Type 0
+abbrev pub Freer : List Bool → List Bool → Type 0
 Freer [] [] = Unit {0}
 Freer [] (mark ∷ marks) = ⊥
 Freer (mark ∷ marks) [] = ⊥
 Freer (mark ∷ marks) (other ∷ others) = (other ≡ true → mark ≡ true) × Freer marks others
 
-freer_none : (used : List Bool) → Freer used (replicate (length used) false)
+pub freer_none : (used : List Bool) → Freer used (replicate (length used) false)
 freer_none [] = tt
 freer_none (mark ∷ used) = ((λ wrong. absurd (let w : false ≡ true = wrong in cc)), freer_none used)
 
@@ -27,11 +27,11 @@ freer_set (mark ∷ used) [] n freer = absurd freer
 freer_set (mark ∷ used) (other ∷ others) zero freer = ((λ is. refl), freer.1)
 freer_set (mark ∷ used) (other ∷ others) (suc n) freer = (freer.0, freer_set used others n freer.1)
 
-freer_all : (borders : List ℕ) (used others : List Bool) → Freer used others → Freer (marked_all used borders) (marked_all others borders)
+pub freer_all : (borders : List ℕ) (used others : List Bool) → Freer used others → Freer (marked_all used borders) (marked_all others borders)
 freer_all [] used others freer = freer
 freer_all (border ∷ borders) used others freer = freer_all borders (set used border true) (set others border true) (freer_set used others border freer)
 
-freer_marked : (used others : List Bool) (n : ℕ) → Freer used others → IsMarked others n → IsMarked used n
+pub freer_marked : (used others : List Bool) (n : ℕ) → Freer used others → IsMarked others n → IsMarked used n
 freer_marked [] [] n freer marked = marked
 freer_marked [] (mark ∷ others) n freer marked = absurd freer
 freer_marked (mark ∷ used) [] n freer marked = absurd freer

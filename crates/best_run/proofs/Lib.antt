@@ -14,9 +14,12 @@ pub mod Complete
 pub mod Few
 pub mod Split
 pub mod Arms
+pub mod Departing
+pub mod Chunks
 pub mod Sets
 pub mod Runs
 pub mod Sound
 pub mod Greatest
 pub mod Laid
 pub mod Described
+pub mod Along

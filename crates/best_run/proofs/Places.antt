@@ -123,7 +123,7 @@ one_if true = 1
 one_if false = 0
 
 -- what is left to be earned is enough after a piece
-room_by : (task : Task) (settled : Settled) (run : Standing) (piece : Piece) → IsFit task → length settled.used ≡ 279 → misses settled.used piece.borders.items ≡ true → (from to : Bool) → stop_in (node_at task piece.to) ≡ to → PieceFits task from piece → HasRoom settled.used (settled.total + run.value) 44720 → HasRoom (using settled piece).used ((using settled piece).total + ((along task run piece).value + credit to)) 44720
+pub room_by : (task : Task) (settled : Settled) (run : Standing) (piece : Piece) → IsFit task → length settled.used ≡ 279 → misses settled.used piece.borders.items ≡ true → (from to : Bool) → stop_in (node_at task piece.to) ≡ to → PieceFits task from piece → HasRoom settled.used (settled.total + run.value) 44720 → HasRoom (using settled piece).used ((using settled piece).total + ((along task run piece).value + credit to)) 44720
 room_by task settled run piece fit whole free true true is fits room = let wrong : true ≡ false = sym is ∙ fits.to_side refl in absurd cc
 room_by task settled run piece fit whole free true false is fits room =
     omega (arith, side_value task fit piece.to is, marked_most settled.used piece.borders.items)
@@ -136,7 +136,7 @@ room_after task settled run piece fit whole taken fits room =
     room_by task settled run piece fit whole (take_free task run settled.used piece taken) (stop_in (node_at task run.head)) (stop_in (node_at task piece.to)) refl fits room
 
 -- and less is left to be gone
-less_by : (task : Task) (settled : Settled) (piece : Piece) → length settled.used ≡ 279 → misses settled.used piece.borders.items ≡ true → (from to : Bool) → stop_in (node_at task piece.to) ≡ to → PieceFits task from piece → 3 * unused (marked_all settled.used piece.borders.items) + one_if to + 1 ≤ 3 * unused settled.used + one_if from
+pub less_by : (task : Task) (settled : Settled) (piece : Piece) → length settled.used ≡ 279 → misses settled.used piece.borders.items ≡ true → (from to : Bool) → stop_in (node_at task piece.to) ≡ to → PieceFits task from piece → 3 * unused (marked_all settled.used piece.borders.items) + one_if to + 1 ≤ 3 * unused settled.used + one_if from
 unfolding one_if
 less_by task settled piece whole free true true is fits = let wrong : true ≡ false = sym is ∙ fits.to_side refl in absurd cc
 less_by task settled piece whole free true false is fits = omega (arith, marked_most settled.used piece.borders.items)
@@ -158,3 +158,7 @@ pub one_of : (b : Bool) → b ≡ true → one_if b ≡ 1
 unfolding one_if
 one_of true is = refl
 one_of false is = let wrong : false ≡ true = is in absurd cc
+
+pub one_at_side : one_if false ≡ 0
+unfolding one_if
+one_at_side = refl

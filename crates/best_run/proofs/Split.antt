@@ -237,7 +237,7 @@ distinct_left [] second distinct = tt
 distinct_left (x ∷ first) second distinct =
     ((λ among. distinct.0 ((among_both x first second).1 (inl among))), distinct_left first second distinct.1)
 
-append_together : {A : Type 0} (xs ys zs : List A) → (xs ++ ys) ++ zs ≡ xs ++ (ys ++ zs)
+pub append_together : {A : Type 0} (xs ys zs : List A) → (xs ++ ys) ++ zs ≡ xs ++ (ys ++ zs)
 append_together [] ys zs = refl
 append_together (x ∷ xs) ys zs = ap (λ rest. x ∷ rest) (append_together xs ys zs)
 

@@ -4,3 +4,4 @@ pub mod Described
 pub mod Suffix
 pub mod Ahead
 pub mod Kinds
+pub mod Ways

@@ -1,6 +1,7 @@
 ghost use Rattle.std.specs.Prelude.{◌≡◌, ◌-◌, ◌≤◌, IfOk, false, length};
 ghost use Rattle.best_run.specs.Fit.{IsFit};
 ghost use Rattle.best_run.specs.Moves.{Explores, between, start};
+ghost use Rattle.best_run.specs.Ways.{AreReady};
 ghost use Rattle.best_run.specs.Suffix.{AreBounds, IsSolved, nothing_before};
 ghost use Rattle.certificate.specs.Set.{IsGreatest};
 
@@ -15,6 +16,7 @@ impl Task {
     /// Tries all ways of the last trains by themselves, so many of them.
     fn settle_last(&self, count: usize, bounds: &[Amount], best: &mut Amount)
         requires fit { IsFit self.now }
+        requires ready { AreReady self.now }
         requires bounds { AreBounds self.now bounds.now }
         requires count { count ≤ length self.now.trains.items }
         ensures { let next = length self.now.trains.items - count in
@@ -33,7 +35,8 @@ impl Task {
     /// Solves for no train, for the last one, for the last two, and so on, up to all but the first:
     /// what is found bounds what these trains earn behind others. The only error is want of memory.
     fn settle_suffixes(&self, alloc: Global, best: &mut Amount) -> Result<Vec<Amount>, AllocError>
-        requires { IsFit self.now }
+        requires fit { IsFit self.now }
+        requires ready { AreReady self.now }
         ensures { let all = length self.now.trains.items in
             IfOk result (λ bounds. IsSolved self.now all bounds.items best.old best.new) }
     {
@@ -48,7 +51,8 @@ impl Task {
     /// The greatest total of all ways from nothing settled to the end, in dollars. The only error
     /// is want of memory.
     fn greatest(&self, alloc: Global) -> Result<Amount, AllocError>
-        requires { IsFit self.now }
+        requires fit { IsFit self.now }
+        requires ready { AreReady self.now }
         ensures { IfOk result (Explores self.now start 0) }
     {
         let mut best = 0;

@@ -20,6 +20,7 @@ mod spots;
 mod state;
 mod task;
 mod trains;
+mod ways;
 
 pub use best::greatest_revenue;
 pub use runner::Search;

@@ -1,6 +1,7 @@
-ghost use Rattle.std.specs.Prelude.{◌≡◌, ◌+◌, ◌<◌, ◌≤◌, true, IsTrue, length};
+ghost use Rattle.std.specs.Prelude.{◌≡◌, ◌+◌, ◌<◌, ◌≤◌, true, false, IsTrue, length};
 ghost use Rattle.best_run.specs.Fit.{HasRoom, IsFit, PieceFits, credit};
 ghost use Rattle.best_run.specs.Suffix.{AreBounds, AreCapped, AreEqual, FallShort};
+ghost use Rattle.best_run.specs.Ways.{AreReady};
 ghost use Rattle.best_run.specs.Moves.{Any, Explores, IsBegin, IsBeginAt, IsGo, IsTurn, Takes, Tries, between, node_at, own_in, standing, stop_in};
 
 use crate::state::{Settled, Standing};
@@ -68,6 +69,7 @@ impl Task {
     #[cycle(explore)]
     pub(crate) fn settle_next(&self, settled: &Settled, bounds: &[Amount], best: &mut Amount)
         requires fit { IsFit self.now }
+        requires ready { AreReady self.now }
         requires bounds { AreBounds self.now bounds.now }
         requires next { settled.now.next ≤ length self.now.trains.items }
         requires room { HasRoom settled.now.used settled.now.total 44640 }
@@ -102,6 +104,7 @@ impl Task {
     #[cycle(explore)]
     fn begin_runs(&self, settled: &Settled, bounds: &[Amount], best: &mut Amount)
         requires fit { IsFit self.now }
+        requires ready { AreReady self.now }
         requires bounds { AreBounds self.now bounds.now }
         requires next { settled.now.next < length self.now.trains.items }
         requires room { HasRoom settled.now.used settled.now.total 44640 }
@@ -119,6 +122,7 @@ impl Task {
     #[cycle(explore)]
     fn begin_at(&self, settled: &Settled, stop: usize, bounds: &[Amount], best: &mut Amount)
         requires fit { IsFit self.now }
+        requires ready { AreReady self.now }
         requires bounds { AreBounds self.now bounds.now }
         requires next { settled.now.next < length self.now.trains.items }
         requires room { HasRoom settled.now.used settled.now.total 44640 }
@@ -127,10 +131,12 @@ impl Task {
         requires token { own_in (node_at self.now stop) ≡ true }
         ensures { Tries self.now (between settled.now) (IsBeginAt stop Any) best.old best.new }
     {
-        let node = &self.spots[stop];
-        for index in 0..node.pieces.len() {
-            let run = self.begun(settled, stop, index);
-            self.take(settled, &run, &node.pieces[index], bounds, best);
+        settled.marks_all_borders();
+        let from = &self.departures[stop];
+        for index in 0..from.ways.len() {
+            let way = &from.ways[index];
+            let run = self.begun(settled, stop, way.first);
+            self.take(settled, &run, &way.piece, bounds, best);
         }
     }
 
@@ -145,10 +151,11 @@ impl Task {
         best: &mut Amount,
     )
         requires fit { IsFit self.now }
+        requires ready { AreReady self.now }
         requires bounds { AreBounds self.now bounds.now }
         requires next { settled.now.next < length self.now.trains.items }
-        requires piece { let from = stop_in (node_at self.now run.now.head) in
-            PieceFits self.now from piece.now }
+        requires piece { PieceFits self.now false piece.now }
+        requires to { stop_in (node_at self.now piece.now.to) ≡ true }
         requires home { run.now.home < 744 }
         requires begun { stop_in (node_at self.now run.now.home) ≡ true }
         requires room { HasRoom settled.now.used (settled.now.total + run.now.value) 44720 }
@@ -165,9 +172,11 @@ impl Task {
     #[cycle(explore)]
     fn stand(&self, settled: &Settled, run: &Standing, bounds: &[Amount], best: &mut Amount)
         requires fit { IsFit self.now }
+        requires ready { AreReady self.now }
         requires bounds { AreBounds self.now bounds.now }
         requires next { settled.now.next < length self.now.trains.items }
         requires head { run.now.head < 744 }
+        requires stands { stop_in (node_at self.now run.now.head) ≡ true }
         requires home { run.now.home < 744 }
         requires begun { stop_in (node_at self.now run.now.home) ≡ true }
         requires room { let more = credit (stop_in (node_at self.now run.now.head)) in
@@ -189,9 +198,11 @@ impl Task {
     #[cycle(explore)]
     fn go_on(&self, settled: &Settled, run: &Standing, bounds: &[Amount], best: &mut Amount)
         requires fit { IsFit self.now }
+        requires ready { AreReady self.now }
         requires bounds { AreBounds self.now bounds.now }
         requires next { settled.now.next < length self.now.trains.items }
         requires head { run.now.head < 744 }
+        requires stands { stop_in (node_at self.now run.now.head) ≡ true }
         requires home { run.now.home < 744 }
         requires begun { stop_in (node_at self.now run.now.home) ≡ true }
         requires room { let more = credit (stop_in (node_at self.now run.now.head)) in
@@ -202,8 +213,10 @@ impl Task {
         if head.ends {
             return;
         }
-        for index in 0..head.pieces.len() {
-            self.take(settled, run, &head.pieces[index], bounds, best);
+        settled.marks_all_borders();
+        let from = &self.departures[run.head];
+        for index in 0..from.ways.len() {
+            self.take(settled, run, &from.ways[index].piece, bounds, best);
         }
     }
 
@@ -211,23 +224,27 @@ impl Task {
     #[cycle(explore)]
     fn turn_back(&self, settled: &Settled, run: &Standing, bounds: &[Amount], best: &mut Amount)
         requires fit { IsFit self.now }
+        requires ready { AreReady self.now }
         requires bounds { AreBounds self.now bounds.now }
         requires next { settled.now.next < length self.now.trains.items }
         requires head { run.now.head < 744 }
+        requires stands { stop_in (node_at self.now run.now.head) ≡ true }
         requires home { run.now.home < 744 }
         requires begun { stop_in (node_at self.now run.now.home) ≡ true }
         requires room { let more = credit (stop_in (node_at self.now run.now.head)) in
             HasRoom settled.now.used (settled.now.total + (run.now.value + more)) 44720 }
         ensures { Tries self.now (standing settled.now run.now) (IsTurn Any) best.old best.new }
     {
-        let home = &self.spots[run.home];
-        if run.turned || home.ends || !self.spots[run.head].stop {
+        if run.turned || self.spots[run.home].ends {
             return;
         }
         let back = run.turned_back();
-        for index in 0..home.pieces.len() {
-            if run.first <= index {
-                self.take(settled, &back, &home.pieces[index], bounds, best);
+        settled.marks_all_borders();
+        let from = &self.departures[run.home];
+        for index in 0..from.ways.len() {
+            let way = &from.ways[index];
+            if run.first <= way.first {
+                self.take(settled, &back, &way.piece, bounds, best);
             }
         }
     }

@@ -2,6 +2,7 @@
 ghost use Rattle.std.specs.Prelude.{◌≡◌, ◌+◌, ◌<◌, ◌≤◌, ◌/◌, ◌%◌, ◌↔◌, length, IfOk, IsTrue, OnOk, Some};
 ghost use Rattle.best_run.specs.Described.{Adds, ArePiecesFrom, AreNumbered, AreSteps, Describes, IsNumbered, IsPieceOf, IsSideNode, IsStopNode, code_before, codes_before, most_of, most_of_all, number_before};
 ghost use Rattle.best_run.specs.Fit.{IsFit};
+ghost use Rattle.best_run.specs.Ways.{AreReady};
 ghost use Rattle.certificate.specs.Legal.{border_of};
 ghost use Rattle.map_tables.specs.Hex.{index_of};
 ghost use Rattle.map_tables.specs.Place.{stop_index_of};
@@ -304,10 +305,18 @@ impl Task {
         ensures described { let position = N.position network.now in
             IfOk result (Describes position company kinds.now) }
         ensures fit { IfOk result IsFit }
+        ensures ways { IfOk result AreReady }
     {
         let steps = all_steps(alloc, network)?;
         let spots = all_spots(alloc, network, company, &steps)?;
         let trains = most_of_all(alloc, kinds)?;
-        Ok(Task { spots, trains })
+        let mut task = Task {
+            spots,
+            departures: Vec::new(alloc),
+            trains,
+        };
+        let departures = task.all_departures(alloc)?;
+        task.departures = departures;
+        Ok(task)
     }
 }

@@ -48,6 +48,13 @@ pub(crate) struct Standing {
 }
 
 impl Settled {
+    /// A law, which does nothing when it runs: each border has its mark.
+    pub(crate) fn marks_all_borders(&self)
+        ensures { length self.now.used ≡ 279 }
+    {
+        let _ = self.next;
+    }
+
     /// The next train does not run.
     pub(crate) fn passed(&self) -> Settled
         requires { self.now.next < 2 ^ 63 }
@@ -103,7 +110,7 @@ impl Settled {
 }
 
 /// Marks some borders.
-fn mark_all(used: &mut [bool; BORDERS], borders: &[usize])
+pub(crate) fn mark_all(used: &mut [bool; BORDERS], borders: &[usize])
     requires { BordersFit borders.now }
     ensures marked { used.new ≡ marked_all used.old borders.now }
     ensures whole { length used.old ≡ 279 }
@@ -114,7 +121,7 @@ fn mark_all(used: &mut [bool; BORDERS], borders: &[usize])
 }
 
 /// Whether no border of some is used.
-fn misses(used: &[bool; BORDERS], borders: &[usize]) -> bool
+pub(crate) fn misses(used: &[bool; BORDERS], borders: &[usize]) -> bool
     requires { BordersFit borders.now }
     ensures { result ≡ misses used.now borders.now }
 {

@@ -26,11 +26,29 @@ pub(crate) struct Node {
     pub(crate) pieces: Vec<Piece>,
 }
 
+/// A way of plain track from a stop to the next one.
+#[derive(Drop)]
+pub(crate) struct Way {
+    /// The place of its first piece among those that lead from the stop.
+    pub(crate) first: usize,
+    /// The stop to which it leads, and the borders that it crosses.
+    pub(crate) piece: Piece,
+}
+
+/// The ways from a stop.
+#[derive(Drop)]
+pub(crate) struct Departures {
+    /// The ways, in the order of their first pieces.
+    pub(crate) ways: Vec<Way>,
+}
+
 /// What is searched: the spots of the map, and how many stops each train may visit.
 #[derive(Drop)]
 pub(crate) struct Task {
     /// The spots, by their numbers.
     pub(crate) spots: Vec<Node>,
+    /// For each spot that is a stop, by its number, the ways from there.
+    pub(crate) departures: Vec<Departures>,
     /// For each train, the most stops of a run.
     pub(crate) trains: Vec<usize>,
 }

@@ -1,5 +1,5 @@
 -- The piece of the step in hand is pushed, if its code is the number of the spot.
-use Rattle.std.proofs.Common.{◌≡◌, ◌<◌, ℕ, List, length, get_or, ap, sym, ◌∙◌, subst, arith}
+use Rattle.std.proofs.Common.{◌≡◌, ◌<◌, ℕ, List, length, get_or, ap, sym, ◌∙◌, arith}
 use Rattle.best_run.specs.Described.{codes_before}
 use Rattle.best_run.proofs.Laid.{codes_length, comes_by_code, pieces_all, pieces_more, pieces_next}
 use Rattle.best_run.proofs.spots.pieces_from.Goals as goal

@@ -1,37 +1,56 @@
--- Each loop adds the next move to those tried, and together they are all moves of the state.
-use Rattle.std.proofs.Common.{◌≡◌, ℕ, ◌+◌, Bool, true, inl, inr, Some, length, sym, ap, subst, ◌∙◌, arith}
+-- Each loop adds the next ways to those tried, and together they are all moves of the state.
+use Rattle.std.proofs.Common.{◌≡◌, ℕ, ◌+◌, true, false, inl, inr, Some, length, slice_get, refl, sym, ap, subst, ◌∙◌, arith}
+use Rattle.std.proofs.lemmas.Option.{slice_get_read}
 use Rattle.best_run.specs.declared.state.Settled.{Settled}
 use Rattle.best_run.specs.declared.state.Standing.{Standing}
-use Rattle.best_run.specs.Fit.{PieceFits}
-use Rattle.best_run.specs.Moves.{Any, Below, Explores, IsBegin, IsBeginAt, IsGo, IsTurn, Takes, Tries, between, can_take, ends_in, node_at, own_in, standing, stop_in}
+use Rattle.best_run.specs.Moves.{Any, Below, Explores, IsBegin, IsGo, Takes, Tries, begun, between, can_take, ends_in, node_at, own_in, standing, stop_in, turned_back}
+use Rattle.best_run.specs.Ways.{AreWaysOf, StandsBefore, TriesWays}
+use Rattle.best_run.proofs.Along.{AnyWay, IsLater, begin_by_ways, go_by_ways, open_begin, open_go, open_turn, turn_by_ways, way_fits, ways_more, ways_none, ways_skip}
+use Rattle.best_run.proofs.Departing.{departs_from}
+use Rattle.best_run.proofs.Described.{among_place}
 use Rattle.best_run.proofs.Eased.{falls_short}
 use Rattle.best_run.proofs.Equal.{explores_capped}
 use Rattle.best_run.proofs.Hopeless.{explores_hopeless}
-use Rattle.best_run.proofs.Places.{begin_all, begin_next, go_all, go_next, leads_at, less_after, node_is, one_low, one_of, piece_fits, room_after, turn_all, turn_next, value_low}
-use Rattle.best_run.proofs.Tried.{begin_every, begin_more, begin_none, explores_between, explores_on, explores_standing, over_better, over_no_better, take_begin, take_go, take_turn, tries_both, tries_fewer, tries_on, turn_early}
+use Rattle.best_run.proofs.Places.{less_by, node_is, one_at_side, one_low, one_of, room_by, take_free, value_low}
+use Rattle.best_run.proofs.Tried.{begin_every, begin_more, begin_none, explores_between, explores_on, explores_standing, over_better, over_no_better, tries_on}
 use Rattle.best_run.proofs.task.Task.+explore.Goals as goal
-use Rattle.best_run.proofs.task.Task.+explore.Goals.{stand-then-may_settle, stand-else-may_settle, begin_runs-then-node+then-node-2, begin_runs-else-node, begin_runs-else-node-via-then-node+else-node-2, begin_runs-else-node-via-else-node, turn_back-then-run-index, turn_back-else-run-index}
+use Rattle.best_run.proofs.task.Task.+explore.Goals.{stand-then-may_settle, stand-else-may_settle, begin_runs-then-node+then-node-2, begin_runs-else-node, begin_runs-else-node-via-then-node+else-node-2, begin_runs-else-node-via-else-node, turn_back-then-run-way, turn_back-else-run-way}
+
+pub begin_at-loop-index-init : goal.begin_at-loop-index-init
+begin_at-loop-index-init t c =
+    let from = c.index-from.result.now in
+    let are : AreWaysOf c.args.self.now c.args.stop from.ways.items = departs_from c.args.self.now c.requires.ready c.args.stop from c.requires.stop c.index-from.ensures c.requires.begins in
+    ways_none c.args.self.now c.requires.fit c.args.stop c.requires.begins from.ways.items are (between c.args.settled.now) c.args.settled.now (λ way. begun c.args.self.now c.args.settled.now c.args.stop way.first) AnyWay c.args.best.now
 
 pub begin_at-loop-index-preserved : goal.begin_at-loop-index-preserved
 begin_at-loop-index-preserved t c =
     let task = c.args.self.now in
     let settled = c.args.settled.now in
+    let stop = c.args.stop in
     let index = c.loop-index.index in
-    let node = c.index-node.result.now in
-    let piece = c.index.result.now in
-    let there : node_at task c.args.stop ≡ Some node = node_is task c.requires.fit c.args.stop node c.requires.stop c.index-node.ensures in
-    tries_both task (between settled) (IsBeginAt c.args.stop (Below index)) (IsBeginAt c.args.stop (λ i. i ≡ index)) (IsBeginAt c.args.stop (Below (index + 1))) _ _ _ c.loop-index.invariant
-    (take_begin task settled c.args.stop index piece _ _ c.requires.next c.requires.begins c.requires.token
-    (leads_at task c.args.stop node there index piece (omega arith) c.index.ensures)
-    (subst (λ (r : Standing). Takes task settled r piece c.loop-index.best c.take.new.best) c.begun-run.ensures c.take.ensures))
-    (λ move is may. begin_next c.args.stop index move is)
+    let from = c.index-from.result.now in
+    let way = c.index-way.result.now in
+    let ways = from.ways.items in
+    let are : AreWaysOf task stop ways = departs_from task c.requires.ready stop from c.requires.stop c.index-from.ensures c.requires.begins in
+    let at : slice_get ways index ≡ Some way = slice_get_read ways (length ways) index way refl (omega arith) c.index-way.ensures in
+    let run = begun task settled stop way.first in
+    ways_more task c.requires.fit stop c.requires.begins ways are (between settled) settled (λ w. begun task settled stop w.first) AnyWay index way _ _ _ at c.loop-index.invariant
+    (subst (λ (r : Standing). Takes task settled r way.piece c.loop-index.best c.take.new.best) c.begun-run.ensures c.take.ensures)
+    (open_begin task c.requires.fit settled c.marks_all_borders.ensures stop c.requires.begins c.requires.token c.requires.next ways are index way at)
 
 pub begin_at-returns : goal.begin_at-returns
 begin_at-returns t c =
     let task = c.args.self.now in
-    let node = c.index-node.result.now in
-    tries_fewer task (between c.args.settled.now) (IsBeginAt c.args.stop (Below c.loop-index.index)) (IsBeginAt c.args.stop Any) _ _ c.loop-index.invariant
-    (begin_all task c.args.settled.now c.args.stop node c.loop-index.index (node_is task c.requires.fit c.args.stop node c.requires.stop c.index-node.ensures) (omega arith))
+    let from = c.index-from.result.now in
+    let are : AreWaysOf task c.args.stop from.ways.items = departs_from task c.requires.ready c.args.stop from c.requires.stop c.index-from.ensures c.requires.begins in
+    begin_by_ways task c.requires.fit c.args.settled.now c.marks_all_borders.ensures c.args.stop c.requires.begins from.ways.items are c.loop-index.index _ _ (omega arith) c.loop-index.invariant
+
+pub go_on-loop-index-init : goal.go_on-loop-index-init
+go_on-loop-index-init t c =
+    let run = c.args.run.now in
+    let from = c.index-from.result.now in
+    let are : AreWaysOf c.args.self.now run.head from.ways.items = departs_from c.args.self.now c.requires.ready run.head from c.requires.head c.index-from.ensures c.requires.stands in
+    ways_none c.args.self.now c.requires.fit run.head c.requires.stands from.ways.items are (standing c.args.settled.now run) c.args.settled.now (λ way. run) AnyWay c.args.best.now
 
 pub go_on-loop-index-preserved : goal.go_on-loop-index-preserved
 go_on-loop-index-preserved t c =
@@ -40,20 +59,22 @@ go_on-loop-index-preserved t c =
     let run = c.args.run.now in
     let index = c.loop-index.index in
     let node = c.index-head.result.now in
-    let piece = c.index.result.now in
+    let from = c.index-from.result.now in
+    let way = c.index.result.now in
+    let ways = from.ways.items in
     let there : node_at task run.head ≡ Some node = node_is task c.requires.fit run.head node c.requires.head c.index-head.ensures in
-    tries_both task (standing settled run) (IsGo (Below index)) (IsGo (λ i. i ≡ index)) (IsGo (Below (index + 1))) _ _ _ c.loop-index.invariant
-    (take_go task settled run index piece _ _ (ap ends_in there ∙ c.if-head.false)
-    (leads_at task run.head node there index piece (omega arith) c.index.ensures)
-    c.take.ensures)
-    (λ move is may. go_next index move is)
+    let are : AreWaysOf task run.head ways = departs_from task c.requires.ready run.head from c.requires.head c.index-from.ensures c.requires.stands in
+    let at : slice_get ways index ≡ Some way = slice_get_read ways (length ways) index way refl (omega arith) c.index.ensures in
+    ways_more task c.requires.fit run.head c.requires.stands ways are (standing settled run) settled (λ w. run) AnyWay index way _ _ _ at c.loop-index.invariant c.take.ensures
+    (open_go task c.requires.fit settled c.marks_all_borders.ensures run c.requires.stands (ap ends_in there ∙ c.if-head.false) ways are index way at)
 
 pub go_on-returns : goal.go_on-returns
 go_on-returns t c =
     let task = c.args.self.now in
-    let node = c.index-head.result.now in
-    tries_fewer task (standing c.args.settled.now c.args.run.now) (IsGo (Below c.loop-index.index)) (IsGo Any) _ _ c.loop-index.invariant
-    (go_all task c.args.settled.now c.args.run.now node c.loop-index.index (node_is task c.requires.fit c.args.run.now.head node c.requires.head c.index-head.ensures) (omega arith))
+    let run = c.args.run.now in
+    let from = c.index-from.result.now in
+    let are : AreWaysOf task run.head from.ways.items = departs_from task c.requires.ready run.head from c.requires.head c.index-from.ensures c.requires.stands in
+    go_by_ways task c.requires.fit c.args.settled.now c.marks_all_borders.ensures run c.requires.stands from.ways.items are c.loop-index.index _ _ (omega arith) c.loop-index.invariant
 
 pub settle_next-returns-then-best-settled : goal.settle_next-returns-then-best-settled
 settle_next-returns-then-best-settled t c =
@@ -108,20 +129,32 @@ take-stand-requires t c =
     let settled = c.args.settled.now in
     let run = c.args.run.now in
     let piece = c.args.piece.now in
+    let to = stop_in (node_at task piece.to) in
     let taken : can_take task run settled.used piece ≡ true = sym c.can_take.ensures ∙ c.if-can_take.true in
     let whole : length settled.used ≡ 279 = c.using-using.ensures.whole in
-    let less = less_after task settled run piece whole taken c.requires.piece in
+    let free = take_free task run settled.used piece taken in
+    let less = less_by task settled piece whole free false to refl c.requires.piece in
+    let none = one_at_side in
     rw (c.using-using.ensures.using, c.along-next.ensures) (
       omega arith,
       (
         c.requires.fit,
         (
-          c.requires.bounds,
+          c.requires.ready,
           (
-            c.requires.next,
+            c.requires.bounds,
             (
-              c.requires.piece.to,
-              (c.requires.home, (c.requires.begun, room_after task settled run piece c.requires.fit whole taken c.requires.piece c.requires.room)),
+              c.requires.next,
+              (
+                c.requires.piece.to,
+                (
+                  c.requires.to,
+                  (
+                    c.requires.home,
+                    (c.requires.begun, room_by task settled run piece c.requires.fit whole free false to refl c.requires.piece c.requires.room),
+                  ),
+                ),
+              ),
             ),
           ),
         ),
@@ -131,25 +164,31 @@ take-stand-requires t c =
 pub begin_at-take-requires : goal.begin_at-take-requires
 begin_at-take-requires t c =
     let task = c.args.self.now in
-    let settled = c.args.settled.now in
-    let node = c.index-node.result.now in
-    let piece = c.index.result.now in
-    let there : node_at task c.args.stop ≡ Some node = node_is task c.requires.fit c.args.stop node c.requires.stop c.index-node.ensures in
-    let fits : PieceFits task (stop_in (node_at task c.args.stop)) piece = subst (λ (b : Bool). PieceFits task b piece) (sym (ap stop_in there)) (piece_fits task c.requires.fit c.args.stop node there c.loop-index.index piece (omega arith) c.index.ensures) in
-    let one = one_low (stop_in (node_at task c.args.stop)) in
-    let value = value_low task c.requires.fit c.args.stop in
+    let stop = c.args.stop in
+    let index = c.loop-index.index in
+    let from = c.index-from.result.now in
+    let way = c.index-way.result.now in
+    let ways = from.ways.items in
+    let are : AreWaysOf task stop ways = departs_from task c.requires.ready stop from c.requires.stop c.index-from.ensures c.requires.begins in
+    let at : slice_get ways index ≡ Some way = slice_get_read ways (length ways) index way refl (omega arith) c.index-way.ensures in
+    let fits = way_fits task c.requires.fit stop ways are c.requires.begins way (among_place ways index way at) in
+    let one = one_low (stop_in (node_at task stop)) in
+    let value = value_low task c.requires.fit stop in
     rw c.begun-run.ensures
-    (omega arith, (c.requires.fit, (c.requires.bounds, (c.requires.next, (fits, (c.requires.stop, (c.requires.begins, omega arith)))))))
+    (omega arith, (c.requires.fit, (c.requires.ready, (c.requires.bounds, (c.requires.next, (fits.0, (fits.1, (c.requires.stop, (c.requires.begins, omega arith)))))))))
 
 pub go_on-take-requires : goal.go_on-take-requires
 go_on-take-requires t c =
     let task = c.args.self.now in
     let run = c.args.run.now in
-    let node = c.index-head.result.now in
-    let piece = c.index.result.now in
-    let there : node_at task run.head ≡ Some node = node_is task c.requires.fit run.head node c.requires.head c.index-head.ensures in
-    let fits : PieceFits task (stop_in (node_at task run.head)) piece = subst (λ (b : Bool). PieceFits task b piece) (sym (ap stop_in there)) (piece_fits task c.requires.fit run.head node there c.loop-index.index piece (omega arith) c.index.ensures) in
-    (omega arith, (c.requires.fit, (c.requires.bounds, (c.requires.next, (fits, (c.requires.home, (c.requires.begun, omega arith)))))))
+    let index = c.loop-index.index in
+    let from = c.index-from.result.now in
+    let way = c.index.result.now in
+    let ways = from.ways.items in
+    let are : AreWaysOf task run.head ways = departs_from task c.requires.ready run.head from c.requires.head c.index-from.ensures c.requires.stands in
+    let at : slice_get ways index ≡ Some way = slice_get_read ways (length ways) index way refl (omega arith) c.index.ensures in
+    let fits = way_fits task c.requires.fit run.head ways are c.requires.stands way (among_place ways index way at) in
+    (omega arith, (c.requires.fit, (c.requires.ready, (c.requires.bounds, (c.requires.next, (fits.0, (fits.1, (c.requires.home, (c.requires.begun, omega arith)))))))))
 
 pub begin_runs-loop-stop-preserved : goal.begin_runs-loop-stop-preserved
 begin_runs-loop-stop-preserved t c =
@@ -178,46 +217,54 @@ pub turn_back-take-requires : goal.turn_back-take-requires
 turn_back-take-requires t c =
     let task = c.args.self.now in
     let run = c.args.run.now in
-    let node = c.index-home.result.now in
-    let piece = c.index-then-run-index.result.now in
     let index = c.loop-index.index in
-    let there : node_at task run.home ≡ Some node = node_is task c.requires.fit run.home node c.requires.home c.index-home.ensures in
-    let fits : PieceFits task (stop_in (node_at task run.home)) piece = subst (λ (b : Bool). PieceFits task b piece) (sym (ap stop_in there)) (piece_fits task c.requires.fit run.home node there index piece (omega arith) c.index-then-run-index.ensures) in
-    let head : node_at task run.head ≡ Some c.index.result.now = node_is task c.requires.fit run.head c.index.result.now c.requires.head c.index.ensures in
-    let stands : stop_in (node_at task run.head) ≡ true = ap stop_in head ∙ c.if-not-index.false in
-    let one = one_of (stop_in (node_at task run.head)) stands in
+    let from = c.index-from.result.now in
+    let way = c.index-way.result.now in
+    let ways = from.ways.items in
+    let are : AreWaysOf task run.home ways = departs_from task c.requires.ready run.home from c.requires.home c.index-from.ensures c.requires.begun in
+    let at : slice_get ways index ≡ Some way = slice_get_read ways (length ways) index way refl (omega arith) c.index-way.ensures in
+    let fits = way_fits task c.requires.fit run.home ways are c.requires.begun way (among_place ways index way at) in
+    let one = one_of (stop_in (node_at task run.head)) c.requires.stands in
     let home = one_of (stop_in (node_at task run.home)) c.requires.begun in
     rw c.turned_back-back.ensures
-    (omega arith, (c.requires.fit, (c.requires.bounds, (c.requires.next, (fits, (c.requires.home, (c.requires.begun, omega arith)))))))
+    (omega arith, (c.requires.fit, (c.requires.ready, (c.requires.bounds, (c.requires.next, (fits.0, (fits.1, (c.requires.home, (c.requires.begun, omega arith)))))))))
+
+pub turn_back-loop-index-init : goal.turn_back-loop-index-init
+turn_back-loop-index-init t c =
+    let run = c.args.run.now in
+    let from = c.index-from.result.now in
+    let are : AreWaysOf c.args.self.now run.home from.ways.items = departs_from c.args.self.now c.requires.ready run.home from c.requires.home c.index-from.ensures c.requires.begun in
+    ways_none c.args.self.now c.requires.fit run.home c.requires.begun from.ways.items are (standing c.args.settled.now run) c.args.settled.now (λ way. turned_back run) (IsLater run) c.args.best.now
 
 pub turn_back-loop-index-preserved : goal.turn_back-loop-index-preserved
 turn_back-loop-index-preserved t c =
     let task = c.args.self.now in
     let settled = c.args.settled.now in
     let run = c.args.run.now in
-    let node = c.index-home.result.now in
+    let node = c.index.result.now in
     let index = c.loop-index.index in
-    let there : node_at task run.home ≡ Some node = node_is task c.requires.fit run.home node c.requires.home c.index-home.ensures in
-    let head : node_at task run.head ≡ Some c.index.result.now = node_is task c.requires.fit run.head c.index.result.now c.requires.head c.index.ensures in
-    elim c.if-run-index.branch [
-      | turn_back-then-run-index w ↦
-          subst (λ (b : ℕ). Tries task (standing settled run) (IsTurn (Below (index + 1))) c.args.best.now b) (sym w.best-is)
-          (tries_both task (standing settled run) (IsTurn (Below index)) (IsTurn (λ i. i ≡ index)) (IsTurn (Below (index + 1))) _ _ _ c.loop-index.invariant
-          (take_turn task settled run index w.index-then-run-index.result.now _ _ c.if-run.false (ap stop_in head ∙ c.if-not-index.false) (omega arith) (ap ends_in there ∙ c.if-home.false)
-          (leads_at task run.home node there index w.index-then-run-index.result.now (omega arith) w.index-then-run-index.ensures)
-          (subst (λ (r : Standing). Takes task settled r w.index-then-run-index.result.now c.loop-index.best w.take.new.best) c.turned_back-back.ensures w.take.ensures))
-          (λ move is may. turn_next index move is))
-      | turn_back-else-run-index w ↦
-          subst (λ (b : ℕ). Tries task (standing settled run) (IsTurn (Below (index + 1))) c.args.best.now b) (sym w.best-is)
-          (tries_both task (standing settled run) (IsTurn (Below index)) (IsTurn (λ i. i ≡ index)) (IsTurn (Below (index + 1))) _ _ _ c.loop-index.invariant
-          (turn_early task settled run index _ (omega arith))
-          (λ move is may. turn_next index move is))
+    let from = c.index-from.result.now in
+    let way = c.index-way.result.now in
+    let ways = from.ways.items in
+    let there : node_at task run.home ≡ Some node = node_is task c.requires.fit run.home node c.requires.home c.index.ensures in
+    let are : AreWaysOf task run.home ways = departs_from task c.requires.ready run.home from c.requires.home c.index-from.ensures c.requires.begun in
+    let at : slice_get ways index ≡ Some way = slice_get_read ways (length ways) index way refl (omega arith) c.index-way.ensures in
+    let Tried : ℕ → Type 0 = λ b. TriesWays task (standing settled run) settled (λ w. turned_back run) (λ w. StandsBefore ways (index + 1) w × IsLater run w) c.args.best.now b in
+    elim c.if-run-way.branch [
+      | turn_back-then-run-way w ↦
+          subst Tried (sym w.best-is)
+          (ways_more task c.requires.fit run.home c.requires.begun ways are (standing settled run) settled (λ v. turned_back run) (IsLater run) index way _ _ _ at c.loop-index.invariant
+          (subst (λ (r : Standing). Takes task settled r way.piece c.loop-index.best w.take.new.best) c.turned_back-back.ensures w.take.ensures)
+          (open_turn task c.requires.fit settled c.marks_all_borders.ensures run c.requires.begun c.if-run.false c.requires.stands (ap ends_in there ∙ c.if-index.false) ways are index way at (omega arith)))
+      | turn_back-else-run-way w ↦
+          subst Tried (sym w.best-is)
+          (ways_skip task c.requires.fit run.home c.requires.begun ways are (standing settled run) settled (λ v. turned_back run) (IsLater run) index way _ _ at (λ later. omega (arith, w.if-run-way.false, later)) c.loop-index.invariant)
     ]
 
 pub turn_back-returns : goal.turn_back-returns
 turn_back-returns t c =
     let task = c.args.self.now in
     let run = c.args.run.now in
-    let node = c.index-home.result.now in
-    tries_fewer task (standing c.args.settled.now run) (IsTurn (Below c.loop-index.index)) (IsTurn Any) _ _ c.loop-index.invariant
-    (turn_all task c.args.settled.now run node c.loop-index.index (node_is task c.requires.fit run.home node c.requires.home c.index-home.ensures) (omega arith))
+    let from = c.index-from.result.now in
+    let are : AreWaysOf task run.home from.ways.items = departs_from task c.requires.ready run.home from c.requires.home c.index-from.ensures c.requires.begun in
+    turn_by_ways task c.requires.fit c.args.settled.now c.marks_all_borders.ensures run c.requires.begun from.ways.items are c.loop-index.index _ _ (omega arith) c.loop-index.invariant

@@ -1,7 +1,9 @@
 -- The search ends: each call has fewer trains left, or fewer stops for the run begun. What has been tried grows with
--- each token and each piece.
+-- each token and each way.
 use Rattle.std.proofs.Common.{◌+◌, ◌-◌, ◌*◌, length}
-use Rattle.best_run.specs.Moves.{Below, IsBegin, IsBeginAt, IsGo, IsTurn, Tries, between, node_at, standing, stop_in}
+use Rattle.best_run.specs.Moves.{Below, IsBegin, Tries, begun, between, node_at, standing, stop_in, turned_back}
+use Rattle.best_run.specs.Ways.{StandsBefore, TriesWays}
+use Rattle.best_run.proofs.Along.{AnyWay, IsLater}
 use Rattle.best_run.specs.Fit.{unused}
 use Rattle.best_run.proofs.Places.{one_if}
 use Rattle.best_run.proofs.task.Task.+explore.Given as goal
@@ -28,13 +30,16 @@ abbrev pub invariant-begin_runs-loop-stop : goal.invariant-begin_runs-loop-stop
 invariant-begin_runs-loop-stop l = Tries l.self (between l.settled) (IsBegin (Below l.stop)) l.initial.best l.best
 
 abbrev pub invariant-begin_at-loop-index : goal.invariant-begin_at-loop-index
-invariant-begin_at-loop-index l = Tries l.self (between l.settled) (IsBeginAt l.stop (Below l.index)) l.initial.best l.best
+invariant-begin_at-loop-index l =
+    TriesWays l.self (between l.settled) l.settled (λ way. begun l.self l.settled l.stop way.first) (λ way. StandsBefore l.from.ways.items l.index way × AnyWay way) l.initial.best l.best
 
 abbrev pub invariant-go_on-loop-index : goal.invariant-go_on-loop-index
-invariant-go_on-loop-index l = Tries l.self (standing l.settled l.run) (IsGo (Below l.index)) l.initial.best l.best
+invariant-go_on-loop-index l =
+    TriesWays l.self (standing l.settled l.run) l.settled (λ way. l.run) (λ way. StandsBefore l.from.ways.items l.index way × AnyWay way) l.initial.best l.best
 
 abbrev pub decreases-turn_back : goal.decreases-turn_back
 decreases-turn_back l = 4000 * (length l.self.now.trains.items - l.settled.now.next - 1) + 4 * (3 * unused l.settled.now.used + one_if (stop_in (node_at l.self.now l.run.now.head))) + 2
 
 abbrev pub invariant-turn_back-loop-index : goal.invariant-turn_back-loop-index
-invariant-turn_back-loop-index l = Tries l.self (standing l.settled l.run) (IsTurn (Below l.index)) l.initial.best l.best
+invariant-turn_back-loop-index l =
+    TriesWays l.self (standing l.settled l.run) l.settled (λ way. turned_back l.run) (λ way. StandsBefore l.from.ways.items l.index way × IsLater l.run way) l.initial.best l.best

@@ -1,0 +1,237 @@
+-- The ways from a stop, as they are found: by a piece to a stop there is one, by a piece to a side those by the pieces
+-- from there.
+use Rattle.std.proofs.Common.{◌≡◌, ℕ, zero, suc, ◌+◌, ◌*◌, ◌<◌, ◌≤◌, Bool, true, false, ◌⊎◌, inl, inr, Some, List, [], ◌∷◌, ◌++◌, length, get_or, slice_get, refl, sym, ap, subst, ◌∙◌, arith, length-append}
+use Rattle.std.proofs.lemmas.Option.{slice_get_read, slice_get_within}
+use Rattle.reach.specs.Position.{IsAmong}
+use Rattle.reach.proofs.Lists.{among_before, among_cases, among_end}
+use Rattle.best_run.specs.declared.task.Departures.{Departures}
+use Rattle.best_run.specs.declared.task.Node.{Node}
+use Rattle.best_run.specs.declared.task.Piece.{Piece}
+use Rattle.best_run.specs.declared.task.Task.{Task}
+use Rattle.best_run.specs.declared.task.Way.{Way}
+use Rattle.best_run.specs.Fit.{BordersFit, unused}
+use Rattle.best_run.specs.Moves.{LeadsFrom, ends_in, marked_all, misses, node_at, pieces_in, stop_in}
+use Rattle.best_run.specs.Ways.{AddsBelow, AddsWays, AreDepartures, AreFree, AreReady, AreWaysFrom, AreWaysOf, HasWay, Hop, IsMadeOf, LeadsTo, borders_by, none_used}
+use Rattle.best_run.proofs.Marks.{marked_fewer}
+use Rattle.best_run.proofs.Places.{below_next, place_low}
+use Rattle.best_run.proofs.Split.{append_together}
+
+-- a piece over no border counts one
+abbrev pub one_if_none : List ℕ → ℕ
+one_if_none [] = 1
+one_if_none (border ∷ borders) = 0
+
+pub none_over : (borders : List ℕ) → 0 < length borders → one_if_none borders ≡ 0
+none_over [] some = absurd (omega (arith, some))
+none_over (border ∷ borders) some = refl
+
+-- less is left after a piece
+pub lead_less : (used : List Bool) (borders : List ℕ) → length used ≡ 279 → BordersFit borders → misses used borders ≡ true → 2 * unused (marked_all used borders) + 1 ≤ 2 * unused used + one_if_none borders
+lead_less used [] whole fit free = omega arith
+lead_less used (border ∷ borders) whole fit free =
+    let fewer : unused (marked_all used (border ∷ borders)) + 1 ≤ unused used = marked_fewer used (border ∷ borders) whole fit (omega arith) free in
+    omega (arith, fewer)
+
+-- the first piece of such is free
+pub free_first : (used : List Bool) (piece : Piece) (hops : List Hop) → AreFree used piece hops → misses used piece.borders.items ≡ true
+free_first used piece [] free = free
+free_first used piece (hop ∷ hops) free = free.0
+
+-- a piece whose border is used adds none
+pub adds_none : (task : Task) (used : List Bool) (path : List ℕ) (place : ℕ) (piece : Piece) (ways : List Way) → misses used piece.borders.items ≡ false → AddsWays task used path place piece ways ways
+adds_none task used path place piece ways fails =
+    record {
+      kept = λ way among. among;
+      sound = λ way among. inl among;
+      complete = λ hops to leads free. absurd (let wrong : true ≡ false = sym (free_first used piece hops free) ∙ fails in cc);
+    }
+
+-- a piece to a stop is a way
+pub adds_stop : (task : Task) (used : List Bool) (path : List ℕ) (place : ℕ) (piece : Piece) (ways : List Way) (way : Way) → misses used piece.borders.items ≡ true → stop_in (node_at task piece.to) ≡ true → way.first ≡ place → way.piece.to ≡ piece.to → way.piece.borders.items ≡ path ++ piece.borders.items → AddsWays task used path place piece ways (ways ++ way ∷ [])
+adds_stop task used path place piece ways way free stops place_is to_is borders =
+    record {
+      kept = λ other among. among_before ways other way among;
+      sound = λ other among. elim (among_cases ways other way among) [
+        | inl old ↦ inl old
+        | inr new ↦ inr ([], subst (IsMadeOf task used path place piece []) new made)
+      ];
+      complete = by_hops;
+    }
+  where
+    made : IsMadeOf task used path place piece [] way
+    made = record { leads = (stops, sym to_is); free = free; place_is = place_is; borders = borders }
+
+    by_hops : (hops : List Hop) (to : ℕ) → LeadsTo task piece hops to → AreFree used piece hops → HasWay task used path place piece hops to (ways ++ way ∷ [])
+    by_hops [] to leads are_free =
+        record {
+          way = way;
+          among = among_end ways way;
+          made = record { leads = (stops, sym to_is); free = free; place_is = place_is; borders = borders };
+          to_is = to_is ∙ leads.1;
+        }
+    by_hops (hop ∷ hops) to leads are_free = absurd (let wrong : true ≡ false = sym stops ∙ leads.0.0 in cc)
+
+-- nor does one to a side that ends
+pub adds_end : (task : Task) (used : List Bool) (path : List ℕ) (place : ℕ) (piece : Piece) (ways : List Way) → stop_in (node_at task piece.to) ≡ false → ends_in (node_at task piece.to) ≡ true → AddsWays task used path place piece ways ways
+adds_end task used path place piece ways side ends =
+    record { kept = λ way among. among; sound = λ way among. inl among; complete = by_hops }
+  where
+    by_hops : (hops : List Hop) (to : ℕ) → LeadsTo task piece hops to → AreFree used piece hops → HasWay task used path place piece hops to ways
+    by_hops [] to leads free = absurd (let wrong : false ≡ true = sym side ∙ leads.0 in cc)
+    by_hops (hop ∷ hops) to leads free = absurd (let wrong : true ≡ false = sym ends ∙ leads.0.1 in cc)
+
+-- the pieces from a side, one by one
+pub below_none : (task : Task) (used : List Bool) (path : List ℕ) (place spot : ℕ) (ways : List Way) → AddsBelow task used path place spot 0 ways ways
+below_none task used path place spot ways =
+    record {
+      kept = λ way among. among;
+      sound = λ way among. inl among;
+      complete = λ hop hops to low leads there free. absurd (omega (arith, low));
+    }
+
+has_kept : (task : Task) (used : List Bool) (path : List ℕ) (place : ℕ) (piece : Piece) (hops : List Hop) (to : ℕ) (old new : List Way) → ((way : Way) → IsAmong way old → IsAmong way new) → HasWay task used path place piece hops to old → HasWay task used path place piece hops to new
+has_kept task used path place piece hops to old new kept has =
+    record { way = has.way; among = kept has.way has.among; made = has.made; to_is = has.to_is }
+
+one_piece : (task : Task) (spot place other : ℕ) (piece found : Piece) → LeadsFrom task spot place piece → LeadsFrom task spot other found → other ≡ place → piece ≡ found
+one_piece task spot place other piece found leads finds same =
+    let e : Some piece ≡ Some found = sym leads ∙ (ap (λ i. slice_get (pieces_in (node_at task spot)) i) (sym same) ∙ finds) in cc
+
+pub below_more : (task : Task) (used : List Bool) (path : List ℕ) (place spot index : ℕ) (piece : Piece) (old middle new : List Way) → LeadsFrom task spot index piece → AddsBelow task used path place spot index old middle → AddsWays task used path place piece middle new → AddsBelow task used path place spot (index + 1) old new
+below_more task used path place spot index piece old middle new here before by =
+    record {
+      kept = λ way among. by.kept way (before.kept way among);
+      sound = λ way among. elim (by.sound way among) [
+        | inl sooner ↦ before.sound way sooner
+        | inr found ↦ inr (record { place = index; piece = piece }, here, found)
+      ];
+      complete = λ hop hops to low leads there free. elim (below_next hop.place index low) [
+        | inl less ↦ has_kept task used path place hop.piece hops to middle new by.kept (before.complete hop hops to less leads there free)
+        | inr same ↦
+            let one : piece ≡ hop.piece = one_piece task spot index hop.place piece hop.piece here leads same in
+            subst (λ (p : Piece). LeadsTo task p hops to → AreFree used p hops → HasWay task used path place p hops to new) one (by.complete hops to) there free
+      ];
+    }
+
+-- a piece to a side that may be passed
+made_more : (task : Task) (used : List Bool) (path : List ℕ) (place : ℕ) (piece : Piece) (hop : Hop) (hops : List Hop) (way : Way) → misses used piece.borders.items ≡ true → stop_in (node_at task piece.to) ≡ false → ends_in (node_at task piece.to) ≡ false → LeadsFrom task piece.to hop.place hop.piece → IsMadeOf task (marked_all used piece.borders.items) (path ++ piece.borders.items) place hop.piece hops way → IsMadeOf task used path place piece (hop ∷ hops) way
+made_more task used path place piece hop hops way free side passes leads made =
+    record {
+      leads = ((side, passes), leads, made.leads);
+      free = (free, made.free);
+      place_is = made.place_is;
+      borders = made.borders ∙ append_together path piece.borders.items (borders_by hop.piece hops);
+    }
+
+pub adds_side : (task : Task) (used : List Bool) (path : List ℕ) (place : ℕ) (piece : Piece) (node : Node) (index : ℕ) (old new : List Way) → misses used piece.borders.items ≡ true → stop_in (node_at task piece.to) ≡ false → ends_in (node_at task piece.to) ≡ false → node_at task piece.to ≡ Some node → length node.pieces.items ≤ index → AddsBelow task (marked_all used piece.borders.items) (path ++ piece.borders.items) place piece.to index old new → AddsWays task used path place piece old new
+adds_side task used path place piece node index old new free side passes there all below =
+    record {
+      kept = below.kept;
+      sound = λ way among. elim (below.sound way among) [
+        | inl sooner ↦ inl sooner
+        | inr found ↦ inr (found.0 ∷ found.2.0, made_more task used path place piece found.0 found.2.0 way free side passes found.1 found.2.1)
+      ];
+      complete = by_hops;
+    }
+  where
+    by_hops : (hops : List Hop) (to : ℕ) → LeadsTo task piece hops to → AreFree used piece hops → HasWay task used path place piece hops to new
+    by_hops [] to leads are_free = absurd (let wrong : false ≡ true = sym side ∙ leads.0 in cc)
+    by_hops (hop ∷ hops) to leads are_free =
+        let low : hop.place < index = omega (arith, all, place_low task piece.to node there hop.place hop.piece leads.1) in
+        let has = below.complete hop hops to low leads.1 leads.2 are_free.1 in
+        record {
+          way = has.way;
+          among = has.among;
+          made = made_more task used path place piece hop hops has.way free side passes leads.1 has.made;
+          to_is = has.to_is;
+        }
+
+-- the ways from a stop, piece by piece
+pub from_none : (task : Task) (stop : ℕ) → AreWaysFrom task stop 0 []
+from_none task stop =
+    record { sound = λ way none. absurd none; complete = λ place piece hops to low leads there free. absurd (omega (arith, low)) }
+
+pub from_more : (task : Task) (stop index : ℕ) (piece : Piece) (old new : List Way) → LeadsFrom task stop index piece → AreWaysFrom task stop index old → AddsWays task none_used [] index piece old new → AreWaysFrom task stop (index + 1) new
+from_more task stop index piece old new here before by =
+    record {
+      sound = λ way among. elim (by.sound way among) [
+        | inl sooner ↦ before.sound way sooner
+        | inr found ↦
+            let place : index ≡ way.first = sym found.1.place_is in
+            (piece, subst (λ (i : ℕ). LeadsFrom task stop i piece) place here, (found.0, subst (λ (i : ℕ). IsMadeOf task none_used [] i piece found.0 way) place found.1))
+      ];
+      complete = λ place other hops to low leads there free. elim (below_next place index low) [
+        | inl less ↦ has_kept task none_used [] place other hops to old new by.kept (before.complete place other hops to less leads there free)
+        | inr same ↦
+            let one : piece ≡ other = one_piece task stop index place piece other here leads same in
+            subst (λ (i : ℕ). HasWay task none_used [] i other hops to new) (sym same)
+            (subst (λ (p : Piece). LeadsTo task p hops to → AreFree none_used p hops → HasWay task none_used [] index p hops to new) one (by.complete hops to) there free)
+      ];
+    }
+
+pub from_all : (task : Task) (stop : ℕ) (node : Node) (index : ℕ) (ways : List Way) → node_at task stop ≡ Some node → length node.pieces.items ≤ index → AreWaysFrom task stop index ways → AreWaysOf task stop ways
+from_all task stop node index ways there all are =
+    record {
+      sound = are.sound;
+      complete = λ place piece hops to leads leads_to free. are.complete place piece hops to (omega (arith, all, place_low task stop node there place piece leads)) leads leads_to free;
+    }
+
+-- the departures, spot by spot
+pub departs_more : (task : Task) (count : ℕ) (all : List Departures) (from : Departures) → AreDepartures task count all → (stop_in (node_at task count) ≡ true → AreWaysOf task count from.ways.items) → AreDepartures task (count + 1) (all ++ from ∷ [])
+departs_more task count all from before here =
+    record {
+      long = omega (arith, before.long, length-append all (from ∷ []));
+      each = λ stop found at stops. elim (at_end all stop found at) [
+        | inl old ↦ before.each stop found old stops
+        | inr last ↦
+            let same : stop ≡ count = last.0 ∙ before.long in
+            subst (λ (d : Departures). AreWaysOf task stop d.ways.items) last.1
+            (subst (λ (n : ℕ). AreWaysOf task n from.ways.items) (sym same) (here (subst (λ (n : ℕ). stop_in (node_at task n) ≡ true) same stops)))
+      ];
+    }
+  where
+    at_end : (xs : List Departures) (i : ℕ) (y : Departures) → slice_get (xs ++ from ∷ []) i ≡ Some y → (slice_get xs i ≡ Some y) ⊎ ((i ≡ length xs) × (from ≡ y))
+    at_end [] zero y at = inr (refl, let same : from ≡ y = cc in same)
+    at_end [] (suc i) y at = absurd (omega (arith, slice_get_within (from ∷ []) (suc i) y at))
+    at_end (z ∷ zs) zero y at = inl at
+    at_end (z ∷ zs) (suc i) y at = elim (at_end zs i y at) [ inl old ↦ inl old | inr last ↦ inr (ap suc last.0, last.1) ]
+
+-- the ways from a stop, by its number
+pub departs_from : (task : Task) → AreReady task → (stop : ℕ) (from : Departures) → stop < 744 → from ≡ get_or task.departures.items stop from → stop_in (node_at task stop) ≡ true → AreWaysOf task stop from.ways.items
+departs_from task ready stop from low is stops =
+    ready.each stop from (slice_get_read task.departures.items 744 stop from (sym ready.long) low is) stops
+
+-- what is said of ways is said of spots alone
+node_same : (a b : Task) → a.spots.items ≡ b.spots.items → (spot : ℕ) → node_at a spot ≡ node_at b spot
+node_same a b same spot = ap (λ (nodes : List Node). slice_get nodes spot) same
+
+leads_same : (a b : Task) → a.spots.items ≡ b.spots.items → (spot place : ℕ) (piece : Piece) → LeadsFrom a spot place piece → LeadsFrom b spot place piece
+leads_same a b same spot place piece leads = subst (λ node. slice_get (pieces_in node) place ≡ Some piece) (node_same a b same spot) leads
+
+to_same : (a b : Task) → a.spots.items ≡ b.spots.items → (hops : List Hop) (piece : Piece) (to : ℕ) → LeadsTo a piece hops to → LeadsTo b piece hops to
+to_same a b same [] piece to leads = (sym (ap stop_in (node_same a b same piece.to)) ∙ leads.0, leads.1)
+to_same a b same (hop ∷ hops) piece to leads =
+    let node = node_same a b same piece.to in
+    ((sym (ap stop_in node) ∙ leads.0.0, sym (ap ends_in node) ∙ leads.0.1), leads_same a b same piece.to hop.place hop.piece leads.1, to_same a b same hops hop.piece to leads.2)
+
+made_same : (a b : Task) → a.spots.items ≡ b.spots.items → (used : List Bool) (path : List ℕ) (place : ℕ) (piece : Piece) (hops : List Hop) (way : Way) → IsMadeOf a used path place piece hops way → IsMadeOf b used path place piece hops way
+made_same a b same used path place piece hops way made =
+    record { leads = to_same a b same hops piece way.piece.to made.leads; free = made.free; place_is = made.place_is; borders = made.borders }
+
+ways_same : (a b : Task) → a.spots.items ≡ b.spots.items → (stop : ℕ) (ways : List Way) → AreWaysOf a stop ways → AreWaysOf b stop ways
+ways_same a b same stop ways are =
+    record {
+      sound = λ way among.
+          let found = are.sound way among in
+          (found.0, leads_same a b same stop way.first found.0 found.1, (found.2.0, made_same a b same none_used [] way.first found.0 found.2.0 way found.2.1));
+      complete = λ place piece hops to leads there free.
+          let has = are.complete place piece hops to (leads_same b a (sym same) stop place piece leads) (to_same b a (sym same) hops piece to there) free in
+          record { way = has.way; among = has.among; made = made_same a b same none_used [] place piece hops has.way has.made; to_is = has.to_is };
+    }
+
+pub departs_same : (a b : Task) → a.spots.items ≡ b.spots.items → (count : ℕ) (all : List Departures) → AreDepartures a count all → AreDepartures b count all
+departs_same a b same count all are =
+    record {
+      long = are.long;
+      each = λ stop from at stops. ways_same a b same stop from.ways.items (are.each stop from at (ap stop_in (node_same a b same stop) ∙ stops));
+    }

@@ -1,0 +1,97 @@
+-- Ways of plain track: from a stop by a piece, and over sides by others, to the next stop, over no border twice. A run goes
+-- over a way at once.
+use Rattle.std.specs.Prelude.{◌≡◌, ℕ, ◌<◌, ◌≤◌, Bool, true, false, ◌⊎◌, Some, List, [], ◌∷◌, ◌++◌, length, replicate, slice_get}
+use Rattle.reach.specs.Position.{IsAmong}
+use Rattle.best_run.specs.declared.task.Departures.{Departures}
+use Rattle.best_run.specs.declared.task.Piece.{Piece}
+use Rattle.best_run.specs.declared.task.Task.{Task}
+use Rattle.best_run.specs.declared.task.Way.{Way}
+use Rattle.best_run.specs.declared.state.Settled.{Settled}
+use Rattle.best_run.specs.declared.state.Standing.{Standing}
+use Rattle.best_run.specs.Moves.{CanEarn, Completes, IsOpen, LeadsFrom, Move, State, along, can_take, ends_in, marked_all, misses, node_at, standing, stop_in, total_after, using}
+
+-- a piece, with its place among those that lead from a spot
+pub record Hop : Type 0 where
+  pub place : ℕ
+  pub piece : Piece
+
+-- a side that may be passed
+abbrev pub IsPassed : Task → ℕ → Type 0
+IsPassed task spot = (stop_in (node_at task spot) ≡ false) × (ends_in (node_at task spot) ≡ false)
+
+-- by a piece, and others after it, one comes over sides to a stop
+abbrev pub LeadsTo : Task → Piece → List Hop → ℕ → Type 0
+LeadsTo task piece [] to = (stop_in (node_at task piece.to) ≡ true) × (piece.to ≡ to)
+LeadsTo task piece (hop ∷ hops) to =
+    IsPassed task piece.to × LeadsFrom task piece.to hop.place hop.piece × LeadsTo task hop.piece hops to
+
+-- the borders that they cross
+abbrev pub borders_by : Piece → List Hop → List ℕ
+borders_by piece [] = piece.borders.items
+borders_by piece (hop ∷ hops) = piece.borders.items ++ borders_by hop.piece hops
+
+-- none of them crosses a border that is used, or that one before it crosses
+abbrev pub AreFree : List Bool → Piece → List Hop → Type 0
+AreFree used piece [] = misses used piece.borders.items ≡ true
+AreFree used piece (hop ∷ hops) =
+    (misses used piece.borders.items ≡ true) × AreFree (marked_all used piece.borders.items) hop.piece hops
+
+-- a way is made of a piece at a place and of others, after some borders
+pub record IsMadeOf (task : Task) (used : List Bool) (path : List ℕ) (place : ℕ) (piece : Piece) (hops : List Hop) (way : Way) : Type 0 where
+  pub leads : LeadsTo task piece hops way.piece.to
+  pub free : AreFree used piece hops
+  pub place_is : way.first ≡ place
+  pub borders : way.piece.borders.items ≡ path ++ borders_by piece hops
+
+-- a way by a piece is among some
+pub record HasWay (task : Task) (used : List Bool) (path : List ℕ) (place : ℕ) (piece : Piece) (hops : List Hop) (to : ℕ) (ways : List Way) : Type 0 where
+  pub way : Way
+  pub among : IsAmong way ways
+  pub made : IsMadeOf task used path place piece hops way
+  pub to_is : way.piece.to ≡ to
+
+-- the ways by a piece are added to some
+pub record AddsWays (task : Task) (used : List Bool) (path : List ℕ) (place : ℕ) (piece : Piece) (old new : List Way) : Type 0 where
+  pub kept : (way : Way) → IsAmong way old → IsAmong way new
+  pub sound : (way : Way) → IsAmong way new → IsAmong way old ⊎ ((hops : List Hop) × IsMadeOf task used path place piece hops way)
+  pub complete : (hops : List Hop) (to : ℕ) → LeadsTo task piece hops to → AreFree used piece hops → HasWay task used path place piece hops to new
+
+-- those by the pieces from a spot before one of them, after a piece that led there
+pub record AddsBelow (task : Task) (used : List Bool) (path : List ℕ) (place : ℕ) (spot most : ℕ) (old new : List Way) : Type 0 where
+  pub kept : (way : Way) → IsAmong way old → IsAmong way new
+  pub sound : (way : Way) → IsAmong way new → IsAmong way old ⊎ ((hop : Hop) × LeadsFrom task spot hop.place hop.piece × ((hops : List Hop) × IsMadeOf task used path place hop.piece hops way))
+  pub complete : (hop : Hop) (hops : List Hop) (to : ℕ) → hop.place < most → LeadsFrom task spot hop.place hop.piece → LeadsTo task hop.piece hops to → AreFree used hop.piece hops → HasWay task used path place hop.piece hops to new
+
+-- no border is used
+abbrev pub none_used : List Bool
+none_used = replicate 279 false
+
+-- the ways from a stop by its pieces before one of them
+pub record AreWaysFrom (task : Task) (stop most : ℕ) (ways : List Way) : Type 0 where
+  pub sound : (way : Way) → IsAmong way ways → (piece : Piece) × LeadsFrom task stop way.first piece × ((hops : List Hop) × IsMadeOf task none_used [] way.first piece hops way)
+  pub complete : (place : ℕ) (piece : Piece) (hops : List Hop) (to : ℕ) → place < most → LeadsFrom task stop place piece → LeadsTo task piece hops to → AreFree none_used piece hops → HasWay task none_used [] place piece hops to ways
+
+-- the ways from a stop
+pub record AreWaysOf (task : Task) (stop : ℕ) (ways : List Way) : Type 0 where
+  pub sound : (way : Way) → IsAmong way ways → (piece : Piece) × LeadsFrom task stop way.first piece × ((hops : List Hop) × IsMadeOf task none_used [] way.first piece hops way)
+  pub complete : (place : ℕ) (piece : Piece) (hops : List Hop) (to : ℕ) → LeadsFrom task stop place piece → LeadsTo task piece hops to → AreFree none_used piece hops → HasWay task none_used [] place piece hops to ways
+
+-- those from the first spots, as far as these are stops
+pub record AreDepartures (task : Task) (count : ℕ) (all : List Departures) : Type 0 where
+  pub long : length all ≡ count
+  pub each : (stop : ℕ) (from : Departures) → slice_get all stop ≡ Some from → stop_in (node_at task stop) ≡ true → AreWaysOf task stop from.ways.items
+
+-- the ways from each stop are known
+abbrev pub AreReady : Task → Type 0
+AreReady task = AreDepartures task 744 task.departures.items
+
+-- a way stands among some before a place
+abbrev pub StandsBefore : List Way → ℕ → Way → Type 0
+StandsBefore ways most way = (place : ℕ) × (place < most) × (slice_get ways place ≡ Some way)
+
+-- such ways have been tried, each with its run: the best found grows at most, moves from the start earn it if they lead to
+-- where the ways are tried, and whatever comes after one of them earns at most that
+pub record TriesWays (task : Task) (from : State) (settled : Settled) (runs : Way → Standing) (P : Way → Type 0) (old new : ℕ) : Type 0 where
+  pub grows : old ≤ new
+  pub earned : IsOpen task from → CanEarn task old → CanEarn task new
+  pub most : (way : Way) → P way → can_take task (runs way) settled.used way.piece ≡ true → (moves : List Move) → Completes task (standing (using settled way.piece) (along task (runs way) way.piece)) moves → total_after task (standing (using settled way.piece) (along task (runs way) way.piece)) moves ≤ new
