@@ -1,25 +1,27 @@
 -- What lies ahead of a run is found piece by piece, and what is found is all that the run may come to.
 use Rattle.std.proofs.Common.{◌≡◌, ℕ, ◌+◌, ◌<◌, ◌≤◌, Bool, true, false, ◌⊎◌, inl, inr, Some, List, length, get_or, set, replicate, slice_get, sym, ap, subst, ◌∙◌, arith, le_trans, get_or-set_same}
+use Rattle.std.proofs.lemmas.Option.{slice_get_within}
 use Rattle.reach.proofs.Collected.{none_marked}
 use Rattle.reach.proofs.Marking.{set_cases, set_keeps}
-use Rattle.best_run.specs.declared.task.Node.{Node}
 use Rattle.best_run.specs.declared.task.Piece.{Piece}
 use Rattle.best_run.specs.declared.task.Task.{Task}
+use Rattle.best_run.specs.declared.task.Way.{Way}
 use Rattle.best_run.specs.declared.state.Settled.{Settled}
 use Rattle.best_run.specs.declared.state.Standing.{Standing}
 use Rattle.best_run.specs.Ahead.{IsGoneOver, IsOutlook, LiesAhead, Widens, WidensBelow, WidensBy, WidensFrom}
-use Rattle.best_run.specs.Moves.{LeadsFrom, can_take, ends_in, node_at, pieces_in}
+use Rattle.best_run.specs.Moves.{can_take, ends_in, node_at}
+use Rattle.best_run.specs.Ways.{ways_at}
 use Rattle.best_run.proofs.Marks.{set_fewer}
-use Rattle.best_run.proofs.Places.{below_next, place_low}
+use Rattle.best_run.proofs.Places.{below_next}
 
 pub falsely : (b : Bool) → b ≡ true → b ≡ false → ⊥
 falsely true is not = let wrong : true ≡ false = not in cc
 falsely false is not = let wrong : false ≡ true = is in cc
 
--- the piece at a place is one
-one_piece : (task : Task) (spot index other : ℕ) (piece found : Piece) → LeadsFrom task spot index piece → LeadsFrom task spot other found → other ≡ index → piece ≡ found
-one_piece task spot index other piece found leads finds same =
-    let e : Some piece ≡ Some found = sym leads ∙ (ap (λ i. slice_get (pieces_in (node_at task spot)) i) (sym same) ∙ finds) in cc
+-- the way at a place is one
+one_way : (ways : List Way) (place other : ℕ) (way found : Way) → slice_get ways place ≡ Some way → slice_get ways other ≡ Some found → other ≡ place → way ≡ found
+one_way ways place other way found at finds same =
+    let e : Some way ≡ Some found = sym at ∙ (ap (λ i. slice_get ways i) (sym same) ∙ finds) in cc
 
 module _ (task : Task) (settled : Settled) (run : Standing) where
   widens_none : (ahead : List Bool) → Widens task settled run ahead ahead
@@ -27,7 +29,7 @@ module _ (task : Task) (settled : Settled) (run : Standing) where
 
   -- what is gone over stays so where more lies ahead
   over_more : (old new : List Bool) → ((spot : ℕ) → LiesAhead old spot → LiesAhead new spot) → (spot : ℕ) → IsGoneOver task settled run old spot → IsGoneOver task settled run new spot
-  over_more old new kept spot over passes index piece leads taken = kept piece.to (over passes index piece leads taken)
+  over_more old new kept spot over passes place way at taken = kept way.piece.to (over passes place way at taken)
 
   widens_both : (old middle new : List Bool) → Widens task settled run old middle → Widens task settled run middle new → Widens task settled run old new
   widens_both old middle new first second =
@@ -42,31 +44,33 @@ module _ (task : Task) (settled : Settled) (run : Standing) where
 
   -- no piece is gone over, one more is, and all are
   pub below_none : (spot : ℕ) (ahead : List Bool) → WidensBelow task settled run spot 0 ahead ahead
-  below_none spot ahead = record { widens = widens_none ahead; leads = λ index piece low leads taken. absurd (omega arith) }
+  below_none spot ahead = record { widens = widens_none ahead; leads = λ place way low at taken. absurd (omega arith) }
 
-  pub below_more : (spot index : ℕ) (piece : Piece) (old middle new : List Bool) → LeadsFrom task spot index piece → WidensBelow task settled run spot index old middle → WidensBy task settled run piece middle new → WidensBelow task settled run spot (index + 1) old new
-  below_more spot index piece old middle new here before by =
+  pub below_more : (spot place : ℕ) (way : Way) (old middle new : List Bool) → slice_get (ways_at task spot) place ≡ Some way → WidensBelow task settled run spot place old middle → WidensBy task settled run way.piece middle new → WidensBelow task settled run spot (place + 1) old new
+  below_more spot place way old middle new here before by =
       record {
         widens = widens_both old middle new before.widens by.widens;
-        leads = λ other found low leads taken. elim (below_next other index low) [
-          | inl less ↦ by.widens.kept found.to (before.leads other found less leads taken)
+        leads = λ other found low at taken. elim (below_next other place low) [
+          | inl less ↦ by.widens.kept found.piece.to (before.leads other found less at taken)
           | inr same ↦
-              let is : piece ≡ found = one_piece task spot index other piece found here leads same in
-              subst (λ (p : Piece). can_take task run settled.used p ≡ true → LiesAhead new p.to) is by.leads taken
+              let is : way ≡ found = one_way (ways_at task spot) place other way found here at same in
+              subst (λ (w : Way). can_take task run settled.used w.piece ≡ true → LiesAhead new w.piece.to) is by.leads taken
         ];
       }
 
-  pub from_all : (spot : ℕ) (node : Node) (index : ℕ) (old new : List Bool) → node_at task spot ≡ Some node → length node.pieces.items ≤ index → WidensBelow task settled run spot index old new → WidensFrom task settled run spot old new
-  from_all spot node index old new there all below =
+  pub from_all : (spot : ℕ) (ways : List Way) (place : ℕ) (old new : List Bool) → ways_at task spot ≡ ways → length ways ≤ place → WidensBelow task settled run spot place old new → WidensFrom task settled run spot old new
+  from_all spot ways place old new there all below =
       record {
         widens = below.widens;
-        here = λ passes other piece leads taken. below.leads other piece (omega (arith, place_low task spot node there other piece leads)) leads taken;
+        here = λ passes other way at taken.
+            let low : other < length ways = slice_get_within ways other way (ap (λ ws. slice_get ws other) (sym there) ∙ at) in
+            below.leads other way (omega (arith, low, all)) at taken;
       }
 
   -- no run passes a spot
   pub from_end : (spot : ℕ) (ahead : List Bool) → ends_in (node_at task spot) ≡ true → WidensFrom task settled run spot ahead ahead
   from_end spot ahead ends =
-      record { widens = widens_none ahead; here = λ passes index piece leads taken. absurd (falsely (ends_in (node_at task spot)) ends passes) }
+      record { widens = widens_none ahead; here = λ passes place way at taken. absurd (falsely (ends_in (node_at task spot)) ends passes) }
 
   -- a piece leads to what lies ahead, may not be taken, or leads to more
   pub along_known : (piece : Piece) (ahead : List Bool) → LiesAhead ahead piece.to → WidensBy task settled run piece ahead ahead

@@ -123,6 +123,7 @@ module _ (task : Task) (fit : IsFit task) (stop : ℕ) (stops : stop_in (node_at
     pub first : way.first ≡ place
     pub can : can_take task run settled.used way.piece ≡ true
     pub later : List Move
+    pub shorter : length later ≤ length moves
     pub completes : Completes task (standing (using settled way.piece) (along task run way.piece)) later
     pub total : total_after task (standing (using settled piece) (along task run piece)) moves ≡ total_after task (standing (using settled way.piece) (along task run way.piece)) later
 
@@ -145,6 +146,7 @@ module _ (task : Task) (fit : IsFit task) (stop : ℕ) (stops : stop_in (node_at
             (ap (λ b. may_come b run way.piece.to) to_stop ∙ (ap (λ (n : ℕ). may_come true run n) has.to_is ∙ chunk.come))
             (subst (λ (bs : List ℕ). misses settled.used bs ≡ true) (sym borders) (free_all piece chunk.hops settled.used chunk.free));
         later = chunk.later;
+        shorter = chunk.shorter;
         completes = subst (λ s. Completes task s chunk.later) (sym here) chunk.completes;
         total = chunk.total ∙ ap (λ s. total_after task s chunk.later) (sym here);
       }

@@ -1,6 +1,6 @@
 -- A run that has left a stop by a piece comes, over sides, to the next stop: what it may do until then is a way. So a way
 -- at once leads to the same state as its pieces one by one.
-use Rattle.std.proofs.Common.{◌≡◌, ℕ, zero, suc, ◌+◌, ◌<◌, Bool, true, false, not, ◌&&◌, nat_lt, ◌⊎◌, inl, inr, List, [], ◌∷◌, ◌++◌, length, get_or, set, refl, sym, ap, subst, ◌∙◌, arith, length-set}
+use Rattle.std.proofs.Common.{◌≡◌, ℕ, zero, suc, ◌+◌, ◌<◌, ◌≤◌, Bool, true, false, not, ◌&&◌, nat_lt, ◌⊎◌, inl, inr, List, [], ◌∷◌, ◌++◌, length, get_or, set, refl, sym, ap, subst, ◌∙◌, arith, length-set}
 use Rattle.reach.proofs.Marking.{set_cases}
 use Rattle.certificate.proofs.Marks.{among_both}
 use Rattle.best_run.specs.declared.task.Piece.{Piece}
@@ -13,9 +13,8 @@ use Rattle.best_run.specs.Ways.{AreFree, Hop, LeadsTo, borders_by, none_used}
 use Rattle.best_run.proofs.Advance.{IsMarked, free_misses, misses_free}
 use Rattle.best_run.proofs.Eased.{Freer, freer_all, freer_marked}
 use Rattle.best_run.proofs.Few.{length_replicate}
-use Rattle.best_run.proofs.Hopeless.{leading_fits}
 use Rattle.best_run.proofs.Marks.{length_marked}
-use Rattle.best_run.proofs.Places.{side_value, take_free}
+use Rattle.best_run.proofs.Places.{leading_fits, side_value, take_free}
 
 both_first : (a b : Bool) → (a && b) ≡ true → a ≡ true
 both_first true b is = refl
@@ -171,6 +170,7 @@ module _ (task : Task) (fit : IsFit task) where
     pub hops : List Hop
     pub to : ℕ
     pub later : List Move
+    pub shorter : length later ≤ length moves
     pub leads : LeadsTo task piece hops to
     pub free : AreFree settled.used piece hops
     pub come : may_come true run to ≡ true
@@ -187,6 +187,7 @@ module _ (task : Task) (fit : IsFit task) where
         hops = record { place = place; piece = next } ∷ rest.hops;
         to = rest.to;
         later = rest.later;
+        shorter = omega (arith, rest.shorter);
         leads = ((side, passes), leads, rest.leads);
         free = (free, rest.free);
         come = sym (come_by run piece rest.to side) ∙ rest.come;
@@ -200,6 +201,7 @@ module _ (task : Task) (fit : IsFit task) where
         hops = [];
         to = piece.to;
         later = moves;
+        shorter = omega arith;
         leads = (is, refl);
         free = take_free task run settled.used piece can;
         come = sym (ap (λ b. may_come b run piece.to) is) ∙ both_first (may_come (stop_in (node_at task piece.to)) run piece.to) (misses settled.used piece.borders.items) can;

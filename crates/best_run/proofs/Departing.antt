@@ -201,6 +201,9 @@ pub departs_from : (task : Task) → AreReady task → (stop : ℕ) (from : Depa
 departs_from task ready stop from low is stops =
     ready.each stop from (slice_get_read task.departures.items 744 stop from (sym ready.long) low is) stops
 
+pub departs_at : (task : Task) → AreReady task → (stop : ℕ) (from : Departures) → stop < 744 → from ≡ get_or task.departures.items stop from → slice_get task.departures.items stop ≡ Some from
+departs_at task ready stop from low is = slice_get_read task.departures.items 744 stop from (sym ready.long) low is
+
 -- what is said of ways is said of spots alone
 node_same : (a b : Task) → a.spots.items ≡ b.spots.items → (spot : ℕ) → node_at a spot ≡ node_at b spot
 node_same a b same spot = ap (λ (nodes : List Node). slice_get nodes spot) same

@@ -5,15 +5,20 @@ use Rattle.std.proofs.lemmas.Bool.{lt-ltb}
 use Rattle.reach.proofs.Marking.{set_keeps}
 use Rattle.best_run.specs.declared.task.Node.{Node}
 use Rattle.best_run.specs.declared.task.Piece.{Piece}
+use Rattle.best_run.specs.declared.task.Departures.{Departures}
 use Rattle.best_run.specs.declared.task.Task.{Task}
+use Rattle.best_run.specs.declared.task.Way.{Way}
 use Rattle.best_run.specs.declared.state.Settled.{Settled}
 use Rattle.best_run.specs.declared.state.Standing.{Standing}
 use Rattle.best_run.specs.Ahead.{EndsAtMost, IsGoneOver, IsOutlook, LiesAhead, beyond}
 use Rattle.best_run.specs.Fit.{IsFit, PieceFits}
-use Rattle.best_run.specs.Moves.{Completes, Explores, LeadsFrom, Move, along, begin, between, can_take, ends_in, go, left_after, marked_all, marked_if, may_come, misses, node_at, pass, pieces_in, settle, settling, standing, stop_in, total_after, turn, turned_back, using, value_in}
+use Rattle.best_run.specs.Moves.{Completes, Explores, LeadsFrom, Move, along, begin, between, can_take, ends_in, go, left_after, marked_all, marked_if, may_come, misses, node_at, pass, settle, settling, standing, stop_in, total_after, turn, turned_back, using, value_in}
+use Rattle.best_run.specs.Ways.{AreReady, AreWaysOf, IsStop, ways_at, ways_in}
 use Rattle.best_run.specs.Suffix.{AreCapped, AreEqual, EarnAtMost}
 use Rattle.best_run.proofs.Advance.{free_misses, marks_more, misses_free}
 use Rattle.best_run.proofs.Ahead.{falsely}
+use Rattle.best_run.proofs.Along.{ByWay, by_way, way_fits}
+use Rattle.best_run.proofs.Described.{among_place}
 use Rattle.best_run.proofs.Eased.{rest_low}
 use Rattle.best_run.proofs.Equal.{low_settled}
 use Rattle.best_run.proofs.Marks.{length_marked}
@@ -129,18 +134,6 @@ come_before task run piece low true spot is =
     falsely (get_or (marked_if (stop_in (node_at task piece.to)) run.visited piece.to) spot false) (mark_keeps (stop_in (node_at task piece.to)) run.visited piece.to spot low was)
     (not_is (get_or (marked_if (stop_in (node_at task piece.to)) run.visited piece.to) spot false) (both_second (nat_lt 0 (left_after (stop_in (node_at task piece.to)) run.left)) (not (get_or (marked_if (stop_in (node_at task piece.to)) run.visited piece.to) spot false)) is)))))
 
-no_such : {A : Type 0} (index : ℕ) (x : A) → slice_get [] index ≡ Some x → ⊥
-no_such zero x is = cc
-no_such (suc index) x is = cc
-
--- a piece that leads from a spot is fit
-pub leading_fits : (task : Task) → IsFit task → (spot index : ℕ) (piece : Piece) → LeadsFrom task spot index piece → (from : Bool) × PieceFits task from piece
-leading_fits task fit spot index piece leads = by_node (node_at task spot) refl leads
-  where
-    by_node : (found : Option Node) → node_at task spot ≡ found → slice_get (pieces_in found) index ≡ Some piece → (from : Bool) × PieceFits task from piece
-    by_node None is there = absurd (no_such index piece there)
-    by_node (Some node) is there = (node.stop, (fit.nodes spot node is).pieces index piece there)
-
 -- a piece that may be taken after another may be taken before it
 take_before : (task : Task) (settled : Settled) (run : Standing) (from : Bool) (piece : Piece) → PieceFits task from piece → length settled.used ≡ 279 → length run.visited ≡ 744 → (other : Piece) → can_take task (along task run piece) (using settled piece).used other ≡ true → can_take task run settled.used other ≡ true
 take_before task settled run from piece fits whole spots other is =
@@ -160,31 +153,55 @@ take_back task run used piece = ap (λ b. b && misses used piece.borders.items) 
     by_stop true = refl
     by_stop false = refl
 
-module _ (task : Task) (fit : IsFit task) (first : Settled) (begun : Standing) (ahead : List Bool) (look : IsOutlook task first begun ahead) where
+none_at : {A : Type 0} (xs : List A) (i : ℕ) → slice_get xs i ≡ None → i < length xs → ⊥
+none_at [] i none low = omega (arith, low)
+none_at (x ∷ xs) zero none low = absurd cc
+none_at (x ∷ xs) (suc i) none low = none_at xs i none (omega (arith, low))
+
+module _ (task : Task) (fit : IsFit task) (ready : AreReady task) (first : Settled) (begun : Standing) (ahead : List Bool) (look : IsOutlook task first begun ahead) where
   -- a run that goes on from where the first one stands
   record Follows (settled : Settled) (run : Standing) : Type 0 where
     pub takes : (piece : Piece) → can_take task run settled.used piece ≡ true → can_take task begun first.used piece ≡ true
     pub head : IsGoneOver task first begun ahead run.head
     pub home : run.turned ≡ false → IsGoneOver task first begun ahead run.home
+    pub stands : IsStop task run.head
+    pub begins : IsStop task run.home
     pub next : settled.next ≡ first.next
     pub most : run.most ≡ begun.most
     pub whole : length settled.used ≡ 279
     pub spots : length run.visited ≡ 744
 
-  lies_there : (settled : Settled) (run : Standing) → Follows settled run → (index : ℕ) (piece : Piece) → ends_in (node_at task run.head) ≡ false → LeadsFrom task run.head index piece → can_take task run settled.used piece ≡ true → LiesAhead ahead piece.to
-  lies_there settled run follows index piece passes leads taken = follows.head passes index piece leads (follows.takes piece taken)
+  -- the ways from a stop
+  ways_of : (stop : ℕ) → IsStop task stop → AreWaysOf task stop (ways_at task stop)
+  ways_of stop is = by_from (slice_get task.departures.items stop) refl
+    where
+      by_from : (found : Option Departures) → slice_get task.departures.items stop ≡ found → AreWaysOf task stop (ways_in found)
+      by_from None at = absurd (none_at task.departures.items stop at (omega (arith, is.0, ready.long)))
+      by_from (Some from) at = ready.each stop from at is.1
 
-  follows_go : (settled : Settled) (run : Standing) → Follows settled run → (index : ℕ) (piece : Piece) → ends_in (node_at task run.head) ≡ false → LeadsFrom task run.head index piece → can_take task run settled.used piece ≡ true → Follows (using settled piece) (along task run piece)
-  follows_go settled run follows index piece passes leads taken =
-      let fits = leading_fits task fit run.head index piece leads in
+  -- the next way
+  record Leads (settled : Settled) (run : Standing) (way : Way) : Type 0 where
+    pub lies : LiesAhead ahead way.piece.to
+    pub fits : PieceFits task false way.piece
+    pub stop : IsStop task way.piece.to
+
+  leads_by : (settled : Settled) (run : Standing) → Follows settled run → ends_in (node_at task run.head) ≡ false → (place : ℕ) (way : Way) → slice_get (ways_at task run.head) place ≡ Some way → can_take task run settled.used way.piece ≡ true → Leads settled run way
+  leads_by settled run follows passes place way at taken =
+      let fits = way_fits task fit run.head (ways_at task run.head) (ways_of run.head follows.stands) follows.stands.1 way (among_place (ways_at task run.head) place way at) in
+      record { lies = follows.head passes place way at (follows.takes way.piece taken); fits = fits.0; stop = (fits.0.to, fits.1) }
+
+  follows_go : (settled : Settled) (run : Standing) → Follows settled run → (way : Way) → Leads settled run way → Follows (using settled way.piece) (along task run way.piece)
+  follows_go settled run follows way leads =
       record {
-        takes = λ other is. follows.takes other (take_before task settled run fits.0 piece fits.1 follows.whole follows.spots other is);
-        head = look.all piece.to (lies_there settled run follows index piece passes leads taken);
+        takes = λ other is. follows.takes other (take_before task settled run false way.piece leads.fits follows.whole follows.spots other is);
+        head = look.all way.piece.to leads.lies;
         home = follows.home;
+        stands = leads.stop;
+        begins = follows.begins;
         next = follows.next;
         most = follows.most;
-        whole = length_marked settled.used piece.borders.items ∙ follows.whole;
-        spots = mark_length (stop_in (node_at task piece.to)) run.visited piece.to ∙ follows.spots;
+        whole = length_marked settled.used way.piece.borders.items ∙ follows.whole;
+        spots = mark_length (stop_in (node_at task way.piece.to)) run.visited way.piece.to ∙ follows.spots;
       }
 
   -- a run that turns back goes on from where it began
@@ -194,6 +211,8 @@ module _ (task : Task) (fit : IsFit task) (first : Settled) (begun : Standing) (
         takes = λ piece taken. follows.takes piece (sym (take_back task run settled.used piece) ∙ taken);
         head = follows.home once;
         home = λ wrong. absurd (falsely true refl wrong);
+        stands = follows.begins;
+        begins = follows.begins;
         next = follows.next;
         most = follows.most;
         whole = follows.whole;
@@ -204,7 +223,7 @@ module _ (task : Task) (fit : IsFit task) (first : Settled) (begun : Standing) (
   still : ℕ → Standing → ℕ
   still level run = run.left * level + gains level task.spots.items ahead run.visited
 
-  -- a piece leaves no more to be earned
+  -- a way leaves no more to be earned
   still_by : (level : ℕ) (run : Standing) (piece : Piece) → length run.visited ≡ 744 → piece.to < 744 → LiesAhead ahead piece.to → (stop : Bool) → stop_in (node_at task piece.to) ≡ stop → may_come stop run piece.to ≡ true → value_in (node_at task piece.to) + (left_after stop run.left * level + gains level task.spots.items ahead (marked_if stop run.visited piece.to)) ≤ run.left * level + gains level task.spots.items ahead run.visited
   still_by level run piece spots low lies true is may =
       let free : get_or run.visited piece.to false ≡ false = not_is (get_or run.visited piece.to false) (both_second (nat_lt 0 run.left) (not (get_or run.visited piece.to false)) may) in
@@ -213,71 +232,93 @@ module _ (task : Task) (fit : IsFit task) (first : Settled) (begun : Standing) (
   still_by level run piece spots low lies false is may =
       omega (arith, side_value task fit piece.to is)
 
-  still_go : (level : ℕ) (settled : Settled) (run : Standing) → Follows settled run → (index : ℕ) (piece : Piece) → ends_in (node_at task run.head) ≡ false → LeadsFrom task run.head index piece → can_take task run settled.used piece ≡ true → value_in (node_at task piece.to) + still level (along task run piece) ≤ still level run
+  still_go : (level : ℕ) (settled : Settled) (run : Standing) → Follows settled run → (way : Way) → Leads settled run way → can_take task run settled.used way.piece ≡ true → value_in (node_at task way.piece.to) + still level (along task run way.piece) ≤ still level run
   unfolding still
-  still_go level settled run follows index piece passes leads taken =
-      let fits = leading_fits task fit run.head index piece leads in
-      still_by level run piece follows.spots fits.1.to (lies_there settled run follows index piece passes leads taken) (stop_in (node_at task piece.to)) refl
-      (both_first (may_come (stop_in (node_at task piece.to)) run piece.to) (misses settled.used piece.borders.items) taken)
+  still_go level settled run follows way leads taken =
+      still_by level run way.piece follows.spots leads.fits.to leads.lies (stop_in (node_at task way.piece.to)) refl
+      (both_first (may_come (stop_in (node_at task way.piece.to)) run way.piece.to) (misses settled.used way.piece.borders.items) taken)
 
   still_back : (level : ℕ) (run : Standing) → still level (turned_back run) ≡ still level run
   unfolding still
   still_back level run = refl
 
+  -- the way with which what comes after a piece begins
+  abbrev Way_of : (settled : Settled) (run : Standing) → Follows settled run → ℕ → Piece → List Move → Type 0
+  Way_of settled run follows place piece moves =
+      ByWay task fit run.head follows.stands.1 (ways_at task run.head) (ways_of run.head follows.stands) settled run place piece moves
+
+  way_of : (settled : Settled) (run : Standing) → (follows : Follows settled run) → (place : ℕ) (piece : Piece) (moves : List Move) → LeadsFrom task run.head place piece → can_take task run settled.used piece ≡ true → Completes task (standing (using settled piece) (along task run piece)) moves → Way_of settled run follows place piece moves
+  way_of settled run follows place piece moves leads taken completes =
+      by_way task fit run.head follows.stands.1 (ways_at task run.head) (ways_of run.head follows.stands) settled run follows.whole place piece moves leads taken completes
+
   -- all ways on
-  low_by : (level later : ℕ) → EarnAtMost task (first.next + 1) later → (moves : List Move) (settled : Settled) (run : Standing) → Follows settled run → Completes task (standing settled run) moves → total_after task (standing settled run) moves ≤ settled.total + run.value + still level run + later
-  low_by level later bound [] settled run follows completes = absurd completes
-  low_by level later bound (pass ∷ moves) settled run follows completes = absurd completes.0
-  low_by level later bound (begin stop index piece ∷ moves) settled run follows completes = absurd completes.0
-  low_by level later bound (go index piece ∷ moves) settled run follows completes =
+  low_by : (level later : ℕ) → EarnAtMost task (first.next + 1) later → (fuel : ℕ) (moves : List Move) → length moves ≤ fuel → (settled : Settled) (run : Standing) → Follows settled run → Completes task (standing settled run) moves → total_after task (standing settled run) moves ≤ settled.total + run.value + still level run + later
+  low_by level later bound fuel [] enough settled run follows completes = absurd completes
+  low_by level later bound fuel (pass ∷ moves) enough settled run follows completes = absurd completes.0
+  low_by level later bound fuel (begin stop index piece ∷ moves) enough settled run follows completes = absurd completes.0
+  low_by level later bound zero (go index piece ∷ moves) enough settled run follows completes = absurd (omega (arith, enough))
+  low_by level later bound (suc fuel) (go index piece ∷ moves) enough settled run follows completes =
       let may = completes.0 in
-      let rest : total_after task (standing (using settled piece) (along task run piece)) moves ≤ settled.total + (run.value + value_in (node_at task piece.to)) + still level (along task run piece) + later = low_by level later bound moves (using settled piece) (along task run piece) (follows_go settled run follows index piece may.passes may.leads may.taken) completes.1 in
-      omega (arith, rest, still_go level settled run follows index piece may.passes may.leads may.taken)
-  low_by level later bound (turn index piece ∷ moves) settled run follows completes =
+      let by : Way_of settled run follows index piece moves = way_of settled run follows index piece moves may.leads may.taken completes.1 in
+      let leads : Leads settled run by.way = leads_by settled run follows may.passes by.place_of by.way by.stands by.can in
+      let rest : total_after task (standing (using settled by.way.piece) (along task run by.way.piece)) by.later ≤ settled.total + (run.value + value_in (node_at task by.way.piece.to)) + still level (along task run by.way.piece) + later = low_by level later bound fuel by.later (omega (arith, by.shorter, enough)) (using settled by.way.piece) (along task run by.way.piece) (follows_go settled run follows by.way leads) by.completes in
+      omega (arith, rest, by.total, still_go level settled run follows by.way leads by.can)
+  low_by level later bound zero (turn index piece ∷ moves) enough settled run follows completes = absurd (omega (arith, enough))
+  low_by level later bound (suc fuel) (turn index piece ∷ moves) enough settled run follows completes =
       let may = completes.0 in
-      let back = follows_back settled run follows may.once in
-      let rest : total_after task (standing (using settled piece) (along task (turned_back run) piece)) moves ≤ settled.total + (run.value + value_in (node_at task piece.to)) + still level (along task (turned_back run) piece) + later = low_by level later bound moves (using settled piece) (along task (turned_back run) piece) (follows_go settled (turned_back run) back index piece may.passes may.leads may.taken) completes.1 in
-      omega (arith, rest, still_go level settled (turned_back run) back index piece may.passes may.leads may.taken, still_back level run)
-  low_by level later bound (settle ∷ moves) settled run follows completes =
+      let back : Follows settled (turned_back run) = follows_back settled run follows may.once in
+      let by : Way_of settled (turned_back run) back index piece moves = way_of settled (turned_back run) back index piece moves may.leads may.taken completes.1 in
+      let leads : Leads settled (turned_back run) by.way = leads_by settled (turned_back run) back may.passes by.place_of by.way by.stands by.can in
+      let rest : total_after task (standing (using settled by.way.piece) (along task (turned_back run) by.way.piece)) by.later ≤ settled.total + (run.value + value_in (node_at task by.way.piece.to)) + still level (along task (turned_back run) by.way.piece) + later = low_by level later bound fuel by.later (omega (arith, by.shorter, enough)) (using settled by.way.piece) (along task (turned_back run) by.way.piece) (follows_go settled (turned_back run) back by.way leads) by.completes in
+      omega (arith, rest, by.total, still_go level settled (turned_back run) back by.way leads by.can, still_back level run)
+  low_by level later bound fuel (settle ∷ moves) enough settled run follows completes =
       let here : EarnAtMost task (settling settled run).next later = subst (λ (n : ℕ). EarnAtMost task (n + 1) later) (sym follows.next) bound in
       let rest : total_after task (between (settling settled run)) moves ≤ settled.total + run.value + later = rest_low task (settling settled run) later here follows.whole moves completes.1 in
       omega arith
 
   -- all ways on, if the next trains are of the same kind
-  low_alike : (level most : ℕ) → 0 < begun.most → (equal later : ℕ) → AreEqual task (first.next + 1) equal begun.most → EarnAtMost task (first.next + 1 + equal) later → (moves : List Move) (settled : Settled) (run : Standing) → Follows settled run → run.value + still level run ≤ most → Completes task (standing settled run) moves → total_after task (standing settled run) moves ≤ settled.total + most + (equal * most + later)
-  low_alike level most some equal later alike bound [] settled run follows low completes = absurd completes
-  low_alike level most some equal later alike bound (pass ∷ moves) settled run follows low completes = absurd completes.0
-  low_alike level most some equal later alike bound (begin stop index piece ∷ moves) settled run follows low completes = absurd completes.0
-  low_alike level most some equal later alike bound (go index piece ∷ moves) settled run follows low completes =
+  low_alike : (level most : ℕ) → 0 < begun.most → (equal later : ℕ) → AreEqual task (first.next + 1) equal begun.most → EarnAtMost task (first.next + 1 + equal) later → (fuel : ℕ) (moves : List Move) → length moves ≤ fuel → (settled : Settled) (run : Standing) → Follows settled run → run.value + still level run ≤ most → Completes task (standing settled run) moves → total_after task (standing settled run) moves ≤ settled.total + most + (equal * most + later)
+  low_alike level most some equal later alike bound fuel [] enough settled run follows low completes = absurd completes
+  low_alike level most some equal later alike bound fuel (pass ∷ moves) enough settled run follows low completes = absurd completes.0
+  low_alike level most some equal later alike bound fuel (begin stop index piece ∷ moves) enough settled run follows low completes = absurd completes.0
+  low_alike level most some equal later alike bound zero (go index piece ∷ moves) enough settled run follows low completes = absurd (omega (arith, enough))
+  low_alike level most some equal later alike bound (suc fuel) (go index piece ∷ moves) enough settled run follows low completes =
       let may = completes.0 in
-      low_alike level most some equal later alike bound moves (using settled piece) (along task run piece) (follows_go settled run follows index piece may.passes may.leads may.taken)
-      (omega (arith, low, still_go level settled run follows index piece may.passes may.leads may.taken)) completes.1
-  low_alike level most some equal later alike bound (turn index piece ∷ moves) settled run follows low completes =
+      let by : Way_of settled run follows index piece moves = way_of settled run follows index piece moves may.leads may.taken completes.1 in
+      let leads : Leads settled run by.way = leads_by settled run follows may.passes by.place_of by.way by.stands by.can in
+      let rest = low_alike level most some equal later alike bound fuel by.later (omega (arith, by.shorter, enough)) (using settled by.way.piece) (along task run by.way.piece) (follows_go settled run follows by.way leads)
+      (omega (arith, low, still_go level settled run follows by.way leads by.can)) by.completes in
+      omega (arith, rest, by.total)
+  low_alike level most some equal later alike bound zero (turn index piece ∷ moves) enough settled run follows low completes = absurd (omega (arith, enough))
+  low_alike level most some equal later alike bound (suc fuel) (turn index piece ∷ moves) enough settled run follows low completes =
       let may = completes.0 in
-      let back = follows_back settled run follows may.once in
-      low_alike level most some equal later alike bound moves (using settled piece) (along task (turned_back run) piece) (follows_go settled (turned_back run) back index piece may.passes may.leads may.taken)
-      (omega (arith, low, still_go level settled (turned_back run) back index piece may.passes may.leads may.taken, still_back level run)) completes.1
-  low_alike level most some equal later alike bound (settle ∷ moves) settled run follows low completes =
+      let back : Follows settled (turned_back run) = follows_back settled run follows may.once in
+      let by : Way_of settled (turned_back run) back index piece moves = way_of settled (turned_back run) back index piece moves may.leads may.taken completes.1 in
+      let leads : Leads settled (turned_back run) by.way = leads_by settled (turned_back run) back may.passes by.place_of by.way by.stands by.can in
+      let rest = low_alike level most some equal later alike bound fuel by.later (omega (arith, by.shorter, enough)) (using settled by.way.piece) (along task (turned_back run) by.way.piece) (follows_go settled (turned_back run) back by.way leads)
+      (omega (arith, low, still_go level settled (turned_back run) back by.way leads by.can, still_back level run)) by.completes in
+      omega (arith, rest, by.total)
+  low_alike level most some equal later alike bound fuel (settle ∷ moves) enough settled run follows low completes =
       let here : AreEqual task (settled.next + 1) equal begun.most = subst (λ (n : ℕ). AreEqual task (n + 1) equal begun.most) (sym follows.next) alike in
       let there : EarnAtMost task (settled.next + 1 + equal) later = subst (λ (n : ℕ). EarnAtMost task (n + 1 + equal) later) (sym follows.next) bound in
       let rest : total_after task (between (settling settled run)) moves ≤ settled.total + run.value + (equal * most + later) = low_settled task begun.most most later some equal (settling settled run) here follows.most (omega (arith, low)) follows.whole there moves completes.1 in
       omega (arith, rest, low)
 
-  first_follows : length first.used ≡ 279 → length begun.visited ≡ 744 → Follows first begun
-  first_follows whole spots =
-      record { takes = λ piece taken. taken; head = look.head; home = look.home; next = refl; most = refl; whole = whole; spots = spots }
+  first_follows : IsStop task begun.head → IsStop task begun.home → length first.used ≡ 279 → length begun.visited ≡ 744 → Follows first begun
+  first_follows stands begins whole spots =
+      record { takes = λ piece taken. taken; head = look.head; home = look.home; stands = stands; begins = begins; next = refl; most = refl; whole = whole; spots = spots }
 
   -- a run that earns too little
-  pub ends_low : (level later best : ℕ) → EarnAtMost task (first.next + 1) later → length first.used ≡ 279 → length begun.visited ≡ 744 → first.total + begun.value + (begun.left * level + beyond level task.spots.items ahead) + later ≤ best → EndsAtMost task first begun best
+  pub ends_low : IsStop task begun.head → IsStop task begun.home → (level later best : ℕ) → EarnAtMost task (first.next + 1) later → length first.used ≡ 279 → length begun.visited ≡ 744 → first.total + begun.value + (begun.left * level + beyond level task.spots.items ahead) + later ≤ best → EndsAtMost task first begun best
   unfolding still
-  ends_low level later best bound whole spots low moves completes =
-      omega (arith, low_by level later bound moves first begun (first_follows whole spots) completes, gains_low level task.spots.items ahead begun.visited)
+  ends_low stands begins level later best bound whole spots low moves completes =
+      omega (arith, low_by level later bound (length moves) moves (omega arith) first begun (first_follows stands begins whole spots) completes, gains_low level task.spots.items ahead begun.visited)
 
   -- a run that earns too little with those of its kind
-  pub ends_alike : (level most best : ℕ) → AreCapped task (first.next + 1) begun.most most (first.total + most) best → length first.used ≡ 279 → length begun.visited ≡ 744 → begun.value + (begun.left * level + beyond level task.spots.items ahead) ≤ most → EndsAtMost task first begun best
+  pub ends_alike : IsStop task begun.head → IsStop task begun.home → (level most best : ℕ) → AreCapped task (first.next + 1) begun.most most (first.total + most) best → length first.used ≡ 279 → length begun.visited ≡ 744 → begun.value + (begun.left * level + beyond level task.spots.items ahead) ≤ most → EndsAtMost task first begun best
   unfolding still
-  ends_alike level most best capped whole spots low moves completes =
-      omega (arith, capped.short, low_alike level most capped.some capped.equal capped.bound capped.are_equal capped.rest moves first begun (first_follows whole spots) (omega (arith, low, gains_low level task.spots.items ahead begun.visited)) completes)
+  ends_alike stands begins level most best capped whole spots low moves completes =
+      omega (arith, capped.short, low_alike level most capped.some capped.equal capped.bound capped.are_equal capped.rest (length moves) moves (omega arith) first begun (first_follows stands begins whole spots) (omega (arith, low, gains_low level task.spots.items ahead begun.visited)) completes)
 
 -- what cannot earn more need not be tried
 pub explores_hopeless : (task : Task) (settled : Settled) (run : Standing) (best : ℕ) → EndsAtMost task settled run best → Explores task (standing settled run) best best

@@ -1,5 +1,5 @@
 -- Stops and pieces by their places, and what a piece leaves to be earned.
-use Rattle.std.proofs.Common.{◌≡◌, ℕ, zero, suc, ◌+◌, ◌*◌, ◌<◌, ◌≤◌, Bool, true, false, ◌&&◌, ◌⊎◌, inl, inr, Option, Some, None, List, length, get_or, slice_get, refl, sym, ap, subst, ◌∙◌, arith}
+use Rattle.std.proofs.Common.{◌≡◌, ℕ, zero, suc, ◌+◌, ◌*◌, ◌<◌, ◌≤◌, Bool, true, false, ◌&&◌, ◌⊎◌, inl, inr, Option, Some, None, List, [], length, get_or, slice_get, refl, sym, ap, subst, ◌∙◌, arith}
 use Rattle.std.proofs.lemmas.Option.{slice_get_read, slice_get_within}
 use Rattle.best_run.specs.declared.task.Node.{Node}
 use Rattle.best_run.specs.declared.task.Piece.{Piece}
@@ -162,3 +162,15 @@ one_of false is = let wrong : false ≡ true = is in absurd cc
 pub one_at_side : one_if false ≡ 0
 unfolding one_if
 one_at_side = refl
+
+no_such : {A : Type 0} (index : ℕ) (x : A) → slice_get [] index ≡ Some x → ⊥
+no_such zero x is = cc
+no_such (suc index) x is = cc
+
+-- a piece that leads from a spot is fit
+pub leading_fits : (task : Task) → IsFit task → (spot index : ℕ) (piece : Piece) → LeadsFrom task spot index piece → (from : Bool) × PieceFits task from piece
+leading_fits task fit spot index piece leads = by_node (node_at task spot) refl leads
+  where
+    by_node : (found : Option Node) → node_at task spot ≡ found → slice_get (pieces_in found) index ≡ Some piece → (from : Bool) × PieceFits task from piece
+    by_node None is there = absurd (no_such index piece there)
+    by_node (Some node) is there = (node.stop, (fit.nodes spot node is).pieces index piece there)

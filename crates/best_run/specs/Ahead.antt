@@ -1,47 +1,49 @@
--- What may lie ahead of a run that has begun: the spots that it may still come to, if it may take each piece of track
--- that it may take now. With a level, so many dollars, each stop to come is worth at most the level and what it is
+-- What may lie ahead of a run that has begun: the stops that it may still come to, if it may take each way that it may take
+-- now. With a level, so many dollars, each stop to come is worth at most the level and what it is
 -- worth beyond: so the run earns at most the level for each stop that is left, and what the spots ahead are worth
 -- beyond it.
-use Rattle.std.specs.Prelude.{◌≡◌, ℕ, ◌+◌, ◌-◌, ◌*◌, ◌<◌, ◌≤◌, Bool, true, false, ◌⊎◌, List, [], ◌∷◌, get_or}
+use Rattle.std.specs.Prelude.{◌≡◌, ℕ, ◌+◌, ◌-◌, ◌*◌, ◌<◌, ◌≤◌, Bool, true, false, ◌⊎◌, Some, List, [], ◌∷◌, get_or, slice_get}
 use Rattle.best_run.specs.declared.task.Node.{Node}
 use Rattle.best_run.specs.declared.task.Piece.{Piece}
 use Rattle.best_run.specs.declared.task.Task.{Task}
+use Rattle.best_run.specs.declared.task.Way.{Way}
 use Rattle.best_run.specs.declared.state.Settled.{Settled}
 use Rattle.best_run.specs.declared.state.Standing.{Standing}
 use Rattle.best_run.specs.Fit.{unused}
-use Rattle.best_run.specs.Moves.{Completes, LeadsFrom, Move, can_take, ends_in, node_at, standing, total_after}
+use Rattle.best_run.specs.Ways.{ways_at}
+use Rattle.best_run.specs.Moves.{Completes, Move, can_take, ends_in, node_at, standing, total_after}
 
--- a spot lies ahead
+-- a stop lies ahead, by its number
 abbrev pub LiesAhead : List Bool → ℕ → Type 0
 LiesAhead ahead spot = get_or ahead spot false ≡ true
 
--- each piece that a run may take from a spot, if it may pass the spot, leads to one that lies ahead
+-- each way that a run may take from a stop, if it may pass the stop, leads to one that lies ahead
 abbrev pub IsGoneOver : Task → Settled → Standing → List Bool → ℕ → Type 0
 IsGoneOver task settled run ahead spot =
-    ends_in (node_at task spot) ≡ false → (index : ℕ) (piece : Piece) → LeadsFrom task spot index piece → can_take task run settled.used piece ≡ true → LiesAhead ahead piece.to
+    ends_in (node_at task spot) ≡ false → (place : ℕ) (way : Way) → slice_get (ways_at task spot) place ≡ Some way → can_take task run settled.used way.piece ≡ true → LiesAhead ahead way.piece.to
 
--- more spots lie ahead, and each new one is gone over
+-- more stops lie ahead, and each new one is gone over
 pub record Widens (task : Task) (settled : Settled) (run : Standing) (old new : List Bool) : Type 0 where
   pub kept : (spot : ℕ) → LiesAhead old spot → LiesAhead new spot
   pub over : (spot : ℕ) → LiesAhead new spot → LiesAhead old spot ⊎ IsGoneOver task settled run new spot
   pub fewer : unused new ≤ unused old
 
--- a spot is gone over
+-- a stop is gone over
 pub record WidensFrom (task : Task) (settled : Settled) (run : Standing) (spot : ℕ) (old new : List Bool) : Type 0 where
   pub widens : Widens task settled run old new
   pub here : IsGoneOver task settled run new spot
 
--- a piece leads to a spot that lies ahead, if the run may take it
+-- a piece leads to a stop that lies ahead, if the run may take it
 pub record WidensBy (task : Task) (settled : Settled) (run : Standing) (piece : Piece) (old new : List Bool) : Type 0 where
   pub widens : Widens task settled run old new
   pub leads : can_take task run settled.used piece ≡ true → LiesAhead new piece.to
 
--- the pieces from a spot before one of them are gone over
+-- the ways from a stop before one of them are gone over
 pub record WidensBelow (task : Task) (settled : Settled) (run : Standing) (spot most : ℕ) (old new : List Bool) : Type 0 where
   pub widens : Widens task settled run old new
-  pub leads : (index : ℕ) (piece : Piece) → index < most → LeadsFrom task spot index piece → can_take task run settled.used piece ≡ true → LiesAhead new piece.to
+  pub leads : (place : ℕ) (way : Way) → place < most → slice_get (ways_at task spot) place ≡ Some way → can_take task run settled.used way.piece ≡ true → LiesAhead new way.piece.to
 
--- all spots that a run may still come to lie ahead
+-- all stops that a run may still come to lie ahead
 pub record IsOutlook (task : Task) (settled : Settled) (run : Standing) (ahead : List Bool) : Type 0 where
   pub head : IsGoneOver task settled run ahead run.head
   pub home : run.turned ≡ false → IsGoneOver task settled run ahead run.home

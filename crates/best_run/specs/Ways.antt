@@ -1,6 +1,6 @@
 -- Ways of plain track: from a stop by a piece, and over sides by others, to the next stop, over no border twice. A run goes
 -- over a way at once.
-use Rattle.std.specs.Prelude.{◌≡◌, ℕ, ◌<◌, ◌≤◌, Bool, true, false, ◌⊎◌, Some, List, [], ◌∷◌, ◌++◌, length, replicate, slice_get}
+use Rattle.std.specs.Prelude.{◌≡◌, ℕ, ◌<◌, ◌≤◌, Bool, true, false, ◌⊎◌, Option, Some, None, List, [], ◌∷◌, ◌++◌, length, replicate, slice_get}
 use Rattle.reach.specs.Position.{IsAmong}
 use Rattle.best_run.specs.declared.task.Departures.{Departures}
 use Rattle.best_run.specs.declared.task.Piece.{Piece}
@@ -84,6 +84,18 @@ pub record AreDepartures (task : Task) (count : ℕ) (all : List Departures) : T
 -- the ways from each stop are known
 abbrev pub AreReady : Task → Type 0
 AreReady task = AreDepartures task 744 task.departures.items
+
+-- a number is that of a stop
+abbrev pub IsStop : Task → ℕ → Type 0
+IsStop task spot = (spot < 744) × (stop_in (node_at task spot) ≡ true)
+
+-- the ways from a stop, by its number
+abbrev pub ways_in : Option Departures → List Way
+ways_in (Some from) = from.ways.items
+ways_in None = []
+
+abbrev pub ways_at : Task → ℕ → List Way
+ways_at task stop = ways_in (slice_get task.departures.items stop)
 
 -- a way stands among some before a place
 abbrev pub StandsBefore : List Way → ℕ → Way → Type 0

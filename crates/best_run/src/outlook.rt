@@ -1,7 +1,9 @@
-ghost use Rattle.std.specs.Prelude.{◌≡◌, ◌+◌, ◌*◌, ◌<◌, ◌≤◌, IsTrue, false, length, ℕ};
+ghost use Rattle.std.specs.Prelude.{◌≡◌, ◌+◌, ◌*◌, ◌<◌, ◌≤◌, IsTrue, true, length, ℕ};
 ghost use Rattle.best_run.specs.Ahead.{EndsAtMost, IsOutlook, WidensBy, WidensFrom, beyond};
 ghost use Rattle.best_run.specs.Fit.{HasRoom, IsFit, BordersFit};
+ghost use Rattle.best_run.specs.Moves.{node_at, stop_in};
 ghost use Rattle.best_run.specs.Suffix.{AreBounds};
+ghost use Rattle.best_run.specs.Ways.{AreReady, IsStop};
 
 use crate::state::{SPOTS, Settled, Standing};
 use crate::task::{Piece, Task};
@@ -27,15 +29,18 @@ impl Task {
     #[cycle(look)]
     fn look_from(&self, settled: &Settled, run: &Standing, spot: usize, ahead: &mut [bool; SPOTS])
         requires fit { IsFit self.now }
+        requires ready { AreReady self.now }
         requires spot { spot < 744 }
+        requires stop { stop_in (node_at self.now spot) ≡ true }
         ensures { WidensFrom self.now settled.now run.now spot ahead.old ahead.new }
     {
-        let node = &self.spots[spot];
-        if node.ends {
+        if self.spots[spot].ends {
             return;
         }
-        for index in 0..node.pieces.len() {
-            self.look_along(settled, run, &node.pieces[index], ahead);
+        let from = &self.departures[spot];
+        for index in 0..from.ways.len() {
+            let way = &from.ways[index];
+            self.look_along(settled, run, &way.piece, ahead);
         }
     }
 
@@ -49,7 +54,9 @@ impl Task {
         ahead: &mut [bool; SPOTS],
     )
         requires fit { IsFit self.now }
+        requires ready { AreReady self.now }
         requires to { piece.now.to < 744 }
+        requires stop { stop_in (node_at self.now piece.now.to) ≡ true }
         requires borders { BordersFit piece.now.borders.items }
         ensures { WidensBy self.now settled.now run.now piece.now ahead.old ahead.new }
     {
@@ -65,8 +72,11 @@ impl Task {
     /// What lies ahead of a run.
     fn outlook(&self, settled: &Settled, run: &Standing) -> [bool; SPOTS]
         requires fit { IsFit self.now }
+        requires ready { AreReady self.now }
         requires head { run.now.head < 744 }
+        requires stands { stop_in (node_at self.now run.now.head) ≡ true }
         requires home { run.now.home < 744 }
+        requires begun { stop_in (node_at self.now run.now.home) ≡ true }
         ensures outlook { IsOutlook self.now settled.now run.now result }
         ensures borders { length settled.now.used ≡ 279 }
         ensures spots { length run.now.visited ≡ 744 }
@@ -143,6 +153,9 @@ impl Task {
         best: Amount,
     ) -> bool
         requires fit { IsFit self.now }
+        requires ready { AreReady self.now }
+        requires stands { IsStop self.now run.now.head }
+        requires begun { IsStop self.now run.now.home }
         requires bounds { AreBounds self.now bounds.now }
         requires next { settled.now.next < length self.now.trains.items }
         requires ahead { IsOutlook self.now settled.now run.now ahead.now }
@@ -179,7 +192,7 @@ impl Task {
     }
 
     /// Whether no way on from a run can earn more than what has been found. It is not told of all
-    /// such runs, and of none that stands at a side: that costs more time than it saves.
+    /// such runs.
     pub(crate) fn is_hopeless(
         &self,
         settled: &Settled,
@@ -188,18 +201,18 @@ impl Task {
         best: Amount,
     ) -> bool
         requires fit { IsFit self.now }
+        requires ready { AreReady self.now }
         requires bounds { AreBounds self.now bounds.now }
         requires next { settled.now.next < length self.now.trains.items }
         requires head { run.now.head < 744 }
+        requires stands { stop_in (node_at self.now run.now.head) ≡ true }
         requires home { run.now.home < 744 }
+        requires begun { stop_in (node_at self.now run.now.home) ≡ true }
         requires room { settled.now.total + run.now.value ≤ 44720 }
         ensures { IsTrue result → EndsAtMost self.now settled.now run.now best }
     {
         if self.earns_too_much(settled, run) {
             return true;
-        }
-        if !self.spots[run.head].stop {
-            return false;
         }
         let ahead = self.outlook(settled, run);
         self.earns_too_little(settled, run, &ahead, bounds, best)

@@ -1,9 +1,12 @@
--- Each piece adds what it leads to, and together they are all pieces of the spot.
-use Rattle.std.proofs.Common.{◌≡◌, ◌<◌, Some, length, arith}
-use Rattle.best_run.specs.Moves.{node_at}
+-- Each way adds what it leads to, and together they are all ways of the stop.
+use Rattle.std.proofs.Common.{◌≡◌, ◌<◌, Some, length, slice_get, refl, ap, ◌∙◌, arith}
+use Rattle.std.proofs.lemmas.Option.{slice_get_read}
+use Rattle.best_run.specs.Ways.{AreWaysOf, ways_at, ways_in}
 use Rattle.best_run.proofs.Ahead.{along_more, below_more, below_none, from_all}
+use Rattle.best_run.proofs.Along.{way_fits}
+use Rattle.best_run.proofs.Departing.{departs_at, departs_from}
+use Rattle.best_run.proofs.Described.{among_place}
 use Rattle.best_run.proofs.Marks.{set_fewer}
-use Rattle.best_run.proofs.Places.{leads_at, node_is, piece_fits}
 use Rattle.best_run.proofs.task.Task.+look.Goals as goal
 
 pub look_along-look_from-requires : goal.look_along-look_from-requires
@@ -11,7 +14,7 @@ look_along-look_from-requires t c =
     let piece = c.args.piece.now in
     let low : piece.to < length c.args.ahead.now = omega (arith, c.told-ahead, c.requires.to) in
     let fewer = set_fewer c.args.ahead.now piece.to low c.if-ahead-piece.false in
-    (omega arith, (c.requires.fit, c.requires.to))
+    (omega arith, (c.requires.fit, (c.requires.ready, (c.requires.to, c.requires.stop))))
 
 pub look_along-returns-then-can_take : goal.look_along-returns-then-can_take
 look_along-returns-then-can_take t c =
@@ -26,24 +29,29 @@ look_from-loop-index-init t c =
 pub look_from-look_along-requires : goal.look_from-look_along-requires
 look_from-look_along-requires t c =
     let task = c.args.self.now in
-    let node = c.index-node.result.now in
-    let there : node_at task c.args.spot ≡ Some node = node_is task c.requires.fit c.args.spot node c.requires.spot c.index-node.ensures in
-    let fits = piece_fits task c.requires.fit c.args.spot node there c.loop-index.index c.index.result.now (omega arith) c.index.ensures in
+    let from = c.index-from.result.now in
+    let ways = from.ways.items in
+    let way = c.index-way.result.now in
+    let are : AreWaysOf task c.args.spot ways = departs_from task c.requires.ready c.args.spot from c.requires.spot c.index-from.ensures c.requires.stop in
+    let at : slice_get ways c.loop-index.index ≡ Some way = slice_get_read ways (length ways) c.loop-index.index way refl (omega arith) c.index-way.ensures in
+    let fits = way_fits task c.requires.fit c.args.spot ways are c.requires.stop way (among_place ways c.loop-index.index way at) in
     let fewer = c.loop-index.invariant.widens.fewer in
-    (omega arith, (c.requires.fit, (fits.to, fits.borders)))
+    (omega arith, (c.requires.fit, (c.requires.ready, (fits.0.to, (fits.1, fits.0.borders)))))
 
 pub look_from-loop-index-preserved : goal.look_from-loop-index-preserved
 look_from-loop-index-preserved t c =
     let task = c.args.self.now in
-    let node = c.index-node.result.now in
-    let there : node_at task c.args.spot ≡ Some node = node_is task c.requires.fit c.args.spot node c.requires.spot c.index-node.ensures in
-    below_more task c.args.settled.now c.args.run.now c.args.spot c.loop-index.index c.index.result.now _ _ _
-    (leads_at task c.args.spot node there c.loop-index.index c.index.result.now (omega arith) c.index.ensures)
+    let from = c.index-from.result.now in
+    let ways = from.ways.items in
+    let way = c.index-way.result.now in
+    let at : slice_get ways c.loop-index.index ≡ Some way = slice_get_read ways (length ways) c.loop-index.index way refl (omega arith) c.index-way.ensures in
+    let there : ways_at task c.args.spot ≡ ways = ap ways_in (departs_at task c.requires.ready c.args.spot from c.requires.spot c.index-from.ensures) in
+    below_more task c.args.settled.now c.args.run.now c.args.spot c.loop-index.index way _ _ _ (ap (λ ws. slice_get ws c.loop-index.index) there ∙ at)
     c.loop-index.invariant c.look_along.ensures
 
 pub look_from-returns : goal.look_from-returns
 look_from-returns t c =
     let task = c.args.self.now in
-    let node = c.index-node.result.now in
-    from_all task c.args.settled.now c.args.run.now c.args.spot node c.loop-index.index _ _
-    (node_is task c.requires.fit c.args.spot node c.requires.spot c.index-node.ensures) (omega arith) c.loop-index.invariant
+    let from = c.index-from.result.now in
+    from_all task c.args.settled.now c.args.run.now c.args.spot from.ways.items c.loop-index.index _ _
+    (ap ways_in (departs_at task c.requires.ready c.args.spot from c.requires.spot c.index-from.ensures)) (omega arith) c.loop-index.invariant
