@@ -1,15 +1,16 @@
 //! The greatest revenue of a company's trains: `greatest_revenue` answers what the best legal set of
 //! runs earns, on any `reach::Network`.
 //!
-//! The definitions of a legal set and of the greatest revenue are those of `certificate`. Those of this
-//! crate, in `specs/`, are of the search alone: `Moves` says what it goes over, move by move, `Described`
-//! how a position is laid out for it, `Fit` what keeps its numbers within their bounds, `Suffix` what the
-//! last trains earn by themselves, and equal trains one after another, which bounds what they earn behind
-//! others, `Ahead` what may lie ahead of a run, which bounds what it may still earn.
+//! The definitions of a legal set and of the greatest revenue are those of `certificate`. Those of
+//! this crate, in `specs/`, are of the search alone: `Moves` says what it goes over, move by move,
+//! `Described` how a position is laid out for it, `Ways` how pieces of plain track make ways from
+//! stop to stop, `Fit` what keeps its numbers within their bounds, `Suffix` what the last trains earn
+//! by themselves, and equal trains one after another, which bounds what they earn behind others,
+//! `Ahead` what may lie ahead of a run, which bounds what it may still earn.
 //!
-//! Reading order: `best` (the public call), `trains` (their order), `spots` (the spots of a position with the pieces of track
-//! between them), `task`, `state` (the trains settled so far, and the run begun), `outlook` (what lies ahead
-//! of that run), `search`.
+//! Reading order: `best` (the public call), `trains` (their order), `spots` (the spots of a position
+//! with the pieces of track between them), `ways` (from stop to stop), `task`, `state` (the trains
+//! settled so far, and the run begun), `outlook` (what lies ahead of that run), `search`.
 #![tactic(auto)]
 
 mod best;
