@@ -1,6 +1,6 @@
 -- Each legal run is met: from the first of its tokens along one arm, and then, if it has another, back at the token and
 -- along that. The first arm is the one whose first piece stands before the other's.
-use Rattle.std.proofs.Common.{◌≡◌, ◌↔◌, ℕ, zero, suc, ◌+◌, ◌<◌, ◌≤◌, true, false, ◌⊎◌, inl, inr, Some, List, [], ◌∷◌, ◌++◌, length, get_or, set, refl, sym, ap, subst, ◌∙◌, arith, length-set}
+use Rattle.std.proofs.Common.{◌≡◌, ◌↔◌, ℕ, ◌+◌, ◌<◌, ◌≤◌, true, false, ◌⊎◌, inl, inr, Some, List, [], ◌∷◌, ◌++◌, length, get_or, set, refl, sym, ap, subst, ◌∙◌, arith, length-set}
 use Rattle.map_tables.specs.declared.place.Stop.{Stop}
 use Rattle.reach.specs.Lawful.{IsLawful}
 use Rattle.reach.specs.Position.{Position, HasToken, IsAmong}
@@ -25,7 +25,7 @@ use Rattle.best_run.proofs.Advance.{IsMarked, Tells, mark_more, node_left, one_n
 use Rattle.best_run.proofs.Backwards.{AreAlike, Starts, Turned, alike_back, alike_onto, onto_append, turned_about, worth_back}
 use Rattle.best_run.proofs.Complete.{AreAhead, CanFinish, CanGo, Stands, can_go, next_stop, passes_by, settle_here, stands_at_stop, visited_first, walk_on}
 use Rattle.best_run.proofs.Prefix.{Holds, holds_first, onto}
-use Rattle.best_run.proofs.Split.{HasHome, cut, find_home, holds_part, number_of, onto_put, own_length}
+use Rattle.best_run.proofs.Split.{HasHome, cut, find_home, holds_part, either_way, number_of, onto_put, own_length}
 
 -- what is settled, with the borders that are used
 pub record Used (others : List ℕ) (settled : Settled) : Type 0 where
@@ -92,12 +92,6 @@ turned_put later last before walk is =
     ap (λ (steps : List Step). onto steps []) (returning_put later (last ∷ before))
     ∙ onto_append (returning later) (returning (last ∷ before)) []
     ∙ ap (λ (done : List Step). onto (returning before) (flipped last ∷ done)) is
-
-either_order : (m n : ℕ) → (m ≤ n) ⊎ (n ≤ m)
-either_order zero n = inl (omega arith)
-either_order (suc m) zero = inr (omega arith)
-either_order (suc m) (suc n) =
-    elim (either_order m n) [ inl low ↦ inl (omega (arith, low)) | inr low ↦ inr (omega (arith, low)) ]
 
 module _ (position : Position) (company : Company) (lawful : IsLawful position) (kinds : List Kind) (task : Task) (describes : Describes position company kinds task) where
   -- a walk turned about is one with it
@@ -322,7 +316,7 @@ module _ (position : Position) (company : Company) (lawful : IsLawful position) 
         let one : n ≡ spot_number (entered_at step) = one_number (entered_at (flipped last)) (entered_at step) home back enters in
         let came : HasPieceOf task n (flipped last) = describes.complete n (flipped last) two.walk.2.0 (record { spot = entered_at (flipped last); number_is = refl; joined = inl (home, back, back) }) in
         let leaves : HasPieceOf task n step = describes.complete n step two.walk.0 (record { spot = entered_at (flipped last); number_is = refl; joined = inl (home, back, enters) }) in
-        elim (either_order came.index leaves.index) [
+        elim (either_way came.index leaves.index) [
           | inl order ↦ came_first home last before step later run there came.index leaves.index came.piece leaves.piece came.leads came.piece_is leaves.leads leaves.piece_is order
           | inr order ↦
               left_first home last before step later run there enters leaves.index came.index leaves.piece came.piece

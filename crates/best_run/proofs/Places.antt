@@ -1,5 +1,5 @@
 -- Stops and pieces by their places, and what a piece leaves to be earned.
-use Rattle.std.proofs.Common.{◌≡◌, ℕ, zero, suc, ◌+◌, ◌*◌, ◌<◌, ◌≤◌, Bool, true, false, ◌&&◌, ◌⊎◌, inl, inr, Option, Some, None, List, [], length, get_or, slice_get, refl, sym, ap, subst, ◌∙◌, arith}
+use Rattle.std.proofs.Common.{◌≡◌, ℕ, zero, suc, ◌+◌, ◌*◌, ◌<◌, ◌≤◌, Bool, true, false, ◌&&◌, ◌⊎◌, inl, inr, Option, Some, None, List, [], length, get_or, slice_get, refl, sym, ap, ◌∙◌, arith}
 use Rattle.std.proofs.lemmas.Option.{slice_get_read, slice_get_within}
 use Rattle.best_run.specs.declared.task.Node.{Node}
 use Rattle.best_run.specs.declared.task.Piece.{Piece}
@@ -7,7 +7,7 @@ use Rattle.best_run.specs.declared.task.Task.{Task}
 use Rattle.best_run.specs.declared.state.Settled.{Settled}
 use Rattle.best_run.specs.declared.state.Standing.{Standing}
 use Rattle.best_run.specs.Fit.{HasRoom, IsFit, PieceFits, credit, unused}
-use Rattle.best_run.specs.Moves.{Allows, Any, Below, IsBeginAt, IsGo, IsTurn, LeadsFrom, Move, along, begin, between, can_take, go, marked_all, may_come, misses, node_at, pass, pieces_in, settle, standing, stop_in, turn, using, value_in}
+use Rattle.best_run.specs.Moves.{LeadsFrom, along, can_take, marked_all, may_come, misses, node_at, pieces_in, stop_in, using, value_in}
 use Rattle.best_run.proofs.Marks.{marked_fewer, marked_most}
 
 -- the stop at a number
@@ -36,53 +36,6 @@ below_next zero (suc most) low = inl (omega arith)
 below_next (suc index) zero low = absurd (omega arith)
 below_next (suc index) (suc most) low =
     elim (below_next index most (omega arith)) [ inl less ↦ inl (omega arith) | inr same ↦ inr (ap suc same) ]
-
--- one more place
-pub go_next : (index : ℕ) (move : Move) → IsGo (Below (index + 1)) move → IsGo (Below index) move ⊎ IsGo (λ i. i ≡ index) move
-go_next index pass is = absurd is
-go_next index (begin token i piece) is = absurd is
-go_next index (go i piece) is = below_next i index is
-go_next index (turn i piece) is = absurd is
-go_next index settle is = absurd is
-
-pub begin_next : (stop index : ℕ) (move : Move) → IsBeginAt stop (Below (index + 1)) move → IsBeginAt stop (Below index) move ⊎ IsBeginAt stop (λ i. i ≡ index) move
-begin_next stop index pass is = absurd is
-begin_next stop index (begin token i piece) is =
-    elim (below_next i index is.1) [ inl less ↦ inl (is.0, less) | inr same ↦ inr (is.0, same) ]
-begin_next stop index (go i piece) is = absurd is
-begin_next stop index (turn i piece) is = absurd is
-begin_next stop index settle is = absurd is
-
--- all places
-pub go_all : (task : Task) (settled : Settled) (run : Standing) (node : Node) (index : ℕ) → node_at task run.head ≡ Some node → length node.pieces.items ≤ index → (move : Move) → IsGo Any move → Allows task (standing settled run) move → IsGo (Below index) move
-go_all task settled run node index there all pass is may = absurd is
-go_all task settled run node index there all (begin token i piece) is may = absurd is
-go_all task settled run node index there all (go i piece) is may = omega (arith, place_low task run.head node there i piece may.leads)
-go_all task settled run node index there all (turn i piece) is may = absurd is
-go_all task settled run node index there all settle is may = absurd is
-
-pub begin_all : (task : Task) (settled : Settled) (stop : ℕ) (node : Node) (index : ℕ) → node_at task stop ≡ Some node → length node.pieces.items ≤ index → (move : Move) → IsBeginAt stop Any move → Allows task (between settled) move → IsBeginAt stop (Below index) move
-begin_all task settled stop node index there all pass is may = absurd is
-begin_all task settled stop node index there all (begin token i piece) is may =
-    (is.0, let low : i < length node.pieces.items = place_low task stop node there i piece (subst (λ (s : ℕ). LeadsFrom task s i piece) is.0 may.leads) in omega arith)
-begin_all task settled stop node index there all (go i piece) is may = absurd is
-begin_all task settled stop node index there all (turn i piece) is may = absurd is
-begin_all task settled stop node index there all settle is may = absurd is
-
--- one more place among those where a run began, before which it may be that none is tried
-pub turn_next : (index : ℕ) (move : Move) → IsTurn (Below (index + 1)) move → IsTurn (Below index) move ⊎ IsTurn (λ i. i ≡ index) move
-turn_next index pass is = absurd is
-turn_next index (begin token i piece) is = absurd is
-turn_next index (go i piece) is = absurd is
-turn_next index (turn i piece) is = below_next i index is
-turn_next index settle is = absurd is
-
-pub turn_all : (task : Task) (settled : Settled) (run : Standing) (node : Node) (index : ℕ) → node_at task run.home ≡ Some node → length node.pieces.items ≤ index → (move : Move) → IsTurn Any move → Allows task (standing settled run) move → IsTurn (Below index) move
-turn_all task settled run node index there all pass is may = absurd is
-turn_all task settled run node index there all (begin token i piece) is may = absurd is
-turn_all task settled run node index there all (go i piece) is may = absurd is
-turn_all task settled run node index there all (turn i piece) is may = omega (arith, place_low task run.home node there i piece may.leads)
-turn_all task settled run node index there all settle is may = absurd is
 
 -- a stop is worth at most 80 dollars
 pub value_low : (task : Task) → IsFit task → (stop : ℕ) → value_in (node_at task stop) ≤ 80
@@ -131,10 +84,6 @@ room_by task settled run piece fit whole free false to is fits room =
     let fewer : unused (marked_all settled.used piece.borders.items) + 1 ≤ unused settled.used = marked_fewer settled.used piece.borders.items whole fits.borders (fits.over refl) free in
     omega (arith, value_low task fit piece.to, credit_low to)
 
-pub room_after : (task : Task) (settled : Settled) (run : Standing) (piece : Piece) → IsFit task → length settled.used ≡ 279 → can_take task run settled.used piece ≡ true → PieceFits task (stop_in (node_at task run.head)) piece → HasRoom settled.used (settled.total + run.value) 44720 → HasRoom (using settled piece).used ((using settled piece).total + ((along task run piece).value + credit (stop_in (node_at task piece.to)))) 44720
-room_after task settled run piece fit whole taken fits room =
-    room_by task settled run piece fit whole (take_free task run settled.used piece taken) (stop_in (node_at task run.head)) (stop_in (node_at task piece.to)) refl fits room
-
 -- and less is left to be gone
 pub less_by : (task : Task) (settled : Settled) (piece : Piece) → length settled.used ≡ 279 → misses settled.used piece.borders.items ≡ true → (from to : Bool) → stop_in (node_at task piece.to) ≡ to → PieceFits task from piece → 3 * unused (marked_all settled.used piece.borders.items) + one_if to + 1 ≤ 3 * unused settled.used + one_if from
 unfolding one_if
@@ -144,10 +93,6 @@ less_by task settled piece whole free false true is fits =
     let fewer : unused (marked_all settled.used piece.borders.items) + 1 ≤ unused settled.used = marked_fewer settled.used piece.borders.items whole fits.borders (fits.over refl) free in omega arith
 less_by task settled piece whole free false false is fits =
     let fewer : unused (marked_all settled.used piece.borders.items) + 1 ≤ unused settled.used = marked_fewer settled.used piece.borders.items whole fits.borders (fits.over refl) free in omega arith
-
-pub less_after : (task : Task) (settled : Settled) (run : Standing) (piece : Piece) → length settled.used ≡ 279 → can_take task run settled.used piece ≡ true → PieceFits task (stop_in (node_at task run.head)) piece → 3 * unused (marked_all settled.used piece.borders.items) + one_if (stop_in (node_at task piece.to)) + 1 ≤ 3 * unused settled.used + one_if (stop_in (node_at task run.head))
-less_after task settled run piece whole taken fits =
-    less_by task settled piece whole (take_free task run settled.used piece taken) (stop_in (node_at task run.head)) (stop_in (node_at task piece.to)) refl fits
 
 pub one_low : (b : Bool) → one_if b ≤ 1
 unfolding one_if

@@ -52,7 +52,7 @@ own_marks task zero m low marked = absurd (let wrong : true ≡ false = sym mark
 own_marks task (suc n) m low marked =
     marks_by task n m (own_in (node_at task n)) (omega (arith, low)) refl (own_marks task n m (omega (arith, low))) marked
 
-either_way : (m n : ℕ) → (m ≤ n) ⊎ (n ≤ m)
+pub either_way : (m n : ℕ) → (m ≤ n) ⊎ (n ≤ m)
 either_way zero n = inl (omega arith)
 either_way (suc m) zero = inr (omega arith)
 either_way (suc m) (suc n) = elim (either_way m n) [ inl low ↦ inl (omega (arith, low)) | inr low ↦ inr (omega (arith, low)) ]

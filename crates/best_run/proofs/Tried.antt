@@ -1,12 +1,11 @@
 -- What has been tried: moves of one sort after those of another, a piece as a move, and all moves of a state.
-use Rattle.std.proofs.Common.{◌≡◌, ℕ, ◌+◌, ◌<◌, ◌≤◌, true, false, ◌⊎◌, inl, inr, Option, Some, None, List, [], ◌∷◌, length, slice_get, refl, sym, ap, subst, ◌∙◌, arith, le_trans}
+use Rattle.std.proofs.Common.{◌≡◌, ℕ, ◌+◌, ◌<◌, ◌≤◌, true, false, ◌⊎◌, inl, inr, Option, Some, None, List, [], ◌∷◌, length, refl, sym, ap, ◌∙◌, arith, le_trans}
 use Rattle.std.proofs.lemmas.Option.{slice_get_within}
 use Rattle.best_run.specs.declared.task.Node.{Node}
-use Rattle.best_run.specs.declared.task.Piece.{Piece}
 use Rattle.best_run.specs.declared.task.Task.{Task}
 use Rattle.best_run.specs.declared.state.Settled.{Settled}
 use Rattle.best_run.specs.declared.state.Standing.{Standing}
-use Rattle.best_run.specs.Moves.{Allows, Any, Below, Completes, Explores, IsBegin, IsBeginAt, IsGo, IsTurn, LeadsFrom, Move, State, Takes, Tries, along, begin, begun, between, can_take, ends_in, go, may_settle, node_at, own_in, pass, passed, pieces_in, settle, settling, standing, stop_in, total_after, turn, turned_back, using}
+use Rattle.best_run.specs.Moves.{Allows, Any, Below, Completes, Explores, IsBegin, IsBeginAt, IsGo, IsTurn, Move, State, Tries, begin, between, ends_in, go, may_settle, node_at, own_in, pass, passed, settle, settling, standing, stop_in, total_after, turn}
 use Rattle.best_run.proofs.Places.{below_next}
 
 -- a move by which a run goes on
@@ -47,62 +46,7 @@ tries_fewer task state P R old new tries are =
       most = λ move moves is completes. tries.most move moves (are move is completes.0) completes;
     }
 
--- all ways on from a piece, if a run may take it, earn at most so much
-abbrev MostBy : Task → Settled → Standing → ℕ → Piece → Type 0
-MostBy task settled run new piece =
-    can_take task run settled.used piece ≡ true → (moves : List Move) → Completes task (standing (using settled piece) (along task run piece)) moves → total_after task (standing (using settled piece) (along task run piece)) moves ≤ new
-
--- the piece at a place is one
-same_piece : (task : Task) (stop index other : ℕ) (piece found : Piece) → LeadsFrom task stop index piece → LeadsFrom task stop other found → other ≡ index → piece ≡ found
-same_piece task stop index other piece found leads finds same =
-    let e : Some piece ≡ Some found = sym leads ∙ (ap (λ i. slice_get (pieces_in (node_at task stop)) i) (sym same) ∙ finds) in cc
-
-go_most : (task : Task) (settled : Settled) (run : Standing) (index : ℕ) (piece : Piece) (new : ℕ) → LeadsFrom task run.head index piece → MostBy task settled run new piece → (move : Move) (moves : List Move) → IsGo (λ i. i ≡ index) move → Completes task (standing settled run) (move ∷ moves) → total_after task (standing settled run) (move ∷ moves) ≤ new
-go_most task settled run index piece new leads most pass moves is completes = absurd is
-go_most task settled run index piece new leads most (begin token i found) moves is completes = absurd is
-go_most task settled run index piece new leads most (go i found) moves is completes =
-    subst (MostBy task settled run new) (same_piece task run.head index i piece found leads completes.0.leads is) most completes.0.taken moves completes.1
-go_most task settled run index piece new leads most (turn i found) moves is completes = absurd is
-go_most task settled run index piece new leads most settle moves is completes = absurd is
-
--- a piece from where the run stands has been tried
-pub take_go : (task : Task) (settled : Settled) (run : Standing) (index : ℕ) (piece : Piece) (old new : ℕ) → ends_in (node_at task run.head) ≡ false → LeadsFrom task run.head index piece → Takes task settled run piece old new → Tries task (standing settled run) (IsGo (λ i. i ≡ index)) old new
-take_go task settled run index piece old new passes leads takes =
-    record {
-      grows = takes.grows;
-      earned = λ possible. takes.earned (λ taken moves completes. possible (go index piece ∷ moves) (record { passes = passes; leads = leads; taken = taken }, completes));
-      most = go_most task settled run index piece new leads takes.most;
-    }
-
-turn_most : (task : Task) (settled : Settled) (run : Standing) (index : ℕ) (piece : Piece) (new : ℕ) → LeadsFrom task run.home index piece → MostBy task settled (turned_back run) new piece → (move : Move) (moves : List Move) → IsTurn (λ i. i ≡ index) move → Completes task (standing settled run) (move ∷ moves) → total_after task (standing settled run) (move ∷ moves) ≤ new
-turn_most task settled run index piece new leads most pass moves is completes = absurd is
-turn_most task settled run index piece new leads most (begin token i found) moves is completes = absurd is
-turn_most task settled run index piece new leads most (go i found) moves is completes = absurd is
-turn_most task settled run index piece new leads most (turn i found) moves is completes =
-    subst (MostBy task settled (turned_back run) new) (same_piece task run.home index i piece found leads completes.0.leads is) most completes.0.taken moves completes.1
-turn_most task settled run index piece new leads most settle moves is completes = absurd is
-
--- a piece from where the run began has been tried
-pub take_turn : (task : Task) (settled : Settled) (run : Standing) (index : ℕ) (piece : Piece) (old new : ℕ) → run.turned ≡ false → stop_in (node_at task run.head) ≡ true → run.first ≤ index → ends_in (node_at task run.home) ≡ false → LeadsFrom task run.home index piece → Takes task settled (turned_back run) piece old new → Tries task (standing settled run) (IsTurn (λ i. i ≡ index)) old new
-take_turn task settled run index piece old new once stands later passes leads takes =
-    record {
-      grows = takes.grows;
-      earned = λ possible. takes.earned (λ taken moves completes. possible (turn index piece ∷ moves) (record { once = once; stands = stands; later = later; passes = passes; leads = leads; taken = taken }, completes));
-      most = turn_most task settled run index piece new leads takes.most;
-    }
-
--- no turn by a piece before the first is allowed
-pub turn_early : (task : Task) (settled : Settled) (run : Standing) (index best : ℕ) → index < run.first → Tries task (standing settled run) (IsTurn (λ i. i ≡ index)) best best
-turn_early task settled run index best early = tries_none task (standing settled run) (IsTurn (λ i. i ≡ index)) best none
-  where
-    none : (move : Move) → IsTurn (λ i. i ≡ index) move → Allows task (standing settled run) move → ⊥
-    none pass is may = is
-    none (begin token i found) is may = is
-    none (go i found) is may = is
-    none (turn i found) is may = absurd (omega (arith, early, is, may.later))
-    none settle is may = is
-
--- nor any turn of a run that has turned back, that stands at a side, or that began where none passes
+-- no turn is allowed of a run that has turned back, that stands at a side, or that began where none passes
 pub turn_none : (task : Task) (settled : Settled) (run : Standing) (best : ℕ) → ((run.turned ≡ true) ⊎ ((ends_in (node_at task run.home) ≡ true) ⊎ (stop_in (node_at task run.head) ≡ false))) → Tries task (standing settled run) (IsTurn Any) best best
 turn_none task settled run best why = tries_none task (standing settled run) (IsTurn Any) best none
   where
@@ -119,27 +63,6 @@ turn_none task settled run best why = tries_none task (standing settled run) (Is
           ]
         ]
     none settle is may = is
-
-begin_most : (task : Task) (settled : Settled) (there index : ℕ) (piece : Piece) (new : ℕ) → LeadsFrom task there index piece → MostBy task settled (begun task settled there index) new piece → (move : Move) (moves : List Move) → IsBeginAt there (λ i. i ≡ index) move → Completes task (between settled) (move ∷ moves) → total_after task (between settled) (move ∷ moves) ≤ new
-begin_most task settled there index piece new leads most pass moves is completes = absurd is
-begin_most task settled there index piece new leads most (begin stop i found) moves is completes =
-    let finds : LeadsFrom task there i found = subst (λ (t : ℕ). LeadsFrom task t i found) is.0 completes.0.leads in
-    let most_found : MostBy task settled (begun task settled there index) new found = subst (MostBy task settled (begun task settled there index) new) (same_piece task there index i piece found leads finds is.1) most in
-    let most_there : MostBy task settled (begun task settled stop index) new found = subst (λ (t : ℕ). MostBy task settled (begun task settled t index) new found) (sym is.0) most_found in
-    let most_here : MostBy task settled (begun task settled stop i) new found = subst (λ (k : ℕ). MostBy task settled (begun task settled stop k) new found) (sym is.1) most_there in
-    most_here completes.0.taken moves completes.1
-begin_most task settled there index piece new leads most (go i found) moves is completes = absurd is
-begin_most task settled there index piece new leads most (turn i found) moves is completes = absurd is
-begin_most task settled there index piece new leads most settle moves is completes = absurd is
-
--- a first piece from a stop has been tried
-pub take_begin : (task : Task) (settled : Settled) (there index : ℕ) (piece : Piece) (old new : ℕ) → settled.next < length task.trains.items → stop_in (node_at task there) ≡ true → own_in (node_at task there) ≡ true → LeadsFrom task there index piece → Takes task settled (begun task settled there index) piece old new → Tries task (between settled) (IsBeginAt there (λ i. i ≡ index)) old new
-take_begin task settled there index piece old new train begins token leads takes =
-    record {
-      grows = takes.grows;
-      earned = λ possible. takes.earned (λ taken moves completes. possible (begin there index piece ∷ moves) (record { train = train; begins = begins; token = token; leads = leads; taken = taken }, completes));
-      most = begin_most task settled there index piece new leads takes.most;
-    }
 
 -- all trains are settled, and the best is kept
 over_most : (task : Task) (settled : Settled) (new : ℕ) → length task.trains.items ≤ settled.next → settled.total ≤ new → (moves : List Move) → Completes task (between settled) moves → total_after task (between settled) moves ≤ new
