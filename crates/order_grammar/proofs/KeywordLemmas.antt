@@ -51,4 +51,5 @@ same_keyword keyword.Mohawk keyword.Mohawk same = refl
 same_keyword keyword.Swap keyword.Swap same = refl
 same_keyword keyword.Bank keyword.Bank same = refl
 same_keyword keyword.Trade keyword.Trade same = refl
+same_keyword keyword.Best keyword.Best same = refl
 same_keyword a b same = absurd (false≢true same)

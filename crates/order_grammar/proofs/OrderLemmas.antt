@@ -15,7 +15,7 @@ use Rattle.order_grammar.specs.Spells.{IsWord, IsNumber, IsName, IsRoundOfLine, 
 use Rattle.order_grammar.specs.declared.keyword.Keyword.{Keyword}
 use Rattle.order_grammar.specs.declared.keyword.Keyword.TheVariants as keyword
 use Rattle.order_grammar.specs.declared.order.Order.{Order}
-use Rattle.order_grammar.specs.declared.order.Order.TheVariants.{Blank, Game, Players, Sheet, Turn, BuyPrivate, Bid, Limit, Par, BuyShare, Sell, ExchangeMohawk, Company as CompanyTurn, Lay, Token, Run, Pay, Withhold, BuyTrain, Discard, BuyOwnedPrivate, Raise, Offer}
+use Rattle.order_grammar.specs.declared.order.Order.TheVariants.{Blank, Game, Players, Sheet, Turn, BuyPrivate, Bid, Limit, Par, BuyShare, Sell, ExchangeMohawk, Company as CompanyTurn, Lay, Token, Run, RunBest, Pay, Withhold, BuyTrain, Discard, BuyOwnedPrivate, Raise, Offer}
 use Rattle.order_grammar.specs.declared.order.Offer.TheVariants as offer
 use Rattle.order_grammar.specs.declared.order.Parts.{Parts}
 use Rattle.order_grammar.specs.declared.order.ShareSource.TheVariants.{InitialOffering, BankPool}
@@ -54,6 +54,7 @@ formed keyword.Lay ((value.Tile tile) ∷ (value.Hex hex) ∷ (value.Rotation ro
     record { order = Lay (lay_of tile hex rot true); made = refl; parts = refl }
 formed keyword.Token ((value.Place place) ∷ []) tail.Nothing h = record { order = Token place; made = refl; parts = refl }
 formed keyword.Run ((value.Kind kind) ∷ []) (tail.Places run) h = record { order = Run kind run; made = refl; parts = refl }
+formed keyword.Run ((value.Word keyword.Best) ∷ []) tail.Nothing h = record { order = RunBest; made = refl; parts = refl }
 formed keyword.Pay [] tail.Nothing h = record { order = Pay; made = refl; parts = refl }
 formed keyword.Withhold [] tail.Nothing h = record { order = Withhold; made = refl; parts = refl }
 formed keyword.Train ((value.Kind kind) ∷ (value.Word keyword.Bank) ∷ []) tail.Nothing h =

@@ -56,6 +56,7 @@ forms =
     ∷ row keyword.Lay (class.Tile ∷ class.Hex ∷ class.Rotation ∷ class.Word keyword.Swap ∷ []) repeated.Nothing
     ∷ row keyword.Token (class.Place ∷ []) repeated.Nothing
     ∷ row keyword.Run (class.Kind ∷ []) repeated.Places
+    ∷ row keyword.Run (class.Word keyword.Best ∷ []) repeated.Nothing
     ∷ row keyword.Pay [] repeated.Nothing
     ∷ row keyword.Withhold [] repeated.Nothing
     ∷ row keyword.Train (class.Kind ∷ class.Word keyword.Bank ∷ []) repeated.Nothing

@@ -11,7 +11,7 @@ use Rattle.order_grammar.specs.declared.keyword.Keyword.TheVariants as keyword
 use Rattle.order_grammar.specs.declared.order.Offer as offers
 use Rattle.order_grammar.specs.declared.order.Offer.TheVariants as offer
 use Rattle.order_grammar.specs.declared.order.Order.{Order}
-use Rattle.order_grammar.specs.declared.order.Order.TheVariants.{Blank, Game, Players, Sheet, Turn, BuyPrivate, Bid, Limit, Par, BuyShare, Sell, ExchangeMohawk, Company as CompanyTurn, Lay, Token, Run, Pay, Withhold, BuyTrain, Discard, BuyOwnedPrivate, Raise, Offer}
+use Rattle.order_grammar.specs.declared.order.Order.TheVariants.{Blank, Game, Players, Sheet, Turn, BuyPrivate, Bid, Limit, Par, BuyShare, Sell, ExchangeMohawk, Company as CompanyTurn, Lay, Token, Run, RunBest, Pay, Withhold, BuyTrain, Discard, BuyOwnedPrivate, Raise, Offer}
 use Rattle.order_grammar.specs.declared.order.Parts.{Parts}
 use Rattle.order_grammar.specs.declared.order.ShareSource.{ShareSource}
 use Rattle.order_grammar.specs.declared.order.ShareSource.TheVariants.{InitialOffering, BankPool}
@@ -77,6 +77,7 @@ parts_of (Lay lay) =
     made_of keyword.Lay (value.Tile lay.tile ∷ value.Hex lay.hex ∷ value.Rotation lay.rot ∷ swap_values lay.swap) tail.Nothing
 parts_of (Token place) = made_of keyword.Token (value.Place place ∷ []) tail.Nothing
 parts_of (Run kind run) = made_of keyword.Run (value.Kind kind ∷ []) (tail.Places run)
+parts_of RunBest = made_of keyword.Run (value.Word keyword.Best ∷ []) tail.Nothing
 parts_of Pay = made_of keyword.Pay [] tail.Nothing
 parts_of Withhold = made_of keyword.Withhold [] tail.Nothing
 parts_of (BuyTrain kind from) = made_of keyword.Train (value.Kind kind ∷ source_values from) tail.Nothing
@@ -107,6 +108,7 @@ order_from keyword.Lay ((value.Tile tile) ∷ (value.Hex hex) ∷ (value.Rotatio
     Some (Lay (lay_of tile hex rotation true))
 order_from keyword.Token ((value.Place place) ∷ []) tail.Nothing = Some (Token place)
 order_from keyword.Run ((value.Kind kind) ∷ []) (tail.Places run) = Some (Run kind run)
+order_from keyword.Run ((value.Word keyword.Best) ∷ []) tail.Nothing = Some RunBest
 order_from keyword.Pay [] tail.Nothing = Some Pay
 order_from keyword.Withhold [] tail.Nothing = Some Withhold
 order_from keyword.Train ((value.Kind kind) ∷ (value.Word keyword.Bank) ∷ []) tail.Nothing = Some (BuyTrain kind source.Bank)

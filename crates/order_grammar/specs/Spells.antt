@@ -23,7 +23,7 @@ use Rattle.order_grammar.specs.Words.{words_of, before_comment, is_printable}
 use Rattle.order_grammar.specs.declared.order.Offer as offers
 use Rattle.order_grammar.specs.declared.order.Offer.TheVariants as offer
 use Rattle.order_grammar.specs.declared.order.Order.{Order}
-use Rattle.order_grammar.specs.declared.order.Order.TheVariants.{Blank, Game, Players, Sheet, Turn, BuyPrivate, Bid, Limit, Par, BuyShare, Sell, ExchangeMohawk, Company as CompanyTurn, Lay, Token, Run, Pay, Withhold, BuyTrain, Discard, BuyOwnedPrivate, Raise, Offer}
+use Rattle.order_grammar.specs.declared.order.Order.TheVariants.{Blank, Game, Players, Sheet, Turn, BuyPrivate, Bid, Limit, Par, BuyShare, Sell, ExchangeMohawk, Company as CompanyTurn, Lay, Token, Run, RunBest, Pay, Withhold, BuyTrain, Discard, BuyOwnedPrivate, Raise, Offer}
 use Rattle.order_grammar.specs.declared.order.ShareSource.TheVariants.{InitialOffering, BankPool}
 use Rattle.order_grammar.specs.declared.order.TrainSource.{TrainSource}
 use Rattle.order_grammar.specs.declared.order.TrainSource.TheVariants as source
@@ -159,6 +159,7 @@ AreWordsFor (Lay lay) words =
     Then (IsWord (codes "LAY")) (Then (IsTile lay.tile) (Then (IsHex lay.hex) (Then (IsRotation lay.rot) (AreSwapWords lay.swap)))) words
 AreWordsFor (Token place) words = Then (IsWord (codes "TOKEN")) (Then (IsPlace place) End) words
 AreWordsFor (Run kind run) words = Then (IsWord (codes "RUN")) (Then (IsKind kind) (ArePlaces run)) words
+AreWordsFor RunBest words = Then (IsWord (codes "RUN")) (Then (IsWord (codes "BEST")) End) words
 AreWordsFor Pay words = Then (IsWord (codes "PAY")) End words
 AreWordsFor Withhold words = Then (IsWord (codes "WITHHOLD")) End words
 AreWordsFor (BuyTrain kind from) words = Then (IsWord (codes "TRAIN")) (Then (IsKind kind) (AreSourceWords from)) words

@@ -40,7 +40,7 @@ pub(crate) enum Repeated {
 }
 
 /// The forms of lines. A line spells an order where its words fit a row.
-pub(crate) const FORMS: [Form; 28] = [
+pub(crate) const FORMS: [Form; 29] = [
     Form {
         keyword: Keyword::Game,
         classes: &[Class::Number, Class::Number],
@@ -133,6 +133,11 @@ pub(crate) const FORMS: [Form; 28] = [
         keyword: Keyword::Run,
         classes: &[Class::Kind],
         repeated: Repeated::Places,
+    },
+    Form {
+        keyword: Keyword::Run,
+        classes: &[Class::Word(Keyword::Best)],
+        repeated: Repeated::Nothing,
     },
     Form {
         keyword: Keyword::Pay,

@@ -31,6 +31,7 @@ pub(crate) enum Keyword {
     Swap,
     Bank,
     Trade,
+    Best,
 }
 
 impl Keyword {
@@ -66,6 +67,7 @@ impl Keyword {
             Keyword::Swap => b"SWAP",
             Keyword::Bank => b"BANK",
             Keyword::Trade => b"TRADE",
+            Keyword::Best => b"BEST",
         }
     }
 }

@@ -48,6 +48,8 @@ pub enum Order {
     Token(Place),
     /// `RUN kind place place ..`: run a train of a kind through 2 to 280 places.
     Run { kind: Kind, run: Run },
+    /// `RUN BEST`: run the trains so that they earn the greatest revenue.
+    RunBest,
     /// `PAY`: pay the revenue of the turn out.
     Pay,
     /// `WITHHOLD`: keep the revenue of the turn.
@@ -224,6 +226,7 @@ impl Order {
             Order::Lay(lay) => parts_of_lay(*lay),
             Order::Token(place) => Parts::of(Keyword::Token, &[Value::Place(*place)]),
             Order::Run { kind, run } => parts_of_run(*kind, run),
+            Order::RunBest => Parts::of(Keyword::Run, &[Value::Word(Keyword::Best)]),
             Order::Pay => Parts::of(Keyword::Pay, &[]),
             Order::Withhold => Parts::of(Keyword::Withhold, &[]),
             Order::BuyTrain { kind, from } => parts_of_purchase(*kind, *from),
@@ -394,7 +397,11 @@ fn order_of_values(keyword: Keyword, values: &[Value]) -> Option<Order>
         Keyword::Pay | Keyword::Withhold | Keyword::Train | Keyword::Discard => {
             order_of_trains(keyword, values)
         }
-        Keyword::Players | Keyword::Run => None,
+        Keyword::Run => match values {
+            [Value::Word(Keyword::Best)] => Some(Order::RunBest),
+            _ => None,
+        },
+        Keyword::Players | Keyword::Best => None,
         Keyword::InitialOffering | Keyword::Pool | Keyword::Mohawk | Keyword::Swap => None,
         Keyword::Bank | Keyword::Trade => None,
     }
