@@ -1,13 +1,14 @@
 ghost use Rattle.std.specs.Prelude.{◌≡◌, Bool, true, List, Result, IfOk, IfErr, ℤ};
 ghost use Rattle.certificate.specs.Set.{IsGreatestMoney};
 ghost use Rattle.certificate.specs.declared.runner.RunnerFault.{RunnerFault};
-ghost use Rattle.certificate.specs.declared.runner.RunnerFault.TheVariants.{Refused};
+ghost use Rattle.certificate.specs.declared.runner.RunnerFault.TheVariants.{Memory, Refused};
 ghost use Rattle.reach.specs.Position.{Position};
 ghost use Rattle.tables.specs.declared.rolling_stock.Kind.{Kind};
 ghost use Rattle.tables.specs.declared.roster.Company.{Company};
 ghost use Rattle.tables.specs.declared.round.Round.{Round};
 
 use reach::Network;
+use std::alloc::AllocError;
 use tables::{Company, Kind, Money, Round};
 
 /// Why a company's best runs are not told.
@@ -17,6 +18,14 @@ pub enum RunnerFault {
     Memory,
     /// The runner does not answer for this round and company.
     Refused,
+}
+
+impl From<AllocError> for RunnerFault {
+    ghost from_gives = { λ _ fault. fault ≡ Memory };
+
+    fn from(_error: AllocError) -> RunnerFault {
+        RunnerFault::Memory
+    }
 }
 
 /// What tells the greatest revenue of a company's trains.
