@@ -61,7 +61,7 @@ judged_borders turn company kind run ran is =
     ap (λ (r : Ran). r.borders) (done_is (ran_by (position_now turn.game.events) kind turn.progress.runs.borders run) ran (run_judgement turn company kind run) is)
 
 -- a sum that a run earns is kept whole
-sum_kept : (money : ℤ) (sum : ℕ) → money ≡ pos sum → sum ≤ 44640 → unsigned_abs (to_z w128 (of_z w128 money)) ≡ sum
+sum_kept : (money : ℤ) (sum : ℕ) → money ≡ pos sum → sum ≤ 94640 → unsigned_abs (to_z w128 (of_z w128 money)) ≡ sum
 sum_kept money sum is small =
     let kept : to_z w128 (of_z w128 money) ≡ pos sum = omega (arith, ints, is, small) in
     ap unsigned_abs kept
@@ -72,7 +72,7 @@ run_counted position company kind done seen run borders money view within lawful
     let sum : ℕ = earned position (named_steps position run) in
     let after : List Bool = marked done.borders (crossed (named_steps position run)) in
     let bounded : sum + 160 * unused after ≤ 160 * unused done.borders = law position company kind done.borders run within.marks lawful unbroken in
-    let small : sum ≤ 44640 = omega (arith, bounded, within.bounded) in
+    let small : sum ≤ 94640 = omega (arith, bounded, within.bounded) in
     let made : ℕ → List Bool → Ran = λ sum marks. record { kind = kind; earned = sum; borders = marks } in
     let is : made sum after ≡ made (unsigned_abs (to_z w128 (of_z w128 money))) borders =
     ap (λ (n : ℕ). made n after) (sym (sum_kept money sum earns small))

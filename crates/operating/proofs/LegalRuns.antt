@@ -18,6 +18,7 @@ use Rattle.map_tables.specs.declared.lay.Lay.{Lay}
 use Rattle.map_tables.specs.declared.place.Place.{Place}
 use Rattle.operating.proofs.Judged.{judged_borders, judged_legal}
 use Rattle.operating.specs.Act.{withheld}
+use Rattle.operating.specs.Best.{BestRuled, best_judgement}
 use Rattle.operating.specs.Dividend.{paid_out, pay_judgement, pay_ruled, withhold_judgement}
 use Rattle.operating.specs.InTurn.{InTurn, in_turn, is_unpaid, pay_done}
 use Rattle.operating.specs.Judgement.{rule_of_lay, rule_of_token}
@@ -90,6 +91,12 @@ after_private :
 after_private by turn number private price None = refl
 after_private by turn number private price (Some rule) = refl
 
+after_best :
+    (by : Operator) (turn : InTurn) (number : ℕ) (rule : Option RunRule) (new : InTurn) →
+    BestRuled by turn number rule new → marks_in new ≡ marks_in turn
+after_best by turn number (Some rule) new leads = ap marks_in leads
+after_best by turn number None new leads = ap marks_in leads.2
+
 -- these walks cross the borders that are marked
 abbrev AreWalks : List (List Step) → InTurn → Type 0
 AreWalks walks turn = MarksAre (all_crossed walks) (marks_in turn)
@@ -119,6 +126,8 @@ after_order by turn number before (order.Token place) new leads are =
 after_order by turn number before (order.Run kind run) new leads are =
     subst (λ (next : InTurn). AreWalks (walk_obeyed by.company turn (Ok (order.Run kind run)) ++ before) next) (sym leads)
     (after_run by turn number (order.Run kind run) kind run before (judged_run turn by.company kind run) refl are)
+after_order by turn number before order.RunBest new leads are =
+    left_as before turn new (after_best by turn number (best_judgement turn by.company) new leads) are
 after_order by turn number before order.Pay new leads are =
     left_as before turn new (ap marks_in leads ∙ after_pay by turn number order.Pay (pay_judgement turn.progress) (λ game. paid_out game by.company turn.progress.runs.revenue)) are
 after_order by turn number before order.Withhold new leads are =

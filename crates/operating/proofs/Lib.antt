@@ -13,6 +13,7 @@ pub mod LegalRuns
 pub mod Folding
 pub mod PhaseLemmas
 pub mod DiscardLemmas
+pub mod BestLemmas
 pub mod Blocks
 pub mod Buying
 pub mod TrainSteps

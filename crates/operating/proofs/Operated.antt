@@ -121,7 +121,7 @@ has_steps company =
       laid = λ turn lays asker lay cost rules has done. (on.laid turn lays asker lay cost rules).still company (has done);
       placed = λ turn asker at cost is rules has earned. (on.placed turn asker at cost is rules).still company
           (has (ap (λ (b : Bool). not (is_unpaid turn.progress) || b) earned ∙ or_true (not (is_unpaid turn.progress))));
-      ran = λ turn ran has done. now_has company turn.game (event.Runs company ran.earned) refl refl;
+      ran = λ turn progress revenue has done. now_has company turn.game (event.Runs company revenue) refl refl;
       paid = λ turn rules has done. (on.paid turn rules).still company
           (has (ap (λ (b : Bool). not (is_unpaid turn.progress) || not b)
           (some_revenue (is_past_pay turn.progress) (turn.progress.runs.revenue == 0) rules) ∙ or_true (not (is_unpaid turn.progress))));

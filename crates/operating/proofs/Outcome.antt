@@ -7,15 +7,19 @@ use Rattle.board.specs.LayRules.{IsConnected, IsLayAnswer, cost_or, ground_rules
 use Rattle.board.specs.TokenRules.{IsReachedPlace, IsTokenAnswer, reach_rules as token_reach_rules, slot_rules, token_cost_of, token_rules}
 use Rattle.board.specs.declared.asker.Asker.{Asker}
 use Rattle.certificate.proofs.Finite.{Decided}
+use Rattle.certificate.proofs.Greatest.{a_greatest_exists as greatest_there, one_greatest as one_revenue}
 use Rattle.certificate.proofs.RunDecided.{can_run_decided}
 use Rattle.history.specs.LookBack.{Game}
+use Rattle.history.specs.declared.ruling.RunRule.{RunRule}
 use Rattle.history.specs.Shares.{president_of}
 use Rattle.map_tables.specs.declared.lay.Lay.{Lay}
 use Rattle.map_tables.specs.declared.place.Place.{Place}
 use Rattle.operating.proofs.Decided.{IsTested, piece_tested, place_tested}
+use Rattle.operating.specs.Best.{BestRuled, best_earned, best_judgement, trains_now}
 use Rattle.operating.specs.Ground.{ground_now}
 use Rattle.operating.specs.InTurn.{InTurn}
 use Rattle.operating.specs.Judgement.{asker_of}
+use Rattle.operating.specs.Runs.{position_now}
 use Rattle.operating.specs.Laws.{CompanyTurnEnds, OneCompanyTurn}
 use Rattle.operating.specs.Forced.{EndLeads, IsDue, after_forced, after_raises, has_trains}
 use Rattle.operating.specs.Turn.{BlockEnds, BlockLeads, IsCompanyTurn, LinesLead, OrderLeads, ReadingLeads, begun, lay_answered, settled}
@@ -25,9 +29,11 @@ use Rattle.order_grammar.specs.declared.fault.Fault.{Fault}
 use Rattle.order_grammar.specs.declared.order.Order.{Order}
 use Rattle.order_grammar.specs.declared.order.Order.TheVariants as order
 use Rattle.reach.specs.Lawful.{IsLawful}
+use Rattle.reach.specs.Position.{Position}
 use Rattle.sheets.specs.Block.{block_for}
 use Rattle.sheets.specs.Part.{Numbered}
 use Rattle.tables.specs.Rules.{Rule, first_broken}
+use Rattle.tables.specs.declared.rolling_stock.Kind.{Kind}
 use Rattle.tables.specs.declared.roster.Company.{Company}
 use Rattle.tables.specs.declared.round.Round.{Round}
 use Rattle.tables.specs.declared.seat.Seat.{Seat}
@@ -86,6 +92,20 @@ module _ (all : AllLawful) where
             (λ none. same_tests {P = IsReachedPlace (position_of laid) asker.company place} its.reached tested.test (its.exact none) tested.exact));
       }
 
+  -- so has the run of the best: there is a greatest revenue, and no second one
+  one_best : (by : Operator) (turn : InTurn) (number : ℕ) (rule : Option RunRule) → IsOne (BestRuled by turn number rule)
+  one_best by turn number (Some rule) = record { it = _; so = refl; only = λ new leads. leads }
+  one_best by turn number None =
+      let position : Position = position_now turn.game.events in
+      let trains : List Kind = trains_now turn.game.events by.company in
+      let greatest = greatest_there position by.company trains (all (ground_now turn.game.events)) in
+      record {
+        it = best_earned by turn number greatest.0;
+        so = (greatest.0, greatest.1, refl);
+        only = λ new leads. leads.2
+            ∙ ap (best_earned by turn number) (one_revenue position by.company trains leads.0 greatest.0 leads.1 greatest.1);
+      }
+
   -- an order leads to one turn
   one_order : (by : Operator) (turn : InTurn) (number : ℕ) (its : Order) → IsOne (OrderLeads by turn number its)
   one_order by turn number (order.Lay lay) =
@@ -102,6 +122,7 @@ module _ (all : AllLawful) where
         so = record { answer = answer.it; answered = answer.so; after = refl };
         only = λ new leads. leads.after ∙ ap (token_answered by turn number place) (answer.only leads.answer leads.answered);
       }
+  one_order by turn number order.RunBest = one_best by turn number (best_judgement turn by.company)
   one_order by turn number other = record { it = _; so = refl; only = λ new leads. leads }
 
   -- a line does

@@ -1,5 +1,5 @@
 -- A company's turn, from its parts.
-use Rattle.std.proofs.Common.{◌≡◌, ℕ, ◌<◌, true, IfOk, IfSome, List, Option, Some, None, Result, ap, subst, sym, ◌∙◌}
+use Rattle.std.proofs.Common.{◌≡◌, ℕ, ◌<◌, true, IfSome, List, Option, Some, None, ap, subst, sym, ◌∙◌}
 use Rattle.history.specs.LookBack.{Game}
 use Rattle.history.specs.Shares.{is_floated, president_of}
 use Rattle.history.specs.Sound.{IsSound}
@@ -54,10 +54,10 @@ president_there old paid company (Some seat) sound floated is same =
     subst (λ (n : ℕ). seat.0 < n) (sym same) (president_seated old company seat sound floated (sym is))
 
 -- a TRAIN line, from what the company withholds by itself and what then becomes of the line
-pub train_leads : {E : Type 0} (by : Operator) (turn paid : InTurn) (number : ℕ) (its : Order) (kind : Kind) (from : TrainSource) (game : Game) (result : Result Progress E) → its ≡ order.BuyTrain kind from → paid ≡ settled by.company turn → IfOk result (λ now. in_turn game now ≡ after_buying by paid number kind from) → IfOk result (λ now. OrderLeads by turn number its (in_turn game now))
-train_leads by turn paid number its kind from game result is is_paid ruled =
-    subst (λ (o : Order). IfOk result (λ now. OrderLeads by turn number o (in_turn game now))) (sym is)
-    (subst (λ (t : InTurn). IfOk result (λ now. in_turn game now ≡ after_buying by t number kind from)) is_paid ruled)
+pub train_leads : (by : Operator) (turn paid : InTurn) (number : ℕ) (its : Order) (kind : Kind) (from : TrainSource) (new : InTurn) → its ≡ order.BuyTrain kind from → paid ≡ settled by.company turn → new ≡ after_buying by paid number kind from → OrderLeads by turn number its new
+train_leads by turn paid number its kind from new is is_paid ruled =
+    subst (λ (o : Order). OrderLeads by turn number o new) (sym is)
+    (subst (λ (t : InTurn). new ≡ after_buying by t number kind from) is_paid ruled)
 
 -- a turn leaves the seats as they are
 pub seats_stay : (file : List ℕ) (round : Round) (company : Company) (old new : Game) → IsCompanyTurn file round company old new → new.seats ≡ old.seats

@@ -157,7 +157,7 @@ module _ (company : Company) (R : Game → Game → Type 0) (of : OfEvents compa
         more = λ turn its is no_tile no_train no_phase. of.others turn.game its is no_tile no_train no_phase;
         laid = λ turn lays asker lay cost rules. of.lays turn.game asker lay cost rules;
         placed = λ turn asker at cost is rules. of.others turn.game (event.Token company at cost) tt refl refl refl;
-        ran = λ turn ran. of.others turn.game (event.Runs company ran.earned) refl refl refl refl;
+        ran = λ turn progress revenue. of.others turn.game (event.Runs company revenue) refl refl refl refl;
         paid = λ turn rules. of_paid_out turn.game turn.progress.runs.revenue;
         kept = λ turn. of_withheld turn.game turn.progress.runs.revenue;
         bought = λ turn kind from rules. of.purchases turn.game kind from rules;

@@ -33,6 +33,7 @@ use Rattle.operating.proofs.PrivateSales.{same_after_line}
 use Rattle.operating.proofs.Still.{same_judgement}
 use Rattle.operating.proofs.TurnEvents.{IsOfTurn}
 use Rattle.operating.specs.Act.{after_lay, after_token, withheld}
+use Rattle.operating.specs.Best.{BestRuled, best_done, best_earned, best_judgement}
 use Rattle.operating.specs.Dividend.{paid_out, pay_judgement, pay_ruled, withhold_judgement}
 use Rattle.operating.specs.Ground.{ground_now}
 use Rattle.operating.specs.InTurn.{InTurn, in_turn, is_unpaid, lay_done, pay_done, token_done, told}
@@ -44,6 +45,7 @@ use Rattle.operating.specs.Trains.{train_judgement}
 use Rattle.operating.specs.Turn.{BlockLeads, IsCompanyTurn, LinesLead, OrderLeads, ReadingLeads, begun, lay_answered, lay_refused, purchase_of}
 use Rattle.operating.specs.Turn.{settled, token_answered, token_refused, train_ruled}
 use Rattle.operating.specs.declared.operator.Operator.{Operator}
+use Rattle.operating.specs.declared.progress.Progress.{Progress}
 use Rattle.operating.specs.declared.runs.Ran.{Ran}
 use Rattle.order_grammar.specs.declared.fault.Fault.{Fault}
 use Rattle.order_grammar.specs.declared.order.Order.{Order}
@@ -72,7 +74,7 @@ pub record OfSteps (company : Company) (R : InTurn → InTurn → Type 0) : Type
   pub placed : (turn : InTurn) (asker : Asker) (at : Place) (cost : ℕ) → asker.pointer ≡ turn.progress.pointer →
       first_broken (slot_rules (ground_now turn.game.events) asker at) ≡ None →
       R turn (in_turn (after_token turn.game company at cost) (token_done turn.progress))
-  pub ran : (turn : InTurn) (ran : Ran) → R turn (in_turn (with_event turn.game (event.Runs company ran.earned)) (run_done turn.progress ran))
+  pub ran : (turn : InTurn) (progress : Progress) (revenue : ℕ) → R turn (in_turn (with_event turn.game (event.Runs company revenue)) progress)
   pub paid : (turn : InTurn) → pay_judgement turn.progress ≡ None →
       R turn (in_turn (paid_out turn.game company turn.progress.runs.revenue) (pay_done turn.progress))
   pub kept : (turn : InTurn) → R turn (in_turn (withheld turn.game company turn.progress.runs.revenue) (pay_done turn.progress))
@@ -137,7 +139,15 @@ module _ (by : Operator) (R : InTurn → InTurn → Type 0) (steps : OfSteps by.
   of_run : (turn : InTurn) (number : ℕ) (its : Order) (judged : Result Ran RunRule) → R turn (run_ruled by turn number its judged)
   of_run turn number its (Err rule) = of_ruling turn number _
   of_run turn number its (Ok ran) =
-      after_ruling turn number its (run_ruled by turn number its (Ok ran)) (steps.ran (told by turn number (Obeyed its)) ran)
+      after_ruling turn number its (run_ruled by turn number its (Ok ran)) (steps.ran (told by turn number (Obeyed its)) (run_done turn.progress ran) ran.earned)
+
+  -- of RUN BEST
+  of_best : (turn : InTurn) (number : ℕ) (rule : Option RunRule) (new : InTurn) → BestRuled by turn number rule new → R turn new
+  of_best turn number (Some rule) new leads = subst (R turn) (sym leads) (of_ruling turn number _)
+  of_best turn number None new leads =
+      subst (R turn) (sym leads.2)
+      (after_ruling turn number order.RunBest (best_earned by turn number leads.0)
+      (steps.ran (told by turn number (Obeyed order.RunBest)) (best_done turn.progress leads.0) leads.0))
 
   -- of PAY or WITHHOLD
   of_pay : (turn : InTurn) (number : ℕ) (its : Order) (rule : Option PayRule) (after : Game → Game) →
@@ -185,6 +195,7 @@ module _ (by : Operator) (R : InTurn → InTurn → Type 0) (steps : OfSteps by.
       subst (R turn) (sym leads.after) (of_token turn number at leads.answer leads.answered)
   of_order turn number (order.Run kind run) new leads =
       subst (R turn) (sym leads) (of_run turn number (order.Run kind run) (judged_run turn by.company kind run))
+  of_order turn number order.RunBest new leads = of_best turn number (best_judgement turn by.company) new leads
   of_order turn number order.Pay new leads =
       subst (R turn) (sym leads)
       (of_pay turn number order.Pay (pay_judgement turn.progress) (λ game. paid_out game by.company turn.progress.runs.revenue)

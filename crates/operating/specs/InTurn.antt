@@ -19,7 +19,7 @@ no_runs = record { trains = replicate 6 (pos 0); borders = replicate 279 false; 
 
 -- how far a turn has come that has just begun
 abbrev pub at_start : Progress
-at_start = record { pointer = step.Lay; lay_used = false; dh_laid = false; runs = no_runs }
+at_start = record { pointer = step.Lay; lay_used = false; dh_laid = false; best_run = false; runs = no_runs }
 
 -- once a tile is laid: CS's lay leaves the lay of the turn as it is, and DH's is kept in mind for its token
 abbrev pub lay_done : List Lay → Asker → Lay → Progress → Progress

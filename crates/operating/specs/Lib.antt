@@ -19,6 +19,7 @@ pub mod TrainLaws
 pub mod TileLaws
 pub mod ConsentLaws
 pub mod SaleLaws
+pub mod Best
 pub mod BidLaws
 pub mod PrivateLaws
 pub mod ForcedLaws

@@ -1,10 +1,11 @@
 -- The runs of a company's turn. A RUN needs the step of runs or one before it, a train of its kind that has not run
--- in the turn, and a run that breaks no rule of runs, by what lies and by the borders that the runs before it have
--- used. It then earns what its stops are worth; the train has run, its borders are used, and the turn is past its
--- token. What all runs earn is the revenue of the turn.
-use Rattle.std.specs.Prelude.{◌≡◌, ℕ, ◌+◌, ◌-◌, ◌*◌, ◌≤◌, ◌^◌, Bool, nat_lt, List, [], ◌∷◌, length, Option, Some, None, option_map, Result, Ok, Err, ℤ, pos, ◌+ℤ◌, ◌≤ℤ◌, slice_index_or, slice_set}
+-- in the turn, as all have once the best has been run, and a run that breaks no rule of runs, by what lies and by the
+-- borders that the runs before it have used. It then earns what its stops are worth; the train has run, its borders
+-- are used, and the turn is past its token. What all runs earn is the revenue of the turn.
+use Rattle.std.specs.Prelude.{◌≡◌, ℕ, ◌+◌, ◌-◌, ◌*◌, ◌≤◌, ◌^◌, Bool, ◌||◌, nat_lt, List, [], ◌∷◌, length, Option, Some, None, option_map, Result, Ok, Err, ℤ, pos, ◌+ℤ◌, ◌≤ℤ◌, slice_index_or, slice_set}
+use Rattle.std.specs.List.{list_any}
 use Rattle.std.specs.Option.{option_or}
-use lib.Signed.{le_z}
+use lib.Signed.{le_z, lt_z}
 use Rattle.board.specs.Ground.{position_of}
 use Rattle.board.specs.Turn.{place_of_step}
 use Rattle.board.specs.declared.asker.TurnStep.TheVariants as step
@@ -53,11 +54,16 @@ has_run runs kind = slice_index_or runs.trains (place_of_kind kind) (pos 0)
 abbrev pub is_past_runs : Progress → Bool
 is_past_runs progress = nat_lt (place_of_step step.Run) (place_of_step progress.pointer)
 
+-- some train has run in the turn
+abbrev pub has_any_run : Progress → Bool
+has_any_run progress = progress.best_run || list_any (λ count. lt_z (pos 0) count) progress.runs.trains
+
 -- each train of the kind that the company has, if any, has run
 abbrev pub have_all_run : Game → Company → Progress → Kind → Bool
-have_all_run game company progress kind = le_z (trains_held game.events (Some company) kind) (has_run progress.runs kind)
+have_all_run game company progress kind =
+    progress.best_run || le_z (trains_held game.events (Some company) kind) (has_run progress.runs kind)
 
-abbrev rule : RunRule → Bool → Rule RunRule
+abbrev pub rule : RunRule → Bool → Rule RunRule
 rule code broken = record { code = code; broken = broken }
 
 -- the rules of the turn
@@ -131,7 +137,7 @@ pub record IsCounted (runs : Runs) (ran : Ran) : Type 0 where
   pub few : has_run runs ran.kind ≤ℤ runs_most
   pub marks : length ran.borders ≡ length runs.borders
   pub bounded : ran.earned + 160 * unused ran.borders ≤ 160 * unused runs.borders
-  pub small : ran.earned ≤ 44640
+  pub small : ran.earned ≤ 94640
 
 -- after the order of the line with this number, by which a train has run or which broke a rule
 abbrev pub run_ruled : Operator → InTurn → ℕ → Order → Result Ran RunRule → InTurn

@@ -2,11 +2,11 @@
 -- for it is ruled, line by line, each on the list that the one before left: a line's own fault first, and then
 -- an order without a place in a block. The steps of the turn are lay, token, run, pay and trains, and a pointer
 -- goes over them: a lay needs the first step and is made once; a token needs one of the first two, and the
--- turn is then past both; a run needs one of the first three, and the turn is then past its token; to pay or to
--- withhold needs one of the first four, and the turn is then past them. A company whose turn is not past its pay
--- withholds by itself before a TRAIN line is ruled, whatever becomes of that, and when the block ends. It buys a
--- private anywhere in the block, which leaves the pointer. The RAISE lines of the block are ruled last, when the
--- company buys the train that it must, or need not.
+-- turn is then past both; a run, or that of the best, needs one of the first three, and the turn is then past its
+-- token; to pay or to withhold needs one of the first four, and the turn is then past them. A company whose turn is
+-- not past its pay withholds by itself before a TRAIN line is ruled, whatever becomes of that, and when the block
+-- ends. It buys a private anywhere in the block, which leaves the pointer. The RAISE lines of the block are ruled
+-- last, when the company buys the train that it must, or need not.
 use Rattle.std.specs.Prelude.{◌≡◌, ℕ, if◌then◌else◌, List, [], ◌∷◌, Option, Some, None, Result, Ok, Err, ℤ}
 use Rattle.std.specs.Int.RustNames.{unsigned_abs}
 use Rattle.board.specs.LayRules.{IsLayAnswer}
@@ -24,6 +24,7 @@ use Rattle.history.specs.declared.ruling.TokenRule.{TokenRule}
 use Rattle.history.specs.declared.ruling.TrainRule.{TrainRule}
 use Rattle.map_tables.specs.declared.lay.Lay.{Lay}
 use Rattle.map_tables.specs.declared.place.Place.{Place}
+use Rattle.operating.specs.Best.{BestLeads}
 use Rattle.operating.specs.Act.{after_lay, after_token, with_home, withheld}
 use Rattle.operating.specs.Dividend.{after_pay, after_withhold}
 use Rattle.operating.specs.Forced.{EndLeads}
@@ -112,6 +113,7 @@ abbrev pub OrderLeads : Operator → InTurn → ℕ → Order → InTurn → Typ
 OrderLeads by turn number (order.Lay lay) new = LayLeads by turn number lay new
 OrderLeads by turn number (order.Token place) new = TokenLeads by turn number place new
 OrderLeads by turn number (order.Run kind run) new = new ≡ after_run by turn number (order.Run kind run) kind run
+OrderLeads by turn number order.RunBest new = BestLeads by turn number new
 OrderLeads by turn number order.Pay new = new ≡ after_pay by turn number order.Pay
 OrderLeads by turn number order.Withhold new = new ≡ after_withhold by turn number order.Withhold
 OrderLeads by turn number (order.BuyTrain kind from) new = new ≡ after_buying by (settled by.company turn) number kind from

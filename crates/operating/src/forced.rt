@@ -55,7 +55,7 @@ fn is_due(alloc: Global, history: &History, company: Company) -> Result<bool, Al
 }
 
 /// Whether a company has a train.
-fn has_trains(past: &Past, company: Company) -> bool
+pub(crate) fn has_trains(past: &Past, company: Company) -> bool
     ensures { result ≡ has_any_trains past.now.events.now company }
 {
     past.stable_size(Some(company)) > 0

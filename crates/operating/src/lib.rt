@@ -1,17 +1,18 @@
 //! Operating rounds: the turn of a company.
 //!
 //! At its first turn a company places its home token. Then the block is ruled that its president
-//! has for it: it may lay a tile, place a token, run its trains, pay out or withhold what they
-//! earned, and buy trains and privates. The steps of the turn stand in order, and a pointer goes over them; an
-//! order for a step that is past is refused. A company that has neither paid nor withheld does so
-//! by itself before it buys trains, and at the end; its token on the chart then moves left. Last, a
-//! company without a train that could run one must buy one, for which its president may have to pay
-//! and to sell what he holds; if he cannot pay, he is bankrupt.
+//! has for it: it may lay a tile, place a token, run its trains, by orders of their own or at their
+//! best, pay out or withhold what they earned, and buy trains and privates. The steps of the turn
+//! stand in order, and a pointer goes over them; an order for a step that is past is refused. A
+//! company that has neither paid nor withheld does so by itself before it buys trains, and at the
+//! end; its token on the chart then moves left. Last, a company without a train that could run one
+//! must buy one, for which its president may have to pay and to sell what he holds; if he cannot
+//! pay, he is bankrupt.
 //!
 //! Reading order: `operator` (whose turn it is), `runs` (what its trains have done), `progress`
 //! (how far the turn has come), `ground` (what lies on the map), `asker` (the company as the rules
 //! of the board see it), `ruling`, `home`, `lay` and `token` (what orders do) with `cost`,
-//! `running`, `withholding`, `dividend`, `purchase` (the rules of trains), `discards`, `phases`
+//! `running`, `best`, `withholding`, `dividend`, `purchase` (the rules of trains), `discards`, `phases`
 //! (what a train brings), `train`, `private` (that it buys), `forced` (what it must buy), `turn`
 //! (the lines of a block), `playing`, `standing` (the lines before the first block) with `offers`,
 //! `laws` (what holds of every turn), `train_laws`, `tile_laws`, `private_laws`, `consent_laws`,
@@ -19,6 +20,7 @@
 #![tactic(auto)]
 
 mod asker;
+mod best;
 mod consent_laws;
 mod cost;
 mod discards;

@@ -1,4 +1,5 @@
-ghost use Rattle.std.specs.Prelude.{◌≡◌, ◌<◌, ◌≤◌, IfOk, IfSome, OnOk, length, true};
+ghost use Rattle.std.specs.Prelude.{◌≡◌, ◌<◌, ◌≤◌, IfErr, IfOk, IfSome, OnOk, length, true};
+ghost use Rattle.certificate.specs.declared.runner.RunnerFault.TheVariants.{Refused};
 ghost use Rattle.history.specs.Shares.{is_floated};
 ghost use Rattle.history.specs.Sound.{IsSound};
 ghost use Rattle.operating.specs.InTurn.{at_start, in_turn};
@@ -11,6 +12,7 @@ use crate::operator::Operator;
 use crate::progress::Progress;
 use crate::turn::rule_lines;
 use crate::withholding::settle;
+use certificate::{Runner, RunnerFault};
 use history::History;
 use sheets::Sheets;
 use std::alloc::{AllocError, Global};
@@ -18,26 +20,37 @@ use tables::{Company, Round, Seat};
 
 /// Plays the turn of a company in an operating round, with the sheets for it. The list of events
 /// must be sound, and its seats those of the sheets' players; the company has floated. It is meant
-/// for one that has not operated in this round. An `Err` comes from want of memory alone, and the
-/// game is dropped.
-pub fn play_company(
+/// for one that has not operated in this round. The runner tells the greatest revenue where the
+/// company is ordered to run its best. An `Err` comes from want of memory, or from a runner that
+/// refuses to answer, and the game is dropped.
+pub fn play_company<R: Runner>(
     alloc: Global,
     mut history: History,
     sheets: &Sheets,
     round: Round,
     company: Company,
-) -> Result<History, AllocError>
+    runner: &mut R,
+) -> Result<History, RunnerFault>
     requires floated { is_floated history.events company ≡ true }
     requires sound { IsSound history }
     requires seats { history.seats ≡ length (players_of sheets.now) }
     ensures turn { IfOk result (IsCompanyTurn sheets.now round company history) }
     ensures seats { IfOk result (λ new. new.seats ≡ history.seats) }
     ensures sound { IfOk result IsSound }
+    ensures refuses { IfErr result (λ fault. fault ≡ Refused → R.may_refuse ≡ true) }
 {
     let president = history.president(company);
     let _few = sheets.seats();
     place_home(&mut history, company)?;
-    let progress = rule_block(alloc, &mut history, sheets, round, company, president)?;
+    let progress = rule_block(
+        alloc,
+        &mut history,
+        sheets,
+        round,
+        company,
+        president,
+        runner,
+    )?;
     settle(&mut history, company, progress)?;
     end_block(alloc, &mut history, sheets, round, company, president)?;
     Ok(history)
@@ -70,24 +83,26 @@ fn end_block(
 
 /// Rules the block that the sheet of a company's president has for it, if it has a president.
 /// Answers how far the turn has come then.
-fn rule_block(
+fn rule_block<R: Runner>(
     alloc: Global,
     history: &mut History,
     sheets: &Sheets,
     round: Round,
     company: Company,
     president: Option<Seat>,
-) -> Result<Progress, AllocError>
+    runner: &mut R,
+) -> Result<Progress, RunnerFault>
     requires few { history.old.seats ≤ 6 }
     requires sound { IsSound history.old }
     ensures turn { IfOk result (λ now. BlockLeads sheets.now round company
         (in_turn history.old at_start) president (in_turn history.new now)) }
     ensures sound { OnOk result (IsSound history.new) }
+    ensures refuses { IfErr result (λ fault. fault ≡ Refused → R.may_refuse ≡ true) }
 {
     let Some(president) = president else {
         return Ok(Progress::start());
     };
     let mut block = sheets.block(president, &round, company);
     let by = Operator { company, president };
-    rule_lines(alloc, history, by, &mut block)
+    rule_lines(alloc, history, by, round, &mut block, runner)
 }

@@ -1,11 +1,13 @@
-ghost use Rattle.std.specs.Prelude.{◌≡◌};
+ghost use Rattle.std.specs.Prelude.{◌≡◌, ◌≤◌};
+ghost use Rattle.operating.specs.Best.{best_done};
 ghost use Rattle.operating.specs.Dividend.{is_past_pay as past_pay};
-ghost use Rattle.operating.specs.Runs.{IsCounted, is_past_runs as past_runs, run_done};
+ghost use Rattle.operating.specs.Runs.{IsCounted, has_any_run as any_ran, is_past_runs as past_runs, run_done};
 ghost use Rattle.operating.specs.InTurn.{at_start, is_unpaid as not_past_pay, lay_done, pay_done, token_done};
 
 use crate::runs::{Ran, Runs};
 use board::{Asker, Board, TurnStep, is_dh_lay};
 use map_tables::Lay;
+use tables::Amount;
 
 /// How far a company's turn has come.
 #[derive(Clone, Copy, Debug)]
@@ -16,6 +18,8 @@ pub(crate) struct Progress {
     pub(crate) lay_used: bool,
     /// Whether that was DH's lay, so that the turn's token may be DH's.
     pub(crate) dh_laid: bool,
+    /// Whether the company has run its best, which leaves no train to run.
+    pub(crate) best_run: bool,
     /// What the trains of the company have done.
     pub(crate) runs: Runs,
 }
@@ -29,6 +33,7 @@ impl Progress {
             pointer: TurnStep::Lay,
             lay_used: false,
             dh_laid: false,
+            best_run: false,
             runs: Runs::none(),
         }
     }
@@ -66,6 +71,19 @@ impl Progress {
         }
     }
 
+    /// Once the company has run its best, for so much.
+    pub(crate) fn with_best(self, revenue: Amount) -> Progress
+        requires { revenue ≤ 50000 }
+        ensures { result ≡ best_done self revenue }
+    {
+        Progress {
+            pointer: TurnStep::Run,
+            best_run: true,
+            runs: self.runs.with_revenue(revenue),
+            ..self
+        }
+    }
+
     /// Once the company has paid or withheld.
     pub(crate) fn with_pay(self) -> Progress
         ensures { result ≡ pay_done self }
@@ -81,6 +99,13 @@ impl Progress {
         ensures { result ≡ past_runs self.now }
     {
         TurnStep::Run.number() < self.pointer.number()
+    }
+
+    /// Whether some train has run in the turn.
+    pub(crate) fn has_any_run(&self) -> bool
+        ensures { result ≡ any_ran self.now }
+    {
+        self.best_run || self.runs.are_any()
     }
 
     /// Whether the turn is past its pay.

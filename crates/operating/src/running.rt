@@ -1,4 +1,6 @@
-ghost use Rattle.std.specs.Prelude.{◌≡◌, ◌≤◌, ◌≤ℤ◌, IfOk, None, OnOk, pos};
+ghost use Rattle.std.specs.Prelude.{◌≡◌, ◌≤◌, ◌≤ℤ◌, false, IfOk, None, OnOk, pos, Some};
+ghost use lib.Signed.{le_z};
+ghost use Rattle.history.specs.Trains.{trains_held};
 ghost use Rattle.board.specs.Ground.{position_of};
 ghost use Rattle.history.specs.LookBack.{with_event};
 ghost use Rattle.history.specs.declared.event.Event.TheVariants as event;
@@ -83,11 +85,19 @@ fn rule_of_turn(
 {
     if progress.is_past_runs() {
         Some(RunRule::StepUsed)
-    } else if history.now().trains(Some(company), kind) <= progress.runs.of_kind(kind) {
+    } else if progress.best_run || has_run_all(history, company, kind, &progress.runs) {
         Some(RunRule::NoTrain)
     } else {
         None
     }
+}
+
+/// Whether each train of a kind that a company has, if any, has run by an order of its own.
+fn has_run_all(history: &History, company: Company, kind: Kind, runs: &Runs) -> bool
+    ensures all { result ≡ le_z (trains_held history.now.events (Some company) kind) (has_run runs.now kind) }
+    ensures few { result ≡ false → has_run runs.now kind ≤ℤ runs_most }
+{
+    history.now().trains(Some(company), kind) <= runs.of_kind(kind)
 }
 
 /// The rule that a refused run broke.
@@ -142,7 +152,11 @@ pub(crate) fn rule_run(
 }
 
 /// Tells what a run of a company earned.
-fn tell_runs(history: &mut History, company: Company, revenue: Amount) -> Result<(), AllocError>
+pub(crate) fn tell_runs(
+    history: &mut History,
+    company: Company,
+    revenue: Amount,
+) -> Result<(), AllocError>
     requires sound { IsSound history.old }
     requires sum { revenue ≤ 1000000 }
     ensures event { OnOk result (history.new

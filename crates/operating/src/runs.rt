@@ -23,7 +23,8 @@ pub(crate) struct Runs {
     trains: [TrainCount; 6],
     /// The borders that they have crossed.
     pub(crate) borders: Used,
-    /// What they have earned, in dollars: at most 160 for each border that is used.
+    /// What they have earned, in dollars: at most 160 for each border that is used, or else the
+    /// greatest revenue.
     pub(crate) revenue: Amount,
 }
 
@@ -51,6 +52,9 @@ impl Model for Runs {
 impl Runs {
     ghost use Rattle.operating.specs.Runs.{IsCounted, has_run, with_ran};
     ghost use Rattle.operating.specs.InTurn.{no_runs};
+    ghost use Rattle.std.specs.List.{list_any};
+    ghost use Rattle.std.specs.Prelude.{◌≤◌, pos};
+    ghost use lib.Signed.{lt_z};
 
     /// No train has run.
     pub(crate) fn none() -> Runs
@@ -75,6 +79,21 @@ impl Runs {
             borders: ran.borders,
             revenue: self.revenue + ran.earned,
         }
+    }
+
+    /// Once the best runs have earned this.
+    pub(crate) fn with_revenue(self, revenue: Amount) -> Runs
+        requires { revenue ≤ 50000 }
+        ensures { result ≡ record self { revenue = revenue } }
+    {
+        Runs { revenue, ..self }
+    }
+
+    /// Whether some train has run by an order of its own.
+    pub(crate) fn are_any(&self) -> bool
+        ensures { result ≡ list_any (λ count. lt_z (pos 0) count) self.now.trains }
+    {
+        self.trains.iter().any(|count| *count > 0)
     }
 
     /// How many trains of a kind have run.

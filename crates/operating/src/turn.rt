@@ -1,4 +1,5 @@
-ghost use Rattle.std.specs.Prelude.{◌≡◌, ◌≤◌, IfOk, OnOk};
+ghost use Rattle.std.specs.Prelude.{◌≡◌, ◌≤◌, IfErr, IfOk, OnOk, true};
+ghost use Rattle.certificate.specs.declared.runner.RunnerFault.TheVariants.{Refused};
 ghost use Rattle.history.specs.Sound.{IsSound};
 ghost use Rattle.operating.specs.InTurn.{at_start, in_turn};
 ghost use Rattle.operating.specs.Runs.{after_run};
@@ -6,6 +7,7 @@ ghost use Rattle.operating.specs.Turn.{LineLeads, LinesLead, OrderLeads};
 ghost use Rattle.sheets.specs.Part.{line_read};
 ghost use Rattle.turns.specs.Small.{AreSmall, IsSmallOrder, IsSmallReading};
 
+use crate::best::rule_best;
 use crate::dividend::{rule_pay, rule_withhold};
 use crate::lay::rule_lay;
 use crate::operator::Operator;
@@ -16,52 +18,68 @@ use crate::running::{judge_run, rule_run};
 use crate::token::rule_token;
 use crate::train::rule_train;
 use crate::withholding::settle;
+use certificate::{Runner, RunnerFault};
 use history::{History, KeptRuling};
 use map_tables::Run;
 use order_grammar::{Fault, Order};
 use sheets::{NumberedLine, PartsLeft};
 use std::alloc::{AllocError, Global};
-use tables::Kind;
+use tables::{Kind, Round};
 
 /// Rules the lines of a company's block. Answers how far its turn has come then.
-pub(crate) fn rule_lines(
+pub(crate) fn rule_lines<R: Runner>(
     alloc: Global,
     history: &mut History,
     by: Operator,
+    round: Round,
     block: &mut PartsLeft,
-) -> Result<Progress, AllocError>
+    runner: &mut R,
+) -> Result<Progress, RunnerFault>
     requires few { history.old.seats ≤ 6 }
     requires small { AreSmall block.old.before }
     requires sound { IsSound history.old }
     ensures turn { IfOk result (λ now. LinesLead by (in_turn history.old at_start)
         block.old.before (in_turn history.new now)) }
     ensures sound { OnOk result (IsSound history.new) }
+    ensures refuses { IfErr result (λ fault. fault ≡ Refused → R.may_refuse ≡ true) }
 {
     let mut progress = Progress::start();
     while let Some(line) = block.take_line() {
-        progress = rule_line(alloc, history, by, &line, progress)?;
+        progress = rule_line(alloc, history, by, round, &line, progress, runner)?;
     }
     Ok(progress)
 }
 
 /// Rules a line of a company's block, and does what it orders if it is obeyed. Answers how far the
 /// turn has come then.
-fn rule_line(
+fn rule_line<R: Runner>(
     alloc: Global,
     history: &mut History,
     by: Operator,
+    round: Round,
     line: &NumberedLine,
     progress: Progress,
-) -> Result<Progress, AllocError>
+    runner: &mut R,
+) -> Result<Progress, RunnerFault>
     requires few { history.old.seats ≤ 6 }
     requires small { IsSmallReading (line_read line.now).reading }
     requires sound { IsSound history.old }
     ensures turn { IfOk result (λ now. LineLeads by (in_turn history.old progress)
         (line_read line.now) (in_turn history.new now)) }
     ensures sound { OnOk result (IsSound history.new) }
+    ensures refuses { IfErr result (λ fault. fault ≡ Refused → R.may_refuse ≡ true) }
 {
     match line.order() {
-        Ok(order) => rule_order(alloc, history, by, line.number, order, progress),
+        Ok(order) => rule_order(
+            alloc,
+            history,
+            by,
+            round,
+            line.number,
+            order,
+            progress,
+            runner,
+        ),
         Err(fault) => {
             tell_ruling(
                 history,
@@ -77,35 +95,40 @@ fn rule_line(
 /// Rules an order of a company's block, in a line with this number, and does it if it is obeyed.
 /// Answers how far the turn has come then. A RAISE is ruled at the end of the turn. An order that is
 /// not named here has no place.
-fn rule_order(
+fn rule_order<R: Runner>(
     alloc: Global,
     history: &mut History,
     by: Operator,
+    round: Round,
     line: u32,
     order: &Order,
     progress: Progress,
-) -> Result<Progress, AllocError>
+    runner: &mut R,
+) -> Result<Progress, RunnerFault>
     requires few { history.old.seats ≤ 6 }
     requires small { IsSmallOrder order.now }
     requires sound { IsSound history.old }
     ensures turn { IfOk result (λ now. OrderLeads by (in_turn history.old progress) line
         order.now (in_turn history.new now)) }
     ensures sound { OnOk result (IsSound history.new) }
+    ensures refuses { IfErr result (λ fault. fault ≡ Refused → R.may_refuse ≡ true) }
 {
     match order {
-        Order::Lay(lay) => rule_lay(alloc, history, by, line, *lay, progress),
-        Order::Token(place) => rule_token(alloc, history, by, line, *place, progress),
+        Order::Lay(lay) => Ok(rule_lay(alloc, history, by, line, *lay, progress)?),
+        Order::Token(place) => Ok(rule_token(alloc, history, by, line, *place, progress)?),
         Order::Run { kind, run } => {
-            rule_run_order(alloc, history, by, line, order, *kind, run, &progress)
+            let ran = rule_run_order(alloc, history, by, line, order, *kind, run, &progress)?;
+            Ok(ran)
         }
-        Order::Pay => rule_pay(history, by, line, order, progress),
-        Order::Withhold => rule_withhold(history, by, line, order, progress),
+        Order::RunBest => rule_best(alloc, history, by, round, line, progress, runner),
+        Order::Pay => Ok(rule_pay(history, by, line, order, progress)?),
+        Order::Withhold => Ok(rule_withhold(history, by, line, order, progress)?),
         Order::BuyTrain { kind, from } => {
             let progress = settle(history, by.company, progress)?;
-            rule_train(alloc, history, by, line, *kind, *from, progress)
+            Ok(rule_train(alloc, history, by, line, *kind, *from, progress)?)
         }
         Order::BuyOwnedPrivate { private, price } => {
-            rule_private(history, by, line, *private, *price, progress)
+            Ok(rule_private(history, by, line, *private, *price, progress)?)
         }
         Order::Raise { .. } => Ok(progress),
         _ => {

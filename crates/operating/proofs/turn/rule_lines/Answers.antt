@@ -7,7 +7,7 @@ use Rattle.turns.specs.Small.{AreSmall}
 use Rattle.operating.proofs.turn.rule_lines.Goals as goal
 
 pub loop-line-preserved : goal.loop-line-preserved
-loop-line-preserved c =
+loop-line-preserved g c =
     let turn = in_turn c.loop-line.history c.loop-line.progress in
     let by = c.args.by in
     record {
@@ -18,5 +18,5 @@ loop-line-preserved c =
     }
 
 pub rule_line-requires-clause-small : goal.rule_line-requires-clause-small
-rule_line-requires-clause-small c =
+rule_line-requires-clause-small g c =
     (subst AreSmall (ap (λ (parts : Parts). parts.before) c.in-Some.ensures) c.loop-line.invariant.small).0

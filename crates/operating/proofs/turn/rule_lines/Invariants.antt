@@ -7,7 +7,7 @@ use Rattle.operating.proofs.turn.rule_lines.Given as goal
 
 -- where the lines that are left lead from here, all lead from the start
 abbrev pub invariant-loop-line : goal.invariant-loop-line
-invariant-loop-line l = record {
+invariant-loop-line g l = record {
   seats : l.history.seats ≡ l.fn.history.seats;
   turn : (new : InTurn) → LinesLead l.by (in_turn l.history l.progress) l.block.before new → LinesLead l.by (in_turn l.fn.history at_start) l.fn.block.before new;
   small : AreSmall l.block.before;
@@ -15,4 +15,4 @@ invariant-loop-line l = record {
 }
 
 abbrev pub decreases-loop-line : goal.decreases-loop-line
-decreases-loop-line l = length l.block.before
+decreases-loop-line g l = length l.block.before

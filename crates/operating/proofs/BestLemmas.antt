@@ -1,0 +1,96 @@
+-- The trains of a company, one for one, and what its best runs earn.
+use Rattle.std.proofs.Common.{◌≡◌, ℕ, zero, suc, ◌+◌, ◌≤◌, Bool, true, false, List, [], ◌∷◌, ◌++◌, Option, Some, None, length, replicate, ℤ, pos, ◌≤ℤ◌, refl, sym, ap, subst, ◌∙◌, arith, add-one}
+use Rattle.std.proofs.lemmas.Int.{ints}
+use Rattle.std.specs.Int.RustNames.{unsigned_abs}
+use mir.Syntax.{w128}
+use mir.Val.{of_z, to_z}
+use Rattle.board.specs.Ground.{Ground, position_of}
+use Rattle.certificate.specs.Greatest.{AGreatestExists, OneGreatest}
+use Rattle.certificate.specs.Law.{unused}
+use Rattle.certificate.specs.Set.{IsGreatest, IsGreatestMoney}
+use Rattle.history.specs.Trains.{so_many}
+use Rattle.history.specs.declared.ruling.RunRule.{RunRule}
+use Rattle.history.specs.declared.ruling.RunRule.TheVariants as run_rule
+use Rattle.operating.specs.Runs.{rule}
+use Rattle.reach.specs.Lawful.{IsLawful}
+use Rattle.reach.specs.Position.{Position}
+use Rattle.tables.specs.Rules.{first_broken}
+use Rattle.tables.specs.declared.rolling_stock.Kind.{Kind}
+use Rattle.tables.specs.declared.roster.Company.{Company}
+
+-- which of the two rules is broken first
+abbrev broken : Bool → Bool → Option RunRule
+broken past none = first_broken (rule run_rule.StepUsed past ∷ rule run_rule.NoTrain none ∷ [])
+
+pub second_broken : (past none : Bool) → past ≡ false → none ≡ true → Some run_rule.NoTrain ≡ broken past none
+second_broken past none is_past is_none = rw (is_past, is_none) refl
+
+pub neither_broken : (past none : Bool) → past ≡ false → none ≡ false → None ≡ broken past none
+neither_broken past none is_past is_none = rw (is_past, is_none) refl
+
+-- no more borders are unused than there are
+pub few_unused : (marks : List Bool) → unused marks ≤ length marks
+few_unused [] = omega arith
+few_unused (true ∷ marks) = omega (arith, few_unused marks)
+few_unused (false ∷ marks) = omega (arith, few_unused marks)
+
+-- one more at the end of so many
+one_behind : {A : Type 0} (thing : A) (n : ℕ) → replicate n thing ++ thing ∷ [] ≡ replicate (suc n) thing
+one_behind thing zero = refl
+one_behind thing (suc n) = ap (λ (things : List _). thing ∷ things) (one_behind thing n)
+
+regrouped : {A : Type 0} (xs ys zs : List A) → (xs ++ ys) ++ zs ≡ xs ++ (ys ++ zs)
+regrouped [] ys zs = refl
+regrouped (x ∷ xs) ys zs = ap (λ (rest : List _). x ∷ rest) (regrouped xs ys zs)
+
+-- one more train behind so many of its kind
+pub one_more_train : (first : List Kind) (kind : Kind) (n : ℕ) → (first ++ replicate n kind) ++ kind ∷ [] ≡ first ++ replicate (n + 1) kind
+one_more_train first kind n =
+    rw add-one (regrouped first (replicate n kind) (kind ∷ []) ∙ ap (λ (rest : List Kind). first ++ rest) (one_behind kind n))
+
+-- a greatest revenue is small
+pub small_greatest :
+    AGreatestExists → OneGreatest → (position : Position) (company : Company) (trains : List Kind) (revenue : ℕ) → IsLawful position →
+    IsGreatest position company trains revenue → revenue ≤ 50000
+small_greatest exists one position company trains revenue lawful greatest =
+    let there = exists position company trains lawful in
+    subst (λ (n : ℕ). n ≤ 50000) (one position company trains there.0 revenue there.1 greatest) there.2
+
+-- as many trains of a kind behind others
+pub same_count : (trains : List Kind) (kind : Kind) (count other : ℤ) → count ≡ other →
+    trains ++ replicate (so_many count) kind ≡ trains ++ replicate (so_many other) kind
+same_count trains kind count other same = ap (λ (n : ℤ). trains ++ replicate (so_many n) kind) same
+
+module _ (exists : AGreatestExists) (one : OneGreatest) where
+  -- a sum of money that is a greatest revenue is small
+  pub small_sum :
+      (position : Position) (company : Company) (trains : List Kind) (money : ℤ) → IsLawful position →
+      IsGreatestMoney position company trains money → to_z w128 (of_z w128 money) ≤ℤ pos 50000
+  small_sum position company trains money lawful greatest =
+      let small : greatest.0 ≤ 50000 = small_greatest exists one position company trains greatest.0 lawful greatest.2 in
+      let is : money ≡ pos greatest.0 = greatest.1 in
+      omega (arith, ints, is, small)
+
+  -- as an amount it is the greatest revenue, and small
+  as_amount :
+      (position : Position) (company : Company) (trains : List Kind) (money : ℤ) (amount : ℕ) → IsLawful position →
+      pos amount ≡ to_z w128 (of_z w128 money) → IsGreatestMoney position company trains money →
+      IsGreatest position company trains amount × (amount ≤ 50000)
+  as_amount position company trains money amount lawful kept greatest =
+      let small : greatest.0 ≤ 50000 = small_greatest exists one position company trains greatest.0 lawful greatest.2 in
+      let is : money ≡ pos greatest.0 = greatest.1 in
+      let same : pos amount ≡ pos greatest.0 = omega (arith, ints, kept, is, small) in
+      let amounts : amount ≡ greatest.0 = ap unsigned_abs same in
+      (subst (IsGreatest position company trains) (sym amounts) greatest.2, subst (λ (n : ℕ). n ≤ 50000) (sym amounts) small)
+
+  -- so it is by the board and the trains that it was asked of
+  pub told_greatest :
+      (laid ground : Ground) (company : Company) (trains held : List Kind) (money : ℤ) (amount : ℕ) → laid ≡ ground → trains ≡ held →
+      IsLawful (position_of laid) → pos amount ≡ to_z w128 (of_z w128 money) → IsGreatestMoney (position_of laid) company trains money →
+      IsGreatest (position_of ground) company held amount × (amount ≤ 50000)
+  told_greatest laid ground company trains held money amount is_laid are_held lawful kept greatest =
+      let told = as_amount (position_of laid) company trains money amount lawful kept greatest in (
+        subst (λ (g : Ground). IsGreatest (position_of g) company held amount) is_laid
+            (subst (λ (all : List Kind). IsGreatest (position_of laid) company all amount) are_held told.0),
+        told.1,
+      )

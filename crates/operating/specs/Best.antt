@@ -1,0 +1,67 @@
+-- The best runs of a company. A RUN BEST needs the step of runs or one before it, a train, and that no train has run
+-- in the turn. The company is then credited the greatest revenue that any legal set of runs for its trains earns by
+-- what lies: that is the revenue of the turn, which is past its token, and no train is left to run.
+use Rattle.std.specs.Prelude.{◌≡◌, ℕ, Bool, true, not, ◌||◌, List, [], ◌∷◌, ◌++◌, Option, Some, None, replicate}
+use Rattle.std.specs.List.{fold}
+use Rattle.board.specs.declared.asker.TurnStep.TheVariants as step
+use Rattle.certificate.specs.Set.{IsGreatest}
+use Rattle.history.specs.LookBack.{Game, with_event}
+use Rattle.history.specs.Trains.{so_many, trains_held}
+use Rattle.history.specs.declared.event.Event.{Event}
+use Rattle.history.specs.declared.event.Event.TheVariants as event
+use Rattle.history.specs.declared.ruling.Refusal.TheVariants as refusal
+use Rattle.history.specs.declared.ruling.Ruling.TheVariants.{Obeyed, Refused}
+use Rattle.history.specs.declared.ruling.RunRule.{RunRule}
+use Rattle.history.specs.declared.ruling.RunRule.TheVariants as run_rule
+use Rattle.operating.specs.Forced.{has_trains}
+use Rattle.operating.specs.InTurn.{InTurn, in_turn, told}
+use Rattle.operating.specs.Runs.{has_any_run, is_past_runs, position_now, rule}
+use Rattle.operating.specs.declared.operator.Operator.{Operator}
+use Rattle.operating.specs.declared.progress.Progress.{Progress}
+use Rattle.order_grammar.specs.declared.order.Order.TheVariants as order
+use Rattle.tables.specs.Rules.{Rule, first_broken}
+use Rattle.tables.specs.Train.{kinds}
+use Rattle.tables.specs.declared.rolling_stock.Kind.{Kind}
+use Rattle.tables.specs.declared.roster.Company.{Company}
+
+-- some trains, and behind them those of a kind that a company has
+abbrev pub with_those_held : List Event → Company → List Kind → Kind → List Kind
+with_those_held events company trains kind = trains ++ replicate (so_many (trains_held events (Some company) kind)) kind
+
+-- the trains that a company has, kind by kind
+abbrev pub trains_now : List Event → Company → List Kind
+trains_now events company = fold (with_those_held events company) [] kinds
+
+-- a company has no train, or some train of it has run in the turn
+abbrev pub has_none_to_run : List Event → Company → Progress → Bool
+has_none_to_run events company progress = not (has_trains events company) || has_any_run progress
+
+-- the rules of a RUN BEST
+abbrev pub rules_of_best : Game → Company → Progress → List (Rule RunRule)
+rules_of_best game company progress =
+    rule run_rule.StepUsed (is_past_runs progress)
+    ∷ rule run_rule.NoTrain (has_none_to_run game.events company progress) ∷ []
+
+-- the first one that is broken
+abbrev pub best_judgement : InTurn → Company → Option RunRule
+best_judgement turn company = first_broken (rules_of_best turn.game company turn.progress)
+
+-- how far the turn has come once the best has been run, which earned so much
+abbrev pub best_done : Progress → ℕ → Progress
+best_done progress revenue =
+    record progress { pointer = step.Run; best_run = true; runs = record progress.runs { revenue = revenue } }
+
+-- after a RUN BEST with this number was obeyed, which earned so much
+abbrev pub best_earned : Operator → InTurn → ℕ → ℕ → InTurn
+best_earned by turn number revenue =
+    in_turn (with_event (told by turn number (Obeyed order.RunBest)).game (event.Runs by.company revenue)) (best_done turn.progress revenue)
+
+-- a RUN BEST with this number leads to new, where this rule refuses it, if one does
+abbrev pub BestRuled : Operator → InTurn → ℕ → Option RunRule → InTurn → Type 0
+BestRuled by turn number (Some rule) new = new ≡ told by turn number (Refused (refusal.Run rule) order.RunBest)
+BestRuled by turn number None new =
+    (revenue : ℕ) × IsGreatest (position_now turn.game.events) by.company (trains_now turn.game.events by.company) revenue × (new ≡ best_earned by turn number revenue)
+
+-- a RUN BEST with this number leads to new
+abbrev pub BestLeads : Operator → InTurn → ℕ → InTurn → Type 0
+BestLeads by turn number new = BestRuled by turn number (best_judgement turn by.company) new
