@@ -1,4 +1,5 @@
 pub mod Sequence
+pub mod Faults
 pub mod Gifts
 pub mod OperatingRound
 pub mod Play

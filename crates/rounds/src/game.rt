@@ -1,5 +1,7 @@
-ghost use Rattle.std.specs.Prelude.{◌≡◌, ◌≤◌, IfOk, MatchOption, false, length};
+ghost use Rattle.std.specs.Prelude.{◌≡◌, ◌≤◌, IfErr, IfOk, MatchOption, false, length, true};
 ghost use Rattle.history.specs.Sound.{IsSound};
+ghost use Rattle.rounds.specs.declared.fault.PlayFault.TheVariants.{Memory};
+ghost use Rattle.rounds.specs.Faults.{IsRefused};
 ghost use Rattle.rounds.specs.Gifts.{GiftsWait};
 ghost use Rattle.rounds.specs.Play.{IsPlayed, IsTheGame, IsToPlay, all_posted, coming as what_comes, end_of, goes_on, in_set_before as set_before, rounds_of_new_set};
 ghost use Rattle.rounds.specs.Sequence.{turn_in_set};
@@ -7,9 +9,12 @@ ghost use Rattle.sheets.specs.File.{players_of};
 ghost use Rattle.sheets.specs.Laws.{number_of};
 ghost use Rattle.tables.specs.Round.{number_most, operating_most};
 
+use crate::fault::PlayFault;
 use crate::following::Next;
 use crate::operating_round::play_operating;
 use crate::sequence::next;
+use best_run::Search;
+use certificate::Runner;
 use history::History;
 use privates::play_opening;
 use sheets::{Sheets, sheets_are_numbered};
@@ -75,11 +80,39 @@ impl<'a> Game<'a> {
     }
 }
 
-/// Plays the game of the sheets. An `Err` comes from want of memory alone.
+/// Plays the game of the sheets: companies that are ordered to run their best are credited the
+/// greatest revenue, which is searched for. An `Err` comes from want of memory alone.
 pub fn play<'a>(alloc: Global, sheets: &'a Sheets<'a>) -> Result<Game<'a>, AllocError>
     ensures file { IfOk result (λ game. game.file ≡ sheets.now) }
     ensures game { IfOk result IsTheGame }
     ensures sound { IfOk result (λ game. IsSound game.game) }
+{
+    let mut search = Search::new(alloc);
+    match play_with(alloc, sheets, &mut search) {
+        Ok(game) => Ok(game),
+        Err(fault) => Err(want_of_memory(fault)),
+    }
+}
+
+/// The fault of a game whose runner answers: memory was refused.
+fn want_of_memory(_fault: PlayFault) -> AllocError
+    requires { _fault ≡ Memory }
+{
+    AllocError
+}
+
+/// Plays the game of the sheets: a runner tells the greatest revenue of each company that is
+/// ordered to run its best. The errors are want of memory, and that the runner refuses to answer,
+/// with the round and the company for which it does.
+pub fn play_with<'a, R: Runner>(
+    alloc: Global,
+    sheets: &'a Sheets<'a>,
+    runner: &mut R,
+) -> Result<Game<'a>, PlayFault>
+    ensures file { IfOk result (λ game. game.file ≡ sheets.now) }
+    ensures game { IfOk result IsTheGame }
+    ensures sound { IfOk result (λ game. IsSound game.game) }
+    ensures refuses { IfErr result (λ fault. IsRefused fault → R.may_refuse ≡ true) }
 {
     let mut history = History::start(alloc, sheets.seats());
     let mut in_set = rounds_of_new_set(&history);
@@ -87,7 +120,7 @@ pub fn play<'a>(alloc: Global, sheets: &'a Sheets<'a>) -> Result<Game<'a>, Alloc
     // A law, which does nothing when it runs: by it the loop comes to an end.
     sheets_are_numbered();
     while let Some(round) = round_to_play(sheets, upcoming) {
-        history = play_round(alloc, history, sheets, round)?;
+        history = play_round(alloc, history, sheets, round, runner)?;
         upcoming = coming(&history, round, in_set);
         in_set = in_set_before(&history, upcoming, in_set);
     }
@@ -136,13 +169,15 @@ fn end_after(history: &History, upcoming: Next) -> End
     }
 }
 
-/// Plays a round, by its kind. An `Err` comes from want of memory alone, and the game is dropped.
-fn play_round(
+/// Plays a round, by its kind. An `Err` comes from want of memory, or from a runner that refuses to
+/// answer, and the game is dropped.
+fn play_round<R: Runner>(
     alloc: Global,
     history: History,
     sheets: &Sheets,
     round: Round,
-) -> Result<History, AllocError>
+    runner: &mut R,
+) -> Result<History, PlayFault>
     requires sound { IsSound history }
     requires seats { history.seats ≡ length (players_of sheets.now) }
     requires gifts { GiftsWait round history.events }
@@ -150,11 +185,12 @@ fn play_round(
     ensures seats { IfOk result (λ new. new.seats ≡ history.seats) }
     ensures sound { IfOk result IsSound }
     ensures gifts { IfOk result (λ new. GiftsWait round new.events) }
+    ensures refuses { IfErr result (λ fault. IsRefused fault → R.may_refuse ≡ true) }
 {
     match round {
-        Round::Opening(_) => play_opening(history, sheets, round),
-        Round::Stock(_) => play_stock(history, sheets, round),
-        Round::Operating { .. } => play_operating(alloc, history, sheets, round),
+        Round::Opening(_) => Ok(play_opening(history, sheets, round)?),
+        Round::Stock(_) => Ok(play_stock(history, sheets, round)?),
+        Round::Operating { .. } => play_operating(alloc, history, sheets, round, runner),
     }
 }
 

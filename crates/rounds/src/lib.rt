@@ -5,18 +5,20 @@
 //! ended. An opening and a stock round are played by crates of their own; an operating round is
 //! played here, company by company, each company's turn by the crate `operating`.
 //!
-//! Reading order: `following`, `sequence` (`next`), `operating_round`, `game` (`Game`, `play`),
-//! `laws`.
+//! Reading order: `following`, `sequence` (`next`), `fault`, `operating_round`, `game` (`Game`,
+//! `play_with`, `play`), `laws`.
 #![tactic(auto)]
 
+mod fault;
 mod following;
 mod game;
 mod laws;
 mod operating_round;
 mod sequence;
 
+pub use fault::PlayFault;
 pub use following::Next;
-pub use game::{End, Game, play};
+pub use game::{End, Game, play, play_with};
 pub use laws::{
     all_tiles_are_there_in_each_game, all_trains_are_there_in_each_game, arrival_changes_no_game,
     bank_alone_ends_it, bankruptcy_ends_games, bids_rise_in_each_game, broken_bank_ends_games,

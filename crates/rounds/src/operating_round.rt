@@ -1,11 +1,16 @@
-ghost use Rattle.std.specs.Prelude.{◌≡◌, ◌++◌, ◌≤◌, [], IfOk, OnOk, length};
+ghost use Rattle.std.specs.Prelude.{◌≡◌, ◌++◌, ◌≤◌, [], IfErr, IfOk, OnOk, length, true};
 ghost use Rattle.history.specs.LookBack.{with_event};
+ghost use Rattle.history.specs.Shares.{is_floated};
 ghost use Rattle.history.specs.Sound.{IsSound};
 ghost use Rattle.history.specs.Tell.{with_left};
 ghost use Rattle.history.specs.declared.event.Event.TheVariants as event;
+ghost use Rattle.operating.specs.Turn.{IsCompanyTurn};
+ghost use Rattle.rounds.specs.Faults.{IsRefused};
 ghost use Rattle.rounds.specs.OperatingRound.{IsOperatingRound, TurnsLead, finished, first_idle as first_to_operate, lines_left, next_company as company_to_operate};
 ghost use Rattle.sheets.specs.File.{players_of};
 
+use crate::fault::PlayFault;
+use certificate::Runner;
 use history::{Event, History, rulings_are_counted};
 use market::{floated_companies_in_order, operating_order};
 use operating::{company_operates, play_company, rule_standing_lines};
@@ -16,24 +21,26 @@ use tables::{Company, Round, Seat};
 /// Plays an operating round with the sheets for it: the standing lines and the revenues of the
 /// privates, and then the turn of each company, in operating order as it is at the time. The list
 /// of events must be sound, and its seats those of the sheets' players. An `Err` comes from want of
-/// memory alone, and the game is dropped.
-pub(crate) fn play_operating(
+/// memory, or from a runner that refuses to answer, and the game is dropped.
+pub(crate) fn play_operating<R: Runner>(
     alloc: Global,
     history: History,
     sheets: &Sheets,
     round: Round,
-) -> Result<History, AllocError>
+    runner: &mut R,
+) -> Result<History, PlayFault>
     requires sound { IsSound history }
     requires seats { history.seats ≡ length (players_of sheets.now) }
     ensures round { IfOk result (λ new. IsOperatingRound sheets.now round history new) }
     ensures seats { IfOk result (λ new. new.seats ≡ history.seats) }
     ensures sound { IfOk result IsSound }
+    ensures refuses { IfErr result (λ fault. IsRefused fault → R.may_refuse ≡ true) }
 {
     let mut history = history;
     begin(&mut history, round)?;
     rule_standing_lines(&mut history, sheets, round)?;
     history.tell_revenues()?;
-    let mut history = take_turns(alloc, history, sheets, round)?;
+    let mut history = take_turns(alloc, history, sheets, round, runner)?;
     tell_all_left(&mut history, sheets, round)?;
     Ok(history)
 }
@@ -50,26 +57,51 @@ fn begin(history: &mut History, round: Round) -> Result<(), AllocError>
 
 /// The companies take their turns, until each that operates has had one, or a president is
 /// bankrupt.
-fn take_turns(
+fn take_turns<R: Runner>(
     alloc: Global,
     mut history: History,
     sheets: &Sheets,
     round: Round,
-) -> Result<History, AllocError>
+    runner: &mut R,
+) -> Result<History, PlayFault>
     requires sound { IsSound history }
     requires seats { history.seats ≡ length (players_of sheets.now) }
     ensures turns { IfOk result (λ turned. TurnsLead sheets.now round history turned) }
     ensures seats { IfOk result (λ turned. turned.seats ≡ history.seats) }
     ensures sound { IfOk result IsSound }
+    ensures refuses { IfErr result (λ fault. IsRefused fault → R.may_refuse ≡ true) }
 {
     // Laws, which do nothing when they run: by them the next company has floated, and the loop
     // comes to an end.
     floated_companies_in_order();
     company_operates();
     while let Some(company) = next_company(&history) {
-        history = play_company(alloc, history, sheets, round, company)?;
+        history = take_turn(alloc, history, sheets, round, company, runner)?;
     }
     Ok(history)
+}
+
+/// A company takes its turn.
+fn take_turn<R: Runner>(
+    alloc: Global,
+    history: History,
+    sheets: &Sheets,
+    round: Round,
+    company: Company,
+    runner: &mut R,
+) -> Result<History, PlayFault>
+    requires floated { is_floated history.events company ≡ true }
+    requires sound { IsSound history }
+    requires seats { history.seats ≡ length (players_of sheets.now) }
+    ensures turn { IfOk result (IsCompanyTurn sheets.now round company history) }
+    ensures seats { IfOk result (λ new. new.seats ≡ history.seats) }
+    ensures sound { IfOk result IsSound }
+    ensures refuses { IfErr result (λ fault. IsRefused fault → R.may_refuse ≡ true) }
+{
+    match play_company(alloc, history, sheets, round, company, runner) {
+        Ok(history) => Ok(history),
+        Err(fault) => Err(PlayFault::in_turn(fault, round, company)),
+    }
 }
 
 /// The company whose turn it is: the first in operating order that has not operated in the round;

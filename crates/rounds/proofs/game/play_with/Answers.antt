@@ -7,10 +7,10 @@ use Rattle.rounds.specs.Play.{Between, IsRound, IsToPlay}
 use Rattle.sheets.specs.File.{players_of}
 use Rattle.tables.specs.declared.round.Round.{Round}
 use Rattle.tables.specs.declared.round.Round.TheVariants.{Opening}
-use Rattle.rounds.proofs.game.play.Goals as goal
+use Rattle.rounds.proofs.game.play_with.Goals as goal
 
 pub loop-round-init : goal.loop-round-init
-loop-round-init c =
+loop-round-init g c =
     let reached = begins_so c.args.sheets.now c.start-history.result c.seats.result c.rounds_of_new_set-in_set.result c.start-history.ensures.empty c.seats.ensures.value c.rounds_of_new_set-in_set.ensures in
     record {
       rounds = zero;
@@ -24,7 +24,7 @@ loop-round-init c =
     }
 
 pub coming-upcoming-requires : goal.coming-upcoming-requires
-coming-upcoming-requires c =
+coming-upcoming-requires g c =
     let at : IsToPlay c.args.sheets.now c.loop-round.upcoming c.in-Some.round = search rules in
     let some : 0 < length (players_of c.args.sheets.now) = omega (arith, c.seats.ensures.value, c.seats.ensures.least) in
     let stands : StandsInSet c.in-Some.round c.loop-round.in_set = c.loop-round.invariant.in_set c.in-Some.round at.comes in
@@ -36,7 +36,7 @@ coming-upcoming-requires c =
     }
 
 pub loop-round-smaller : goal.loop-round-smaller
-loop-round-smaller c =
+loop-round-smaller g c =
     let at : IsToPlay c.args.sheets.now c.loop-round.upcoming c.in-Some.round = search rules in
     let some : 0 < length (players_of c.args.sheets.now) = omega (arith, c.seats.ensures.value, c.seats.ensures.least) in
     let old : Between = record { game = c.loop-round.history; in_set = c.loop-round.in_set; next = c.loop-round.upcoming } in
@@ -54,7 +54,7 @@ loop-round-smaller c =
     fewer_to_come c.sheets_are_numbered.ensures c.args.sheets.now old new some c.loop-round.invariant.in_set round
 
 pub loop-round-preserved : goal.loop-round-preserved
-loop-round-preserved c =
+loop-round-preserved g c =
     let at : IsToPlay c.args.sheets.now c.loop-round.upcoming c.in-Some.round = search rules in
     let old : Between = record { game = c.loop-round.history; in_set = c.loop-round.in_set; next = c.loop-round.upcoming } in
     let new : Between = record { game = c.in_ok-history.history; in_set = c.in_set_before-in_set.result; next = c.coming-upcoming.result } in

@@ -7,12 +7,12 @@ use Rattle.rounds.proofs.Forward.{places_to_come}
 use Rattle.rounds.proofs.InSet.{StandsNext}
 use Rattle.sheets.specs.File.{players_of}
 use Rattle.tables.specs.declared.round.Round.{Round}
-use Rattle.rounds.proofs.game.play.Given as goal
+use Rattle.rounds.proofs.game.play_with.Given as goal
 
 -- some rounds have led here, and the list is a sound one of the file's players, of which the next round, if one comes,
 -- can be played
 abbrev pub invariant-loop-round : goal.invariant-loop-round
-invariant-loop-round l = record {
+invariant-loop-round g l = record {
   rounds : ℕ;
   reached : AreRounds l.sheets rounds (before_play l.sheets) (record { game = l.history; in_set = l.in_set; next = l.upcoming });
   in_set : StandsNext (record { game = l.history; in_set = l.in_set; next = l.upcoming });
@@ -23,4 +23,4 @@ invariant-loop-round l = record {
 
 -- each round has a later place than the one before
 abbrev pub decreases-loop-round : goal.decreases-loop-round
-decreases-loop-round l = places_to_come l.upcoming
+decreases-loop-round g l = places_to_come l.upcoming

@@ -11,14 +11,14 @@ first_of true b both = refl
 first_of false b both = cc
 
 -- the next company has floated
-pub play_company-requires-clause-floated : goal.play_company-requires-clause-floated
-play_company-requires-clause-floated c =
+pub take_turn-requires-clause-floated : goal.take_turn-requires-clause-floated
+take_turn-requires-clause-floated g c =
     let events = c.loop-company.history.events in
     first_of (is_floated events c.in-Some.company) (is_some (square_of events c.in-Some.company))
     (next_is_idle c.floated_companies_in_order.ensures events c.in-Some.company (sym c.next_company.ensures ∙ c.in-Some.is)).0
 
 pub loop-company-preserved : goal.loop-company-preserved
-loop-company-preserved c =
+loop-company-preserved g c =
     let taken : TakesTurn c.args.sheets.now c.args.round c.in-Some.company c.loop-company.history c.in_ok-history.history =
     record { is_next = sym c.next_company.ensures ∙ c.in-Some.is; turn = c.in_ok-history.ensures.turn }
     in
@@ -30,12 +30,12 @@ loop-company-preserved c =
     }
 
 pub loop-company-smaller : goal.loop-company-smaller
-loop-company-smaller c =
+loop-company-smaller g c =
     turn_leaves_fewer c.company_operates.ensures c.floated_companies_in_order.ensures c.args.sheets.now c.args.round c.in-Some.company c.loop-company.history c.in_ok-history.history
     (record { is_next = sym c.next_company.ensures ∙ c.in-Some.is; turn = c.in_ok-history.ensures.turn })
 
 pub returns-clause-turns : goal.returns-clause-turns
-returns-clause-turns c =
+returns-clause-turns g c =
     record {
       companies = c.loop-company.invariant.companies;
       turns = c.loop-company.invariant.turns;

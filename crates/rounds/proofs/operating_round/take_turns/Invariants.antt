@@ -7,7 +7,7 @@ use Rattle.rounds.proofs.operating_round.take_turns.Given as goal
 
 -- some companies have taken their turns
 abbrev pub invariant-loop-company : goal.invariant-loop-company
-invariant-loop-company l = record {
+invariant-loop-company g l = record {
   companies : List Company;
   turns : TakeTurns l.sheets l.round companies l.fn.history l.history;
   seats : l.history.seats ≡ l.fn.history.seats;
@@ -16,4 +16,4 @@ invariant-loop-company l = record {
 
 -- each turn leaves fewer companies that have not operated
 abbrev pub decreases-loop-company : goal.decreases-loop-company
-decreases-loop-company l = idle_of l.history.events
+decreases-loop-company g l = idle_of l.history.events
