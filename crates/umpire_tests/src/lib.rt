@@ -5,9 +5,12 @@
 //!
 //! Reading order: `support` (readers and writers that give and take as they are told), `running`
 //! (whole runs over them), `watching` (a reader or writer that remembers a failure), `texts`
-//! (reports), `sequence` (the rounds after the bank is broken).
+//! (reports), `sequence` (the rounds after the bank is broken), `refusing` (a runner that refuses to
+//! answer).
 #![tactic(auto)]
 
+#[cfg(test)]
+mod refusing;
 #[cfg(test)]
 mod running;
 #[cfg(test)]
