@@ -4,7 +4,7 @@ ghost use Rattle.std.specs.Prelude.{◌≡◌, true};
 use certificate::{Runner, RunnerFault};
 use reach::Network;
 use rounds::{PlayFault, play_with};
-use sheets::collect;
+use sheets::{Sheets, collect};
 use std::alloc::{AllocError, Global};
 use std::test::Fail;
 use tables::{Company, Kind, Money, Round};
@@ -88,29 +88,33 @@ fn file(alloc: Global, run: &str) -> Result<Vec<u8>, AllocError> {
     Ok(text)
 }
 
-/// Why the game is not played with a runner that refuses to answer; `None` where it is played.
-fn fault(alloc: Global, file: &[u8]) -> Option<PlayFault> {
-    let sheets = collect(alloc, file).ok()?;
-    let played = play_with(alloc, &sheets, &mut Refusing);
-    played.err()
+/// Why the game of some sheets is not played with a runner that refuses to answer; `None` where it
+/// is played.
+fn fault(alloc: Global, sheets: &Sheets) -> Option<PlayFault> {
+    match play_with(alloc, sheets, &mut Refusing) {
+        Ok(_) => None,
+        Err(fault) => Some(fault),
+    }
 }
 
 #[test]
 fn a_refusal_names_its_round_and_company(rt: HostRuntime) -> Result<(), Fail> {
-    let best = file(rt.alloc(), "RUN BEST\n")?;
+    let file = file(rt.alloc(), "RUN BEST\n")?;
+    let Ok(sheets) = collect(rt.alloc(), file.as_slice()) else {
+        panic!(rt; "refused")
+    };
     let round = Round::Operating { set: 2, number: 1 };
     let refused = PlayFault::Refused(round, Company::Pennsylvania);
-    assert_eq!(rt; fault(rt.alloc(), best.as_slice()), Some(refused));
+    assert_eq!(rt; fault(rt.alloc(), &sheets), Some(refused));
     Ok(())
 }
 
 #[test]
 fn a_run_that_is_written_out_asks_no_runner(rt: HostRuntime) -> Result<(), Fail> {
-    let written = file(rt.alloc(), "RUN 2 H12.0 H10.0\n")?;
-    let sheets = collect(rt.alloc(), written.as_slice());
-    let Ok(sheets) = sheets else {
+    let file = file(rt.alloc(), "RUN 2 H12.0 H10.0\n")?;
+    let Ok(sheets) = collect(rt.alloc(), file.as_slice()) else {
         panic!(rt; "refused")
     };
-    assert!(rt; play_with(rt.alloc(), &sheets, &mut Refusing).is_ok());
+    assert_eq!(rt; fault(rt.alloc(), &sheets), None);
     Ok(())
 }
