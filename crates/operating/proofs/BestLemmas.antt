@@ -71,17 +71,26 @@ module _ (exists : AGreatestExists) (one : OneGreatest) where
       let is : money ≡ pos greatest.0 = greatest.1 in
       omega (arith, ints, is, small)
 
-  -- as an amount it is the greatest revenue, and small
+  -- as an amount it is the same sum
+  pub same_sum :
+      (position : Position) (company : Company) (trains : List Kind) (money : ℤ) (amount : ℕ) → IsLawful position →
+      pos amount ≡ to_z w128 (of_z w128 money) → IsGreatestMoney position company trains money → money ≡ pos amount
+  same_sum position company trains money amount lawful kept greatest =
+      let small : greatest.0 ≤ 50000 = small_greatest exists one position company trains greatest.0 lawful greatest.2 in
+      let is : money ≡ pos greatest.0 = greatest.1 in
+      omega (arith, ints, kept, is, small)
+
+  -- so it is the greatest revenue, and small
   as_amount :
       (position : Position) (company : Company) (trains : List Kind) (money : ℤ) (amount : ℕ) → IsLawful position →
       pos amount ≡ to_z w128 (of_z w128 money) → IsGreatestMoney position company trains money →
       IsGreatest position company trains amount × (amount ≤ 50000)
   as_amount position company trains money amount lawful kept greatest =
       let small : greatest.0 ≤ 50000 = small_greatest exists one position company trains greatest.0 lawful greatest.2 in
-      let is : money ≡ pos greatest.0 = greatest.1 in
-      let same : pos amount ≡ pos greatest.0 = omega (arith, ints, kept, is, small) in
-      let amounts : amount ≡ greatest.0 = ap unsigned_abs same in
-      (subst (IsGreatest position company trains) (sym amounts) greatest.2, subst (λ (n : ℕ). n ≤ 50000) (sym amounts) small)
+      let same : pos greatest.0 ≡ pos amount =
+      sym greatest.1 ∙ same_sum position company trains money amount lawful kept greatest in
+      let amounts : greatest.0 ≡ amount = ap unsigned_abs same in
+      (subst (IsGreatest position company trains) amounts greatest.2, subst (λ (n : ℕ). n ≤ 50000) amounts small)
 
   -- so it is by the board and the trains that it was asked of
   pub told_greatest :

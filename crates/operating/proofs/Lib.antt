@@ -14,6 +14,9 @@ pub mod Folding
 pub mod PhaseLemmas
 pub mod DiscardLemmas
 pub mod BestLemmas
+pub mod Calls
+pub mod BestCalls
+pub mod TurnCalled
 pub mod Blocks
 pub mod Buying
 pub mod TrainSteps

@@ -23,3 +23,5 @@ pub mod Best
 pub mod BidLaws
 pub mod PrivateLaws
 pub mod ForcedLaws
+pub mod Calls
+pub mod TurnCalls

@@ -9,8 +9,10 @@ ghost use Rattle.history.specs.declared.event.Event.TheVariants as event;
 ghost use Rattle.history.specs.declared.ruling.Refusal.TheVariants as refusal;
 ghost use Rattle.history.specs.declared.ruling.Ruling.TheVariants.{Obeyed, Refused};
 ghost use Rattle.operating.specs.Best.{BestLeads, best_judgement, has_none_to_run as has_none_left, trains_now};
+ghost use Rattle.operating.specs.Calls.{Makes};
 ghost use Rattle.operating.specs.InTurn.{in_turn};
 ghost use Rattle.operating.specs.Runs.{position_now};
+ghost use Rattle.operating.specs.TurnCalls.{Asks, BestCalls, led_to};
 ghost use Rattle.order_grammar.specs.declared.order.Order.TheVariants as order;
 
 use crate::forced::has_trains;
@@ -41,6 +43,9 @@ pub(crate) fn rule_best<R: Runner>(
     requires { IsSound history.old }
     ensures turn { IfOk result (λ now. BestLeads by (in_turn history.old progress) line
         (in_turn history.new now)) }
+    ensures calls { let turn = in_turn history.old progress in
+        Makes R.earns runner.old (BestCalls by round line (best_judgement turn by.company) turn
+        (led_to history.new result)) runner.new }
     ensures sound { OnOk result (IsSound history.new) }
     ensures refuses { IfErr result (λ fault. fault ≡ runner_refuses → R.may_refuse ≡ true) }
 {
@@ -122,6 +127,8 @@ fn best_revenue<R: Runner>(
     ensures greatest { let events = history.now.events in
         IfOk result (IsGreatest (position_now events) company (trains_now events company)) }
     ensures small { IfOk result (λ revenue. revenue ≤ 50000) }
+    ensures calls { Makes R.earns runner.old (Asks company round history.now.events result)
+        runner.new }
     ensures refuses { IfErr result (λ fault. fault ≡ runner_refuses → R.may_refuse ≡ true) }
 {
     // Laws, which do nothing when they run: by them the greatest revenue is small.

@@ -2,8 +2,10 @@ ghost use Rattle.std.specs.Prelude.{◌≡◌, ◌<◌, ◌≤◌, IfErr, IfOk, 
 ghost use Rattle.certificate.specs.declared.runner.RunnerFault.TheVariants.{Refused};
 ghost use Rattle.history.specs.Shares.{is_floated};
 ghost use Rattle.history.specs.Sound.{IsSound};
+ghost use Rattle.operating.specs.Calls.{Makes};
 ghost use Rattle.operating.specs.InTurn.{at_start, in_turn};
 ghost use Rattle.operating.specs.Turn.{BlockEnds, BlockLeads, IsCompanyTurn};
+ghost use Rattle.operating.specs.TurnCalls.{BlockCalls, TurnCalls, led_to};
 ghost use Rattle.sheets.specs.File.{players_of};
 
 use crate::forced::end_turn;
@@ -35,6 +37,8 @@ pub fn play_company<R: Runner>(
     requires sound { IsSound history }
     requires seats { history.seats ≡ length (players_of sheets.now) }
     ensures turn { IfOk result (IsCompanyTurn sheets.now round company history) }
+    ensures calls { Makes R.earns runner.old (TurnCalls sheets.now round company history result)
+        runner.new }
     ensures seats { IfOk result (λ new. new.seats ≡ history.seats) }
     ensures sound { IfOk result IsSound }
     ensures refuses { IfErr result (λ fault. fault ≡ Refused → R.may_refuse ≡ true) }
@@ -96,6 +100,9 @@ fn rule_block<R: Runner>(
     requires sound { IsSound history.old }
     ensures turn { IfOk result (λ now. BlockLeads sheets.now round company
         (in_turn history.old at_start) president (in_turn history.new now)) }
+    ensures calls { let begun = in_turn history.old at_start in
+        Makes R.earns runner.old (BlockCalls sheets.now round company president begun
+        (led_to history.new result)) runner.new }
     ensures sound { OnOk result (IsSound history.new) }
     ensures refuses { IfErr result (λ fault. fault ≡ Refused → R.may_refuse ≡ true) }
 {

@@ -1,9 +1,12 @@
-ghost use Rattle.std.specs.Prelude.{◌≡◌, ◌≤◌, IfErr, IfOk, OnOk, true};
+ghost use Rattle.std.specs.Prelude.{◌≡◌, ◌≢◌, ◌≤◌, IfErr, IfOk, OnOk, true};
 ghost use Rattle.certificate.specs.declared.runner.RunnerFault.TheVariants.{Refused};
 ghost use Rattle.history.specs.Sound.{IsSound};
+ghost use Rattle.operating.specs.Calls.{Makes};
 ghost use Rattle.operating.specs.InTurn.{at_start, in_turn};
 ghost use Rattle.operating.specs.Runs.{after_run};
 ghost use Rattle.operating.specs.Turn.{LineLeads, LinesLead, OrderLeads};
+ghost use Rattle.operating.specs.TurnCalls.{LineCalls, LinesCall, OrderCalls, led_to};
+ghost use Rattle.order_grammar.specs.declared.order.Order.TheVariants.{RunBest};
 ghost use Rattle.sheets.specs.Part.{line_read};
 ghost use Rattle.turns.specs.Small.{AreSmall, IsSmallOrder, IsSmallReading};
 
@@ -40,6 +43,9 @@ pub(crate) fn rule_lines<R: Runner>(
     requires sound { IsSound history.old }
     ensures turn { IfOk result (λ now. LinesLead by (in_turn history.old at_start)
         block.old.before (in_turn history.new now)) }
+    ensures calls { let begun = in_turn history.old at_start in
+        Makes R.earns runner.old (LinesCall by round block.old.before begun
+        (led_to history.new result)) runner.new }
     ensures sound { OnOk result (IsSound history.new) }
     ensures refuses { IfErr result (λ fault. fault ≡ Refused → R.may_refuse ≡ true) }
 {
@@ -66,6 +72,9 @@ fn rule_line<R: Runner>(
     requires sound { IsSound history.old }
     ensures turn { IfOk result (λ now. LineLeads by (in_turn history.old progress)
         (line_read line.now) (in_turn history.new now)) }
+    ensures calls { let turn = in_turn history.old progress in
+        Makes R.earns runner.old (LineCalls by round (line_read line.now) turn
+        (led_to history.new result)) runner.new }
     ensures sound { OnOk result (IsSound history.new) }
     ensures refuses { IfErr result (λ fault. fault ≡ Refused → R.may_refuse ≡ true) }
 {
@@ -93,8 +102,7 @@ fn rule_line<R: Runner>(
 }
 
 /// Rules an order of a company's block, in a line with this number, and does it if it is obeyed.
-/// Answers how far the turn has come then. A RAISE is ruled at the end of the turn. An order that is
-/// not named here has no place.
+/// Answers how far the turn has come then. The runner is asked for the best runs alone.
 fn rule_order<R: Runner>(
     alloc: Global,
     history: &mut History,
@@ -110,25 +118,50 @@ fn rule_order<R: Runner>(
     requires sound { IsSound history.old }
     ensures turn { IfOk result (λ now. OrderLeads by (in_turn history.old progress) line
         order.now (in_turn history.new now)) }
+    ensures calls { let turn = in_turn history.old progress in
+        Makes R.earns runner.old (OrderCalls by round line order.now turn
+        (led_to history.new result)) runner.new }
     ensures sound { OnOk result (IsSound history.new) }
     ensures refuses { IfErr result (λ fault. fault ≡ Refused → R.may_refuse ≡ true) }
 {
     match order {
-        Order::Lay(lay) => Ok(rule_lay(alloc, history, by, line, *lay, progress)?),
-        Order::Token(place) => Ok(rule_token(alloc, history, by, line, *place, progress)?),
-        Order::Run { kind, run } => {
-            let ran = rule_run_order(alloc, history, by, line, order, *kind, run, &progress)?;
-            Ok(ran)
-        }
         Order::RunBest => rule_best(alloc, history, by, round, line, progress, runner),
-        Order::Pay => Ok(rule_pay(history, by, line, order, progress)?),
-        Order::Withhold => Ok(rule_withhold(history, by, line, order, progress)?),
+        _ => Ok(rule_other(alloc, history, by, line, order, progress)?),
+    }
+}
+
+/// Rules an order other than RUN BEST. A RAISE is ruled at the end of the turn. An order that is not
+/// named here has no place.
+fn rule_other(
+    alloc: Global,
+    history: &mut History,
+    by: Operator,
+    line: u32,
+    order: &Order,
+    progress: Progress,
+) -> Result<Progress, AllocError>
+    requires few { history.old.seats ≤ 6 }
+    requires small { IsSmallOrder order.now }
+    requires sound { IsSound history.old }
+    requires other { order.now ≢ RunBest }
+    ensures turn { IfOk result (λ now. OrderLeads by (in_turn history.old progress) line
+        order.now (in_turn history.new now)) }
+    ensures sound { OnOk result (IsSound history.new) }
+{
+    match order {
+        Order::Lay(lay) => rule_lay(alloc, history, by, line, *lay, progress),
+        Order::Token(place) => rule_token(alloc, history, by, line, *place, progress),
+        Order::Run { kind, run } => {
+            rule_run_order(alloc, history, by, line, order, *kind, run, &progress)
+        }
+        Order::Pay => rule_pay(history, by, line, order, progress),
+        Order::Withhold => rule_withhold(history, by, line, order, progress),
         Order::BuyTrain { kind, from } => {
             let progress = settle(history, by.company, progress)?;
             Ok(rule_train(alloc, history, by, line, *kind, *from, progress)?)
         }
         Order::BuyOwnedPrivate { private, price } => {
-            Ok(rule_private(history, by, line, *private, *price, progress)?)
+            rule_private(history, by, line, *private, *price, progress)
         }
         Order::Raise { .. } => Ok(progress),
         _ => {

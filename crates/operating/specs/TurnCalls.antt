@@ -1,0 +1,102 @@
+-- The calls that a company's turn makes of a runner: one for each RUN BEST that is obeyed, in order, for the position
+-- that lies then and the trains that the company has then. A line that is refused, or orders something else, makes
+-- none. Once a call is not answered the turn is broken off; so it is where memory is refused.
+use Rattle.std.specs.Prelude.{◌≡◌, ◌≢◌, ◌⊎◌, ℕ, ℤ, pos, List, [], ◌∷◌, Option, Some, None, Result, Ok, Err}
+use Rattle.certificate.specs.Set.{IsGreatest}
+use Rattle.certificate.specs.declared.runner.RunnerFault.{RunnerFault}
+use Rattle.certificate.specs.declared.runner.RunnerFault.TheVariants.{Memory}
+use Rattle.history.specs.LookBack.{Game}
+use Rattle.history.specs.Shares.{president_of}
+use Rattle.history.specs.declared.event.Event.{Event}
+use Rattle.history.specs.declared.ruling.Ruling.TheVariants.{Faulty}
+use Rattle.history.specs.declared.ruling.RunRule.{RunRule}
+use Rattle.operating.specs.Best.{BestRuled, best_earned, best_judgement, trains_now}
+use Rattle.operating.specs.Calls.{Call, Then, Unasked}
+use Rattle.operating.specs.InTurn.{InTurn, in_turn, told}
+use Rattle.operating.specs.Runs.{position_now}
+use Rattle.operating.specs.Turn.{BlockEnds, OrderLeads, begun, settled}
+use Rattle.operating.specs.declared.operator.Operator.{Operator}
+use Rattle.operating.specs.declared.progress.Progress.{Progress}
+use Rattle.order_grammar.specs.declared.fault.Fault.{Fault}
+use Rattle.order_grammar.specs.declared.order.Order.{Order}
+use Rattle.order_grammar.specs.declared.order.Order.TheVariants as order
+use Rattle.sheets.specs.Block.{block_for}
+use Rattle.sheets.specs.Part.{Numbered}
+use Rattle.tables.specs.declared.roster.Company.{Company}
+use Rattle.tables.specs.declared.round.Round.{Round}
+use Rattle.tables.specs.declared.seat.Seat.{Seat}
+
+-- the call for the best runs of a company after these events, and its answer
+abbrev pub asked : Company → Round → List Event → Result ℤ RunnerFault → Call
+asked company round events answer =
+    record {
+      position = position_now events;
+      round = round;
+      company = company;
+      trains = trains_now events company;
+      answer = answer;
+    }
+
+-- the runner is asked for the best runs of a company, and tells a revenue or why it does not; or memory is refused before
+abbrev pub Asks : Company → Round → List Event → Result ℕ RunnerFault → List Call → Type 0
+Asks company round events (Ok revenue) calls = calls ≡ asked company round events (Ok (pos revenue)) ∷ []
+Asks company round events (Err fault) calls =
+    (calls ≡ asked company round events (Err fault) ∷ []) ⊎ ((fault ≡ Memory) × (calls ≡ []))
+
+-- a greatest revenue is credited to a company that is ordered to run its best, in the line with this number
+pub record IsCredited (by : Operator) (turn : InTurn) (number revenue : ℕ) (new : InTurn) : Type 0 where
+  pub greatest : IsGreatest (position_now turn.game.events) by.company (trains_now turn.game.events by.company) revenue
+  pub after : new ≡ best_earned by turn number revenue
+
+-- the course of a RUN BEST with this number, where this rule refuses it, if one does
+abbrev pub BestCalls : Operator → Round → ℕ → Option RunRule → InTurn → Result InTurn RunnerFault → List Call → Type 0
+BestCalls by round number (Some rule) turn =
+    Unasked Memory (λ old new. BestRuled by old number (Some rule) new) turn
+BestCalls by round number None turn =
+    Then (Asks by.company round) (Unasked Memory (IsCredited by turn number)) turn.game.events
+
+-- that of an order with this number
+abbrev pub OrderCalls : Operator → Round → ℕ → Order → InTurn → Result InTurn RunnerFault → List Call → Type 0
+OrderCalls by round number its turn outcome calls =
+    ((its ≡ order.RunBest) × BestCalls by round number (best_judgement turn by.company) turn outcome calls)
+    ⊎ ((its ≢ order.RunBest) × Unasked Memory (λ old new. OrderLeads by old number its new) turn outcome calls)
+
+-- that of a line with this number and this reading
+abbrev pub ReadingCalls : Operator → Round → ℕ → Result Order Fault → InTurn → Result InTurn RunnerFault → List Call → Type 0
+ReadingCalls by round number (Ok order) = OrderCalls by round number order
+ReadingCalls by round number (Err fault) = Unasked Memory (λ turn new. new ≡ told by turn number (Faulty fault))
+
+-- that of a line
+abbrev pub LineCalls : Operator → Round → Numbered → InTurn → Result InTurn RunnerFault → List Call → Type 0
+LineCalls by round line = ReadingCalls by round line.number line.reading
+
+-- that of lines, one after another
+abbrev pub LinesCall : Operator → Round → List Numbered → InTurn → Result InTurn RunnerFault → List Call → Type 0
+LinesCall by round [] = Unasked Memory (λ turn new. new ≡ turn)
+LinesCall by round (line ∷ lines) = Then (LineCalls by round line) (LinesCall by round lines)
+
+-- that of the block for a company in the sheet of its president; without a president there is none
+abbrev pub BlockCalls : List ℕ → Round → Company → Option Seat → InTurn → Result InTurn RunnerFault → List Call → Type 0
+BlockCalls file round company None = Unasked Memory (λ turn new. new ≡ turn)
+BlockCalls file round company (Some seat) =
+    LinesCall (record { company = company; president = seat }) round (block_for file round seat.0 company)
+
+-- that of what follows the block in the turn of a company
+abbrev pub EndCalls : List ℕ → Round → Company → Option Seat → InTurn → Result Game RunnerFault → List Call → Type 0
+EndCalls file round company president =
+    Unasked Memory (λ last new. BlockEnds file round company (settled company last).game president new)
+
+-- that of a turn once its home token lies
+abbrev pub BegunCalls : List ℕ → Round → Company → Option Seat → InTurn → Result Game RunnerFault → List Call → Type 0
+BegunCalls file round company president =
+    Then (BlockCalls file round company president) (EndCalls file round company president)
+
+-- the course of the turn of a company in a round with the sheets of the file
+abbrev pub TurnCalls : List ℕ → Round → Company → Game → Result Game RunnerFault → List Call → Type 0
+TurnCalls file round company old =
+    Then (Unasked Memory (λ game turn. turn ≡ begun game company)) (BegunCalls file round company (president_of old.events company)) old
+
+-- where a turn has led with this game, if it was not broken off
+abbrev pub led_to : Game → Result Progress RunnerFault → Result InTurn RunnerFault
+led_to game (Ok progress) = Ok (in_turn game progress)
+led_to game (Err fault) = Err fault
