@@ -9,6 +9,7 @@ pub mod Played
 pub mod Dividends
 pub mod PaidOut
 pub mod Judged
+pub mod OtherOrders
 pub mod LegalRuns
 pub mod Folding
 pub mod PhaseLemmas

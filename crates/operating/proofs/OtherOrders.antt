@@ -1,0 +1,111 @@
+-- An order that runs no train leaves what the trains of the company have done in the turn.
+use Rattle.std.proofs.Common.{◌≡◌, ℕ, Bool, true, false, if◌then◌else◌, Option, Some, None, Result, Ok, Err, ℤ, refl, ap, ◌∙◌}
+use Rattle.board.specs.declared.fault.LayFault.{LayFault}
+use Rattle.board.specs.declared.fault.TokenFault.{TokenFault}
+use Rattle.history.specs.LookBack.{Game}
+use Rattle.history.specs.declared.ruling.LayRule.{LayRule}
+use Rattle.history.specs.declared.ruling.PayRule.{PayRule}
+use Rattle.history.specs.declared.ruling.PrivateRule.{PrivateRule}
+use Rattle.history.specs.declared.ruling.TokenRule.{TokenRule}
+use Rattle.history.specs.declared.ruling.TrainRule.{TrainRule}
+use Rattle.map_tables.specs.declared.lay.Lay.{Lay}
+use Rattle.map_tables.specs.declared.place.Place.{Place}
+use Rattle.operating.specs.Act.{withheld}
+use Rattle.operating.specs.Dividend.{paid_out, pay_judgement, pay_ruled, withhold_judgement}
+use Rattle.operating.specs.InTurn.{InTurn, in_turn, is_unpaid, pay_done}
+use Rattle.operating.specs.Judgement.{rule_of_lay, rule_of_token}
+use Rattle.operating.specs.Privates.{private_judgement, private_ruled}
+use Rattle.operating.specs.Trains.{train_judgement}
+use Rattle.operating.specs.Turn.{OrderLeads, lay_answered, lay_refused, purchase_of, settled, token_answered, token_refused, train_ruled}
+use Rattle.operating.specs.declared.operator.Operator.{Operator}
+use Rattle.operating.specs.declared.purchase.Purchase.{Purchase}
+use Rattle.operating.specs.declared.runs.Runs.{Runs}
+use Rattle.order_grammar.specs.declared.order.Order.{Order}
+use Rattle.order_grammar.specs.declared.order.Order.TheVariants as order
+use Rattle.tables.specs.declared.roster.Company.{Company}
+use Rattle.tables.specs.declared.roster.Private.{Private}
+
+-- what the trains have done in a turn: whether the best has been run, and what is kept of the runs
+abbrev pub did : InTurn → Bool × Runs
+did turn = (turn.progress.best_run, turn.progress.runs)
+
+-- an order runs no train
+abbrev pub RunsNone : Order → Type 0
+RunsNone (order.Run kind run) = ⊥
+RunsNone order.RunBest = ⊥
+RunsNone other = Unit
+
+-- a LAY
+lay_refusal : (by : Operator) (turn : InTurn) (number : ℕ) (lay : Lay) (rule : Option LayRule) → did (lay_refused by turn number lay rule) ≡ did turn
+lay_refusal by turn number lay None = refl
+lay_refusal by turn number lay (Some rule) = refl
+
+after_lay :
+    (by : Operator) (turn : InTurn) (number : ℕ) (lay : Lay) (answer : Result ℤ LayFault) →
+    did (lay_answered by turn number lay answer) ≡ did turn
+after_lay by turn number lay (Ok cost) = refl
+after_lay by turn number lay (Err fault) = lay_refusal by turn number lay (rule_of_lay fault)
+
+-- a TOKEN
+token_refusal :
+    (by : Operator) (turn : InTurn) (number : ℕ) (place : Place) (rule : Option TokenRule) →
+    did (token_refused by turn number place rule) ≡ did turn
+token_refusal by turn number place None = refl
+token_refusal by turn number place (Some rule) = refl
+
+after_token :
+    (by : Operator) (turn : InTurn) (number : ℕ) (place : Place) (answer : Result ℤ TokenFault) →
+    did (token_answered by turn number place answer) ≡ did turn
+after_token by turn number place (Ok cost) = refl
+after_token by turn number place (Err fault) = token_refusal by turn number place (rule_of_token fault)
+
+-- PAY or WITHHOLD, and what a company withholds by itself
+after_pay :
+    (by : Operator) (turn : InTurn) (number : ℕ) (its : Order) (rule : Option PayRule) (after : Game → Game) →
+    did (pay_ruled by turn number its rule after) ≡ did turn
+after_pay by turn number its None after = refl
+after_pay by turn number its (Some rule) after = refl
+
+after_settling : (company : Company) (turn : InTurn) → did (settled company turn) ≡ did turn
+after_settling company turn =
+    elim (is_unpaid turn.progress) as
+    (λ (b : Bool). did (if b then in_turn (withheld turn.game company turn.progress.runs.revenue) (pay_done turn.progress) else turn) ≡ did turn) [
+      | true ↦ refl
+      | false ↦ refl
+    ]
+
+-- a TRAIN
+after_train :
+    (by : Operator) (turn : InTurn) (number : ℕ) (its : Order) (purchase : Purchase) (rule : Option TrainRule) →
+    did (train_ruled by turn number its purchase rule) ≡ did turn
+after_train by turn number its purchase None = refl
+after_train by turn number its purchase (Some rule) = refl
+
+-- the purchase of a private
+after_private :
+    (by : Operator) (turn : InTurn) (number : ℕ) (private : Private) (price : ℕ) (rule : Option PrivateRule) →
+    did (private_ruled by turn number private price rule) ≡ did turn
+after_private by turn number private price None = refl
+after_private by turn number private price (Some rule) = refl
+
+-- what an order leaves that runs no train
+pub after_other :
+    (by : Operator) (turn : InTurn) (number : ℕ) (its : Order) (new : InTurn) → RunsNone its → OrderLeads by turn number its new →
+    did new ≡ did turn
+after_other by turn number (order.Run kind run) new none leads = absurd none
+after_other by turn number order.RunBest new none leads = absurd none
+after_other by turn number (order.Lay lay) new none leads = ap did leads.after ∙ after_lay by turn number lay leads.answer
+after_other by turn number (order.Token place) new none leads = ap did leads.after ∙ after_token by turn number place leads.answer
+after_other by turn number order.Pay new none leads =
+    ap did leads ∙ after_pay by turn number order.Pay (pay_judgement turn.progress) (λ game. paid_out game by.company turn.progress.runs.revenue)
+after_other by turn number order.Withhold new none leads =
+    ap did leads ∙ after_pay by turn number order.Withhold (withhold_judgement turn.progress) (λ game. withheld game by.company turn.progress.runs.revenue)
+after_other by turn number (order.BuyTrain kind from) new none leads =
+    let paid = settled by.company turn in
+    let purchase = purchase_of kind from in
+    ap did leads
+    ∙ after_train by paid number (order.BuyTrain kind from) purchase (train_judgement paid.game by.company purchase)
+    ∙ after_settling by.company turn
+after_other by turn number (order.BuyOwnedPrivate private price) new none leads =
+    ap did leads ∙ after_private by turn number private price (private_judgement turn.game by.company private price)
+after_other by turn number other new none leads = ap did leads
