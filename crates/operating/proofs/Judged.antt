@@ -1,7 +1,8 @@
 -- What a run is that is obeyed: it breaks no rule of runs, so that it is legal, and a train may do it.
-use Rattle.std.proofs.Common.{◌≡◌, ℕ, ◌+◌, ◌*◌, ◌≤◌, Bool, List, Option, Some, None, option_map, Ok, ℤ, pos, ◌≤ℤ◌, refl, sym, subst, ap, ◌∙◌, arith}
+use Rattle.std.proofs.Common.{◌≡◌, ℕ, ◌+◌, ◌*◌, ◌≤◌, Bool, true, false, ◌||◌, List, [], ◌∷◌, Option, Some, None, option_map, Ok, ℤ, pos, ◌≤ℤ◌, refl, sym, subst, ap, ◌∙◌, arith}
 use Rattle.std.proofs.lemmas.Int.{ints}
 use Rattle.std.specs.Int.RustNames.{unsigned_abs}
+use Rattle.std.specs.Int.Signed.{le_z}
 use Rattle.std.specs.Option.{option_or}
 use mir.Syntax.{w128}
 use mir.Val.{of_z, to_z}
@@ -11,11 +12,13 @@ use Rattle.certificate.specs.Fault.{named_steps, run_fault, steps_of}
 use Rattle.certificate.specs.Law.{NameLegalRun, RunsEarnByBorders, unused}
 use Rattle.certificate.specs.Legal.{IsLegalRun, crossed, earned}
 use Rattle.certificate.specs.Marks.{borders_used, marked}
+use Rattle.history.specs.Trains.{trains_held}
 use Rattle.history.specs.declared.ruling.RunRule.{RunRule}
+use Rattle.history.specs.declared.ruling.RunRule.TheVariants as run_rule
 use Rattle.map_tables.specs.declared.place.Place.{Place}
 use Rattle.operating.specs.Done.{Done, IsBounded}
 use Rattle.operating.specs.InTurn.{InTurn}
-use Rattle.operating.specs.Runs.{IsCounted, has_run, judged_run, position_now, ran_by, ran_unless, rule_of_run, rules_of_turn, run_judgement, runs_most, steps_now}
+use Rattle.operating.specs.Runs.{IsCounted, broken_by, has_run, is_past_runs, judged_run, position_now, ran_by, ran_unless, rule, rule_of_run, rules_of_turn, run_judgement, runs_most, steps_now}
 use Rattle.operating.specs.declared.runs.Ran.{Ran}
 use Rattle.reach.specs.Lawful.{IsLawful}
 use Rattle.reach.specs.Position.{Position}
@@ -55,10 +58,43 @@ done_is : (ran done : Ran) (found : Option RunRule) → ran_unless ran found ≡
 done_is ran done None is = cc
 done_is ran done (Some rule) is = absurd (cc)
 
+-- what the run does that is done
+pub judged_ran :
+    (turn : InTurn) (company : Company) (kind : Kind) (run : List Place) (ran : Ran) → judged_run turn company kind run ≡ Ok ran →
+    ran ≡ ran_by (position_now turn.game.events) kind turn.progress.runs.borders run
+judged_ran turn company kind run ran is =
+    done_is (ran_by (position_now turn.game.events) kind turn.progress.runs.borders run) ran (run_judgement turn company kind run) is
+
 -- the borders that are marked then
-pub judged_borders : (turn : InTurn) (company : Company) (kind : Kind) (run : List Place) (ran : Ran) → judged_run turn company kind run ≡ Ok ran → ran.borders ≡ marked turn.progress.runs.borders (crossed (steps_now turn.game.events run))
-judged_borders turn company kind run ran is =
-    ap (λ (r : Ran). r.borders) (done_is (ran_by (position_now turn.game.events) kind turn.progress.runs.borders run) ran (run_judgement turn company kind run) is)
+pub judged_borders :
+    (turn : InTurn) (company : Company) (kind : Kind) (run : List Place) (ran : Ran) → judged_run turn company kind run ≡ Ok ran →
+    ran.borders ≡ marked turn.progress.runs.borders (crossed (steps_now turn.game.events run))
+judged_borders turn company kind run ran is = ap (λ (r : Ran). r.borders) (judged_ran turn company kind run ran is)
+
+-- where neither rule of the turn is broken, not all trains of the kind have run
+neither_broken :
+    (past best all : Bool) → first_broken (rule run_rule.StepUsed past ∷ rule run_rule.NoTrain (best || all) ∷ []) ≡ None → all ≡ false
+neither_broken past best false none = refl
+neither_broken true best true none = cc
+neither_broken false true true none = cc
+neither_broken false false true none = cc
+
+-- nor is the first of two there
+first_none : {A : Type 0} (first second : Option A) → option_or first second ≡ None → first ≡ None
+first_none None second none = refl
+first_none (Some thing) second none = absurd (cc)
+
+-- a run is done only where some train of its kind has not run
+pub judged_room :
+    (turn : InTurn) (company : Company) (kind : Kind) (run : List Place) (ran : Ran) → judged_run turn company kind run ≡ Ok ran →
+    le_z (trains_held turn.game.events (Some company) kind) (has_run turn.progress.runs kind) ≡ false
+judged_room turn company kind run ran is =
+    let position = position_now turn.game.events in
+    let marks = turn.progress.runs.borders in
+    let judged : run_judgement turn company kind run ≡ None = none_broken (ran_by position kind marks run) ran (run_judgement turn company kind run) is in
+    neither_broken (is_past_runs turn.progress) turn.progress.best_run
+    (le_z (trains_held turn.game.events (Some company) kind) (has_run turn.progress.runs kind))
+    (first_none (first_broken (rules_of_turn turn.game company turn.progress kind)) (broken_by position company kind marks run) judged)
 
 -- a sum that a run earns is kept whole
 sum_kept : (money : ℤ) (sum : ℕ) → money ≡ pos sum → sum ≤ 94640 → unsigned_abs (to_z w128 (of_z w128 money)) ≡ sum

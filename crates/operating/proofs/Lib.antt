@@ -48,3 +48,5 @@ pub mod ForcedGames
 pub mod Presidency
 pub mod Bankruptcies
 pub mod ForcedTrains
+pub mod NoRuns
+pub mod BestEarnings

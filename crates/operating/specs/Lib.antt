@@ -25,3 +25,4 @@ pub mod PrivateLaws
 pub mod ForcedLaws
 pub mod Calls
 pub mod TurnCalls
+pub mod BestLaws

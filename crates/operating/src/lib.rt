@@ -16,11 +16,12 @@
 //! (what a train brings), `train`, `private` (that it buys), `forced` (what it must buy), `turn`
 //! (the lines of a block), `playing`, `standing` (the lines before the first block) with `offers`,
 //! `laws` (what holds of every turn), `train_laws`, `tile_laws`, `private_laws`, `consent_laws`,
-//! `sale_laws`, `forced_laws`.
+//! `sale_laws`, `forced_laws`, `best_laws`.
 #![tactic(auto)]
 
 mod asker;
 mod best;
+mod best_laws;
 mod consent_laws;
 mod cost;
 mod discards;
@@ -51,6 +52,7 @@ mod train_laws;
 mod turn;
 mod withholding;
 
+pub use best_laws::best_earns_no_less;
 pub use consent_laws::sellers_agree;
 pub use forced_laws::{
     aid_is_what_lacks, bankruptcy_ends_turns, presidents_stay, turns_end_with_trains,

@@ -1,0 +1,154 @@
+-- Where no train has run in a turn, none is set down as run: a run is counted, and what is counted is over 0.
+use Rattle.std.proofs.Common.{◌≡◌, ℕ, zero, suc, ◌<◌, Bool, true, false, not, ◌||◌, inl, inr, List, [], ◌∷◌, Option, Some, None, Result, Ok, Err, ℤ, pos, ◌≤ℤ◌, ◌<ℤ◌, ◌+ℤ◌, length, get_or, set, refl, sym, subst, ◌∙◌, arith, get_or-set_other, length-set}
+use Rattle.std.proofs.lemmas.Bool.{cases_eq}
+use Rattle.std.proofs.lemmas.Grind.{get_or-set_at}
+use Rattle.std.proofs.lemmas.Int.{ints}
+use Rattle.std.specs.Int.Signed.{lt_z}
+use Rattle.std.specs.List.{list_any}
+use Rattle.history.specs.LookBack.{Game}
+use Rattle.history.specs.declared.ruling.RunRule.{RunRule}
+use Rattle.history.specs.declared.ruling.RunRule.TheVariants as run_rule
+use Rattle.operating.proofs.ForcedBuying.{less_is}
+use Rattle.operating.proofs.OtherOrders.{after_other}
+use Rattle.operating.specs.Best.{BestRuled, best_judgement}
+use Rattle.operating.specs.Forced.{has_trains}
+use Rattle.operating.specs.InTurn.{InTurn, no_runs}
+use Rattle.operating.specs.Runs.{has_any_run, has_run, is_past_runs, judged_run, rule, run_ruled, with_ran}
+use Rattle.operating.specs.Turn.{LinesLead, OrderLeads, ReadingLeads, begun}
+use Rattle.operating.specs.declared.operator.Operator.{Operator}
+use Rattle.operating.specs.declared.runs.Ran.{Ran}
+use Rattle.operating.specs.declared.runs.Runs.{Runs}
+use Rattle.order_grammar.specs.declared.fault.Fault.{Fault}
+use Rattle.order_grammar.specs.declared.order.Order.{Order}
+use Rattle.order_grammar.specs.declared.order.Order.TheVariants as order
+use Rattle.sheets.specs.Part.{Numbered}
+use Rattle.tables.specs.Rules.{first_broken}
+use Rattle.tables.specs.Train.{place_of_kind}
+use Rattle.tables.specs.declared.rolling_stock.Kind.{Kind}
+use Rattle.tables.specs.declared.rolling_stock.Kind.TheVariants.{Two, Three, Four, Five, Six, Diesel}
+
+-- each kind has a place
+pub kind_low : (kind : Kind) → place_of_kind kind < 6
+kind_low kind = grind arith
+
+-- a count is over 0
+abbrev is_some_run : ℤ → Bool
+is_some_run count = lt_z (pos 0) count
+
+-- one of some counts is over 0 once one is set so
+any_set : (counts : List ℤ) (at : ℕ) (count : ℤ) → at < length counts → pos 0 <ℤ count → list_any is_some_run (set counts at count) ≡ true
+any_set [] at count low over = absurd (omega arith)
+any_set (first ∷ counts) zero count low over = rw (less_is (pos 0) count over) refl
+any_set (first ∷ counts) (suc at) count low over = second (is_some_run first) _ (any_set counts at count (omega arith) over)
+  where
+    second : (a b : Bool) → b ≡ true → (a || b) ≡ true
+    second true b is = refl
+    second false b is = is
+
+-- none is under 0 once one is set that is not
+least_set :
+    (counts : List ℤ) (at other : ℕ) (count : ℤ) → at < length counts → pos 0 ≤ℤ count → pos 0 ≤ℤ get_or counts other (pos 0) →
+    pos 0 ≤ℤ get_or (set counts at count) other (pos 0)
+least_set counts at other count low least rest =
+    elim (cases_eq other at) [
+      | inl same ↦ subst (λ (n : ℤ). pos 0 ≤ℤ n) (sym (get_or-set_at counts at other count (pos 0) same low)) least
+      | inr differs ↦ subst (λ (n : ℤ). pos 0 ≤ℤ n) (sym (get_or-set_other counts at other count (pos 0) differs)) rest
+    ]
+
+-- some train has run, by what is kept of the runs
+abbrev some_ran : Bool → Runs → Bool
+some_ran best runs = best || list_any is_some_run runs.trains
+
+-- what is kept of the runs in a turn in which the best has been run or not: a count for each kind, none under 0, and
+-- nothing where no train has run
+pub record AreKept (best : Bool) (runs : Runs) : Type 0 where
+  pub for_each : length runs.trains ≡ 6
+  pub least : (kind : Kind) → pos 0 ≤ℤ has_run runs kind
+  pub none : some_ran best runs ≡ false → runs ≡ no_runs
+
+-- so it is in a turn
+abbrev IsKeptIn : InTurn → Type 0
+IsKeptIn turn = AreKept turn.progress.best_run turn.progress.runs
+
+-- a test or one that holds
+or_holds : (a b : Bool) → b ≡ true → (a || b) ≡ false → ⊥
+or_holds true b is none = cc
+or_holds false b is none = cc
+
+-- once a train has run
+with_run : (best : Bool) (runs : Runs) (ran : Ran) → AreKept best runs → AreKept best (with_ran runs ran)
+with_run best runs ran are =
+    let at : ℕ = place_of_kind ran.kind in
+    let count : ℤ = has_run runs ran.kind +ℤ pos 1 in
+    let before : pos 0 ≤ℤ has_run runs ran.kind = are.least ran.kind in
+    let low : at < length runs.trains = omega (arith, kind_low ran.kind, are.for_each) in
+    record {
+      for_each = length-set runs.trains at count ∙ are.for_each;
+      least = λ kind. least_set runs.trains at (place_of_kind kind) count low (omega (arith, ints, before)) (are.least kind);
+      none = λ none.
+          absurd (or_holds best (list_any is_some_run (set runs.trains at count)) (any_set runs.trains at count low (omega (arith, ints, before))) none);
+    }
+
+-- once the best has been run
+with_best : (best : Bool) (runs : Runs) (revenue : ℕ) → AreKept best runs → AreKept true (record runs { revenue = revenue })
+with_best best runs revenue are = record { for_each = are.for_each; least = are.least; none = λ none. cc }
+
+-- after a RUN
+after_run :
+    (by : Operator) (turn : InTurn) (number : ℕ) (its : Order) (judged : Result Ran RunRule) → IsKeptIn turn → IsKeptIn (run_ruled by turn number its judged)
+after_run by turn number its (Err rule) are = are
+after_run by turn number its (Ok ran) are = with_run turn.progress.best_run turn.progress.runs ran are
+
+-- after a RUN BEST
+after_best :
+    (by : Operator) (turn : InTurn) (number : ℕ) (rule : Option RunRule) (new : InTurn) → BestRuled by turn number rule new → IsKeptIn turn → IsKeptIn new
+after_best by turn number (Some rule) new leads are = subst IsKeptIn (sym leads) are
+after_best by turn number None new leads are =
+    subst IsKeptIn (sym leads.2) (with_best turn.progress.best_run turn.progress.runs leads.0 are)
+
+-- after an order
+after_order : (by : Operator) (turn : InTurn) (number : ℕ) (its : Order) (new : InTurn) → OrderLeads by turn number its new →
+    IsKeptIn turn → IsKeptIn new
+after_order by turn number (order.Run kind run) new leads are =
+    subst IsKeptIn (sym leads) (after_run by turn number (order.Run kind run) (judged_run turn by.company kind run) are)
+after_order by turn number order.RunBest new leads are = after_best by turn number (best_judgement turn by.company) new leads are
+after_order by turn number other new leads are =
+    subst (λ (done : Bool × Runs). AreKept done.0 done.1) (sym (after_other by turn number other new tt leads)) are
+
+-- after a line
+after_line : (by : Operator) (turn : InTurn) (number : ℕ) (reading : Result Order Fault) (new : InTurn) → ReadingLeads by turn number reading new →
+    IsKeptIn turn → IsKeptIn new
+after_line by turn number (Err fault) new leads are = subst IsKeptIn (sym leads) are
+after_line by turn number (Ok its) new leads are = after_order by turn number its new leads are
+
+-- after some lines
+after_lines : (by : Operator) (turn : InTurn) (lines : List Numbered) (new : InTurn) → LinesLead by turn lines new → IsKeptIn turn → IsKeptIn new
+after_lines by turn [] new leads are = subst IsKeptIn (sym leads) are
+after_lines by turn (line ∷ lines) new leads are =
+    after_lines by leads.0 lines new leads.2 (after_line by turn line.number line.reading leads.0 leads.1 are)
+
+-- at first no train has run
+pub none_counted : (kind : Kind) → has_run no_runs kind ≡ pos 0
+none_counted Two = refl
+none_counted Three = refl
+none_counted Four = refl
+none_counted Five = refl
+none_counted Six = refl
+none_counted Diesel = refl
+
+none_kept : AreKept false no_runs
+none_kept = record { for_each = refl; least = λ kind. omega (arith, ints, none_counted kind); none = λ none. refl }
+
+-- a RUN BEST that breaks no rule finds that no train has run
+none_ran : (past held ran : Bool) → first_broken (rule run_rule.StepUsed past ∷ rule run_rule.NoTrain (not held || ran) ∷ []) ≡ None → ran ≡ false
+none_ran past held false none = refl
+none_ran true held true none = cc
+none_ran false true true none = cc
+none_ran false false true none = cc
+
+-- so nothing is set down where it is obeyed
+pub nothing_ran : (by : Operator) (game : Game) (lines : List Numbered) (turn : InTurn) → LinesLead by (begun game by.company) lines turn →
+    best_judgement turn by.company ≡ None → turn.progress.runs ≡ no_runs
+nothing_ran by game lines turn leads none =
+    (after_lines by (begun game by.company) lines turn leads none_kept).none
+    (none_ran (is_past_runs turn.progress) (has_trains turn.game.events by.company) (has_any_run turn.progress) none)
