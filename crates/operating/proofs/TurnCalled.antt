@@ -6,7 +6,7 @@ use Rattle.history.specs.LookBack.{Game}
 use Rattle.history.specs.Shares.{president_of}
 use Rattle.operating.proofs.Calls.{broken_off, joined, silent}
 use Rattle.operating.specs.Act.{with_home}
-use Rattle.operating.specs.Calls.{Makes, Unasked}
+use Rattle.operating.specs.Calls.{Earns, Makes, Unasked}
 use Rattle.operating.specs.InTurn.{InTurn, at_start, in_turn}
 use Rattle.operating.specs.Turn.{BlockEnds, begun, settled}
 use Rattle.operating.specs.TurnCalls.{BegunCalls, BlockCalls, EndCalls, LineCalls, LinesCall, TurnCalls}
@@ -19,27 +19,43 @@ use Rattle.tables.specs.declared.roster.Company.{Company}
 use Rattle.tables.specs.declared.round.Round.{Round}
 use Rattle.tables.specs.declared.seat.Seat.{Seat}
 
-module _ {Runner : Type 0} (earns : Runner → Position → Round → Company → List Kind → Result ℤ RunnerFault → Runner → Type 0) where
+module _ {Runner : Type 0} (earns : Earns Runner) where
   -- where no line is left, no call is made
-  pub no_line_calls : (by : Operator) (round : Round) (lines : List Numbered) (turn : InTurn) (runner : Runner) → lines ≡ [] → Makes earns runner (LinesCall by round lines turn (Ok turn)) runner
+  pub no_line_calls :
+      (by : Operator) (round : Round) (lines : List Numbered) (turn : InTurn) (runner : Runner) → lines ≡ [] →
+      Makes earns runner (LinesCall by round lines turn (Ok turn)) runner
   no_line_calls by round lines turn runner none =
       subst (λ (all : List Numbered). Makes earns runner (LinesCall by round all turn (Ok turn)) runner) (sym none)
       (silent earns Memory (λ (old new : InTurn). new ≡ old) turn turn runner runner refl refl)
 
   -- a line led on, and those after it
-  pub line_calls_on : (by : Operator) (round : Round) (all : List Numbered) (line : Numbered) (lines : List Numbered) (turn next : InTurn) (outcome : Result InTurn RunnerFault) (before between after : Runner) → all ≡ line ∷ lines → Makes earns before (LineCalls by round line turn (Ok next)) between → Makes earns between (LinesCall by round lines next outcome) after → Makes earns before (LinesCall by round all turn outcome) after
+  pub line_calls_on :
+      (by : Operator) (round : Round) (all : List Numbered) (line : Numbered) (lines : List Numbered) (turn next : InTurn)
+      (outcome : Result InTurn RunnerFault) (before between after : Runner) →
+      all ≡ line ∷ lines → Makes earns before (LineCalls by round line turn (Ok next)) between →
+      Makes earns between (LinesCall by round lines next outcome) after → Makes earns before (LinesCall by round all turn outcome) after
   line_calls_on by round all line lines turn next outcome before between after are one others =
       subst (λ (these : List Numbered). Makes earns before (LinesCall by round these turn outcome) after) (sym are)
       (joined earns (LineCalls by round line) (LinesCall by round lines) turn next outcome before between after one others)
 
   -- a line was broken off
-  pub line_calls_end : (by : Operator) (round : Round) (all : List Numbered) (line : Numbered) (lines : List Numbered) (turn : InTurn) (fault : RunnerFault) (before after : Runner) → all ≡ line ∷ lines → Makes earns before (LineCalls by round line turn (Err fault)) after → Makes earns before (LinesCall by round all turn (Err fault)) after
+  pub line_calls_end :
+      (by : Operator) (round : Round) (all : List Numbered) (line : Numbered) (lines : List Numbered) (turn : InTurn) (fault : RunnerFault)
+      (before after : Runner) →
+      all ≡ line ∷ lines → Makes earns before (LineCalls by round line turn (Err fault)) after →
+      Makes earns before (LinesCall by round all turn (Err fault)) after
   line_calls_end by round all line lines turn fault before after are one =
       subst (λ (these : List Numbered). Makes earns before (LinesCall by round these turn (Err fault)) after) (sym are)
       (broken_off earns (LineCalls by round line) (LinesCall by round lines) turn fault before after one)
 
   -- the home token, the block and the end make the calls of the turn
-  pub turn_calls : (file : List ℕ) (round : Round) (company : Company) (old placed ruled : Game) (progress : Progress) (president : Option Seat) (outcome : Result Game RunnerFault) (before after : Runner) → president ≡ president_of old.events company → placed ≡ with_home old company → Makes earns before (BlockCalls file round company president (in_turn placed at_start) (Ok (in_turn ruled progress))) after → Makes earns after (EndCalls file round company president (in_turn ruled progress) outcome) after → Makes earns before (TurnCalls file round company old outcome) after
+  pub turn_calls :
+      (file : List ℕ) (round : Round) (company : Company) (old placed ruled : Game) (progress : Progress) (president : Option Seat)
+      (outcome : Result Game RunnerFault) (before after : Runner) →
+      president ≡ president_of old.events company → placed ≡ with_home old company →
+      Makes earns before (BlockCalls file round company president (in_turn placed at_start) (Ok (in_turn ruled progress))) after →
+      Makes earns after (EndCalls file round company president (in_turn ruled progress) outcome) after →
+      Makes earns before (TurnCalls file round company old outcome) after
   turn_calls file round company old placed ruled progress president outcome before after is_president is_placed block end =
       let is_begun : in_turn placed at_start ≡ begun old company = λ i. in_turn (is_placed i) at_start in
       let rest : Makes earns before (BegunCalls file round company president (in_turn placed at_start) outcome) after =
@@ -50,7 +66,10 @@ module _ {Runner : Type 0} (earns : Runner → Position → Round → Company �
       (subst (λ (seat : Option Seat). Makes earns before (BegunCalls file round company seat (in_turn placed at_start) outcome) after) is_president rest)
 
   -- what ends a turn makes no call
-  pub end_calls : (file : List ℕ) (round : Round) (company : Company) (ruled paid new : Game) (progress last : Progress) (president : Option Seat) (runner : Runner) → in_turn paid last ≡ settled company (in_turn ruled progress) → BlockEnds file round company paid president new → Makes earns runner (EndCalls file round company president (in_turn ruled progress) (Ok new)) runner
+  pub end_calls :
+      (file : List ℕ) (round : Round) (company : Company) (ruled paid new : Game) (progress last : Progress) (president : Option Seat) (runner : Runner) →
+      in_turn paid last ≡ settled company (in_turn ruled progress) → BlockEnds file round company paid president new →
+      Makes earns runner (EndCalls file round company president (in_turn ruled progress) (Ok new)) runner
   end_calls file round company ruled paid new progress last president runner is_settled ends =
       silent earns Memory (λ (from : InTurn) (to : Game). BlockEnds file round company (settled company from).game president to) (in_turn ruled progress) new runner runner
       (subst (λ (turn : InTurn). BlockEnds file round company turn.game president new) is_settled ends) refl

@@ -16,29 +16,36 @@ pub record Call : Type 0 where
   pub trains : List Kind
   pub answer : Result ℤ RunnerFault
 
--- by what a runner makes of each call, calls in this order make the one before them the one after them
-module _ {Runner : Type 0} (earns : Runner → Position → Round → Company → List Kind → Result ℤ RunnerFault → Runner → Type 0) where
-  abbrev pub AreMade : Runner → List Call → Runner → Type 0
-  AreMade before [] after = after ≡ before
-  AreMade before (call ∷ calls) after =
-      (between : Runner) × earns before call.position call.round call.company call.trains call.answer between × AreMade between calls after
+-- what a runner makes of a call: its value before, what it was asked, its answer, and its value after
+abbrev pub Earns : Type 0 → Type 1
+Earns Runner = Runner → Position → Round → Company → List Kind → Result ℤ RunnerFault → Runner → Type 0
 
-  -- some calls do, of which this holds
-  abbrev pub Makes : Runner → (List Call → Type 0) → Runner → Type 0
-  Makes before Are after = (calls : List Call) × Are calls × AreMade before calls after
+-- calls in this order make the runner before them the one after them
+abbrev pub AreMade : {Runner : Type 0} → Earns Runner → Runner → List Call → Runner → Type 0
+AreMade earns before [] after = after ≡ before
+AreMade {Runner = Runner} earns before (call ∷ calls) after =
+    (between : Runner) × earns before call.position call.round call.company call.trains call.answer between × AreMade earns between calls after
+
+-- some calls do, of which this holds
+abbrev pub Makes : {Runner : Type 0} → Earns Runner → Runner → (List Call → Type 0) → Runner → Type 0
+Makes earns before Are after = (calls : List Call) × Are calls × AreMade earns before calls after
+
+-- a course of play from A to B, or to a fault
+abbrev pub Course : Type 0 → Type 0 → Type 0 → Type 1
+Course A B Fault = A → Result B Fault → List Call → Type 0
 
 -- a course that makes no call: it leads so, or memory is refused
-abbrev pub Unasked : {A B F : Type 0} → F → (A → B → Type 0) → A → Result B F → List Call → Type 0
+abbrev pub Unasked : {A B Fault : Type 0} → Fault → (A → B → Type 0) → Course A B Fault
 Unasked memory leads from (Ok to) calls = leads from to × (calls ≡ [])
 Unasked memory leads from (Err fault) calls = (fault ≡ memory) × (calls ≡ [])
 
 -- a course is broken off
-abbrev pub Breaks : {A B C F : Type 0} → (A → Result B F → List Call → Type 0) → A → Result C F → List Call → Type 0
+abbrev pub Breaks : {A B C Fault : Type 0} → Course A B Fault → Course A C Fault
 Breaks course from (Ok to) calls = ⊥
 Breaks course from (Err fault) calls = course from (Err fault) calls
 
 -- a course leads to where another begins
-pub record Joins {A B C F : Type 0} (first : A → Result B F → List Call → Type 0) (second : B → Result C F → List Call → Type 0) (from : A) (outcome : Result C F) (calls : List Call) : Type 0 where
+pub record Joins {A B C Fault : Type 0} (first : Course A B Fault) (second : Course B C Fault) (from : A) (outcome : Result C Fault) (calls : List Call) : Type 0 where
   pub between : B
   pub earlier : List Call
   pub later : List Call
@@ -47,19 +54,20 @@ pub record Joins {A B C F : Type 0} (first : A → Result B F → List Call → 
   pub all : calls ≡ earlier ++ later
 
 -- one course after another
-abbrev pub Then : {A B C F : Type 0} → (A → Result B F → List Call → Type 0) → (B → Result C F → List Call → Type 0) → A → Result C F → List Call → Type 0
+abbrev pub Then : {A B C Fault : Type 0} → Course A B Fault → Course B C Fault → Course A C Fault
 Then first second from outcome calls = Breaks first from outcome calls ⊎ Joins first second from outcome calls
 
 -- a course so many times, and then another
-abbrev pub TimesThen : {A B F : Type 0} → ℕ → (A → Result A F → List Call → Type 0) → (A → Result B F → List Call → Type 0) → A → Result B F → List Call → Type 0
+abbrev pub TimesThen : {A B Fault : Type 0} → ℕ → Course A A Fault → Course A B Fault → Course A B Fault
 TimesThen zero course last = last
 TimesThen (suc times) course last = Then course (TimesThen times course last)
 
 -- a course some times, and then another
-abbrev pub SomeTimesThen : {A B F : Type 0} → (A → Result A F → List Call → Type 0) → (A → Result B F → List Call → Type 0) → A → Result B F → List Call → Type 0
+abbrev pub SomeTimesThen : {A B Fault : Type 0} → Course A A Fault → Course A B Fault → Course A B Fault
 SomeTimesThen course last from outcome calls = (times : ℕ) × TimesThen times course last from outcome calls
 
 -- a course whose faults bear another name
-abbrev pub Named : {A B F G : Type 0} → (F → G) → (A → Result B F → List Call → Type 0) → A → Result B G → List Call → Type 0
+abbrev pub Named : {A B Fault Other : Type 0} → (Fault → Other) → Course A B Fault → Course A B Other
 Named name course from (Ok to) calls = course from (Ok to) calls
-Named {F = F} name course from (Err named) calls = (fault : F) × (named ≡ name fault) × course from (Err fault) calls
+Named {Fault = Fault} name course from (Err named) calls =
+    (fault : Fault) × (named ≡ name fault) × course from (Err fault) calls

@@ -11,7 +11,7 @@ use Rattle.history.specs.declared.event.Event.{Event}
 use Rattle.history.specs.declared.ruling.Ruling.TheVariants.{Faulty}
 use Rattle.history.specs.declared.ruling.RunRule.{RunRule}
 use Rattle.operating.specs.Best.{BestRuled, best_earned, best_judgement, trains_now}
-use Rattle.operating.specs.Calls.{Call, Then, Unasked}
+use Rattle.operating.specs.Calls.{Call, Course, Then, Unasked}
 use Rattle.operating.specs.InTurn.{InTurn, in_turn, told}
 use Rattle.operating.specs.Runs.{position_now}
 use Rattle.operating.specs.Turn.{BlockEnds, OrderLeads, begun, settled}
@@ -38,7 +38,7 @@ asked company round events answer =
     }
 
 -- the runner is asked for the best runs of a company, and tells a revenue or why it does not; or memory is refused before
-abbrev pub Asks : Company → Round → List Event → Result ℕ RunnerFault → List Call → Type 0
+abbrev pub Asks : Company → Round → Course (List Event) ℕ RunnerFault
 Asks company round events (Ok revenue) calls = calls ≡ asked company round events (Ok (pos revenue)) ∷ []
 Asks company round events (Err fault) calls =
     (calls ≡ asked company round events (Err fault) ∷ []) ⊎ ((fault ≡ Memory) × (calls ≡ []))
@@ -49,50 +49,50 @@ pub record IsCredited (by : Operator) (turn : InTurn) (number revenue : ℕ) (ne
   pub after : new ≡ best_earned by turn number revenue
 
 -- the course of a RUN BEST with this number, where this rule refuses it, if one does
-abbrev pub BestCalls : Operator → Round → ℕ → Option RunRule → InTurn → Result InTurn RunnerFault → List Call → Type 0
+abbrev pub BestCalls : Operator → Round → ℕ → Option RunRule → Course InTurn InTurn RunnerFault
 BestCalls by round number (Some rule) turn =
     Unasked Memory (λ old new. BestRuled by old number (Some rule) new) turn
 BestCalls by round number None turn =
     Then (Asks by.company round) (Unasked Memory (IsCredited by turn number)) turn.game.events
 
 -- that of an order with this number
-abbrev pub OrderCalls : Operator → Round → ℕ → Order → InTurn → Result InTurn RunnerFault → List Call → Type 0
+abbrev pub OrderCalls : Operator → Round → ℕ → Order → Course InTurn InTurn RunnerFault
 OrderCalls by round number its turn outcome calls =
     ((its ≡ order.RunBest) × BestCalls by round number (best_judgement turn by.company) turn outcome calls)
     ⊎ ((its ≢ order.RunBest) × Unasked Memory (λ old new. OrderLeads by old number its new) turn outcome calls)
 
 -- that of a line with this number and this reading
-abbrev pub ReadingCalls : Operator → Round → ℕ → Result Order Fault → InTurn → Result InTurn RunnerFault → List Call → Type 0
+abbrev pub ReadingCalls : Operator → Round → ℕ → Result Order Fault → Course InTurn InTurn RunnerFault
 ReadingCalls by round number (Ok order) = OrderCalls by round number order
 ReadingCalls by round number (Err fault) = Unasked Memory (λ turn new. new ≡ told by turn number (Faulty fault))
 
 -- that of a line
-abbrev pub LineCalls : Operator → Round → Numbered → InTurn → Result InTurn RunnerFault → List Call → Type 0
+abbrev pub LineCalls : Operator → Round → Numbered → Course InTurn InTurn RunnerFault
 LineCalls by round line = ReadingCalls by round line.number line.reading
 
 -- that of lines, one after another
-abbrev pub LinesCall : Operator → Round → List Numbered → InTurn → Result InTurn RunnerFault → List Call → Type 0
+abbrev pub LinesCall : Operator → Round → List Numbered → Course InTurn InTurn RunnerFault
 LinesCall by round [] = Unasked Memory (λ turn new. new ≡ turn)
 LinesCall by round (line ∷ lines) = Then (LineCalls by round line) (LinesCall by round lines)
 
 -- that of the block for a company in the sheet of its president; without a president there is none
-abbrev pub BlockCalls : List ℕ → Round → Company → Option Seat → InTurn → Result InTurn RunnerFault → List Call → Type 0
+abbrev pub BlockCalls : List ℕ → Round → Company → Option Seat → Course InTurn InTurn RunnerFault
 BlockCalls file round company None = Unasked Memory (λ turn new. new ≡ turn)
 BlockCalls file round company (Some seat) =
     LinesCall (record { company = company; president = seat }) round (block_for file round seat.0 company)
 
 -- that of what follows the block in the turn of a company
-abbrev pub EndCalls : List ℕ → Round → Company → Option Seat → InTurn → Result Game RunnerFault → List Call → Type 0
+abbrev pub EndCalls : List ℕ → Round → Company → Option Seat → Course InTurn Game RunnerFault
 EndCalls file round company president =
     Unasked Memory (λ last new. BlockEnds file round company (settled company last).game president new)
 
 -- that of a turn once its home token lies
-abbrev pub BegunCalls : List ℕ → Round → Company → Option Seat → InTurn → Result Game RunnerFault → List Call → Type 0
+abbrev pub BegunCalls : List ℕ → Round → Company → Option Seat → Course InTurn Game RunnerFault
 BegunCalls file round company president =
     Then (BlockCalls file round company president) (EndCalls file round company president)
 
 -- the course of the turn of a company in a round with the sheets of the file
-abbrev pub TurnCalls : List ℕ → Round → Company → Game → Result Game RunnerFault → List Call → Type 0
+abbrev pub TurnCalls : List ℕ → Round → Company → Course Game Game RunnerFault
 TurnCalls file round company old =
     Then (Unasked Memory (λ game turn. turn ≡ begun game company)) (BegunCalls file round company (president_of old.events company)) old
 

@@ -17,6 +17,7 @@ mod GoingOn
 mod Idle
 mod CompanyTurns
 mod WholeOperatingRound
+mod Called
 mod InSet
 mod InOrder
 mod Sets

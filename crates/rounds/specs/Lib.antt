@@ -12,3 +12,4 @@ pub mod Trains
 pub mod Tiles
 pub mod Privates
 pub mod Ends
+pub mod GameCalls

@@ -1,7 +1,9 @@
 ghost use Rattle.std.specs.Prelude.{◌≡◌, ◌≤◌, IfErr, IfOk, MatchOption, false, length, true};
 ghost use Rattle.history.specs.Sound.{IsSound};
+ghost use Rattle.operating.specs.Calls.{Makes};
 ghost use Rattle.rounds.specs.declared.fault.PlayFault.TheVariants.{Memory};
 ghost use Rattle.rounds.specs.Faults.{IsRefused};
+ghost use Rattle.rounds.specs.GameCalls.{GameCalls, PlayedCalls};
 ghost use Rattle.rounds.specs.Gifts.{GiftsWait};
 ghost use Rattle.rounds.specs.Play.{IsPlayed, IsTheGame, IsToPlay, all_posted, coming as what_comes, end_of, goes_on, in_set_before as set_before, rounds_of_new_set};
 ghost use Rattle.rounds.specs.Sequence.{turn_in_set};
@@ -111,6 +113,7 @@ pub fn play_with<'a, R: Runner>(
 ) -> Result<Game<'a>, PlayFault>
     ensures file { IfOk result (λ game. game.file ≡ sheets.now) }
     ensures game { IfOk result IsTheGame }
+    ensures calls { Makes R.earns runner.old (GameCalls sheets.now result) runner.new }
     ensures sound { IfOk result (λ game. IsSound game.game) }
     ensures refuses { IfErr result (λ fault. IsRefused fault → R.may_refuse ≡ true) }
 {
@@ -182,6 +185,8 @@ fn play_round<R: Runner>(
     requires seats { history.seats ≡ length (players_of sheets.now) }
     requires gifts { GiftsWait round history.events }
     ensures round { IfOk result (IsPlayed sheets.now round history) }
+    ensures calls { Makes R.earns runner.old (PlayedCalls sheets.now round history result)
+        runner.new }
     ensures seats { IfOk result (λ new. new.seats ≡ history.seats) }
     ensures sound { IfOk result IsSound }
     ensures gifts { IfOk result (λ new. GiftsWait round new.events) }

@@ -4,8 +4,10 @@ ghost use Rattle.history.specs.Shares.{is_floated};
 ghost use Rattle.history.specs.Sound.{IsSound};
 ghost use Rattle.history.specs.Tell.{with_left};
 ghost use Rattle.history.specs.declared.event.Event.TheVariants as event;
+ghost use Rattle.operating.specs.Calls.{Makes};
 ghost use Rattle.operating.specs.Turn.{IsCompanyTurn};
 ghost use Rattle.rounds.specs.Faults.{IsRefused};
+ghost use Rattle.rounds.specs.GameCalls.{CompanyCalls, OperatingCalls, TurnsCall};
 ghost use Rattle.rounds.specs.OperatingRound.{IsOperatingRound, TurnsLead, finished, first_idle as first_to_operate, lines_left, next_company as company_to_operate};
 ghost use Rattle.sheets.specs.File.{players_of};
 
@@ -32,6 +34,8 @@ pub(crate) fn play_operating<R: Runner>(
     requires sound { IsSound history }
     requires seats { history.seats ≡ length (players_of sheets.now) }
     ensures round { IfOk result (λ new. IsOperatingRound sheets.now round history new) }
+    ensures calls { Makes R.earns runner.old (OperatingCalls sheets.now round history result)
+        runner.new }
     ensures seats { IfOk result (λ new. new.seats ≡ history.seats) }
     ensures sound { IfOk result IsSound }
     ensures refuses { IfErr result (λ fault. IsRefused fault → R.may_refuse ≡ true) }
@@ -67,6 +71,8 @@ fn take_turns<R: Runner>(
     requires sound { IsSound history }
     requires seats { history.seats ≡ length (players_of sheets.now) }
     ensures turns { IfOk result (λ turned. TurnsLead sheets.now round history turned) }
+    ensures calls { Makes R.earns runner.old (TurnsCall sheets.now round history result)
+        runner.new }
     ensures seats { IfOk result (λ turned. turned.seats ≡ history.seats) }
     ensures sound { IfOk result IsSound }
     ensures refuses { IfErr result (λ fault. IsRefused fault → R.may_refuse ≡ true) }
@@ -94,6 +100,8 @@ fn take_turn<R: Runner>(
     requires sound { IsSound history }
     requires seats { history.seats ≡ length (players_of sheets.now) }
     ensures turn { IfOk result (IsCompanyTurn sheets.now round company history) }
+    ensures calls { Makes R.earns runner.old (CompanyCalls sheets.now round company history result)
+        runner.new }
     ensures seats { IfOk result (λ new. new.seats ≡ history.seats) }
     ensures sound { IfOk result IsSound }
     ensures refuses { IfErr result (λ fault. IsRefused fault → R.may_refuse ≡ true) }

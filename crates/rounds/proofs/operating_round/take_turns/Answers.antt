@@ -1,8 +1,16 @@
-use Rattle.std.proofs.Common.{◌≡◌, Bool, true, false, ◌&&◌, [], ◌∷◌, ◌++◌, refl, is_some, sym, ◌∙◌}
+use Rattle.std.proofs.Common.{◌≡◌, Bool, true, false, ◌&&◌, [], ◌∷◌, ◌++◌, Result, Ok, Err, refl, is_some, sym, ap, subst, ◌∙◌}
+use Rattle.std.proofs.lemmas.Result.{err_from_is_err_and}
+use Rattle.history.specs.LookBack.{Game}
 use Rattle.history.specs.Shares.{is_floated, square_of}
+use Rattle.operating.proofs.Calls.{no_more, none_after, once_more, silent}
+use Rattle.operating.specs.Calls.{Makes, Unasked}
+use Rattle.rounds.proofs.Called.{next_turn}
 use Rattle.rounds.proofs.Idle.{next_is_idle}
 use Rattle.rounds.proofs.CompanyTurns.{one_more_turn, turn_leaves_fewer}
+use Rattle.rounds.specs.GameCalls.{AreOver, NextCalls, TurnsCall}
 use Rattle.rounds.specs.OperatingRound.{TakesTurn}
+use Rattle.rounds.specs.declared.fault.PlayFault.{PlayFault}
+use Rattle.rounds.specs.declared.fault.PlayFault.TheVariants.{Memory}
 use Rattle.rounds.proofs.operating_round.take_turns.Goals as goal
 
 -- the first of two tests
@@ -25,6 +33,11 @@ loop-company-preserved g c =
     record {
       companies = c.loop-company.invariant.companies ++ c.in-Some.company ∷ [];
       turns = one_more_turn c.args.sheets.now c.args.round c.loop-company.invariant.companies c.in-Some.company c.args.history c.loop-company.history c.in_ok-history.history c.loop-company.invariant.turns taken;
+      calls =
+          λ outcome after made.
+          c.loop-company.invariant.calls outcome after
+          (once_more g.R.Runner.earns (NextCalls c.args.sheets.now c.args.round) (Unasked Memory AreOver) c.loop-company.history c.in_ok-history.history outcome _ _ after
+          (next_turn g.R.Runner.earns c.args.sheets.now c.args.round c.in-Some.company c.loop-company.history (Ok c.in_ok-history.history) _ _ (sym c.next_company.ensures ∙ c.in-Some.is) c.in_ok-history.ensures.calls) made);
       seats = c.in_ok-history.ensures.seats ∙ c.loop-company.invariant.seats;
       sound = c.in_ok-history.ensures.sound;
     }
@@ -41,3 +54,18 @@ returns-clause-turns g c =
       turns = c.loop-company.invariant.turns;
       over_then = sym c.next_company.ensures ∙ c.in_default.is;
     }
+
+pub returns-in_err-history-clause-calls : goal.returns-in_err-history-clause-calls
+returns-in_err-history-clause-calls g c =
+    let told = err_from_is_err_and c.from_residual.result c.from_residual.ensures.1 in
+    let is : c.from_residual.result ≡ Err c.in_err-history.field-0.0 = told.1 ∙ ap Err told.2 in
+    subst (λ (met : Result Game PlayFault). Makes g.R.Runner.earns c.args.runner.now (TurnsCall c.args.sheets.now c.args.round c.args.history met) c.take_turn.new.runner) (sym is)
+    (c.loop-company.invariant.calls (Err c.in_err-history.field-0.0) _
+    (none_after g.R.Runner.earns (NextCalls c.args.sheets.now c.args.round) (Unasked Memory AreOver) c.loop-company.history c.in_err-history.field-0.0 _ _
+    (next_turn g.R.Runner.earns c.args.sheets.now c.args.round c.in-Some.company c.loop-company.history (Err c.in_err-history.field-0.0) _ _ (sym c.next_company.ensures ∙ c.in-Some.is) c.in_err-history.ensures.calls)))
+
+pub returns-clause-calls : goal.returns-clause-calls
+returns-clause-calls g c =
+    c.loop-company.invariant.calls (Ok c.loop-company.history) _
+    (no_more g.R.Runner.earns (NextCalls c.args.sheets.now c.args.round) (Unasked Memory AreOver) c.loop-company.history (Ok c.loop-company.history) _ _
+    (silent g.R.Runner.earns Memory AreOver c.loop-company.history c.loop-company.history _ _ (record { none = sym c.next_company.ensures ∙ c.in_default.is; stays = refl }) refl))

@@ -1,0 +1,74 @@
+-- The calls that play makes of a runner, over the one game of a file: those of the turns of companies, in order. The
+-- other steps of a round ask nothing of it. Once a call is not answered, or memory is refused, play is broken off.
+use Rattle.std.specs.Prelude.{◌≡◌, ℕ, false, List, Option, Some, None, Result}
+use Rattle.history.specs.LookBack.{Game}
+use Rattle.operating.specs.Calls.{Call, Course, Named, SomeTimesThen, Then, Unasked}
+use Rattle.operating.specs.TurnCalls.{TurnCalls}
+use Rattle.rounds.specs.Faults.{fault_in_turn}
+use Rattle.rounds.specs.OperatingRound.{finished, next_company, opened}
+use Rattle.rounds.specs.Play.{Between, IsPlayed, IsToPlay, Played, before_play, coming, end_of, goes_on, in_set_before}
+use Rattle.rounds.specs.declared.fault.PlayFault.{PlayFault}
+use Rattle.rounds.specs.declared.fault.PlayFault.TheVariants.{Memory}
+use Rattle.tables.specs.declared.roster.Company.{Company}
+use Rattle.tables.specs.declared.round.Round.{Round}
+use Rattle.tables.specs.declared.round.Round.TheVariants.{Opening, Stock, Operating}
+
+-- the course of the turn of a company in a round, whose faults are told as those of play
+abbrev pub CompanyCalls : List ℕ → Round → Company → Course Game Game PlayFault
+CompanyCalls file round company = Named (λ fault. fault_in_turn fault round company) (TurnCalls file round company)
+
+-- that of the turn of the next company
+abbrev pub NextCalls : List ℕ → Round → Course Game Game PlayFault
+NextCalls file round old outcome calls =
+    (company : Company) × (next_company old.events ≡ Some company) × CompanyCalls file round company old outcome calls
+
+-- no company is next
+pub record AreOver (old new : Game) : Type 0 where
+  pub none : next_company old.events ≡ None
+  pub stays : new ≡ old
+
+-- that of the turns of companies, until there is no next
+abbrev pub TurnsCall : List ℕ → Round → Course Game Game PlayFault
+TurnsCall file round = SomeTimesThen (NextCalls file round) (Unasked Memory AreOver)
+
+-- that of an operating round: what opens it, the turns, and what was left
+abbrev pub IsOpened : List ℕ → Round → Game → Game → Type 0
+IsOpened file round old new = new ≡ opened file round old
+
+abbrev pub IsFinished : List ℕ → Round → Game → Game → Type 0
+IsFinished file round turned new =
+    new ≡ record { seats = turned.seats; events = finished file round turned.seats turned.events }
+
+abbrev pub OperatingCalls : List ℕ → Round → Course Game Game PlayFault
+OperatingCalls file round =
+    Then (Unasked Memory (IsOpened file round)) (Then (TurnsCall file round) (Unasked Memory (IsFinished file round)))
+
+-- that of a round, by its kind
+abbrev pub PlayedCalls : List ℕ → Round → Course Game Game PlayFault
+PlayedCalls file (Opening number) = Unasked Memory (IsPlayed file (Opening number))
+PlayedCalls file (Stock set) = Unasked Memory (IsPlayed file (Stock set))
+PlayedCalls file (Operating set number) = OperatingCalls file (Operating set number)
+
+-- between two rounds, once a round of a set of so many operating rounds has led to a game
+abbrev pub between_after : Round → ℕ → Game → Between
+between_after round in_set game =
+    record {
+      game = game;
+      in_set = in_set_before (coming round in_set game.events) game.events in_set;
+      next = coming round in_set game.events;
+    }
+
+-- that of the next round, for which every seat has a sheet
+abbrev pub RoundCalls : List ℕ → Course Between Between PlayFault
+RoundCalls file old outcome calls =
+    (round : Round) × IsToPlay file old.next round ×
+    Then (PlayedCalls file round) (Unasked Memory (λ game new. new ≡ between_after round old.in_set game)) old.game outcome calls
+
+-- play stops
+pub record Stops (file : List ℕ) (last : Between) (played : Played) : Type 0 where
+  pub stopped : goes_on file last.next ≡ false
+  pub game : played ≡ record { file = file; game = last.game; end = end_of last.next last.game.events }
+
+-- the course of the game of a file
+abbrev pub GameCalls : List ℕ → Result Played PlayFault → List Call → Type 0
+GameCalls file = SomeTimesThen (RoundCalls file) (Unasked Memory (Stops file)) (before_play file)
