@@ -1,18 +1,23 @@
 -- The calls of a company's turn, line by line and part by part.
-use Rattle.std.proofs.Common.{◌≡◌, ℕ, ℤ, List, [], ◌∷◌, Option, Result, Ok, Err, refl, sym, subst, ◌∙◌}
+use Rattle.std.proofs.Common.{◌≡◌, ℕ, List, [], ◌∷◌, Option, Some, None, Result, Ok, Err, refl, sym, subst, inl, inr}
 use Rattle.certificate.specs.declared.runner.RunnerFault.{RunnerFault}
 use Rattle.certificate.specs.declared.runner.RunnerFault.TheVariants.{Memory}
 use Rattle.history.specs.LookBack.{Game}
 use Rattle.history.specs.Shares.{president_of}
+use Rattle.history.specs.declared.ruling.RunRule.{RunRule}
 use Rattle.operating.proofs.Calls.{broken_off, joined, silent}
 use Rattle.operating.specs.Act.{with_home}
-use Rattle.operating.specs.Calls.{Earns, Makes, Unasked}
+use Rattle.operating.specs.Best.{BestRuled, best_judgement}
+use Rattle.operating.specs.Calls.{Call, Earns, Makes, Unasked}
 use Rattle.operating.specs.InTurn.{InTurn, at_start, in_turn}
-use Rattle.operating.specs.Turn.{BlockEnds, begun, settled}
-use Rattle.operating.specs.TurnCalls.{BegunCalls, BlockCalls, EndCalls, LineCalls, LinesCall, TurnCalls}
+use Rattle.operating.specs.Turn.{BlockEnds, BlockLeads, IsCompanyTurn, LinesLead, OrderLeads, ReadingLeads, begun, settled}
+use Rattle.operating.specs.TurnCalls.{BegunCalls, BestCalls, BlockCalls, EndCalls, LineCalls, LinesCall, OrderCalls, ReadingCalls, TurnCalls}
 use Rattle.operating.specs.declared.operator.Operator.{Operator}
 use Rattle.operating.specs.declared.progress.Progress.{Progress}
 use Rattle.reach.specs.Position.{Position}
+use Rattle.order_grammar.specs.declared.fault.Fault.{Fault}
+use Rattle.order_grammar.specs.declared.order.Order.{Order}
+use Rattle.sheets.specs.Block.{block_for}
 use Rattle.sheets.specs.Part.{Numbered}
 use Rattle.tables.specs.declared.rolling_stock.Kind.{Kind}
 use Rattle.tables.specs.declared.roster.Company.{Company}
@@ -73,3 +78,75 @@ module _ {Runner : Type 0} (earns : Earns Runner) where
   end_calls file round company ruled paid new progress last president runner is_settled ends =
       silent earns Memory (λ (from : InTurn) (to : Game). BlockEnds file round company (settled company from).game president to) (in_turn ruled progress) new runner runner
       (subst (λ (turn : InTurn). BlockEnds file round company turn.game president new) is_settled ends) refl
+
+-- an order to run the best that makes these calls leads on as it is ruled
+best_leads :
+    (by : Operator) (round : Round) (number : ℕ) (rule : Option RunRule) (turn new : InTurn) (calls : List Call) →
+    BestCalls by round number rule turn (Ok new) calls → BestRuled by turn number rule new
+best_leads by round number (Some rule) turn new calls course = course.0
+best_leads by round number None turn new calls course =
+    elim course [
+      | inl never ↦ absurd never
+      | inr joins ↦ (joins.between, joins.goes_on.0.greatest, joins.goes_on.0.after)
+    ]
+
+-- so does an order
+order_leads :
+    (by : Operator) (round : Round) (number : ℕ) (its : Order) (turn new : InTurn) (calls : List Call) →
+    OrderCalls by round number its turn (Ok new) calls → OrderLeads by turn number its new
+order_leads by round number its turn new calls course =
+    elim course [
+      | inl best ↦
+          subst (λ (o : Order). OrderLeads by turn number o new) (sym best.0)
+          (best_leads by round number (best_judgement turn by.company) turn new calls best.1)
+      | inr other ↦ other.1.0
+    ]
+
+-- so does a line
+reading_leads :
+    (by : Operator) (round : Round) (number : ℕ) (reading : Result Order Fault) (turn new : InTurn) (calls : List Call) →
+    ReadingCalls by round number reading turn (Ok new) calls → ReadingLeads by turn number reading new
+reading_leads by round number (Ok its) turn new calls course = order_leads by round number its turn new calls course
+reading_leads by round number (Err fault) turn new calls course = course.0
+
+-- so do lines
+lines_lead :
+    (by : Operator) (round : Round) (lines : List Numbered) (turn new : InTurn) (calls : List Call) →
+    LinesCall by round lines turn (Ok new) calls → LinesLead by turn lines new
+lines_lead by round [] turn new calls course = course.0
+lines_lead by round (line ∷ lines) turn new calls course =
+    elim course [
+      | inl never ↦ absurd never
+      | inr joins ↦ (
+        joins.between,
+        reading_leads by round line.number line.reading turn joins.between joins.earlier joins.leads,
+        lines_lead by round lines joins.between new joins.later joins.goes_on,
+      )
+    ]
+
+-- so does a block
+block_leads :
+    (file : List ℕ) (round : Round) (company : Company) (president : Option Seat) (turn new : InTurn) (calls : List Call) →
+    BlockCalls file round company president turn (Ok new) calls → BlockLeads file round company turn president new
+block_leads file round company None turn new calls course = course.0
+block_leads file round company (Some seat) turn new calls course =
+    lines_lead (record { company = company; president = seat }) round (block_for file round seat.0 company) turn new calls course
+
+-- and so does a turn
+pub turn_leads :
+    (file : List ℕ) (round : Round) (company : Company) (old new : Game) (calls : List Call) →
+    TurnCalls file round company old (Ok new) calls → IsCompanyTurn file round company old new
+turn_leads file round company old new calls course =
+    elim course [
+      | inl never ↦ absurd never
+      | inr first ↦ elim first.goes_on [
+        | inl never ↦ absurd never
+        | inr rest ↦ record {
+          last = rest.between;
+          block =
+              subst (λ (turn : InTurn). BlockLeads file round company turn (president_of old.events company) rest.between) first.leads.0
+              (block_leads file round company (president_of old.events company) first.between rest.between rest.earlier rest.leads);
+          after = rest.goes_on.0;
+        }
+      ]
+    ]

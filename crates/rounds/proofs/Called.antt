@@ -1,16 +1,19 @@
 -- The calls of a game, turn by turn and round by round.
-use Rattle.std.proofs.Common.{◌≡◌, ℕ, List, [], Option, Some, None, Result, Ok, Err, refl, sym, ap, subst, ◌∙◌}
+use Rattle.std.proofs.Common.{◌≡◌, ℕ, zero, suc, List, [], ◌∷◌, Some, None, Result, Ok, Err, refl, sym, ap, subst, ◌∙◌, inl, inr}
 use Rattle.history.specs.LookBack.{Game}
 use Rattle.operating.proofs.Calls.{broken_off, joined, silent}
-use Rattle.operating.specs.Calls.{Course, Earns, Makes, Then, Unasked}
-use Rattle.rounds.specs.GameCalls.{CompanyCalls, IsFinished, IsOpened, NextCalls, OperatingCalls, PlayedCalls, RoundCalls, TurnsCall, between_after}
-use Rattle.rounds.specs.OperatingRound.{next_company, opened}
-use Rattle.rounds.specs.Play.{Between, IsToPlay, coming, in_set_before}
+use Rattle.operating.proofs.Played.{seats_stay}
+use Rattle.operating.proofs.TurnCalled.{turn_leads}
+use Rattle.operating.specs.Calls.{Call, Course, Earns, Makes, Then, TimesThen, Unasked}
+use Rattle.rounds.specs.GameCalls.{AreOver, CallsAreOfTheGame, CompanyCalls, IsFinished, IsOpened, NextCalls, OperatingCalls, PlayedCalls, RoundCalls, Stops, TurnsCall, between_after}
+use Rattle.rounds.specs.OperatingRound.{IsOperatingRound, TakesTurn, TurnsLead, finished, next_company, opened}
+use Rattle.rounds.specs.Play.{AreRounds, Between, IsPlayed, IsRound, IsTheGame, IsToPlay, Played, before_play, coming, in_set_before}
 use Rattle.rounds.specs.declared.fault.PlayFault.{PlayFault}
 use Rattle.rounds.specs.declared.fault.PlayFault.TheVariants.{Memory}
 use Rattle.rounds.specs.declared.following.Next.{Next}
 use Rattle.tables.specs.declared.roster.Company.{Company}
 use Rattle.tables.specs.declared.round.Round.{Round}
+use Rattle.tables.specs.declared.round.Round.TheVariants.{Opening, Stock, Operating}
 
 -- between two rounds, after one of them
 pub after_round :
@@ -64,3 +67,121 @@ module _ {Runner : Type 0} (earns : Earns Runner) where
       let After : Course Game Between PlayFault = Unasked Memory (λ (game : Game) (to : Between). to ≡ between_after round old.in_set game) in
       let all = broken_off earns (PlayedCalls file round) After old.game fault before after made in
       (all.0, (round, is_next, all.1), all.2)
+
+-- the turn of the next company, with its calls, is its turn
+takes_turn :
+    (file : List ℕ) (round : Round) (old new : Game) (calls : List Call) (course : NextCalls file round old (Ok new) calls) →
+    TakesTurn file round course.0 old new
+takes_turn file round old new calls course = record { is_next = course.1; turn = turn_leads file round course.0 old new calls course.2 }
+
+-- the turns of companies, with their calls, are their turns, and leave the seats as they are
+turns_lead :
+    (file : List ℕ) (round : Round) (times : ℕ) (old new : Game) (calls : List Call) →
+    TimesThen times (NextCalls file round) (Unasked Memory AreOver) old (Ok new) calls → TurnsLead file round old new × (new.seats ≡ old.seats)
+turns_lead file round zero old new calls course = (
+  record {
+    companies = [];
+    turns = sym course.0.stays;
+    over_then = subst (λ (game : Game). next_company game.events ≡ None) (sym course.0.stays) course.0.none;
+  },
+  ap (λ (game : Game). game.seats) course.0.stays,
+)
+turns_lead file round (suc times) old new calls course =
+    elim course [
+      | inl never ↦ absurd never
+      | inr joins ↦
+          let rest = turns_lead file round times joins.between new joins.later joins.goes_on in
+          let first = takes_turn file round old joins.between joins.earlier joins.leads in (
+            record {
+              companies = joins.leads.0 ∷ rest.0.companies;
+              turns = (joins.between, first, rest.0.turns);
+              over_then = rest.0.over_then;
+            },
+            rest.1 ∙ seats_stay file round joins.leads.0 old joins.between first.turn,
+          )
+    ]
+
+-- an operating round, with its calls, is one
+operating_played :
+    (file : List ℕ) (round : Round) (old new : Game) (calls : List Call) → OperatingCalls file round old (Ok new) calls →
+    IsOperatingRound file round old new
+operating_played file round old new calls course =
+    elim course [
+      | inl never ↦ absurd never
+      | inr first ↦ elim first.goes_on [
+        | inl never ↦ absurd never
+        | inr rest ↦
+            let led = turns_lead file round rest.leads.0 first.between rest.between rest.earlier rest.leads.1 in
+            let seats : rest.between.seats ≡ old.seats = led.1 ∙ ap (λ (game : Game). game.seats) first.leads.0 in
+            record {
+              turned = rest.between;
+              turns = subst (λ (game : Game). TurnsLead file round game rest.between) first.leads.0 led.0;
+              after =
+                  rest.goes_on.0
+                  ∙ ap (λ (n : ℕ). record { seats = n; events = finished file round n rest.between.events }) seats;
+            }
+      ]
+    ]
+
+-- so is a round of each kind
+is_played :
+    (file : List ℕ) (round : Round) (old new : Game) (calls : List Call) → PlayedCalls file round old (Ok new) calls →
+    IsPlayed file round old new
+is_played file (Opening number) old new calls course = course.0
+is_played file (Stock set) old new calls course = course.0
+is_played file (Operating set number) old new calls course = operating_played file (Operating set number) old new calls course
+
+-- so is a round between others
+is_round : (file : List ℕ) (old new : Between) (calls : List Call) → RoundCalls file old (Ok new) calls → IsRound file old new
+is_round file old new calls course =
+    elim course.2 [
+      | inl never ↦ absurd never
+      | inr joins ↦
+          let is : new ≡ between_after course.0 old.in_set joins.between = joins.goes_on.0 in
+          subst (λ (after : Between). IsRound file old after) (sym is)
+          (record {
+            round = course.0;
+            comes = course.1.comes;
+            posted = course.1.posted;
+            played = is_played file course.0 old.game joins.between joins.earlier joins.leads;
+            next_then = refl;
+            in_set_then = refl;
+          })
+    ]
+
+-- one round before others
+one_before : (file : List ℕ) (n : ℕ) (old mid new : Between) → IsRound file old mid → AreRounds file n mid new → AreRounds file (suc n) old new
+one_before file zero old mid new first rounds = (old, refl, subst (λ (at : Between). IsRound file old at) rounds first)
+one_before file (suc n) old mid new first rounds = (rounds.0, one_before file n old mid rounds.0 first rounds.1, rounds.2)
+
+-- the rounds of a game, with their calls, are its rounds
+rounds_lead :
+    (file : List ℕ) (times : ℕ) (old : Between) (played : Played) (calls : List Call) →
+    TimesThen times (RoundCalls file) (Unasked Memory (Stops file)) old (Ok played) calls →
+    (last : Between) × AreRounds file times old last × Stops file last played
+rounds_lead file zero old played calls course = (old, refl, course.0)
+rounds_lead file (suc times) old played calls course =
+    elim course [
+      | inl never ↦ absurd never
+      | inr joins ↦
+          let rest = rounds_lead file times joins.between played joins.later joins.goes_on in (
+            rest.0,
+            one_before file times old joins.between rest.0 (is_round file old joins.between joins.earlier joins.leads) rest.1,
+            rest.2,
+          )
+    ]
+
+-- so these calls are of the game of the file
+pub of_the_game : CallsAreOfTheGame
+of_the_game file played calls course =
+    let led = rounds_lead file course.0 (before_play file) played calls course.1 in
+    let is = led.2.game in (
+      ap (λ (p : Played). p.file) is,
+      subst IsTheGame (sym is)
+          (record {
+            last = led.0;
+            plays = record { rounds = course.0; reached = led.1; stopped = led.2.stopped };
+            game = refl;
+            end = refl;
+          }),
+    )

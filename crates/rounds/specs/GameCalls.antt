@@ -1,12 +1,12 @@
 -- The calls that play makes of a runner, over the one game of a file: those of the turns of companies, in order. The
 -- other steps of a round ask nothing of it. Once a call is not answered, or memory is refused, play is broken off.
-use Rattle.std.specs.Prelude.{◌≡◌, ℕ, false, List, Option, Some, None, Result}
+use Rattle.std.specs.Prelude.{◌≡◌, ℕ, false, List, Option, Some, None, Result, Ok}
 use Rattle.history.specs.LookBack.{Game}
 use Rattle.operating.specs.Calls.{Call, Course, Named, SomeTimesThen, Then, Unasked}
 use Rattle.operating.specs.TurnCalls.{TurnCalls}
 use Rattle.rounds.specs.Faults.{fault_in_turn}
 use Rattle.rounds.specs.OperatingRound.{finished, next_company, opened}
-use Rattle.rounds.specs.Play.{Between, IsPlayed, IsToPlay, Played, before_play, coming, end_of, goes_on, in_set_before}
+use Rattle.rounds.specs.Play.{Between, IsPlayed, IsTheGame, IsToPlay, Played, before_play, coming, end_of, goes_on, in_set_before}
 use Rattle.rounds.specs.declared.fault.PlayFault.{PlayFault}
 use Rattle.rounds.specs.declared.fault.PlayFault.TheVariants.{Memory}
 use Rattle.tables.specs.declared.roster.Company.{Company}
@@ -31,14 +31,16 @@ pub record AreOver (old new : Game) : Type 0 where
 abbrev pub TurnsCall : List ℕ → Round → Course Game Game PlayFault
 TurnsCall file round = SomeTimesThen (NextCalls file round) (Unasked Memory AreOver)
 
--- that of an operating round: what opens it, the turns, and what was left
+-- an operating round is opened
 abbrev pub IsOpened : List ℕ → Round → Game → Game → Type 0
 IsOpened file round old new = new ≡ opened file round old
 
+-- it is told what was left
 abbrev pub IsFinished : List ℕ → Round → Game → Game → Type 0
 IsFinished file round turned new =
     new ≡ record { seats = turned.seats; events = finished file round turned.seats turned.events }
 
+-- the course of an operating round
 abbrev pub OperatingCalls : List ℕ → Round → Course Game Game PlayFault
 OperatingCalls file round =
     Then (Unasked Memory (IsOpened file round)) (Then (TurnsCall file round) (Unasked Memory (IsFinished file round)))
@@ -72,3 +74,8 @@ pub record Stops (file : List ℕ) (last : Between) (played : Played) : Type 0 w
 -- the course of the game of a file
 abbrev pub GameCalls : List ℕ → Result Played PlayFault → List Call → Type 0
 GameCalls file = SomeTimesThen (RoundCalls file) (Unasked Memory (Stops file)) (before_play file)
+
+-- what makes these calls and leads to a game leads to the game of the file
+abbrev pub CallsAreOfTheGame : Type 0
+CallsAreOfTheGame =
+    (file : List ℕ) (played : Played) (calls : List Call) → GameCalls file (Ok played) calls → (played.file ≡ file) × IsTheGame played

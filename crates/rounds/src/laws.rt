@@ -6,6 +6,7 @@ ghost use Rattle.rounds.specs.Begun.{RoundsFollowInOrder};
 ghost use Rattle.rounds.specs.Causality.{LaterSheetsChangeNothing};
 ghost use Rattle.rounds.specs.Ends.{BankruptcyEndsGames, BrokenBankEndsSets, GamesEndOnce, NoSetAfterBroken, NoTurnAfterBankruptcy, NothingElseEndsGames};
 ghost use Rattle.rounds.specs.Example.{first_end, first_file, second_end, second_file};
+ghost use Rattle.rounds.specs.GameCalls.{CallsAreOfTheGame};
 ghost use Rattle.rounds.specs.OperatingRound.{CompaniesOperateOnce, EndsSoon, OneOperatingRound};
 ghost use Rattle.rounds.specs.Play.{OneGame, Plays, SomeGame};
 ghost use Rattle.rounds.specs.Privates.{BidsRiseInEachGame, ClosedForGood, SellersAgreeInEachGame};
@@ -202,4 +203,9 @@ pub fn second_example()
 /// An empty file is refused for its header: computed from the definitions.
 pub fn empty_example()
     ensures { content_of [] ≡ Err Header }
+{}
+
+/// The calls that play makes of its runner are those of the one game of the file.
+pub fn calls_are_of_the_game()
+    ensures { CallsAreOfTheGame }
 {}
