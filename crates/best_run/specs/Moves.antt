@@ -85,6 +85,10 @@ begun task settled stop first =
       visited = set (own_before task stop) stop true;
     }
 
+-- the same run, by the piece at another place
+abbrev pub begun_by : Standing → ℕ → Standing
+begun_by run first = record run { first = first }
+
 -- a run that has turned back to the token where it began
 abbrev pub turned_back : Standing → Standing
 turned_back run = record run { turned = true; head = run.home }

@@ -133,9 +133,10 @@ impl Task {
     {
         settled.marks_all_borders();
         let from = &self.departures[stop];
+        let begun = self.begun(settled, stop, 0);
         for index in 0..from.ways.len() {
             let way = &from.ways[index];
-            let run = self.begun(settled, stop, way.first);
+            let run = begun.by(way.first);
             self.take(settled, &run, &way.piece, bounds, best);
         }
     }

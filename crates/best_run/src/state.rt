@@ -1,6 +1,6 @@
 ghost use Rattle.std.specs.Prelude.{◌≡◌, ◌+◌, ◌-◌, ◌*◌, ◌^◌, ◌<◌, ◌≤◌, false, length};
 ghost use Rattle.best_run.specs.Fit.{BordersFit, IsFit};
-ghost use Rattle.best_run.specs.Moves.{along, begun, can_take, left_after, marked_all, may_come, may_earn, may_settle, misses, own_before, passed, settling, turned_back, using};
+ghost use Rattle.best_run.specs.Moves.{along, begun, begun_by, can_take, left_after, marked_all, may_come, may_earn, may_settle, misses, own_before, passed, settling, turned_back, using};
 
 use crate::task::{Piece, Task};
 use tables::Amount;
@@ -134,6 +134,22 @@ pub(crate) fn misses(used: &[bool; BORDERS], borders: &[usize]) -> bool
 }
 
 impl Standing {
+    /// The same run, begun by the piece at another place.
+    pub(crate) fn by(&self, first: usize) -> Standing
+        ensures { result ≡ begun_by self.now first }
+    {
+        Standing {
+            home: self.home,
+            first,
+            turned: self.turned,
+            head: self.head,
+            most: self.most,
+            left: self.left,
+            value: self.value,
+            visited: self.visited,
+        }
+    }
+
     /// The run turns back to where it began.
     pub(crate) fn turned_back(&self) -> Standing
         ensures { result ≡ turned_back self.now }

@@ -3,7 +3,7 @@ use Rattle.std.proofs.Common.{◌≡◌, ℕ, ◌+◌, true, false, inl, inr, So
 use Rattle.std.proofs.lemmas.Option.{slice_get_read}
 use Rattle.best_run.specs.declared.state.Settled.{Settled}
 use Rattle.best_run.specs.declared.state.Standing.{Standing}
-use Rattle.best_run.specs.Moves.{Any, Below, Explores, IsBegin, IsGo, Takes, Tries, begun, between, can_take, ends_in, node_at, own_in, standing, stop_in, turned_back}
+use Rattle.best_run.specs.Moves.{Any, Below, Explores, IsBegin, IsGo, Takes, Tries, begun, begun_by, between, can_take, ends_in, node_at, own_in, standing, stop_in, turned_back}
 use Rattle.best_run.specs.Ways.{AreWaysOf, StandsBefore, TriesWays}
 use Rattle.best_run.proofs.Along.{AnyWay, IsLater, begin_by_ways, go_by_ways, open_begin, open_go, open_turn, turn_by_ways, way_fits, ways_more, ways_none, ways_skip}
 use Rattle.best_run.proofs.Departing.{departs_from}
@@ -35,7 +35,7 @@ begin_at-loop-index-preserved t c =
     let at : slice_get ways index ≡ Some way = slice_get_read ways (length ways) index way refl (omega arith) c.index-way.ensures in
     let run = begun task settled stop way.first in
     ways_more task c.requires.fit stop c.requires.begins ways are (between settled) settled (λ w. begun task settled stop w.first) AnyWay index way _ _ _ at c.loop-index.invariant
-    (subst (λ (r : Standing). Takes task settled r way.piece c.loop-index.best c.take.new.best) c.begun-run.ensures c.take.ensures)
+    (subst (λ (r : Standing). Takes task settled r way.piece c.loop-index.best c.take.new.best) (c.by-run.ensures ∙ ap (λ (r : Standing). begun_by r way.first) c.begun-begun.ensures) c.take.ensures)
     (open_begin task c.requires.fit settled c.marks_all_borders.ensures stop c.requires.begins c.requires.token c.requires.next ways are index way at)
 
 pub begin_at-returns : goal.begin_at-returns
@@ -174,7 +174,7 @@ begin_at-take-requires t c =
     let fits = way_fits task c.requires.fit stop ways are c.requires.begins way (among_place ways index way at) in
     let one = one_low (stop_in (node_at task stop)) in
     let value = value_low task c.requires.fit stop in
-    rw c.begun-run.ensures
+    rw (c.by-run.ensures, c.begun-begun.ensures)
     (omega arith, (c.requires.fit, (c.requires.ready, (c.requires.bounds, (c.requires.next, (fits.0, (fits.1, (c.requires.stop, (c.requires.begins, omega arith)))))))))
 
 pub go_on-take-requires : goal.go_on-take-requires
