@@ -3,6 +3,7 @@
 use Rattle.std.proofs.Common.{◌≡◌, ℕ, ◌+◌, ◌<◌, ◌≤◌, Bool, true, false, ◌&&◌, ◌⊎◌, inl, inr, Option, Some, None, List, [], ◌∷◌, ◌++◌, length, slice_get, replicate, refl, sym, ap, subst, ◌∙◌, arith, le_trans, length-append}
 use Rattle.std.proofs.lemmas.Option.{slice_get_within}
 use Rattle.reach.specs.Position.{IsAmong}
+use Rattle.best_run.specs.declared.explored.Found.{Found}
 use Rattle.best_run.specs.declared.task.Node.{Node}
 use Rattle.best_run.specs.declared.task.Piece.{Piece}
 use Rattle.best_run.specs.declared.task.Task.{Task}
@@ -10,11 +11,12 @@ use Rattle.best_run.specs.declared.task.Way.{Way}
 use Rattle.best_run.specs.declared.state.Settled.{Settled}
 use Rattle.best_run.specs.declared.state.Standing.{Standing}
 use Rattle.best_run.specs.Fit.{BordersFit, IsFit, PieceFits}
-use Rattle.best_run.specs.Moves.{Any, CanEarn, Completes, IsBeginAt, IsGo, IsOpen, IsTurn, LeadsFrom, Move, State, Takes, Tries, along, begin, begun, between, can_take, ends_in, go, may_come, misses, node_at, own_in, pass, pieces_in, settle, standing, stop_in, total_after, turn, turned_back, using}
+use Rattle.best_run.specs.Moves.{Any, AreExplored, CanEarn, Completes, IsBeginAt, IsGo, IsOpen, IsTurn, LeadsFrom, Move, State, Takes, Tries, along, begin, begun, between, can_take, ends_in, go, may_come, misses, node_at, own_in, pass, pieces_in, settle, standing, stop_in, total_after, turn, turned_back, using}
 use Rattle.best_run.specs.Ways.{AreFree, AreWaysOf, HasWay, Hop, IsMadeOf, LeadsTo, StandsBefore, TriesWays, borders_by, none_used}
 use Rattle.best_run.proofs.Chunks.{Back, Chunk, arrived, chunk_back, chunk_of, fits_by, free_all, free_freer, free_used, over}
 use Rattle.best_run.proofs.Described.{among_place, place_among}
-use Rattle.best_run.proofs.Eased.{Freer, freer_none}
+use Rattle.best_run.specs.Kept.{Freer}
+use Rattle.best_run.proofs.Eased.{freer_none}
 use Rattle.best_run.proofs.Places.{below_next}
 
 both_first : (a b : Bool) → (a && b) ≡ true → a ≡ true
@@ -156,9 +158,9 @@ module _ (task : Task) (fit : IsFit task) (stop : ℕ) (stops : stop_in (node_at
   among_at place way at = among_place ways place way at
 
   -- no way has been tried, one more has been, or it is none that is to be tried
-  pub ways_none : (from : State) (settled : Settled) (runs : Way → Standing) (Q : Way → Type 0) (best : ℕ) → TriesWays task from settled runs (λ way. StandsBefore ways 0 way × Q way) best best
+  pub ways_none : (from : State) (settled : Settled) (runs : Way → Standing) (Q : Way → Type 0) (best : Found) → TriesWays task from settled runs (λ way. StandsBefore ways 0 way × Q way) best best
   ways_none from settled runs Q best =
-      record { grows = omega arith; earned = λ possible earned. earned; most = λ way is. absurd (omega (arith, is.0.1)) }
+      record { grows = omega arith; earned = λ possible earned. earned; known = λ known. known; most = λ known way is. absurd (omega (arith, is.0.1)) }
 
   ways_next : (P Q : Way → Type 0) (place : ℕ) (way other : Way) → slice_get ways place ≡ Some way → StandsBefore ways (place + 1) other → StandsBefore ways place other ⊎ (way ≡ other)
   ways_next P Q place way other at stands =
@@ -167,25 +169,27 @@ module _ (task : Task) (fit : IsFit task) (stop : ℕ) (stops : stop_in (node_at
         | inr same ↦ inr (let one : Some way ≡ Some other = sym at ∙ (ap (λ (i : ℕ). slice_get ways i) (sym same) ∙ stands.2) in cc)
       ]
 
-  pub ways_more : (from : State) (settled : Settled) (runs : Way → Standing) (Q : Way → Type 0) (place : ℕ) (way : Way) (old middle new : ℕ) → slice_get ways place ≡ Some way → TriesWays task from settled runs (λ w. StandsBefore ways place w × Q w) old middle → Takes task settled (runs way) way.piece middle new → (IsOpen task from → can_take task (runs way) settled.used way.piece ≡ true → IsOpen task (standing (using settled way.piece) (along task (runs way) way.piece))) → TriesWays task from settled runs (λ w. StandsBefore ways (place + 1) w × Q w) old new
+  pub ways_more : (from : State) (settled : Settled) (runs : Way → Standing) (Q : Way → Type 0) (place : ℕ) (way : Way) (old middle new : Found) → slice_get ways place ≡ Some way → TriesWays task from settled runs (λ w. StandsBefore ways place w × Q w) old middle → Takes task settled (runs way) way.piece middle new → (IsOpen task from → can_take task (runs way) settled.used way.piece ≡ true → IsOpen task (standing (using settled way.piece) (along task (runs way) way.piece))) → TriesWays task from settled runs (λ w. StandsBefore ways (place + 1) w × Q w) old new
   ways_more from settled runs Q place way old middle new at before takes opens =
       record {
         grows = le_trans before.grows takes.grows;
         earned = λ possible earned. takes.earned (opens possible) (before.earned possible earned);
-        most = λ other is can moves completes. elim (ways_next Q Q place way other at is.0) [
-          | inl sooner ↦ le_trans (before.most other (sooner, is.1) can moves completes) takes.grows
+        known = λ known. takes.known (before.known known);
+        most = λ known other is can moves completes. elim (ways_next Q Q place way other at is.0) [
+          | inl sooner ↦ le_trans (before.most known other (sooner, is.1) can moves completes) takes.grows
           | inr same ↦
-              subst (λ (w : Way). can_take task (runs w) settled.used w.piece ≡ true → (moves : List Move) → Completes task (standing (using settled w.piece) (along task (runs w) w.piece)) moves → total_after task (standing (using settled w.piece) (along task (runs w) w.piece)) moves ≤ new) same takes.most can moves completes
+              subst (λ (w : Way). can_take task (runs w) settled.used w.piece ≡ true → (moves : List Move) → Completes task (standing (using settled w.piece) (along task (runs w) w.piece)) moves → total_after task (standing (using settled w.piece) (along task (runs w) w.piece)) moves ≤ new.amount) same (takes.most (before.known known)) can moves completes
         ];
       }
 
-  pub ways_skip : (from : State) (settled : Settled) (runs : Way → Standing) (Q : Way → Type 0) (place : ℕ) (way : Way) (old middle : ℕ) → slice_get ways place ≡ Some way → (Q way → ⊥) → TriesWays task from settled runs (λ w. StandsBefore ways place w × Q w) old middle → TriesWays task from settled runs (λ w. StandsBefore ways (place + 1) w × Q w) old middle
+  pub ways_skip : (from : State) (settled : Settled) (runs : Way → Standing) (Q : Way → Type 0) (place : ℕ) (way : Way) (old middle : Found) → slice_get ways place ≡ Some way → (Q way → ⊥) → TriesWays task from settled runs (λ w. StandsBefore ways place w × Q w) old middle → TriesWays task from settled runs (λ w. StandsBefore ways (place + 1) w × Q w) old middle
   ways_skip from settled runs Q place way old middle at none before =
       record {
         grows = before.grows;
         earned = before.earned;
-        most = λ other is can moves completes. elim (ways_next Q Q place way other at is.0) [
-          | inl sooner ↦ before.most other (sooner, is.1) can moves completes
+        known = before.known;
+        most = λ known other is can moves completes. elim (ways_next Q Q place way other at is.0) [
+          | inl sooner ↦ before.most known other (sooner, is.1) can moves completes
           | inr same ↦ absurd (none (subst Q (sym same) is.1))
         ];
       }
@@ -208,20 +212,20 @@ module _ (task : Task) (fit : IsFit task) (settled : Settled) (whole : length se
       let by : ByPieces task fit run.head stops ways are settled run way moves = by_pieces task fit run.head stops ways are settled run way (among_at task fit run.head stops ways are place way at) can moves completes in
       subst (CanEarn task) by.total (possible (go way.first by.piece ∷ by.moves) (record { passes = passes; leads = by.leads; taken = by.can }, by.completes))
 
-  pub go_by_ways : (run : Standing) → (stops : stop_in (node_at task run.head) ≡ true) → (ways : List Way) → (are : AreWaysOf task run.head ways) → (count old new : ℕ) → length ways ≤ count → TriesWays task (standing settled run) settled (λ way. run) (λ way. StandsBefore ways count way × AnyWay way) old new → Tries task (standing settled run) (IsGo Any) old new
+  pub go_by_ways : (run : Standing) → (stops : stop_in (node_at task run.head) ≡ true) → (ways : List Way) → (are : AreWaysOf task run.head ways) → (count : ℕ) (old new : Found) → length ways ≤ count → TriesWays task (standing settled run) settled (λ way. run) (λ way. StandsBefore ways count way × AnyWay way) old new → Tries task (standing settled run) (IsGo Any) old new
   go_by_ways run stops ways are count old new all tries =
-      record { grows = tries.grows; earned = tries.earned; most = by_move }
+      record { grows = tries.grows; earned = tries.earned; known = tries.known; most = by_move }
     where
-      by_move : (move : Move) (moves : List Move) → IsGo Any move → Completes task (standing settled run) (move ∷ moves) → total_after task (standing settled run) (move ∷ moves) ≤ new
-      by_move pass moves is completes = absurd is
-      by_move (begin there place piece) moves is completes = absurd is
-      by_move (go place piece) moves is completes =
+      by_move : AreExplored task old → (move : Move) (moves : List Move) → IsGo Any move → Completes task (standing settled run) (move ∷ moves) → total_after task (standing settled run) (move ∷ moves) ≤ new.amount
+      by_move known pass moves is completes = absurd is
+      by_move known (begin there place piece) moves is completes = absurd is
+      by_move known (go place piece) moves is completes =
           let may = completes.0 in
           let by : ByWay task fit run.head stops ways are settled run place piece moves = by_way task fit run.head stops ways are settled run whole place piece moves may.leads may.taken completes.1 in
-          let low = tries.most by.way ((by.place_of, stands_low task fit run.head stops ways are by.place_of by.way count by.stands all, by.stands), tt) by.can by.later by.completes in
-          subst (λ (n : ℕ). n ≤ new) (sym by.total) low
-      by_move (turn place piece) moves is completes = absurd is
-      by_move settle moves is completes = absurd is
+          let low = tries.most known by.way ((by.place_of, stands_low task fit run.head stops ways are by.place_of by.way count by.stands all, by.stands), tt) by.can by.later by.completes in
+          subst (λ (n : ℕ). n ≤ new.amount) (sym by.total) low
+      by_move known (turn place piece) moves is completes = absurd is
+      by_move known settle moves is completes = absurd is
 
   -- back from where it began
   pub open_turn : (run : Standing) → (stops : stop_in (node_at task run.home) ≡ true) → run.turned ≡ false → stop_in (node_at task run.head) ≡ true → ends_in (node_at task run.home) ≡ false → (ways : List Way) → (are : AreWaysOf task run.home ways) → (place : ℕ) (way : Way) → slice_get ways place ≡ Some way → IsLater run way → IsOpen task (standing settled run) → can_take task (turned_back run) settled.used way.piece ≡ true → IsOpen task (standing (using settled way.piece) (along task (turned_back run) way.piece))
@@ -229,20 +233,20 @@ module _ (task : Task) (fit : IsFit task) (settled : Settled) (whole : length se
       let by : ByPieces task fit run.home stops ways are settled (turned_back run) way moves = by_pieces task fit run.home stops ways are settled (turned_back run) way (among_at task fit run.home stops ways are place way at) can moves completes in
       subst (CanEarn task) by.total (possible (turn way.first by.piece ∷ by.moves) (record { once = once; stands = stands; later = later; passes = passes; leads = by.leads; taken = by.can }, by.completes))
 
-  pub turn_by_ways : (run : Standing) → (stops : stop_in (node_at task run.home) ≡ true) → (ways : List Way) → (are : AreWaysOf task run.home ways) → (count old new : ℕ) → length ways ≤ count → TriesWays task (standing settled run) settled (λ way. turned_back run) (λ way. StandsBefore ways count way × IsLater run way) old new → Tries task (standing settled run) (IsTurn Any) old new
+  pub turn_by_ways : (run : Standing) → (stops : stop_in (node_at task run.home) ≡ true) → (ways : List Way) → (are : AreWaysOf task run.home ways) → (count : ℕ) (old new : Found) → length ways ≤ count → TriesWays task (standing settled run) settled (λ way. turned_back run) (λ way. StandsBefore ways count way × IsLater run way) old new → Tries task (standing settled run) (IsTurn Any) old new
   turn_by_ways run stops ways are count old new all tries =
-      record { grows = tries.grows; earned = tries.earned; most = by_move }
+      record { grows = tries.grows; earned = tries.earned; known = tries.known; most = by_move }
     where
-      by_move : (move : Move) (moves : List Move) → IsTurn Any move → Completes task (standing settled run) (move ∷ moves) → total_after task (standing settled run) (move ∷ moves) ≤ new
-      by_move pass moves is completes = absurd is
-      by_move (begin there place piece) moves is completes = absurd is
-      by_move (go place piece) moves is completes = absurd is
-      by_move (turn place piece) moves is completes =
+      by_move : AreExplored task old → (move : Move) (moves : List Move) → IsTurn Any move → Completes task (standing settled run) (move ∷ moves) → total_after task (standing settled run) (move ∷ moves) ≤ new.amount
+      by_move known pass moves is completes = absurd is
+      by_move known (begin there place piece) moves is completes = absurd is
+      by_move known (go place piece) moves is completes = absurd is
+      by_move known (turn place piece) moves is completes =
           let may = completes.0 in
           let by : ByWay task fit run.home stops ways are settled (turned_back run) place piece moves = by_way task fit run.home stops ways are settled (turned_back run) whole place piece moves may.leads may.taken completes.1 in
-          let low = tries.most by.way ((by.place_of, stands_low task fit run.home stops ways are by.place_of by.way count by.stands all, by.stands), omega (arith, may.later, by.first)) by.can by.later by.completes in
-          subst (λ (n : ℕ). n ≤ new) (sym by.total) low
-      by_move settle moves is completes = absurd is
+          let low = tries.most known by.way ((by.place_of, stands_low task fit run.home stops ways are by.place_of by.way count by.stands all, by.stands), omega (arith, may.later, by.first)) by.can by.later by.completes in
+          subst (λ (n : ℕ). n ≤ new.amount) (sym by.total) low
+      by_move known settle moves is completes = absurd is
 
   -- from a token
   pub open_begin : (there : ℕ) → (stops : stop_in (node_at task there) ≡ true) → own_in (node_at task there) ≡ true → settled.next < length task.trains.items → (ways : List Way) → (are : AreWaysOf task there ways) → (place : ℕ) (way : Way) → slice_get ways place ≡ Some way → IsOpen task (between settled) → can_take task (begun task settled there way.first) settled.used way.piece ≡ true → IsOpen task (standing (using settled way.piece) (along task (begun task settled there way.first) way.piece))
@@ -251,26 +255,26 @@ module _ (task : Task) (fit : IsFit task) (settled : Settled) (whole : length se
       let by : ByPieces task fit there stops ways are settled run way moves = by_pieces task fit there stops ways are settled run way (among_at task fit there stops ways are place way at) can moves completes in
       subst (CanEarn task) by.total (possible (begin there way.first by.piece ∷ by.moves) (record { train = train; begins = stops; token = token; leads = by.leads; taken = by.can }, by.completes))
 
-  pub begin_by_ways : (there : ℕ) → (stops : stop_in (node_at task there) ≡ true) → (ways : List Way) → (are : AreWaysOf task there ways) → (count old new : ℕ) → length ways ≤ count → TriesWays task (between settled) settled (λ way. begun task settled there way.first) (λ way. StandsBefore ways count way × AnyWay way) old new → Tries task (between settled) (IsBeginAt there Any) old new
+  pub begin_by_ways : (there : ℕ) → (stops : stop_in (node_at task there) ≡ true) → (ways : List Way) → (are : AreWaysOf task there ways) → (count : ℕ) (old new : Found) → length ways ≤ count → TriesWays task (between settled) settled (λ way. begun task settled there way.first) (λ way. StandsBefore ways count way × AnyWay way) old new → Tries task (between settled) (IsBeginAt there Any) old new
   begin_by_ways there stops ways are count old new all tries =
-      record { grows = tries.grows; earned = tries.earned; most = by_move }
+      record { grows = tries.grows; earned = tries.earned; known = tries.known; most = by_move }
     where
-      from_there : (place : ℕ) (piece : Piece) (moves : List Move) → LeadsFrom task there place piece → can_take task (begun task settled there place) settled.used piece ≡ true → Completes task (standing (using settled piece) (along task (begun task settled there place) piece)) moves → total_after task (standing (using settled piece) (along task (begun task settled there place) piece)) moves ≤ new
-      from_there place piece moves leads can completes =
+      from_there : AreExplored task old → (place : ℕ) (piece : Piece) (moves : List Move) → LeadsFrom task there place piece → can_take task (begun task settled there place) settled.used piece ≡ true → Completes task (standing (using settled piece) (along task (begun task settled there place) piece)) moves → total_after task (standing (using settled piece) (along task (begun task settled there place) piece)) moves ≤ new.amount
+      from_there known place piece moves leads can completes =
           let run = begun task settled there place in
           let by : ByWay task fit there stops ways are settled run place piece moves = by_way task fit there stops ways are settled run whole place piece moves leads can completes in
-          let IsLow : ℕ → Type 0 = λ first. can_take task (begun task settled there first) settled.used by.way.piece ≡ true → Completes task (standing (using settled by.way.piece) (along task (begun task settled there first) by.way.piece)) by.later → total_after task (standing (using settled by.way.piece) (along task (begun task settled there first) by.way.piece)) by.later ≤ new in
-          let low : IsLow by.way.first = λ taken ends. tries.most by.way ((by.place_of, stands_low task fit there stops ways are by.place_of by.way count by.stands all, by.stands), tt) taken by.later ends in
+          let IsLow : ℕ → Type 0 = λ first. can_take task (begun task settled there first) settled.used by.way.piece ≡ true → Completes task (standing (using settled by.way.piece) (along task (begun task settled there first) by.way.piece)) by.later → total_after task (standing (using settled by.way.piece) (along task (begun task settled there first) by.way.piece)) by.later ≤ new.amount in
+          let low : IsLow by.way.first = λ taken ends. tries.most known by.way ((by.place_of, stands_low task fit there stops ways are by.place_of by.way count by.stands all, by.stands), tt) taken by.later ends in
           let here : IsLow place = subst IsLow by.first low in
-          subst (λ (n : ℕ). n ≤ new) (sym by.total) (here by.can by.completes)
+          subst (λ (n : ℕ). n ≤ new.amount) (sym by.total) (here by.can by.completes)
 
-      by_move : (move : Move) (moves : List Move) → IsBeginAt there Any move → Completes task (between settled) (move ∷ moves) → total_after task (between settled) (move ∷ moves) ≤ new
-      by_move pass moves is completes = absurd is
-      by_move (begin stop place piece) moves is completes =
+      by_move : AreExplored task old → (move : Move) (moves : List Move) → IsBeginAt there Any move → Completes task (between settled) (move ∷ moves) → total_after task (between settled) (move ∷ moves) ≤ new.amount
+      by_move known pass moves is completes = absurd is
+      by_move known (begin stop place piece) moves is completes =
           let may = completes.0 in
-          let At : ℕ → Type 0 = λ n. LeadsFrom task n place piece → can_take task (begun task settled n place) settled.used piece ≡ true → Completes task (standing (using settled piece) (along task (begun task settled n place) piece)) moves → total_after task (standing (using settled piece) (along task (begun task settled n place) piece)) moves ≤ new in
-          let here : At stop = subst At (sym is.0) (λ leads can ends. from_there place piece moves leads can ends) in
+          let At : ℕ → Type 0 = λ n. LeadsFrom task n place piece → can_take task (begun task settled n place) settled.used piece ≡ true → Completes task (standing (using settled piece) (along task (begun task settled n place) piece)) moves → total_after task (standing (using settled piece) (along task (begun task settled n place) piece)) moves ≤ new.amount in
+          let here : At stop = subst At (sym is.0) (λ leads can ends. from_there known place piece moves leads can ends) in
           here may.leads may.taken completes.1
-      by_move (go place piece) moves is completes = absurd is
-      by_move (turn place piece) moves is completes = absurd is
-      by_move settle moves is completes = absurd is
+      by_move known (go place piece) moves is completes = absurd is
+      by_move known (turn place piece) moves is completes = absurd is
+      by_move known settle moves is completes = absurd is

@@ -1,20 +1,16 @@
 -- Ways to the end stay open where fewer borders are used, and earn as much more: so the trains that are left never earn
 -- more than they do by themselves.
-use Rattle.std.proofs.Common.{◌≡◌, ℕ, zero, suc, ◌+◌, ◌-◌, ◌≤◌, Bool, true, false, ◌&&◌, ◌⊎◌, inl, inr, Some, List, [], ◌∷◌, ◌++◌, length, set, replicate, slice_get, refl, sym, ap, subst, ◌∙◌, arith, add-one, le_trans}
+use Rattle.std.proofs.Common.{◌≡◌, ℕ, zero, suc, ◌+◌, ◌-◌, ◌≤◌, Bool, true, false, not, ◌&&◌, ◌||◌, nat_le, ◌==◌, ◌⊎◌, inl, inr, Some, List, [], ◌∷◌, ◌++◌, length, set, replicate, slice_get, refl, sym, ap, subst, ◌∙◌, arith, add-one, le_trans}
+use Rattle.std.proofs.lemmas.Bool.{le-leb, leb-true}
 use Rattle.best_run.specs.declared.task.Piece.{Piece}
 use Rattle.best_run.specs.declared.task.Task.{Task}
+use Rattle.best_run.specs.declared.explored.Found.{Found}
 use Rattle.best_run.specs.declared.state.Settled.{Settled}
 use Rattle.best_run.specs.declared.state.Standing.{Standing}
-use Rattle.best_run.specs.Moves.{CanEarn, Completes, Explores, IsOpen, Move, State, along, begin, begun, between, can_take, go, marked_all, may_come, may_earn, misses, node_at, pass, passed, settle, settling, standing, start, stop_in, total_after, total_of, turn, turned_back, using}
-use Rattle.best_run.specs.Suffix.{AreBounds, EarnAtMost, FallShort, IsSolved, nothing_before}
+use Rattle.best_run.specs.Moves.{AreExplored, CanEarn, Completes, Explores, IsOpen, Move, State, along, begin, begun, between, can_take, go, marked_all, may_come, may_earn, misses, node_at, pass, passed, settle, settling, standing, start, stop_in, total_after, total_of, turn, turned_back, using}
+use Rattle.best_run.specs.Kept.{Freer}
+use Rattle.best_run.specs.Suffix.{AreBounds, EarnAtMost, FallShort, IsSolved, IsTop, nothing_before}
 use Rattle.best_run.proofs.Advance.{IsMarked, free_misses, misses_free}
-
--- what is marked in the second is marked in the first
-abbrev pub Freer : List Bool → List Bool → Type 0
-Freer [] [] = Unit {0}
-Freer [] (mark ∷ marks) = ⊥
-Freer (mark ∷ marks) [] = ⊥
-Freer (mark ∷ marks) (other ∷ others) = (other ≡ true → mark ≡ true) × Freer marks others
 
 pub freer_none : (used : List Bool) → Freer used (replicate (length used) false)
 freer_none [] = tt
@@ -48,31 +44,41 @@ freer_take task run used others piece freer =
     both_true (may_come (stop_in (node_at task piece.to)) run piece.to) (misses used piece.borders.items) (misses others piece.borders.items)
     (λ free. free_misses others piece.borders.items (λ border among marked. misses_free used piece.borders.items free border among (freer_marked used others border freer marked)))
 
--- the same trains are settled, with other earnings and other marks
--- and, if they are free, no cap
-abbrev unless : Bool → ℕ → ℕ
-unless true number = 0
-unless false number = number
+-- there is no cap, or one that is no lower, for trains of the same kind
+abbrev Looser : ℕ → ℕ → ℕ → ℕ → Type 0
+Looser before low kind cap = (kind ≡ 0) ⊎ ((before ≡ kind) × (low ≤ cap))
 
-abbrev eased : Bool → Settled → ℕ → List Bool → Settled
-eased free settled total used =
-    record { next = settled.next; total = total; kind = unless free settled.kind; cap = unless free settled.cap; used = used }
+-- the same trains are settled, with another cap, other earnings and other marks
+abbrev eased : ℕ → ℕ → Settled → ℕ → List Bool → Settled
+eased kind cap settled total used =
+    record { next = settled.next; total = total; kind = kind; cap = cap; used = used }
 
-abbrev eased_state : Bool → State → ℕ → List Bool → State
-eased_state free (between settled) total used = between (eased free settled total used)
-eased_state free (standing settled run) total used = standing (eased free settled total used) run
+abbrev eased_state : ℕ → ℕ → State → ℕ → List Bool → State
+eased_state kind cap (between settled) total used = between (eased kind cap settled total used)
+eased_state kind cap (standing settled run) total used = standing (eased kind cap settled total used) run
 
-earns_eased : (free : Bool) (kind cap most value : ℕ) → may_earn kind cap most value ≡ true → may_earn (unless free kind) (unless free cap) most value ≡ true
-earns_eased true kind cap most value may = refl
-earns_eased false kind cap most value may = may
+either_true : (a b c : Bool) → (b ≡ true → c ≡ true) → (a || b) ≡ true → (a || c) ≡ true
+either_true true b c makes is = refl
+either_true false b c makes is = makes is
+
+earns_eased : (before low kind cap most value : ℕ) → Looser before low kind cap → may_earn before low most value ≡ true → may_earn kind cap most value ≡ true
+earns_eased before low kind cap most value (inl none) may = rw none refl
+earns_eased before low kind cap most value (inr same) may =
+    either_true (kind == 0 || not (kind == most)) (nat_le value low) (nat_le value cap)
+    (λ under. le-leb value cap (omega (arith, leb-true value low under, same.1)))
+    (ap (λ (k : ℕ). may_earn k low most value) (sym same.0) ∙ may)
+
+abbrev cap_of : (ℕ → ℕ → Type 0) → State → Type 0
+cap_of P (between settled) = P settled.kind settled.cap
+cap_of P (standing settled run) = P settled.kind settled.cap
 
 abbrev marks_of : State → List Bool
 marks_of (between settled) = settled.used
 marks_of (standing settled run) = settled.used
 
-record Eased (task : Task) (free : Bool) (state : State) (moves : List Move) (total : ℕ) (used : List Bool) : Type 0 where
-  pub completes : Completes task (eased_state free state total used) moves
-  pub earns : total_after task state moves + total ≡ total_after task (eased_state free state total used) moves + total_of state
+pub record Eased (task : Task) (kind cap : ℕ) (state : State) (moves : List Move) (total : ℕ) (used : List Bool) : Type 0 where
+  pub completes : Completes task (eased_state kind cap state total used) moves
+  pub earns : total_after task state moves + total ≡ total_after task (eased_state kind cap state total used) moves + total_of state
 
 -- what a run earns is earned in both
 less_both : (a b total value settled : ℕ) → a + (total + value) ≡ b + (settled + value) → a + total ≡ b + settled
@@ -81,56 +87,56 @@ less_both a b total value settled same = omega arith
 within : (a b total bound best : ℕ) → a + 0 ≡ b + total → b ≤ bound → total + bound ≤ best → a ≤ best
 within a b total bound best same low enough = omega arith
 
-ease : (task : Task) (moves : List Move) (free : Bool) (state : State) (total : ℕ) (used : List Bool) → Freer (marks_of state) used → Completes task state moves → Eased task free state moves total used
-ease task [] free (between settled) total used freer completes = record { completes = completes; earns = omega arith }
-ease task [] free (standing settled run) total used freer completes = absurd completes
-ease task (pass ∷ moves) free (between settled) total used freer completes =
-    let rest : Eased task free (between (passed settled)) moves total used = ease task moves free (between (passed settled)) total used freer completes.1 in
+pub ease : (task : Task) (moves : List Move) (kind cap : ℕ) (state : State) (total : ℕ) (used : List Bool) → cap_of (λ before low. Looser before low kind cap) state → Freer (marks_of state) used → Completes task state moves → Eased task kind cap state moves total used
+ease task [] kind cap (between settled) total used looser freer completes = record { completes = completes; earns = omega arith }
+ease task [] kind cap (standing settled run) total used looser freer completes = absurd completes
+ease task (pass ∷ moves) kind cap (between settled) total used looser freer completes =
+    let rest : Eased task kind cap (between (passed settled)) moves total used = ease task moves kind cap (between (passed settled)) total used looser freer completes.1 in
     record { completes = (completes.0, rest.completes); earns = rest.earns }
-ease task (pass ∷ moves) free (standing settled run) total used freer completes = absurd completes.0
-ease task (begin stop index piece ∷ moves) free (between settled) total used freer completes =
-    let rest : Eased task free (standing (using settled piece) (along task (begun task settled stop index) piece)) moves total (marked_all used piece.borders.items) = ease task moves free (standing (using settled piece) (along task (begun task settled stop index) piece)) total (marked_all used piece.borders.items) (freer_all piece.borders.items settled.used used freer) completes.1 in
+ease task (pass ∷ moves) kind cap (standing settled run) total used looser freer completes = absurd completes.0
+ease task (begin stop index piece ∷ moves) kind cap (between settled) total used looser freer completes =
+    let rest : Eased task kind cap (standing (using settled piece) (along task (begun task settled stop index) piece)) moves total (marked_all used piece.borders.items) = ease task moves kind cap (standing (using settled piece) (along task (begun task settled stop index) piece)) total (marked_all used piece.borders.items) looser (freer_all piece.borders.items settled.used used freer) completes.1 in
     record {
       completes = (record { train = completes.0.train; begins = completes.0.begins; token = completes.0.token; leads = completes.0.leads; taken = freer_take task (begun task settled stop index) settled.used used piece freer completes.0.taken }, rest.completes);
       earns = rest.earns;
     }
-ease task (begin stop index piece ∷ moves) free (standing settled run) total used freer completes = absurd completes.0
-ease task (go index piece ∷ moves) free (between settled) total used freer completes = absurd completes.0
-ease task (go index piece ∷ moves) free (standing settled run) total used freer completes =
-    let rest : Eased task free (standing (using settled piece) (along task run piece)) moves total (marked_all used piece.borders.items) = ease task moves free (standing (using settled piece) (along task run piece)) total (marked_all used piece.borders.items) (freer_all piece.borders.items settled.used used freer) completes.1 in
+ease task (begin stop index piece ∷ moves) kind cap (standing settled run) total used looser freer completes = absurd completes.0
+ease task (go index piece ∷ moves) kind cap (between settled) total used looser freer completes = absurd completes.0
+ease task (go index piece ∷ moves) kind cap (standing settled run) total used looser freer completes =
+    let rest : Eased task kind cap (standing (using settled piece) (along task run piece)) moves total (marked_all used piece.borders.items) = ease task moves kind cap (standing (using settled piece) (along task run piece)) total (marked_all used piece.borders.items) looser (freer_all piece.borders.items settled.used used freer) completes.1 in
     record {
       completes = (record { passes = completes.0.passes; leads = completes.0.leads; taken = freer_take task run settled.used used piece freer completes.0.taken }, rest.completes);
       earns = rest.earns;
     }
-ease task (turn index piece ∷ moves) free (between settled) total used freer completes = absurd completes.0
-ease task (turn index piece ∷ moves) free (standing settled run) total used freer completes =
+ease task (turn index piece ∷ moves) kind cap (between settled) total used looser freer completes = absurd completes.0
+ease task (turn index piece ∷ moves) kind cap (standing settled run) total used looser freer completes =
     let may = completes.0 in
-    let rest : Eased task free (standing (using settled piece) (along task (turned_back run) piece)) moves total (marked_all used piece.borders.items) = ease task moves free (standing (using settled piece) (along task (turned_back run) piece)) total (marked_all used piece.borders.items) (freer_all piece.borders.items settled.used used freer) completes.1 in
+    let rest : Eased task kind cap (standing (using settled piece) (along task (turned_back run) piece)) moves total (marked_all used piece.borders.items) = ease task moves kind cap (standing (using settled piece) (along task (turned_back run) piece)) total (marked_all used piece.borders.items) looser (freer_all piece.borders.items settled.used used freer) completes.1 in
     record {
       completes = (record { once = may.once; stands = may.stands; later = may.later; passes = may.passes; leads = may.leads; taken = freer_take task (turned_back run) settled.used used piece freer may.taken }, rest.completes);
       earns = rest.earns;
     }
-ease task (settle ∷ moves) free (between settled) total used freer completes = absurd completes.0
-ease task (settle ∷ moves) free (standing settled run) total used freer completes =
-    let rest : Eased task false (between (settling settled run)) moves (total + run.value) used = ease task moves false (between (settling settled run)) (total + run.value) used freer completes.1 in
+ease task (settle ∷ moves) kind cap (between settled) total used looser freer completes = absurd completes.0
+ease task (settle ∷ moves) kind cap (standing settled run) total used looser freer completes =
+    let rest : Eased task run.most run.value (between (settling settled run)) moves (total + run.value) used = ease task moves run.most run.value (between (settling settled run)) (total + run.value) used (inr (refl, omega arith)) freer completes.1 in
     record {
-      completes = (both_true (stop_in (node_at task run.head)) (may_earn settled.kind settled.cap run.most run.value) (may_earn (unless free settled.kind) (unless free settled.cap) run.most run.value) (earns_eased free settled.kind settled.cap run.most run.value) completes.0, rest.completes);
-      earns = less_both (total_after task (between (settling settled run)) moves) (total_after task (between (eased false (settling settled run) (total + run.value) used)) moves) total run.value settled.total rest.earns;
+      completes = (both_true (stop_in (node_at task run.head)) (may_earn settled.kind settled.cap run.most run.value) (may_earn kind cap run.most run.value) (earns_eased settled.kind settled.cap kind cap run.most run.value looser) completes.0, rest.completes);
+      earns = less_both (total_after task (between (settling settled run)) moves) (total_after task (between (eased run.most run.value (settling settled run) (total + run.value) used)) moves) total run.value settled.total rest.earns;
     }
 
 -- what is settled and what the trains that are left earn by themselves
 pub rest_low : (task : Task) (settled : Settled) (bound : ℕ) → EarnAtMost task settled.next bound → length settled.used ≡ 279 → (moves : List Move) → Completes task (between settled) moves → total_after task (between settled) moves ≤ settled.total + bound
 rest_low task settled bound most whole moves completes =
     let freer : Freer settled.used (replicate 279 false) = subst (λ (n : ℕ). Freer settled.used (replicate n false)) whole (freer_none settled.used) in
-    let easy : Eased task true (between settled) moves 0 (replicate 279 false) = ease task moves true (between settled) 0 (replicate 279 false) freer completes in
+    let easy : Eased task 0 0 (between settled) moves 0 (replicate 279 false) = ease task moves 0 0 (between settled) 0 (replicate 279 false) (inl refl) freer completes in
     within (total_after task (between settled) moves) (total_after task (between (nothing_before settled.next)) moves) settled.total bound (settled.total + bound) easy.earns (most moves easy.completes) (omega arith)
 
 -- what falls short need not be tried
-pub falls_short : (task : Task) (bounds : List ℕ) (settled : Settled) (best : ℕ) → AreBounds task bounds → length settled.used ≡ 279 → settled.next ≤ length task.trains.items → FallShort task bounds settled best → Explores task (between settled) best best
+pub falls_short : (task : Task) (bounds : List ℕ) (settled : Settled) (best : Found) → AreBounds task bounds → length settled.used ≡ 279 → settled.next ≤ length task.trains.items → FallShort task bounds settled best.amount → Explores task (between settled) best best
 falls_short task bounds settled best are whole next short =
-    record { grows = omega arith; earned = λ possible earned. earned; most = most }
+    record { grows = omega arith; earned = λ possible earned. earned; known = λ known. known; most = λ known. most }
   where
-    most : (moves : List Move) → Completes task (between settled) moves → total_after task (between settled) moves ≤ best
+    most : (moves : List Move) → Completes task (between settled) moves → total_after task (between settled) moves ≤ best.amount
     most moves completes =
         le_trans (rest_low task settled short.0 (are (length task.trains.items - settled.next) short.0 settled.next short.1 (omega (arith, next))) whole moves completes) short.2
 
@@ -150,44 +156,44 @@ slice_push (z ∷ xs) x zero y is = inl is
 slice_push (z ∷ xs) x (suc i) y is =
     elim (slice_push xs x i y is) [ inl old ↦ inl old | inr new ↦ inr (ap suc new.0, new.1) ]
 
-pub solved_none : (task : Task) (best : ℕ) → IsSolved task 0 [] best best
-solved_none task best =
-    record { all = refl; true_bounds = λ count bound next is. absurd (no_such count bound is); grows = omega arith; earned = λ earned. earned }
+pub solved_none : (task : Task) (best : Found) → AreExplored task best → IsSolved task 0 [] best best
+solved_none task best known =
+    record { all = refl; true_bounds = λ count bound next is. absurd (no_such count bound is); grows = omega arith; known = known; earned = λ earned. earned }
   where
     no_such : (count bound : ℕ) → slice_get [] count ≡ Some bound → ⊥
     no_such zero bound is = cc
     no_such (suc count) bound is = cc
 
 -- one train more is solved for
-pub solved_more : (task : Task) (count : ℕ) (bounds : List ℕ) (first old new : ℕ) → count ≤ length task.trains.items → IsSolved task count bounds first old → Explores task (between (nothing_before (length task.trains.items - count))) old new → IsSolved task (count + 1) (bounds ++ new ∷ []) first new
+pub solved_more : (task : Task) (count : ℕ) (bounds : List ℕ) (first old new : Found) → count ≤ length task.trains.items → IsSolved task count bounds first old → Explores task (between (nothing_before (length task.trains.items - count))) old new → IsSolved task (count + 1) (bounds ++ new.amount ∷ []) first new
 solved_more task count bounds first old new low before explores =
     record {
       all = length_push bounds ∙ (ap suc before.all ∙ sym (add-one count));
       true_bounds = bounds_more;
       grows = omega (arith, before.grows, explores.grows);
+      known = explores.known before.known;
       earned = λ earned. explores.earned (open_before task (length task.trains.items - count) (omega arith)) (before.earned earned);
     }
   where
-    length_push : (xs : List ℕ) → length (xs ++ new ∷ []) ≡ suc (length xs)
+    length_push : (xs : List ℕ) → length (xs ++ new.amount ∷ []) ≡ suc (length xs)
     length_push [] = refl
     length_push (x ∷ xs) = ap suc (length_push xs)
 
-    bounds_more : AreBounds task (bounds ++ new ∷ [])
+    bounds_more : AreBounds task (bounds ++ new.amount ∷ [])
     bounds_more many bound next is all =
-        elim (slice_push bounds new many bound is) [
+        elim (slice_push bounds new.amount many bound is) [
           | inl known ↦ before.true_bounds many bound next known all
           | inr last ↦
               let here : next ≡ length task.trains.items - count = omega (arith, all, last.0, before.all) in
-              subst (λ (n : ℕ). EarnAtMost task n bound) (sym here) (subst (EarnAtMost task (length task.trains.items - count)) last.1 explores.most)
+              subst (λ (n : ℕ). EarnAtMost task n bound) (sym here) (subst (EarnAtMost task (length task.trains.items - count)) last.1 (explores.most before.known))
         ]
 
 -- all trains are solved for
-pub solved_all : (task : Task) (count : ℕ) (bounds : List ℕ) (old new : ℕ) → count ≡ length task.trains.items → IsSolved task (length task.trains.items) bounds 0 old → Explores task (between (nothing_before (length task.trains.items - count))) old new → Explores task start 0 new
-solved_all task count bounds old new all before explores =
+pub solved_all : (task : Task) (count : ℕ) (bounds : List ℕ) (first old new : Found) → count ≡ length task.trains.items → first.amount ≡ 0 → IsSolved task (length task.trains.items) bounds first old → Explores task (between (nothing_before (length task.trains.items - count))) old new → IsTop task new.amount
+solved_all task count bounds first old new all nothing before explores =
     record {
-      grows = omega arith;
-      earned = λ possible earned. from_start.earned possible (before.earned earned);
-      most = from_start.most;
+      earned = λ earned. from_start.earned (λ moves completes. (moves, completes, refl)) (before.earned (subst (CanEarn task) (sym nothing) earned));
+      most = from_start.most before.known;
     }
   where
     from_start : Explores task start old new

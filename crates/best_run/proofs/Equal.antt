@@ -4,6 +4,7 @@ use Rattle.std.proofs.Common.{◌≡◌, ℕ, zero, suc, ◌+◌, ◌*◌, ◌<�
 use Rattle.std.proofs.lemmas.Bool.{eq-eqb, eqb-true, leb-true}
 use Rattle.best_run.specs.declared.task.Piece.{Piece}
 use Rattle.best_run.specs.declared.task.Task.{Task}
+use Rattle.best_run.specs.declared.explored.Found.{Found}
 use Rattle.best_run.specs.declared.state.Settled.{Settled}
 use Rattle.best_run.specs.declared.state.Standing.{Standing}
 use Rattle.best_run.specs.Moves.{Completes, Explores, Move, State, along, begin, begun, between, go, may_earn, node_at, pass, passed, settle, settling, standing, stop_in, total_after, total_of, turn, turned_back, using}
@@ -135,10 +136,10 @@ module _ (task : Task) (most cap bound : ℕ) (some : 0 < most) where
       low_from moves (between settled) count (record { equal = equal; kind = kind; within = small; whole = whole; rest = rest }) completes
 
 -- what is capped need not be tried
-pub explores_capped : (task : Task) (settled : Settled) (best : ℕ) → length settled.used ≡ 279 → AreCapped task settled.next settled.kind settled.cap settled.total best → Explores task (between settled) best best
+pub explores_capped : (task : Task) (settled : Settled) (best : Found) → length settled.used ≡ 279 → AreCapped task settled.next settled.kind settled.cap settled.total best.amount → Explores task (between settled) best best
 explores_capped task settled best whole capped =
-    record { grows = omega arith; earned = λ possible earned. earned; most = most }
+    record { grows = omega arith; earned = λ possible earned. earned; known = λ known. known; most = λ known. most }
   where
-    most : (moves : List Move) → Completes task (between settled) moves → total_after task (between settled) moves ≤ best
+    most : (moves : List Move) → Completes task (between settled) moves → total_after task (between settled) moves ≤ best.amount
     most moves completes =
         omega (arith, capped.short, low_settled task settled.kind settled.cap capped.bound capped.some capped.equal settled capped.are_equal refl (omega arith) whole capped.rest moves completes)

@@ -1,5 +1,5 @@
 -- What the search finds is the greatest revenue.
-use Rattle.std.proofs.Common.{◌≡◌, ℕ, ◌+◌, true, false, List, [], ◌∷◌, replicate, refl, sym, ◌∙◌, arith}
+use Rattle.std.proofs.Common.{◌≡◌, ℕ, ◌+◌, true, false, List, [], ◌∷◌, replicate, sym, ◌∙◌, arith}
 use Rattle.std.specs.List.{AllByRecursion}
 use Rattle.reach.proofs.Collected.{none_marked}
 use Rattle.reach.specs.Lawful.{IsLawful}
@@ -10,7 +10,8 @@ use Rattle.certificate.specs.Set.{IsEarned, IsGreatest, IsLegalSet, IsMost, Trai
 use Rattle.best_run.specs.declared.task.Task.{Task}
 use Rattle.best_run.specs.declared.state.Settled.{Settled}
 use Rattle.best_run.specs.Described.{Describes}
-use Rattle.best_run.specs.Moves.{CanEarn, Explores, between, start, total_after}
+use Rattle.best_run.specs.Moves.{CanEarn, between, start, total_after}
+use Rattle.best_run.specs.Suffix.{IsTop}
 use Rattle.best_run.proofs.Complete.{CanFinish}
 use Rattle.best_run.proofs.Few.{length_replicate}
 use Rattle.best_run.proofs.Arms.{Used}
@@ -51,18 +52,18 @@ module _ (position : Position) (company : Company) (lawful : IsLawful position) 
   no_runs = record { legal = tt; each_once = λ kind. omega arith; apart = tt }
 
   -- what has been explored from the start is the greatest
-  pub greatest_found : (best : ℕ) → Explores task start 0 best → IsGreatest position company kinds best
-  greatest_found best explores =
+  pub greatest_found : (best : ℕ) → IsTop task best → IsGreatest position company kinds best
+  greatest_found best top =
       record { earned = earned; most = most }
     where
       most : IsMost position company kinds best
       most runs set =
           let can : CanEarn task (revenue_of position runs) = can_earn runs set in
-          let low = explores.most can.0 can.1 in
+          let low = top.most can.0 can.1 in
           omega (arith, low, can.2)
 
       earned : IsEarned position company kinds best
       earned =
-          let can : CanEarn task best = explores.earned (λ moves completes. (moves, completes, refl)) (can_earn [] no_runs) in
+          let can : CanEarn task best = top.earned (can_earn [] no_runs) in
           let told : RunsTold position company lawful kinds task describes [] kinds nothing (total_after task start can.0) = sound_from position company lawful kinds task describes can.0 start can.1 [] kinds none_used describes.trains in
           (told.runs, record { legal = told.set.legal; each_once = told.set.each_once; apart = told.set.apart }, omega (arith, told.earns, can.2))

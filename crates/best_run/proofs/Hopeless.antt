@@ -8,6 +8,7 @@ use Rattle.best_run.specs.declared.task.Piece.{Piece}
 use Rattle.best_run.specs.declared.task.Departures.{Departures}
 use Rattle.best_run.specs.declared.task.Task.{Task}
 use Rattle.best_run.specs.declared.task.Way.{Way}
+use Rattle.best_run.specs.declared.explored.Found.{Found}
 use Rattle.best_run.specs.declared.state.Settled.{Settled}
 use Rattle.best_run.specs.declared.state.Standing.{Standing}
 use Rattle.best_run.specs.Ahead.{EndsAtMost, IsGoneOver, IsOutlook, LiesAhead, beyond}
@@ -321,6 +322,6 @@ module _ (task : Task) (fit : IsFit task) (ready : AreReady task) (first : Settl
       omega (arith, capped.short, low_alike level most capped.some capped.equal capped.bound capped.are_equal capped.rest (length moves) moves (omega arith) first begun (first_follows stands begins whole spots) (omega (arith, low, gains_low level task.spots.items ahead begun.visited)) completes)
 
 -- what cannot earn more need not be tried
-pub explores_hopeless : (task : Task) (settled : Settled) (run : Standing) (best : ℕ) → EndsAtMost task settled run best → Explores task (standing settled run) best best
+pub explores_hopeless : (task : Task) (settled : Settled) (run : Standing) (best : Found) → EndsAtMost task settled run best.amount → Explores task (standing settled run) best best
 explores_hopeless task settled run best ends =
-    record { grows = omega arith; earned = λ possible earned. earned; most = ends }
+    record { grows = omega arith; earned = λ possible earned. earned; known = λ known. known; most = λ known. ends }

@@ -3,6 +3,7 @@ pub mod Tried
 pub mod Places
 pub mod Ahead
 pub mod Eased
+pub mod Kept
 pub mod Equal
 pub mod Beyond
 pub mod Hopeless

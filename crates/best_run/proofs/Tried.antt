@@ -1,11 +1,12 @@
 -- What has been tried: moves of one sort after those of another, a piece as a move, and all moves of a state.
 use Rattle.std.proofs.Common.{◌≡◌, ℕ, ◌+◌, ◌<◌, ◌≤◌, true, false, ◌⊎◌, inl, inr, Option, Some, None, List, [], ◌∷◌, length, refl, sym, ap, ◌∙◌, arith, le_trans}
 use Rattle.std.proofs.lemmas.Option.{slice_get_within}
+use Rattle.best_run.specs.declared.explored.Found.{Found}
 use Rattle.best_run.specs.declared.task.Node.{Node}
 use Rattle.best_run.specs.declared.task.Task.{Task}
 use Rattle.best_run.specs.declared.state.Settled.{Settled}
 use Rattle.best_run.specs.declared.state.Standing.{Standing}
-use Rattle.best_run.specs.Moves.{Allows, Any, Below, Completes, Explores, IsBegin, IsBeginAt, IsGo, IsTurn, Move, State, Tries, begin, between, ends_in, go, may_settle, node_at, own_in, pass, passed, settle, settling, standing, stop_in, total_after, turn}
+use Rattle.best_run.specs.Moves.{Allows, Any, AreExplored, Below, Completes, Explores, IsBegin, IsBeginAt, IsGo, IsTurn, Move, State, Tries, begin, between, ends_in, go, may_settle, node_at, own_in, pass, passed, settle, settling, standing, stop_in, total_after, turn}
 use Rattle.best_run.proofs.Places.{below_next}
 
 -- a move by which a run goes on
@@ -17,37 +18,40 @@ IsOn (turn index piece) = Unit {0}
 IsOn settle = ⊥
 
 -- nothing has been tried
-pub tries_none : (task : Task) (state : State) (P : Move → Type 0) (best : ℕ) → ((move : Move) → P move → Allows task state move → ⊥) → Tries task state P best best
+pub tries_none : (task : Task) (state : State) (P : Move → Type 0) (best : Found) → ((move : Move) → P move → Allows task state move → ⊥) → Tries task state P best best
 tries_none task state P best none =
     record {
       grows = omega arith;
       earned = λ possible earned. earned;
-      most = λ move moves is completes. absurd (none move is completes.0);
+      known = λ known. known;
+      most = λ known move moves is completes. absurd (none move is completes.0);
     }
 
 -- moves of one sort, and then those of another
-pub tries_both : (task : Task) (state : State) (P Q R : Move → Type 0) (old middle new : ℕ) → Tries task state P old middle → Tries task state Q middle new → ((move : Move) → R move → Allows task state move → P move ⊎ Q move) → Tries task state R old new
+pub tries_both : (task : Task) (state : State) (P Q R : Move → Type 0) (old middle new : Found) → Tries task state P old middle → Tries task state Q middle new → ((move : Move) → R move → Allows task state move → P move ⊎ Q move) → Tries task state R old new
 tries_both task state P Q R old middle new first second either =
     record {
       grows = le_trans first.grows second.grows;
       earned = λ possible earned. second.earned possible (first.earned possible earned);
-      most = λ move moves is completes. elim (either move is completes.0) [
-        | inl p ↦ le_trans (first.most move moves p completes) second.grows
-        | inr q ↦ second.most move moves q completes
+      known = λ known. second.known (first.known known);
+      most = λ known move moves is completes. elim (either move is completes.0) [
+        | inl p ↦ le_trans (first.most known move moves p completes) second.grows
+        | inr q ↦ second.most (first.known known) move moves q completes
       ];
     }
 
 -- fewer moves
-pub tries_fewer : (task : Task) (state : State) (P R : Move → Type 0) (old new : ℕ) → Tries task state P old new → ((move : Move) → R move → Allows task state move → P move) → Tries task state R old new
+pub tries_fewer : (task : Task) (state : State) (P R : Move → Type 0) (old new : Found) → Tries task state P old new → ((move : Move) → R move → Allows task state move → P move) → Tries task state R old new
 tries_fewer task state P R old new tries are =
     record {
       grows = tries.grows;
       earned = tries.earned;
-      most = λ move moves is completes. tries.most move moves (are move is completes.0) completes;
+      known = tries.known;
+      most = λ known move moves is completes. tries.most known move moves (are move is completes.0) completes;
     }
 
 -- no turn is allowed of a run that has turned back, that stands at a side, or that began where none passes
-pub turn_none : (task : Task) (settled : Settled) (run : Standing) (best : ℕ) → ((run.turned ≡ true) ⊎ ((ends_in (node_at task run.home) ≡ true) ⊎ (stop_in (node_at task run.head) ≡ false))) → Tries task (standing settled run) (IsTurn Any) best best
+pub turn_none : (task : Task) (settled : Settled) (run : Standing) (best : Found) → ((run.turned ≡ true) ⊎ ((ends_in (node_at task run.home) ≡ true) ⊎ (stop_in (node_at task run.head) ≡ false))) → Tries task (standing settled run) (IsTurn Any) best best
 turn_none task settled run best why = tries_none task (standing settled run) (IsTurn Any) best none
   where
     none : (move : Move) → IsTurn Any move → Allows task (standing settled run) move → ⊥
@@ -65,7 +69,7 @@ turn_none task settled run best why = tries_none task (standing settled run) (Is
     none settle is may = is
 
 -- all trains are settled, and the best is kept
-over_most : (task : Task) (settled : Settled) (new : ℕ) → length task.trains.items ≤ settled.next → settled.total ≤ new → (moves : List Move) → Completes task (between settled) moves → total_after task (between settled) moves ≤ new
+pub over_most : (task : Task) (settled : Settled) (new : ℕ) → length task.trains.items ≤ settled.next → settled.total ≤ new → (moves : List Move) → Completes task (between settled) moves → total_after task (between settled) moves ≤ new
 over_most task settled new over low [] completes = low
 over_most task settled new over low (pass ∷ moves) completes = let before : settled.next < length task.trains.items = completes.0 in absurd (omega arith)
 over_most task settled new over low (begin token i found ∷ moves) completes = absurd (omega (arith, completes.0.train))
@@ -73,41 +77,44 @@ over_most task settled new over low (go i found ∷ moves) completes = absurd co
 over_most task settled new over low (turn i found ∷ moves) completes = absurd completes.0
 over_most task settled new over low (settle ∷ moves) completes = absurd completes.0
 
-pub over_better : (task : Task) (settled : Settled) (old : ℕ) → length task.trains.items ≤ settled.next → old ≤ settled.total → Explores task (between settled) old settled.total
+pub over_better : (task : Task) (settled : Settled) (old : Found) → length task.trains.items ≤ settled.next → old.amount ≤ settled.total → Explores task (between settled) old (record old { amount = settled.total })
 over_better task settled old over low =
     record {
       grows = low;
       earned = λ possible earned. possible [] over;
-      most = over_most task settled settled.total over (omega arith);
+      known = λ known place entry there moves completes. le_trans (known place entry there moves completes) low;
+      most = λ known. over_most task settled settled.total over (omega arith);
     }
 
-pub over_no_better : (task : Task) (settled : Settled) (old : ℕ) → length task.trains.items ≤ settled.next → settled.total ≤ old → Explores task (between settled) old old
+pub over_no_better : (task : Task) (settled : Settled) (old : Found) → length task.trains.items ≤ settled.next → settled.total ≤ old.amount → Explores task (between settled) old old
 over_no_better task settled old over low =
     record {
       grows = omega arith;
       earned = λ possible earned. earned;
-      most = over_most task settled old over low;
+      known = λ known. known;
+      most = λ known. over_most task settled old.amount over low;
     }
 
 -- the next train has passed, and has begun all its runs
-pub explores_between : (task : Task) (settled : Settled) (old middle new : ℕ) → settled.next < length task.trains.items → Explores task (between (passed settled)) old middle → Tries task (between settled) (IsBegin Any) middle new → Explores task (between settled) old new
+pub explores_between : (task : Task) (settled : Settled) (old middle new : Found) → settled.next < length task.trains.items → Explores task (between (passed settled)) old middle → Tries task (between settled) (IsBegin Any) middle new → Explores task (between settled) old new
 explores_between task settled old middle new before first second =
     record {
       grows = le_trans first.grows second.grows;
       earned = λ possible earned. second.earned possible (first.earned (λ moves completes. possible (pass ∷ moves) (before, completes)) earned);
+      known = λ known. second.known (first.known known);
       most = by_moves;
     }
   where
-    by_moves : (moves : List Move) → Completes task (between settled) moves → total_after task (between settled) moves ≤ new
-    by_moves [] completes = absurd (let over : length task.trains.items ≤ settled.next = completes in omega arith)
-    by_moves (pass ∷ moves) completes = le_trans (first.most moves completes.1) second.grows
-    by_moves (begin token i found ∷ moves) completes = second.most (begin token i found) moves tt completes
-    by_moves (go i found ∷ moves) completes = absurd completes.0
-    by_moves (turn i found ∷ moves) completes = absurd completes.0
-    by_moves (settle ∷ moves) completes = absurd completes.0
+    by_moves : AreExplored task old → (moves : List Move) → Completes task (between settled) moves → total_after task (between settled) moves ≤ new.amount
+    by_moves known [] completes = absurd (let over : length task.trains.items ≤ settled.next = completes in omega arith)
+    by_moves known (pass ∷ moves) completes = le_trans (first.most known moves completes.1) second.grows
+    by_moves known (begin token i found ∷ moves) completes = second.most (first.known known) (begin token i found) moves tt completes
+    by_moves known (go i found ∷ moves) completes = absurd completes.0
+    by_moves known (turn i found ∷ moves) completes = absurd completes.0
+    by_moves known (settle ∷ moves) completes = absurd completes.0
 
 -- the run has gone on from where it stands, and then from where it began
-pub tries_on : (task : Task) (settled : Settled) (run : Standing) (old middle new : ℕ) → Tries task (standing settled run) (IsGo Any) old middle → Tries task (standing settled run) (IsTurn Any) middle new → Tries task (standing settled run) IsOn old new
+pub tries_on : (task : Task) (settled : Settled) (run : Standing) (old middle new : Found) → Tries task (standing settled run) (IsGo Any) old middle → Tries task (standing settled run) (IsTurn Any) middle new → Tries task (standing settled run) IsOn old new
 tries_on task settled run old middle new first second =
     tries_both task (standing settled run) (IsGo Any) (IsTurn Any) IsOn old middle new first second either
   where
@@ -119,40 +126,42 @@ tries_on task settled run old middle new first second =
     either settle is may = absurd is
 
 -- the run has been settled, if it may be, and has gone on
-pub explores_standing : (task : Task) (settled : Settled) (run : Standing) (old middle new : ℕ) → may_settle task settled run ≡ true → Explores task (between (settling settled run)) old middle → Tries task (standing settled run) IsOn middle new → Explores task (standing settled run) old new
+pub explores_standing : (task : Task) (settled : Settled) (run : Standing) (old middle new : Found) → may_settle task settled run ≡ true → Explores task (between (settling settled run)) old middle → Tries task (standing settled run) IsOn middle new → Explores task (standing settled run) old new
 explores_standing task settled run old middle new own first second =
     record {
       grows = le_trans first.grows second.grows;
       earned = λ possible earned. second.earned possible (first.earned (λ moves completes. possible (settle ∷ moves) (own, completes)) earned);
+      known = λ known. second.known (first.known known);
       most = by_moves;
     }
   where
-    by_moves : (moves : List Move) → Completes task (standing settled run) moves → total_after task (standing settled run) moves ≤ new
-    by_moves [] completes = absurd completes
-    by_moves (pass ∷ moves) completes = absurd completes.0
-    by_moves (begin stop i found ∷ moves) completes = absurd completes.0
-    by_moves (go i found ∷ moves) completes = second.most (go i found) moves tt completes
-    by_moves (turn i found ∷ moves) completes = second.most (turn i found) moves tt completes
-    by_moves (settle ∷ moves) completes = le_trans (first.most moves completes.1) second.grows
+    by_moves : AreExplored task old → (moves : List Move) → Completes task (standing settled run) moves → total_after task (standing settled run) moves ≤ new.amount
+    by_moves known [] completes = absurd completes
+    by_moves known (pass ∷ moves) completes = absurd completes.0
+    by_moves known (begin stop i found ∷ moves) completes = absurd completes.0
+    by_moves known (go i found ∷ moves) completes = second.most (first.known known) (go i found) moves tt completes
+    by_moves known (turn i found ∷ moves) completes = second.most (first.known known) (turn i found) moves tt completes
+    by_moves known (settle ∷ moves) completes = le_trans (first.most known moves completes.1) second.grows
 
-pub explores_on : (task : Task) (settled : Settled) (run : Standing) (old new : ℕ) → may_settle task settled run ≡ false → Tries task (standing settled run) IsOn old new → Explores task (standing settled run) old new
+pub explores_on : (task : Task) (settled : Settled) (run : Standing) (old new : Found) → may_settle task settled run ≡ false → Tries task (standing settled run) IsOn old new → Explores task (standing settled run) old new
 explores_on task settled run old new none second =
     record {
       grows = second.grows;
       earned = second.earned;
+      known = second.known;
       most = by_moves;
     }
   where
-    by_moves : (moves : List Move) → Completes task (standing settled run) moves → total_after task (standing settled run) moves ≤ new
-    by_moves [] completes = absurd completes
-    by_moves (pass ∷ moves) completes = absurd completes.0
-    by_moves (begin stop i found ∷ moves) completes = absurd completes.0
-    by_moves (go i found ∷ moves) completes = second.most (go i found) moves tt completes
-    by_moves (turn i found ∷ moves) completes = second.most (turn i found) moves tt completes
-    by_moves (settle ∷ moves) completes = absurd (let wrong : true ≡ false = sym completes.0 ∙ none in cc)
+    by_moves : AreExplored task old → (moves : List Move) → Completes task (standing settled run) moves → total_after task (standing settled run) moves ≤ new.amount
+    by_moves known [] completes = absurd completes
+    by_moves known (pass ∷ moves) completes = absurd completes.0
+    by_moves known (begin stop i found ∷ moves) completes = absurd completes.0
+    by_moves known (go i found ∷ moves) completes = second.most known (go i found) moves tt completes
+    by_moves known (turn i found ∷ moves) completes = second.most known (turn i found) moves tt completes
+    by_moves known (settle ∷ moves) completes = absurd (let wrong : true ≡ false = sym completes.0 ∙ none in cc)
 
 -- all runs from the stops before one have been tried, and then those from there
-pub begin_more : (task : Task) (settled : Settled) (stop old middle new : ℕ) → Tries task (between settled) (IsBegin (Below stop)) old middle → Tries task (between settled) (IsBeginAt stop Any) middle new → Tries task (between settled) (IsBegin (Below (stop + 1))) old new
+pub begin_more : (task : Task) (settled : Settled) (stop : ℕ) (old middle new : Found) → Tries task (between settled) (IsBegin (Below stop)) old middle → Tries task (between settled) (IsBeginAt stop Any) middle new → Tries task (between settled) (IsBegin (Below (stop + 1))) old new
 begin_more task settled stop old middle new first second =
     tries_both task (between settled) (IsBegin (Below stop)) (IsBeginAt stop Any) (IsBegin (Below (stop + 1))) old middle new first second either
   where
@@ -164,7 +173,7 @@ begin_more task settled stop old middle new first second =
     either settle is may = absurd is
 
 -- none begins where the company has no token
-pub begin_none : (task : Task) (settled : Settled) (stop best : ℕ) → ((stop_in (node_at task stop) ≡ false) ⊎ (own_in (node_at task stop) ≡ false)) → Tries task (between settled) (IsBeginAt stop Any) best best
+pub begin_none : (task : Task) (settled : Settled) (stop : ℕ) (best : Found) → ((stop_in (node_at task stop) ≡ false) ⊎ (own_in (node_at task stop) ≡ false)) → Tries task (between settled) (IsBeginAt stop Any) best best
 begin_none task settled stop best why = tries_none task (between settled) (IsBeginAt stop Any) best none
   where
     none : (move : Move) → IsBeginAt stop Any move → Allows task (between settled) move → ⊥
@@ -179,7 +188,7 @@ begin_none task settled stop best why = tries_none task (between settled) (IsBeg
     none settle is may = is
 
 -- there is no stop beyond the last one
-pub begin_every : (task : Task) (settled : Settled) (count old new : ℕ) → length task.spots.items ≤ count → Tries task (between settled) (IsBegin (Below count)) old new → Tries task (between settled) (IsBegin Any) old new
+pub begin_every : (task : Task) (settled : Settled) (count : ℕ) (old new : Found) → length task.spots.items ≤ count → Tries task (between settled) (IsBegin (Below count)) old new → Tries task (between settled) (IsBegin Any) old new
 begin_every task settled count old new all tries =
     tries_fewer task (between settled) (IsBegin (Below count)) (IsBegin Any) old new tries within
   where

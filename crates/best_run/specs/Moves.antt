@@ -8,6 +8,7 @@ use Rattle.std.specs.List.{list_any}
 use Rattle.best_run.specs.declared.task.Node.{Node}
 use Rattle.best_run.specs.declared.task.Piece.{Piece}
 use Rattle.best_run.specs.declared.task.Task.{Task}
+use Rattle.best_run.specs.declared.explored.Found.{Found}
 use Rattle.best_run.specs.declared.state.Settled.{Settled}
 use Rattle.best_run.specs.declared.state.Standing.{Standing}
 
@@ -219,24 +220,37 @@ CanEarn task amount = (moves : List Move) × Completes task start moves × (tota
 abbrev pub IsOpen : Task → State → Type 0
 IsOpen task state = (moves : List Move) → Completes task state moves → CanEarn task (total_after task state moves)
 
+-- all ways from a state between runs to the end earn at most so much
+abbrev pub EarnsAtMost : Task → Settled → ℕ → Type 0
+EarnsAtMost task settled most =
+    (moves : List Move) → Completes task (between settled) moves → total_after task (between settled) moves ≤ most
+
+-- from no state that is kept as explored more is earned than the best found
+abbrev pub AreExplored : Task → Found → Type 0
+AreExplored task found =
+    (place : ℕ) (settled : Settled) → slice_get found.explored.items place ≡ Some settled → EarnsAtMost task settled found.amount
+
 -- moves that begin with such a move have been tried in a state: the best found grows at most, moves from the start
--- earn it, and those that have been tried earn at most that
-pub record Tries (task : Task) (state : State) (P : Move → Type 0) (old new : ℕ) : Type 0 where
-  pub grows : old ≤ new
-  pub earned : IsOpen task state → CanEarn task old → CanEarn task new
-  pub most : (move : Move) (moves : List Move) → P move → Completes task state (move ∷ moves) → total_after task state (move ∷ moves) ≤ new
+-- earn it, and those that have been tried earn at most that, if what is kept as explored is
+pub record Tries (task : Task) (state : State) (P : Move → Type 0) (old new : Found) : Type 0 where
+  pub grows : old.amount ≤ new.amount
+  pub earned : IsOpen task state → CanEarn task old.amount → CanEarn task new.amount
+  pub known : AreExplored task old → AreExplored task new
+  pub most : AreExplored task old → (move : Move) (moves : List Move) → P move → Completes task state (move ∷ moves) → total_after task state (move ∷ moves) ≤ new.amount
 
 -- all ways from a state to the end have been tried
-pub record Explores (task : Task) (state : State) (old new : ℕ) : Type 0 where
-  pub grows : old ≤ new
-  pub earned : IsOpen task state → CanEarn task old → CanEarn task new
-  pub most : (moves : List Move) → Completes task state moves → total_after task state moves ≤ new
+pub record Explores (task : Task) (state : State) (old new : Found) : Type 0 where
+  pub grows : old.amount ≤ new.amount
+  pub earned : IsOpen task state → CanEarn task old.amount → CanEarn task new.amount
+  pub known : AreExplored task old → AreExplored task new
+  pub most : AreExplored task old → (moves : List Move) → Completes task state moves → total_after task state moves ≤ new.amount
 
 -- a piece has been tried with a run that stands before it: if the run may take it, all ways on have been tried
-pub record Takes (task : Task) (settled : Settled) (run : Standing) (piece : Piece) (old new : ℕ) : Type 0 where
-  pub grows : old ≤ new
-  pub earned : (can_take task run settled.used piece ≡ true → IsOpen task (standing (using settled piece) (along task run piece))) → CanEarn task old → CanEarn task new
-  pub most : can_take task run settled.used piece ≡ true → (moves : List Move) → Completes task (standing (using settled piece) (along task run piece)) moves → total_after task (standing (using settled piece) (along task run piece)) moves ≤ new
+pub record Takes (task : Task) (settled : Settled) (run : Standing) (piece : Piece) (old new : Found) : Type 0 where
+  pub grows : old.amount ≤ new.amount
+  pub earned : (can_take task run settled.used piece ≡ true → IsOpen task (standing (using settled piece) (along task run piece))) → CanEarn task old.amount → CanEarn task new.amount
+  pub known : AreExplored task old → AreExplored task new
+  pub most : AreExplored task old → can_take task run settled.used piece ≡ true → (moves : List Move) → Completes task (standing (using settled piece) (along task run piece)) moves → total_after task (standing (using settled piece) (along task run piece)) moves ≤ new.amount
 
 -- moves by their sort
 abbrev pub IsBegin : (ℕ → Type 0) → Move → Type 0

@@ -2,8 +2,9 @@
 -- equal trains none earns more than the one before.
 use Rattle.std.specs.Prelude.{◌≡◌, ℕ, ◌+◌, ◌-◌, ◌*◌, ◌<◌, ◌≤◌, false, Some, List, length, get_or, slice_get, replicate}
 use Rattle.best_run.specs.declared.task.Task.{Task}
+use Rattle.best_run.specs.declared.explored.Found.{Found}
 use Rattle.best_run.specs.declared.state.Settled.{Settled}
-use Rattle.best_run.specs.Moves.{CanEarn, Completes, Move, between, total_after}
+use Rattle.best_run.specs.Moves.{AreExplored, CanEarn, Completes, Move, between, start, total_after}
 
 -- the trains before one do not run, and nothing is used
 abbrev pub nothing_before : ℕ → Settled
@@ -40,8 +41,14 @@ pub record AreCapped (task : Task) (next kind cap total best : ℕ) : Type 0 whe
 
 -- no train, the last one, the last two, .., so many in all, are solved for by themselves: what is found bounds what
 -- they earn, and the best found can be earned, if what was found before can be
-pub record IsSolved (task : Task) (count : ℕ) (bounds : List ℕ) (old new : ℕ) : Type 0 where
+pub record IsSolved (task : Task) (count : ℕ) (bounds : List ℕ) (old new : Found) : Type 0 where
   pub all : length bounds ≡ count
   pub true_bounds : AreBounds task bounds
-  pub grows : old ≤ new
-  pub earned : CanEarn task old → CanEarn task new
+  pub grows : old.amount ≤ new.amount
+  pub known : AreExplored task new
+  pub earned : CanEarn task old.amount → CanEarn task new.amount
+
+-- so much is the most that any moves from the start earn; some earn it, if some earn nothing
+pub record IsTop (task : Task) (amount : ℕ) : Type 0 where
+  pub earned : CanEarn task 0 → CanEarn task amount
+  pub most : (moves : List Move) → Completes task start moves → total_after task start moves ≤ amount

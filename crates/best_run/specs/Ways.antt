@@ -6,9 +6,10 @@ use Rattle.best_run.specs.declared.task.Departures.{Departures}
 use Rattle.best_run.specs.declared.task.Piece.{Piece}
 use Rattle.best_run.specs.declared.task.Task.{Task}
 use Rattle.best_run.specs.declared.task.Way.{Way}
+use Rattle.best_run.specs.declared.explored.Found.{Found}
 use Rattle.best_run.specs.declared.state.Settled.{Settled}
 use Rattle.best_run.specs.declared.state.Standing.{Standing}
-use Rattle.best_run.specs.Moves.{CanEarn, Completes, IsOpen, LeadsFrom, Move, State, along, can_take, ends_in, marked_all, misses, node_at, standing, stop_in, total_after, using}
+use Rattle.best_run.specs.Moves.{AreExplored, CanEarn, Completes, IsOpen, LeadsFrom, Move, State, along, can_take, ends_in, marked_all, misses, node_at, standing, stop_in, total_after, using}
 
 -- a piece, with its place among those that lead from a spot
 pub record Hop : Type 0 where
@@ -103,7 +104,8 @@ StandsBefore ways most way = (place : ℕ) × (place < most) × (slice_get ways 
 
 -- such ways have been tried, each with its run: the best found grows at most, moves from the start earn it if they lead to
 -- where the ways are tried, and whatever comes after one of them earns at most that
-pub record TriesWays (task : Task) (from : State) (settled : Settled) (runs : Way → Standing) (P : Way → Type 0) (old new : ℕ) : Type 0 where
-  pub grows : old ≤ new
-  pub earned : IsOpen task from → CanEarn task old → CanEarn task new
-  pub most : (way : Way) → P way → can_take task (runs way) settled.used way.piece ≡ true → (moves : List Move) → Completes task (standing (using settled way.piece) (along task (runs way) way.piece)) moves → total_after task (standing (using settled way.piece) (along task (runs way) way.piece)) moves ≤ new
+pub record TriesWays (task : Task) (from : State) (settled : Settled) (runs : Way → Standing) (P : Way → Type 0) (old new : Found) : Type 0 where
+  pub grows : old.amount ≤ new.amount
+  pub earned : IsOpen task from → CanEarn task old.amount → CanEarn task new.amount
+  pub known : AreExplored task old → AreExplored task new
+  pub most : AreExplored task old → (way : Way) → P way → can_take task (runs way) settled.used way.piece ≡ true → (moves : List Move) → Completes task (standing (using settled way.piece) (along task (runs way) way.piece)) moves → total_after task (standing (using settled way.piece) (along task (runs way) way.piece)) moves ≤ new.amount

@@ -1,10 +1,11 @@
 ghost use Rattle.std.specs.Prelude.{◌≡◌, ◌-◌, ◌≤◌, IfOk, false, length};
 ghost use Rattle.best_run.specs.Fit.{IsFit};
-ghost use Rattle.best_run.specs.Moves.{Explores, between, start};
+ghost use Rattle.best_run.specs.Moves.{AreExplored, Explores, between};
 ghost use Rattle.best_run.specs.Ways.{AreReady};
-ghost use Rattle.best_run.specs.Suffix.{AreBounds, IsSolved, nothing_before};
+ghost use Rattle.best_run.specs.Suffix.{AreBounds, IsSolved, IsTop, nothing_before};
 ghost use Rattle.certificate.specs.Set.{IsGreatest};
 
+use crate::explored::Found;
 use crate::state::{BORDERS, Settled};
 use crate::task::Task;
 use crate::trains::greatest_first;
@@ -14,7 +15,7 @@ use tables::{Amount, Company, Kind};
 
 impl Task {
     /// Tries all ways of the last trains by themselves, so many of them.
-    fn settle_last(&self, count: usize, bounds: &[Amount], best: &mut Amount)
+    fn settle_last(&self, count: usize, bounds: &[Amount], best: &mut Found)
         requires fit { IsFit self.now }
         requires ready { AreReady self.now }
         requires bounds { AreBounds self.now bounds.now }
@@ -34,16 +35,17 @@ impl Task {
 
     /// Solves for no train, for the last one, for the last two, and so on, up to all but the first:
     /// what is found bounds what these trains earn behind others. The only error is want of memory.
-    fn settle_suffixes(&self, alloc: Global, best: &mut Amount) -> Result<Vec<Amount>, AllocError>
+    fn settle_suffixes(&self, alloc: Global, best: &mut Found) -> Result<Vec<Amount>, AllocError>
         requires fit { IsFit self.now }
         requires ready { AreReady self.now }
+        requires known { AreExplored self.now best.old }
         ensures { let all = length self.now.trains.items in
             IfOk result (λ bounds. IsSolved self.now all bounds.items best.old best.new) }
     {
         let mut bounds = Vec::new(alloc);
         for count in 0..self.trains.len() {
             self.settle_last(count, &bounds, best);
-            bounds.push(*best)?;
+            bounds.push(best.amount)?;
         }
         Ok(bounds)
     }
@@ -53,12 +55,12 @@ impl Task {
     fn greatest(&self, alloc: Global) -> Result<Amount, AllocError>
         requires fit { IsFit self.now }
         requires ready { AreReady self.now }
-        ensures { IfOk result (Explores self.now start 0) }
+        ensures { IfOk result (IsTop self.now) }
     {
-        let mut best = 0;
+        let mut best = Found::nothing(alloc, self.trains.len())?;
         let bounds = self.settle_suffixes(alloc, &mut best)?;
         self.settle_last(self.trains.len(), &bounds, &mut best);
-        Ok(best)
+        Ok(best.amount)
     }
 }
 

@@ -14,6 +14,7 @@
 #![tactic(auto)]
 
 mod best;
+mod explored;
 mod outlook;
 mod runner;
 mod search;

@@ -4,6 +4,7 @@ ghost use Rattle.best_run.specs.Suffix.{AreBounds, AreCapped, AreEqual, FallShor
 ghost use Rattle.best_run.specs.Ways.{AreReady};
 ghost use Rattle.best_run.specs.Moves.{Any, Explores, IsBegin, IsBeginAt, IsGo, IsTurn, Takes, Tries, between, node_at, own_in, standing, stop_in};
 
+use crate::explored::Found;
 use crate::state::{Settled, Standing};
 use crate::task::{Piece, Task};
 use tables::Amount;
@@ -67,7 +68,7 @@ impl Task {
 
     /// Tries all ways from a state between runs to the end.
     #[cycle(explore)]
-    pub(crate) fn settle_next(&self, settled: &Settled, bounds: &[Amount], best: &mut Amount)
+    pub(crate) fn settle_next(&self, settled: &Settled, bounds: &[Amount], best: &mut Found)
         requires fit { IsFit self.now }
         requires ready { AreReady self.now }
         requires bounds { AreBounds self.now bounds.now }
@@ -76,12 +77,12 @@ impl Task {
         ensures { Explores self.now (between settled.now) best.old best.new }
     {
         if settled.next == self.trains.len() {
-            if *best < settled.total {
-                *best = settled.total;
+            if best.amount < settled.total {
+                best.amount = settled.total;
             }
             return;
         }
-        if self.falls_short(settled, bounds, *best) {
+        if self.falls_short(settled, bounds, best.amount) {
             return;
         }
         let cap = settled.cap;
@@ -91,18 +92,22 @@ impl Task {
             cap,
             settled.total,
             bounds,
-            *best,
+            best.amount,
         ) {
+            return;
+        }
+        if best.covers(settled) {
             return;
         }
         let passed = settled.passed();
         self.settle_next(&passed, bounds, best);
         self.begin_runs(settled, bounds, best);
+        best.keep(settled);
     }
 
     /// Tries all runs of the next train, from each token of the company.
     #[cycle(explore)]
-    fn begin_runs(&self, settled: &Settled, bounds: &[Amount], best: &mut Amount)
+    fn begin_runs(&self, settled: &Settled, bounds: &[Amount], best: &mut Found)
         requires fit { IsFit self.now }
         requires ready { AreReady self.now }
         requires bounds { AreBounds self.now bounds.now }
@@ -120,7 +125,7 @@ impl Task {
 
     /// Tries all runs of the next train that begin at a token of the company.
     #[cycle(explore)]
-    fn begin_at(&self, settled: &Settled, stop: usize, bounds: &[Amount], best: &mut Amount)
+    fn begin_at(&self, settled: &Settled, stop: usize, bounds: &[Amount], best: &mut Found)
         requires fit { IsFit self.now }
         requires ready { AreReady self.now }
         requires bounds { AreBounds self.now bounds.now }
@@ -149,7 +154,7 @@ impl Task {
         run: &Standing,
         piece: &Piece,
         bounds: &[Amount],
-        best: &mut Amount,
+        best: &mut Found,
     )
         requires fit { IsFit self.now }
         requires ready { AreReady self.now }
@@ -171,7 +176,7 @@ impl Task {
 
     /// Tries all ways to the end from a run that has begun.
     #[cycle(explore)]
-    fn stand(&self, settled: &Settled, run: &Standing, bounds: &[Amount], best: &mut Amount)
+    fn stand(&self, settled: &Settled, run: &Standing, bounds: &[Amount], best: &mut Found)
         requires fit { IsFit self.now }
         requires ready { AreReady self.now }
         requires bounds { AreBounds self.now bounds.now }
@@ -184,7 +189,7 @@ impl Task {
             HasRoom settled.now.used (settled.now.total + (run.now.value + more)) 44720 }
         ensures { Explores self.now (standing settled.now run.now) best.old best.new }
     {
-        if self.is_hopeless(settled, run, bounds, *best) {
+        if self.is_hopeless(settled, run, bounds, best.amount) {
             return;
         }
         if self.may_settle(settled, run) {
@@ -197,7 +202,7 @@ impl Task {
 
     /// Tries all ways on from where a run stands.
     #[cycle(explore)]
-    fn go_on(&self, settled: &Settled, run: &Standing, bounds: &[Amount], best: &mut Amount)
+    fn go_on(&self, settled: &Settled, run: &Standing, bounds: &[Amount], best: &mut Found)
         requires fit { IsFit self.now }
         requires ready { AreReady self.now }
         requires bounds { AreBounds self.now bounds.now }
@@ -223,7 +228,7 @@ impl Task {
 
     /// Tries all ways on from where a run began, if it stands at a stop and has not turned back before.
     #[cycle(explore)]
-    fn turn_back(&self, settled: &Settled, run: &Standing, bounds: &[Amount], best: &mut Amount)
+    fn turn_back(&self, settled: &Settled, run: &Standing, bounds: &[Amount], best: &mut Found)
         requires fit { IsFit self.now }
         requires ready { AreReady self.now }
         requires bounds { AreBounds self.now bounds.now }

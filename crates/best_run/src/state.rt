@@ -1,5 +1,6 @@
-ghost use Rattle.std.specs.Prelude.{◌≡◌, ◌+◌, ◌-◌, ◌*◌, ◌^◌, ◌<◌, ◌≤◌, false, length};
+ghost use Rattle.std.specs.Prelude.{◌≡◌, ◌+◌, ◌-◌, ◌*◌, ◌^◌, ◌<◌, ◌≤◌, IsTrue, false, length};
 ghost use Rattle.best_run.specs.Fit.{BordersFit, IsFit};
+ghost use Rattle.best_run.specs.Kept.{Covers, Freer};
 ghost use Rattle.best_run.specs.Moves.{along, begun, begun_by, can_take, left_after, marked_all, may_come, may_earn, may_settle, misses, own_before, passed, settling, turned_back, using};
 
 use crate::task::{Piece, Task};
@@ -55,6 +56,18 @@ impl Settled {
         let _ = self.next;
     }
 
+    /// Whether each run that may come after another state may come after this one as well, and as much
+    /// is earned. It is not told of all such states.
+    pub(crate) fn covers(&self, other: &Settled) -> bool
+        ensures { IsTrue result → Covers self.now other.now }
+    {
+        self.next == other.next
+            && self.kind == other.kind
+            && self.cap >= other.cap
+            && self.total >= other.total
+            && are_within(&self.used, &other.used)
+    }
+
     /// The next train does not run.
     pub(crate) fn passed(&self) -> Settled
         requires { self.now.next < 2 ^ 63 }
@@ -107,6 +120,18 @@ impl Settled {
             used,
         }
     }
+}
+
+/// Whether all borders that are marked in one are marked in another.
+fn are_within(used: &[bool; BORDERS], other: &[bool; BORDERS]) -> bool
+    ensures { IsTrue result → Freer other.now used.now }
+{
+    for border in 0..BORDERS {
+        if used[border] && !other[border] {
+            return false;
+        }
+    }
+    true
 }
 
 /// Marks some borders.

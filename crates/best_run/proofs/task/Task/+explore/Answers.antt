@@ -1,6 +1,7 @@
 -- Each loop adds the next ways to those tried, and together they are all moves of the state.
-use Rattle.std.proofs.Common.{◌≡◌, ℕ, ◌+◌, true, false, inl, inr, Some, length, slice_get, refl, sym, ap, subst, ◌∙◌, arith}
+use Rattle.std.proofs.Common.{◌≡◌, ◌+◌, true, false, inl, inr, Some, length, slice_get, refl, sym, ap, subst, ◌∙◌, arith}
 use Rattle.std.proofs.lemmas.Option.{slice_get_read}
+use Rattle.best_run.specs.declared.explored.Found.{Found}
 use Rattle.best_run.specs.declared.state.Settled.{Settled}
 use Rattle.best_run.specs.declared.state.Standing.{Standing}
 use Rattle.best_run.specs.Moves.{Any, Below, Explores, IsBegin, IsGo, Takes, Tries, begun, begun_by, between, can_take, ends_in, node_at, own_in, standing, stop_in, turned_back}
@@ -11,6 +12,7 @@ use Rattle.best_run.proofs.Described.{among_place}
 use Rattle.best_run.proofs.Eased.{falls_short}
 use Rattle.best_run.proofs.Equal.{explores_capped}
 use Rattle.best_run.proofs.Hopeless.{explores_hopeless}
+use Rattle.best_run.proofs.Kept.{explores_covered, explores_kept}
 use Rattle.best_run.proofs.Places.{less_by, node_is, one_at_side, one_low, one_of, room_by, take_free, value_low}
 use Rattle.best_run.proofs.Tried.{begin_every, begin_more, begin_none, explores_between, explores_on, explores_standing, over_better, over_no_better, tries_on}
 use Rattle.best_run.proofs.task.Task.+explore.Goals as goal
@@ -96,9 +98,15 @@ settle_next-returns-then-are_capped t c =
 pub settle_next-returns : goal.settle_next-returns
 settle_next-returns t c =
     let task = c.args.self.now in
-    explores_between task c.args.settled.now c.args.best.now c.settle_next.new.best c.begin_runs.new.best (omega arith)
+    explores_kept task c.args.settled.now c.args.best.now c.begin_runs.new.best c.keep.new.self
+    (explores_between task c.args.settled.now c.args.best.now c.settle_next.new.best c.begin_runs.new.best (omega arith)
     (subst (λ (s : Settled). Explores task (between s) c.args.best.now c.settle_next.new.best) c.passed-passed.ensures c.settle_next.ensures)
-    c.begin_runs.ensures
+    c.begin_runs.ensures)
+    c.keep.ensures
+
+pub settle_next-returns-then-covers : goal.settle_next-returns-then-covers
+settle_next-returns-then-covers t c =
+    explores_covered c.args.self.now c.args.settled.now c.args.best.now (c.covers.ensures c.if-covers.true)
 
 pub stand-returns-then-is_hopeless : goal.stand-returns-then-is_hopeless
 stand-returns-then-is_hopeless t c =
@@ -114,12 +122,12 @@ stand-returns t c =
           explores_standing task settled run c.args.best.now w.settle_next.new.best c.turn_back.new.best (sym c.may_settle.ensures ∙ w.if-may_settle.true)
           (subst (λ (s : Settled). Explores task (between s) c.args.best.now w.settle_next.new.best) w.settling-settling.ensures w.settle_next.ensures)
           (tries_on task settled run w.settle_next.new.best c.go_on.new.best c.turn_back.new.best
-          (subst (λ (b : ℕ). Tries task (standing settled run) (IsGo Any) b c.go_on.new.best) w.best-is c.go_on.ensures)
+          (subst (λ (b : Found). Tries task (standing settled run) (IsGo Any) b c.go_on.new.best) w.best-is c.go_on.ensures)
           c.turn_back.ensures)
       | stand-else-may_settle w ↦
           explores_on task settled run c.args.best.now c.turn_back.new.best (sym c.may_settle.ensures ∙ w.if-may_settle.false)
           (tries_on task settled run c.args.best.now c.go_on.new.best c.turn_back.new.best
-          (subst (λ (b : ℕ). Tries task (standing settled run) (IsGo Any) b c.go_on.new.best) w.best-is c.go_on.ensures)
+          (subst (λ (b : Found). Tries task (standing settled run) (IsGo Any) b c.go_on.new.best) w.best-is c.go_on.ensures)
           c.turn_back.ensures)
     ]
 
@@ -198,10 +206,10 @@ begin_runs-loop-stop-preserved t c =
     let there : node_at task stop ≡ Some node = node_is task c.requires.fit stop node (omega (arith, c.requires.fit.all)) c.index-node.ensures in
     elim c.if-node.branch [
       | begin_runs-then-node+then-node-2 w ↦
-          subst (λ (b : ℕ). Tries task (between c.args.settled.now) (IsBegin (Below (stop + 1))) c.args.best.now b) (sym w.best-is)
+          subst (λ (b : Found). Tries task (between c.args.settled.now) (IsBegin (Below (stop + 1))) c.args.best.now b) (sym w.best-is)
           (begin_more task c.args.settled.now stop _ _ _ c.loop-stop.invariant w.begin_at.ensures)
       | begin_runs-else-node w ↦
-          subst (λ (b : ℕ). Tries task (between c.args.settled.now) (IsBegin (Below (stop + 1))) c.args.best.now b) (sym w.best-is)
+          subst (λ (b : Found). Tries task (between c.args.settled.now) (IsBegin (Below (stop + 1))) c.args.best.now b) (sym w.best-is)
           (begin_more task c.args.settled.now stop _ _ _ c.loop-stop.invariant
           (begin_none task c.args.settled.now stop _ (elim w.else-node.branch [
             | begin_runs-else-node-via-then-node+else-node-2 v ↦ inr (ap own_in there ∙ v.if-node-2.false)
@@ -249,7 +257,7 @@ turn_back-loop-index-preserved t c =
     let there : node_at task run.home ≡ Some node = node_is task c.requires.fit run.home node c.requires.home c.index.ensures in
     let are : AreWaysOf task run.home ways = departs_from task c.requires.ready run.home from c.requires.home c.index-from.ensures c.requires.begun in
     let at : slice_get ways index ≡ Some way = slice_get_read ways (length ways) index way refl (omega arith) c.index-way.ensures in
-    let Tried : ℕ → Type 0 = λ b. TriesWays task (standing settled run) settled (λ w. turned_back run) (λ w. StandsBefore ways (index + 1) w × IsLater run w) c.args.best.now b in
+    let Tried : Found → Type 0 = λ b. TriesWays task (standing settled run) settled (λ w. turned_back run) (λ w. StandsBefore ways (index + 1) w × IsLater run w) c.args.best.now b in
     elim c.if-run-way.branch [
       | turn_back-then-run-way w ↦
           subst Tried (sym w.best-is)

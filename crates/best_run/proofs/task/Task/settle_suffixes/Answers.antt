@@ -5,7 +5,7 @@ use Rattle.best_run.proofs.Eased.{solved_more, solved_none}
 use Rattle.best_run.proofs.task.Task.settle_suffixes.Goals as goal
 
 pub loop-count-init : goal.loop-count-init
-loop-count-init c = rw c.new-bounds.ensures.items (solved_none c.args.self.now c.args.best.now)
+loop-count-init c = rw c.new-bounds.ensures.items (solved_none c.args.self.now c.args.best.now c.requires.known)
 
 pub settle_last-requires-clause-bounds : goal.settle_last-requires-clause-bounds
 settle_last-requires-clause-bounds c = subst (AreBounds c.args.self.now) (sym c.deref.ensures.value) c.loop-count.invariant.true_bounds

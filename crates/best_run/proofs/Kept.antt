@@ -1,0 +1,69 @@
+-- A state that is covered by one that has been explored earns no more than the best found; a state that has been explored may
+-- be kept.
+use Rattle.std.proofs.Common.{◌≡◌, ℕ, zero, suc, ◌+◌, ◌<◌, ◌≤◌, Bool, true, false, ◌⊎◌, inl, inr, Some, List, [], ◌∷◌, ◌++◌, drop, get_or, length, set, slice_get, sym, subst, arith, add-one, drop-cons}
+use Rattle.best_run.specs.declared.explored.Found.{Found}
+use Rattle.best_run.specs.declared.state.Settled.{Settled}
+use Rattle.best_run.specs.declared.task.Task.{Task}
+use Rattle.best_run.specs.Kept.{Covers, Freer, IsCovered, IsKept, IsNothing}
+use Rattle.best_run.specs.Moves.{AreExplored, CanEarn, Completes, EarnsAtMost, Explores, between, total_after}
+use Rattle.best_run.specs.Suffix.{nothing_before}
+use Rattle.best_run.proofs.Eased.{Eased, ease}
+use Rattle.best_run.proofs.Tried.{over_most}
+
+-- what is covered earns no more
+low_covered : (task : Task) (entry settled : Settled) (most : ℕ) → Covers entry settled → EarnsAtMost task entry most → EarnsAtMost task settled most
+low_covered task entry settled most covers low moves completes =
+    let easy : Eased task entry.kind entry.cap (between settled) moves entry.total entry.used = ease task moves entry.kind entry.cap (between settled) entry.total entry.used (inr (sym covers.kind, covers.cap)) covers.used completes in
+    let At : ℕ → Settled = λ next. record entry { next = next } in
+    let Ends : ℕ → Type 0 = λ next. Completes task (between (At next)) moves → total_after task (between (At next)) moves ≤ most in
+    let here : Ends entry.next = low moves in
+    let there : Ends settled.next = subst Ends covers.next here in
+    omega (arith, easy.earns, there easy.completes, covers.total)
+
+pub explores_covered : (task : Task) (settled : Settled) (best : Found) → IsCovered best settled → Explores task (between settled) best best
+explores_covered task settled best is =
+    record {
+      grows = omega arith;
+      earned = λ possible earned. earned;
+      known = λ known. known;
+      most = λ known. low_covered task is.entry settled best.amount is.covers (known is.place is.entry is.there);
+    }
+
+-- a state is kept once it has been explored
+pub explores_kept : (task : Task) (settled : Settled) (old new kept : Found) → Explores task (between settled) old new → IsKept settled new kept → Explores task (between settled) old kept
+explores_kept task settled old new kept explores is =
+    record {
+      grows = omega (arith, explores.grows, is.amount);
+      earned = λ possible earned. subst (λ (n : ℕ). CanEarn task n) (sym is.amount) (explores.earned possible earned);
+      known = λ known place entry there. subst (λ (n : ℕ). EarnsAtMost task entry n) (sym is.amount) (elim (is.only place entry there) [
+        | inl before ↦ explores.known known place entry before
+        | inr same ↦ subst (λ (s : Settled). EarnsAtMost task s new.amount) same (explores.most known)
+      ]);
+      most = λ known. subst (λ (n : ℕ). EarnsAtMost task settled n) (sym is.amount) (explores.most known);
+    }
+
+-- where no train is left nothing is earned
+pub nothing_explored : (task : Task) (found : Found) → IsNothing (length task.trains.items) found → AreExplored task found
+nothing_explored task found is place entry there =
+    subst (λ (s : Settled). EarnsAtMost task s found.amount) (is.only place entry there) (over_most task (nothing_before (length task.trains.items)) found.amount (omega arith) (omega arith))
+
+-- a place is written
+pub set_only : (entries : List Settled) (n place : ℕ) (settled entry : Settled) → slice_get (set entries n settled) place ≡ Some entry → (slice_get entries place ≡ Some entry) ⊎ (settled ≡ entry)
+set_only [] n place settled entry is = inl is
+set_only (one ∷ entries) zero zero settled entry is = inr (let e : Some settled ≡ Some entry = is in cc)
+set_only (one ∷ entries) zero (suc place) settled entry is = inl is
+set_only (one ∷ entries) (suc n) zero settled entry is = inl is
+set_only (one ∷ entries) (suc n) (suc place) settled entry is = set_only entries n place settled entry is
+
+-- one more is pushed
+pub push_only : (same : Settled) (entries : List Settled) → ((place : ℕ) (entry : Settled) → slice_get entries place ≡ Some entry → same ≡ entry) → (place : ℕ) (entry : Settled) → slice_get (entries ++ same ∷ []) place ≡ Some entry → same ≡ entry
+push_only same [] only zero entry is = let e : Some same ≡ Some entry = is in cc
+push_only same [] only (suc place) entry is = only place entry is
+push_only same (one ∷ entries) only zero entry is = only zero entry is
+push_only same (one ∷ entries) only (suc place) entry is =
+    push_only same entries (λ n other at. only (suc n) other at) place entry is
+
+-- marks are compared one by one
+pub freer_next : (marks others : List Bool) (n : ℕ) → n < length marks → n < length others → (get_or others n false ≡ true → get_or marks n false ≡ true) → Freer (drop (n + 1) marks) (drop (n + 1) others) → Freer (drop n marks) (drop n others)
+freer_next marks others n low less here rest =
+    rw (drop-cons marks n false, drop-cons others n false) (here, subst (λ (m : ℕ). Freer (drop m marks) (drop m others)) (add-one n) rest)

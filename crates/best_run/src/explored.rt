@@ -1,0 +1,74 @@
+//! What has been found, and which states between runs have been explored: a state from which no more
+//! can be earned than from one of these is not explored again.
+ghost use Rattle.std.specs.Prelude.{◌≡◌, ◌<◌, IfOk, IsTrue};
+ghost use Rattle.best_run.specs.Kept.{IsCovered, IsKept, IsNothing};
+
+use crate::state::{BORDERS, Settled};
+use std::alloc::{AllocError, Global};
+use tables::Amount;
+
+/// How many states are kept: each at one place, in place of the one that stood there.
+const PLACES: usize = 8192;
+
+/// What has been found.
+#[derive(Drop)]
+pub(crate) struct Found {
+    /// The greatest total so far, in dollars.
+    pub(crate) amount: Amount,
+    /// States between runs that have been explored: no way on from there earns more.
+    pub(crate) explored: Vec<Settled>,
+}
+
+/// The place at which a state is kept. Any place would do: states that use the same borders share one.
+fn place_of(settled: &Settled) -> usize {
+    let mut sum = settled.next as u64;
+    for border in 0..BORDERS {
+        if settled.used[border] {
+            sum = (sum ^ border as u64).wrapping_mul(0x9E37_79B9_7F4A_7C15);
+        }
+    }
+    (sum >> 40) as usize % PLACES
+}
+
+impl Found {
+    /// Nothing is found yet. At each place stands a state in which none of so many trains is left. The
+    /// only error is want of memory.
+    pub(crate) fn nothing(alloc: Global, trains: usize) -> Result<Found, AllocError>
+        ensures { IfOk result (IsNothing trains) }
+    {
+        let over = Settled {
+            next: trains,
+            total: 0,
+            kind: 0,
+            cap: 0,
+            used: [false; BORDERS],
+        };
+        let mut explored = Vec::new(alloc);
+        for _ in 0..PLACES {
+            explored.push(over)?;
+        }
+        Ok(Found {
+            amount: 0,
+            explored,
+        })
+    }
+
+    /// Whether a state that was explored is known to earn no less than another. It is not told of
+    /// all of them.
+    pub(crate) fn covers(&self, settled: &Settled) -> bool
+        ensures { IsTrue result → IsCovered self.now settled.now }
+    {
+        let place = place_of(settled);
+        place < self.explored.len() && self.explored[place].covers(settled)
+    }
+
+    /// Keeps a state that has been explored.
+    pub(crate) fn keep(&mut self, settled: &Settled)
+        ensures { IsKept settled.now self.old self.new }
+    {
+        let place = place_of(settled);
+        if place < self.explored.len() {
+            self.explored[place] = *settled;
+        }
+    }
+}
