@@ -1,5 +1,5 @@
 -- What the spots ahead are worth beyond a level, spot by spot.
-use Rattle.std.proofs.Common.{◌≡◌, ℕ, zero, suc, ◌+◌, ◌-◌, ◌<◌, ◌≤◌, Bool, true, false, List, [], ◌∷◌, length, get_or, drop, refl, sym, subst, arith, add-one, drop-cons}
+use Rattle.std.proofs.Common.{◌≡◌, ℕ, zero, suc, ◌+◌, ◌-◌, ◌*◌, ◌<◌, ◌≤◌, Bool, true, false, Some, List, [], ◌∷◌, length, get_or, set, slice_get, replicate, drop, refl, sym, subst, arith, add-one, drop-cons}
 use Rattle.best_run.specs.declared.task.Node.{Node}
 use Rattle.best_run.specs.declared.task.Task.{Task}
 use Rattle.best_run.specs.Ahead.{beyond}
@@ -44,3 +44,37 @@ beyond_end level (node ∷ nodes) (lies ∷ ahead) (suc n) past = beyond_end lev
 -- a spot is worth at most 80 dollars
 pub worth_low : (task : Task) → IsFit task → (spot : ℕ) (node : Node) → spot < 744 → node ≡ get_or task.spots.items spot node → node.value ≤ 80
 worth_low task fit spot node low is = (fit.nodes spot node (node_is task fit spot node low is)).value
+
+-- one spot more lies ahead
+pub beyond_more : (nodes : List Node) (ahead : List Bool) (n : ℕ) (node : Node) → slice_get nodes n ≡ Some node → get_or ahead n false ≡ false → n < length ahead → beyond 0 nodes (set ahead n true) ≡ node.value + beyond 0 nodes ahead
+beyond_more [] ahead zero node at none low = absurd cc
+beyond_more [] ahead (suc n) node at none low = absurd cc
+beyond_more (first ∷ nodes) [] n node at none low = absurd (omega arith)
+beyond_more (first ∷ nodes) (true ∷ ahead) zero node at none low = let wrong : true ≡ false = none in absurd cc
+beyond_more (first ∷ nodes) (false ∷ ahead) zero node at none low =
+    let e : Some first ≡ Some node = at in
+    let same : first ≡ node = cc in
+    subst (λ (x : Node). beyond 0 (first ∷ nodes) (true ∷ ahead) ≡ x.value + beyond 0 nodes ahead) same (omega arith)
+beyond_more (first ∷ nodes) (true ∷ ahead) (suc n) node at none low =
+    omega (arith, beyond_more nodes ahead n node at none (omega arith))
+beyond_more (first ∷ nodes) (false ∷ ahead) (suc n) node at none low =
+    beyond_more nodes ahead n node at none (omega arith)
+
+-- nothing lies ahead
+pub beyond_nothing : (nodes : List Node) (n : ℕ) → beyond 0 nodes (replicate n false) ≡ 0
+beyond_nothing [] n = refl
+beyond_nothing (node ∷ nodes) zero = refl
+beyond_nothing (node ∷ nodes) (suc n) = beyond_nothing nodes n
+
+-- spots that are worth at most 80 dollars each
+most_of : (nodes : List Node) (ahead : List Bool) → ((n : ℕ) (node : Node) → slice_get nodes n ≡ Some node → node.value ≤ 80) → beyond 0 nodes ahead ≤ 80 * length nodes
+most_of [] ahead low = omega arith
+most_of (node ∷ nodes) [] low = omega arith
+most_of (node ∷ nodes) (true ∷ ahead) low =
+    omega (arith, low 0 node refl, most_of nodes ahead (λ n other at. low (suc n) other at))
+most_of (node ∷ nodes) (false ∷ ahead) low =
+    omega (arith, most_of nodes ahead (λ n other at. low (suc n) other at))
+
+pub beyond_most : (task : Task) → IsFit task → (ahead : List Bool) → beyond 0 task.spots.items ahead ≤ 59520
+beyond_most task fit ahead =
+    omega (arith, fit.all, most_of task.spots.items ahead (λ n node at. (fit.nodes n node at).value))

@@ -24,15 +24,34 @@ const FIRST_STOP: usize = 6;
 /// How many stops the map may have: two in each hex.
 const STOPS: usize = 186;
 
+/// What lies ahead of a run.
+#[derive(Clone, Copy)]
+struct Outlook {
+    /// The spots that it may come to.
+    ahead: [bool; SPOTS],
+    /// What they are worth, in dollars.
+    worth: Amount,
+}
+
 impl Task {
-    /// Adds to what lies ahead of a run what it may come to from a spot.
+    /// Adds to what lies ahead of a run what it may come to from a spot, and to what that is worth, in
+    /// dollars.
     #[cycle(look)]
-    fn look_from(&self, settled: &Settled, run: &Standing, spot: usize, ahead: &mut [bool; SPOTS])
+    fn look_from(
+        &self,
+        settled: &Settled,
+        run: &Standing,
+        spot: usize,
+        ahead: &mut [bool; SPOTS],
+        worth: &mut Amount,
+    )
         requires fit { IsFit self.now }
         requires ready { AreReady self.now }
         requires spot { spot < 744 }
         requires stop { stop_in (node_at self.now spot) ≡ true }
-        ensures { WidensFrom self.now settled.now run.now spot ahead.old ahead.new }
+        requires sum { worth.old ≡ beyond 0 self.now.spots.items ahead.old }
+        ensures widens { WidensFrom self.now settled.now run.now spot ahead.old ahead.new }
+        ensures sum { worth.new ≡ beyond 0 self.now.spots.items ahead.new }
     {
         if self.spots[spot].ends {
             return;
@@ -40,11 +59,12 @@ impl Task {
         let from = &self.departures[spot];
         for index in 0..from.ways.len() {
             let way = &from.ways[index];
-            self.look_along(settled, run, &way.piece, ahead);
+            self.look_along(settled, run, &way.piece, ahead, worth);
         }
     }
 
-    /// Adds to what lies ahead of a run what it may come to by a piece.
+    /// Adds to what lies ahead of a run what it may come to by a piece, and to what that is worth, in
+    /// dollars.
     #[cycle(look)]
     fn look_along(
         &self,
@@ -52,41 +72,47 @@ impl Task {
         run: &Standing,
         piece: &Piece,
         ahead: &mut [bool; SPOTS],
+        worth: &mut Amount,
     )
         requires fit { IsFit self.now }
         requires ready { AreReady self.now }
         requires to { piece.now.to < 744 }
         requires stop { stop_in (node_at self.now piece.now.to) ≡ true }
         requires borders { BordersFit piece.now.borders.items }
-        ensures { WidensBy self.now settled.now run.now piece.now ahead.old ahead.new }
+        requires sum { worth.old ≡ beyond 0 self.now.spots.items ahead.old }
+        ensures widens { WidensBy self.now settled.now run.now piece.now ahead.old ahead.new }
+        ensures sum { worth.new ≡ beyond 0 self.now.spots.items ahead.new }
     {
         if ahead[piece.to] {
             return;
         }
         if self.can_take(run, settled, piece) {
             ahead[piece.to] = true;
-            self.look_from(settled, run, piece.to, ahead);
+            *worth += self.spots[piece.to].value;
+            self.look_from(settled, run, piece.to, ahead, worth);
         }
     }
 
     /// What lies ahead of a run.
-    fn outlook(&self, settled: &Settled, run: &Standing) -> [bool; SPOTS]
+    fn outlook(&self, settled: &Settled, run: &Standing) -> Outlook
         requires fit { IsFit self.now }
         requires ready { AreReady self.now }
         requires head { run.now.head < 744 }
         requires stands { stop_in (node_at self.now run.now.head) ≡ true }
         requires home { run.now.home < 744 }
         requires begun { stop_in (node_at self.now run.now.home) ≡ true }
-        ensures outlook { IsOutlook self.now settled.now run.now result }
+        ensures outlook { IsOutlook self.now settled.now run.now result.ahead }
+        ensures sum { result.worth ≡ beyond 0 self.now.spots.items result.ahead }
         ensures borders { length settled.now.used ≡ 279 }
         ensures spots { length run.now.visited ≡ 744 }
     {
         let mut ahead = [false; SPOTS];
-        self.look_from(settled, run, run.head, &mut ahead);
+        let mut worth = 0;
+        self.look_from(settled, run, run.head, &mut ahead, &mut worth);
         if !run.turned {
-            self.look_from(settled, run, run.home, &mut ahead);
+            self.look_from(settled, run, run.home, &mut ahead, &mut worth);
         }
-        ahead
+        Outlook { ahead, worth }
     }
 
     /// How many stops ahead are worth so many tens of dollars, for each number of tens.
@@ -127,12 +153,16 @@ impl Task {
         0
     }
 
-    /// What the spots ahead are worth beyond a level, in dollars.
-    fn beyond(&self, level: Amount, ahead: &[bool; SPOTS]) -> Amount
-        requires { IsFit self.now }
+    /// What the spots ahead are worth beyond a level, in dollars; it is known what they are worth.
+    fn beyond(&self, level: Amount, ahead: &[bool; SPOTS], worth: Amount) -> Amount
+        requires fit { IsFit self.now }
+        requires known { worth ≡ beyond 0 self.now.spots.items ahead.now }
         ensures sum { result ≡ beyond level self.now.spots.items ahead.now }
         ensures bound { result ≤ 59520 }
     {
+        if level == 0 {
+            return worth;
+        }
         let mut sum = 0;
         for spot in 0..SPOTS {
             if ahead[spot] {
@@ -149,6 +179,7 @@ impl Task {
         settled: &Settled,
         run: &Standing,
         ahead: &[bool; SPOTS],
+        worth: Amount,
         bounds: &[Amount],
         best: Amount,
     ) -> bool
@@ -159,6 +190,7 @@ impl Task {
         requires bounds { AreBounds self.now bounds.now }
         requires next { settled.now.next < length self.now.trains.items }
         requires ahead { IsOutlook self.now settled.now run.now ahead.now }
+        requires known { worth ≡ beyond 0 self.now.spots.items ahead.now }
         requires borders { length settled.now.used ≡ 279 }
         requires spots { length run.now.visited ≡ 744 }
         requires room { settled.now.total + run.now.value ≤ 44720 }
@@ -169,7 +201,7 @@ impl Task {
             return false;
         }
         let level = self.level(run, ahead);
-        let ahead = run.left as Amount * level + self.beyond(level, ahead);
+        let ahead = run.left as Amount * level + self.beyond(level, ahead, worth);
         let most = run.value + ahead;
         let total = settled.total + most;
         if total > best {
@@ -214,7 +246,7 @@ impl Task {
         if self.earns_too_much(settled, run) {
             return true;
         }
-        let ahead = self.outlook(settled, run);
-        self.earns_too_little(settled, run, &ahead, bounds, best)
+        let outlook = self.outlook(settled, run);
+        self.earns_too_little(settled, run, &outlook.ahead, outlook.worth, bounds, best)
     }
 }
