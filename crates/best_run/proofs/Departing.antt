@@ -1,6 +1,6 @@
 -- The ways from a stop, as they are found: by a piece to a stop there is one, by a piece to a side those by the pieces
 -- from there.
-use Rattle.std.proofs.Common.{◌≡◌, ℕ, zero, suc, ◌+◌, ◌*◌, ◌<◌, ◌≤◌, Bool, true, false, ◌⊎◌, inl, inr, Some, List, [], ◌∷◌, ◌++◌, length, get_or, slice_get, refl, sym, ap, subst, ◌∙◌, arith, length-append}
+use Rattle.std.proofs.Common.{◌≡◌, ℕ, zero, suc, ◌+◌, ◌*◌, ◌<◌, ◌≤◌, Bool, true, false, ◌⊎◌, inl, inr, Some, None, List, [], ◌∷◌, ◌++◌, length, get_or, slice_get, refl, sym, ap, subst, ◌∙◌, arith, length-append}
 use Rattle.std.proofs.lemmas.Option.{slice_get_read, slice_get_within}
 use Rattle.reach.specs.Position.{IsAmong}
 use Rattle.reach.proofs.Lists.{among_before, among_cases, among_end}
@@ -197,6 +197,11 @@ departs_more task count all from before here =
     at_end (z ∷ zs) (suc i) y at = elim (at_end zs i y at) [ inl old ↦ inl old | inr last ↦ inr (ap suc last.0, last.1) ]
 
 -- the ways from a stop, by its number
+pub none_at : {A : Type 0} (xs : List A) (i : ℕ) → slice_get xs i ≡ None → i < length xs → ⊥
+none_at [] i none low = omega (arith, low)
+none_at (x ∷ xs) zero none low = absurd cc
+none_at (x ∷ xs) (suc i) none low = none_at xs i none (omega (arith, low))
+
 pub departs_from : (task : Task) → AreReady task → (stop : ℕ) (from : Departures) → stop < 744 → from ≡ get_or task.departures.items stop from → stop_in (node_at task stop) ≡ true → AreWaysOf task stop from.ways.items
 departs_from task ready stop from low is stops =
     ready.each stop from (slice_get_read task.departures.items 744 stop from (sym ready.long) low is) stops

@@ -19,6 +19,7 @@ use Rattle.best_run.specs.Suffix.{AreCapped, AreEqual, EarnAtMost}
 use Rattle.best_run.proofs.Advance.{free_misses, marks_more, misses_free}
 use Rattle.best_run.proofs.Ahead.{falsely}
 use Rattle.best_run.proofs.Along.{ByWay, by_way, way_fits}
+use Rattle.best_run.proofs.Departing.{none_at}
 use Rattle.best_run.proofs.Described.{among_place}
 use Rattle.best_run.proofs.Eased.{rest_low}
 use Rattle.best_run.proofs.Equal.{low_settled}
@@ -153,11 +154,6 @@ take_back task run used piece = ap (λ b. b && misses used piece.borders.items) 
     by_stop : (stop : Bool) → may_come stop (turned_back run) piece.to ≡ may_come stop run piece.to
     by_stop true = refl
     by_stop false = refl
-
-none_at : {A : Type 0} (xs : List A) (i : ℕ) → slice_get xs i ≡ None → i < length xs → ⊥
-none_at [] i none low = omega (arith, low)
-none_at (x ∷ xs) zero none low = absurd cc
-none_at (x ∷ xs) (suc i) none low = none_at xs i none (omega (arith, low))
 
 module _ (task : Task) (fit : IsFit task) (ready : AreReady task) (first : Settled) (begun : Standing) (ahead : List Bool) (look : IsOutlook task first begun ahead) where
   -- a run that goes on from where the first one stands

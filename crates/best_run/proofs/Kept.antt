@@ -20,24 +20,24 @@ low_covered task entry settled most covers low moves completes =
     let there : Ends settled.next = subst Ends covers.next here in
     omega (arith, easy.earns, there easy.completes, covers.total)
 
-pub explores_covered : (task : Task) (settled : Settled) (best : Found) → IsCovered best settled → Explores task (between settled) best best
-explores_covered task settled best is =
+pub explores_covered : (task : Task) (settled like : Settled) (best : Found) → ((most : ℕ) → EarnsAtMost task like most → EarnsAtMost task settled most) → IsCovered best like → Explores task (between settled) best best
+explores_covered task settled like best alike is =
     record {
       grows = omega arith;
       earned = λ possible earned. earned;
       known = λ known. known;
-      most = λ known. low_covered task is.entry settled best.amount is.covers (known is.place is.entry is.there);
+      most = λ known. alike best.amount (low_covered task is.entry like best.amount is.covers (known is.place is.entry is.there));
     }
 
 -- a state is kept once it has been explored
-pub explores_kept : (task : Task) (settled : Settled) (old new kept : Found) → Explores task (between settled) old new → IsKept settled new kept → Explores task (between settled) old kept
-explores_kept task settled old new kept explores is =
+pub explores_kept : (task : Task) (settled like : Settled) (old new kept : Found) → ((most : ℕ) → EarnsAtMost task settled most → EarnsAtMost task like most) → Explores task (between settled) old new → IsKept like new kept → Explores task (between settled) old kept
+explores_kept task settled like old new kept alike explores is =
     record {
       grows = omega (arith, explores.grows, is.amount);
       earned = λ possible earned. subst (λ (n : ℕ). CanEarn task n) (sym is.amount) (explores.earned possible earned);
       known = λ known place entry there. subst (λ (n : ℕ). EarnsAtMost task entry n) (sym is.amount) (elim (is.only place entry there) [
         | inl before ↦ explores.known known place entry before
-        | inr same ↦ subst (λ (s : Settled). EarnsAtMost task s new.amount) same (explores.most known)
+        | inr same ↦ subst (λ (s : Settled). EarnsAtMost task s new.amount) same (alike new.amount (explores.most known))
       ]);
       most = λ known. subst (λ (n : ℕ). EarnsAtMost task settled n) (sym is.amount) (explores.most known);
     }

@@ -24,3 +24,4 @@ pub mod Greatest
 pub mod Laid
 pub mod Described
 pub mod Along
+pub mod Likened

@@ -4,5 +4,6 @@ pub mod Described
 pub mod Suffix
 pub mod Ahead
 pub mod Kept
+pub mod Alike
 pub mod Kinds
 pub mod Ways

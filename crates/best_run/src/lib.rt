@@ -13,6 +13,7 @@
 //! settled so far, and the run begun), `outlook` (what lies ahead of that run), `search`.
 #![tactic(auto)]
 
+mod alike;
 mod best;
 mod explored;
 mod outlook;

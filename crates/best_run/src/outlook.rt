@@ -66,7 +66,7 @@ impl Task {
     /// Adds to what lies ahead of a run what it may come to by a piece, and to what that is worth, in
     /// dollars.
     #[cycle(look)]
-    fn look_along(
+    pub(crate) fn look_along(
         &self,
         settled: &Settled,
         run: &Standing,

@@ -96,13 +96,14 @@ impl Task {
         ) {
             return;
         }
-        if best.covers(settled) {
+        let alike = self.alike(settled);
+        if best.covers(&alike) {
             return;
         }
         let passed = settled.passed();
         self.settle_next(&passed, bounds, best);
         self.begin_runs(settled, bounds, best);
-        best.keep(settled);
+        best.keep(&alike);
     }
 
     /// Tries all runs of the next train, from each token of the company.

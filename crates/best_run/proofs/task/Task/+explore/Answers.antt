@@ -6,6 +6,7 @@ use Rattle.best_run.specs.declared.state.Settled.{Settled}
 use Rattle.best_run.specs.declared.state.Standing.{Standing}
 use Rattle.best_run.specs.Moves.{Any, Below, Explores, IsBegin, IsGo, Takes, Tries, begun, begun_by, between, can_take, ends_in, node_at, own_in, standing, stop_in, turned_back}
 use Rattle.best_run.specs.Ways.{AreWaysOf, StandsBefore, TriesWays}
+use Rattle.best_run.proofs.Likened.{low_alike, low_back}
 use Rattle.best_run.proofs.Along.{AnyWay, IsLater, begin_by_ways, go_by_ways, open_begin, open_go, open_turn, turn_by_ways, way_fits, ways_more, ways_none, ways_skip}
 use Rattle.best_run.proofs.Departing.{departs_from}
 use Rattle.best_run.proofs.Described.{among_place}
@@ -98,7 +99,7 @@ settle_next-returns-then-are_capped t c =
 pub settle_next-returns : goal.settle_next-returns
 settle_next-returns t c =
     let task = c.args.self.now in
-    explores_kept task c.args.settled.now c.args.best.now c.begin_runs.new.best c.keep.new.self
+    explores_kept task c.args.settled.now c.alike-alike.result c.args.best.now c.begin_runs.new.best c.keep.new.self (low_back task c.args.settled.now c.alike-alike.result c.alike-alike.ensures)
     (explores_between task c.args.settled.now c.args.best.now c.settle_next.new.best c.begin_runs.new.best (omega arith)
     (subst (λ (s : Settled). Explores task (between s) c.args.best.now c.settle_next.new.best) c.passed-passed.ensures c.settle_next.ensures)
     c.begin_runs.ensures)
@@ -106,7 +107,7 @@ settle_next-returns t c =
 
 pub settle_next-returns-then-covers : goal.settle_next-returns-then-covers
 settle_next-returns-then-covers t c =
-    explores_covered c.args.self.now c.args.settled.now c.args.best.now (c.covers.ensures c.if-covers.true)
+    explores_covered c.args.self.now c.args.settled.now c.alike-alike.result c.args.best.now (low_alike c.args.self.now c.requires.fit c.requires.ready c.args.settled.now c.alike-alike.result c.falls_short.ensures.whole c.alike-alike.ensures) (c.covers.ensures c.if-covers.true)
 
 pub stand-returns-then-is_hopeless : goal.stand-returns-then-is_hopeless
 stand-returns-then-is_hopeless t c =

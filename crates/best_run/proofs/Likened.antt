@@ -1,0 +1,397 @@
+-- Ways to the end from a state between runs are ways to the end from one that is alike: no run to come crosses a border in
+-- which they differ.
+use Rattle.std.proofs.Common.{◌≡◌, ℕ, zero, suc, ◌+◌, ◌<◌, ◌≤◌, Bool, true, false, not, ◌&&◌, ◌||◌, ◌⊎◌, inl, inr, Option, Some, None, List, [], ◌∷◌, length, get_or, set, slice_get, replicate, refl, sym, ap, subst, ◌∙◌, arith}
+use Rattle.std.proofs.lemmas.Option.{slice_get_within}
+use Rattle.reach.proofs.Collected.{none_marked}
+use Rattle.reach.specs.Position.{IsAmong}
+use Rattle.best_run.specs.declared.state.Settled.{Settled}
+use Rattle.best_run.specs.declared.state.Standing.{Standing}
+use Rattle.best_run.specs.declared.task.Departures.{Departures}
+use Rattle.best_run.specs.declared.task.Node.{Node}
+use Rattle.best_run.specs.declared.task.Piece.{Piece}
+use Rattle.best_run.specs.declared.task.Task.{Task}
+use Rattle.best_run.specs.declared.task.Way.{Way}
+use Rattle.best_run.specs.Ahead.{LiesAhead, WidensBelow}
+use Rattle.best_run.specs.Alike.{AllLead, AreOpen, AreOpenBelow, IsAlike, IsInReach, IsShutBelow, Opens, ReachesBelow, SetsOut, WidensTo, anywhere, cleared_all, sets_out}
+use Rattle.best_run.specs.Fit.{BordersFit, IsFit, PieceFits}
+use Rattle.best_run.specs.Kept.{Freer}
+use Rattle.best_run.specs.Moves.{Completes, EarnsAtMost, LeadsFrom, Move, State, along, begin, begun, between, can_take, ends_in, go, marked_all, may_come, misses, node_at, own_in, pass, passed, settle, settling, standing, stop_in, total_after, turn, turned_back, using}
+use Rattle.best_run.specs.Ways.{AreReady, AreWaysOf, IsStop, ways_at, ways_in}
+use Rattle.best_run.proofs.Advance.{IsMarked, free_misses, marks_more, misses_free}
+use Rattle.best_run.proofs.Ahead.{falsely}
+use Rattle.best_run.proofs.Along.{ByPieces, ByWay, by_pieces, by_way, way_fits}
+use Rattle.best_run.proofs.Departing.{none_at}
+use Rattle.best_run.proofs.Described.{among_place}
+use Rattle.best_run.proofs.Eased.{Eased, ease}
+use Rattle.best_run.proofs.Marks.{length_marked}
+use Rattle.best_run.proofs.Places.{below_next}
+
+both_first : (a b : Bool) → (a && b) ≡ true → a ≡ true
+both_first true b is = refl
+both_first false b is = absurd cc
+
+both_second : (a b : Bool) → (a && b) ≡ true → b ≡ true
+both_second true b is = is
+both_second false b is = absurd cc
+
+both_are : (a b : Bool) → a ≡ true → b ≡ true → (a && b) ≡ true
+both_are true b first second = second
+both_are false b first second = absurd cc
+
+-- a run that has visited nothing takes each piece whose borders are not used
+takes_free : (task : Task) (used : List Bool) (piece : Piece) → can_take task anywhere used piece ≡ misses used piece.borders.items
+takes_free task used piece = ap (λ b. b && misses used piece.borders.items) (by_stop (stop_in (node_at task piece.to)))
+  where
+    by_stop : (stop : Bool) → may_come stop anywhere piece.to ≡ true
+    by_stop true = ap not (none_marked 744 piece.to)
+    by_stop false = refl
+
+-- what lies in reach: nothing, what more tokens lead to, and what no token leads to
+pub reach_none : (task : Task) (used : List Bool) → ReachesBelow task used 0 (replicate 744 false)
+reach_none task used =
+    record {
+      own = λ spot low. absurd (omega (arith, low));
+      all = λ spot lies. absurd (falsely (get_or (replicate 744 false) spot false) lies (none_marked 744 spot));
+    }
+
+pub widens_all : (task : Task) (settled : Settled) (spot : ℕ) (ways : List Way) (count : ℕ) (old new : List Bool) → ways_at task spot ≡ ways → length ways ≤ count → WidensBelow task settled anywhere spot count old new → WidensTo task settled spot old new
+widens_all task settled spot ways count old new there all below =
+    record {
+      widens = below.widens;
+      here = λ place way at free.
+          let low : place < length ways = slice_get_within ways place way (ap (λ ws. slice_get ws place) (sym there) ∙ at) in
+          below.leads place way (omega (arith, low, all)) at (takes_free task settled.used way.piece ∙ free);
+    }
+
+pub reach_more : (task : Task) (settled : Settled) (stop : ℕ) (old new : List Bool) → ReachesBelow task settled.used stop old → WidensTo task settled stop old new → ReachesBelow task settled.used (stop + 1) new
+reach_more task settled stop old new before more =
+    record {
+      own = λ spot low is own. elim (below_next spot stop low) [
+        | inl less ↦ λ place way at free. more.widens.kept way.piece.to (before.own spot less is own place way at free)
+        | inr same ↦ subst (AllLead task settled.used new) (sym same) more.here
+      ];
+      all = λ spot lies passes place way at free. elim (more.widens.over spot lies) [
+        | inl known ↦ more.widens.kept way.piece.to (before.all spot known passes place way at free)
+        | inr over ↦ over passes place way at (takes_free task settled.used way.piece ∙ free)
+      ];
+    }
+
+pub reach_same : (task : Task) (used : List Bool) (stop : ℕ) (reach : List Bool) → ((stop_in (node_at task stop) ≡ false) ⊎ (own_in (node_at task stop) ≡ false)) → ReachesBelow task used stop reach → ReachesBelow task used (stop + 1) reach
+reach_same task used stop reach why before =
+    record {
+      own = λ spot low is own. elim (below_next spot stop low) [
+        | inl less ↦ before.own spot less is own
+        | inr same ↦ absurd (elim why [
+          | inl side ↦ falsely (stop_in (node_at task spot)) is.1 (ap (λ (n : ℕ). stop_in (node_at task n)) same ∙ side)
+          | inr other ↦ falsely (own_in (node_at task spot)) own (ap (λ (n : ℕ). own_in (node_at task n)) same ∙ other)
+        ])
+      ];
+      all = before.all;
+    }
+
+pub reach_all : (task : Task) (used : List Bool) (most : ℕ) (reach : List Bool) → 744 ≤ most → ReachesBelow task used most reach → IsInReach task used reach
+reach_all task used most reach all below spot is out =
+    elim out [ inl own ↦ below.own spot (omega (arith, is.0, all)) is own | inr on ↦ below.all spot on.0 on.1 ]
+
+-- a mark that is taken away
+unset_here : (marks : List Bool) (n : ℕ) → get_or (set marks n false) n false ≡ false
+unset_here [] n = refl
+unset_here (mark ∷ marks) zero = refl
+unset_here (mark ∷ marks) (suc n) = unset_here marks n
+
+unset_fewer : (marks : List Bool) (n m : ℕ) → IsMarked (set marks n false) m → IsMarked marks m
+unset_fewer [] n m is = is
+unset_fewer (mark ∷ marks) zero zero is = absurd (let wrong : false ≡ true = is in cc)
+unset_fewer (mark ∷ marks) zero (suc m) is = is
+unset_fewer (mark ∷ marks) (suc n) zero is = is
+unset_fewer (mark ∷ marks) (suc n) (suc m) is = unset_fewer marks n m is
+
+cleared_fewer : (borders : List ℕ) (marks : List Bool) (m : ℕ) → IsMarked (cleared_all marks borders) m → IsMarked marks m
+cleared_fewer [] marks m is = is
+cleared_fewer (border ∷ borders) marks m is = unset_fewer marks border m (cleared_fewer borders (set marks border false) m is)
+
+cleared_here : (borders : List ℕ) (marks : List Bool) (border : ℕ) → IsAmong border borders → IsMarked (cleared_all marks borders) border → ⊥
+cleared_here [] marks border among is = absurd among
+cleared_here (first ∷ borders) marks border among is =
+    elim among [
+      | inl here ↦ falsely (get_or (set marks first false) border false) (cleared_fewer borders (set marks first false) border is) (ap (λ (n : ℕ). get_or (set marks first false) n false) (sym here) ∙ unset_here marks first)
+      | inr later ↦ cleared_here borders (set marks first false) border later is
+    ]
+
+freer_unset : (marks used : List Bool) (n : ℕ) → Freer marks used → (IsMarked used n → ⊥) → Freer (set marks n false) used
+freer_unset [] [] n freer none = tt
+freer_unset [] (other ∷ used) n freer none = absurd freer
+freer_unset (mark ∷ marks) [] n freer none = absurd freer
+freer_unset (mark ∷ marks) (other ∷ used) zero freer none = ((λ is. absurd (none is)), freer.1)
+freer_unset (mark ∷ marks) (other ∷ used) (suc n) freer none = (freer.0, freer_unset marks used n freer.1 none)
+
+freer_cleared : (borders : List ℕ) (marks used : List Bool) → Freer marks used → ((border : ℕ) → IsAmong border borders → IsMarked used border → ⊥) → Freer (cleared_all marks borders) used
+freer_cleared [] marks used freer none = freer
+freer_cleared (border ∷ borders) marks used freer none =
+    freer_cleared borders (set marks border false) used (freer_unset marks used border freer (none border (inl refl))) (λ other among. none other (inr among))
+
+pub freer_full : (used : List Bool) → Freer (replicate (length used) true) used
+freer_full [] = tt
+freer_full (mark ∷ used) = ((λ is. refl), freer_full used)
+
+freer_length : (marks used : List Bool) → Freer marks used → length marks ≡ length used
+freer_length [] [] freer = refl
+freer_length [] (other ∷ used) freer = absurd freer
+freer_length (mark ∷ marks) [] freer = absurd freer
+freer_length (mark ∷ marks) (other ∷ used) freer = ap suc (freer_length marks used freer.1)
+
+-- no way is open yet, one more is, one is not since a border of it is used, and all are
+pub opens_none : (used shut : List Bool) → Opens used shut shut
+opens_none used shut = record { fewer = λ borders free. free; kept = λ freer. freer }
+
+one_way : (ways : List Way) (place other : ℕ) (way found : Way) → slice_get ways place ≡ Some way → slice_get ways other ≡ Some found → other ≡ place → way ≡ found
+one_way ways place other way found at finds same =
+    let e : Some way ≡ Some found = sym at ∙ (ap (λ i. slice_get ways i) (sym same) ∙ finds) in cc
+
+cleared_open : (marks : List Bool) (borders others : List ℕ) → misses marks others ≡ true → misses (cleared_all marks borders) others ≡ true
+cleared_open marks borders others free =
+    free_misses (cleared_all marks borders) others (λ border among is. misses_free marks others free border among (cleared_fewer borders marks border is))
+
+pub open_more : (task : Task) (used : List Bool) (spot place : ℕ) (way : Way) (first shut : List Bool) → slice_get (ways_at task spot) place ≡ Some way → misses used way.piece.borders.items ≡ true → Opens used first shut × AreOpenBelow task used spot place shut → Opens used first (cleared_all shut way.piece.borders.items) × AreOpenBelow task used spot (place + 1) (cleared_all shut way.piece.borders.items)
+open_more task used spot place way first shut here free before = (
+  record {
+    fewer = λ borders missed. cleared_open shut way.piece.borders.items borders (before.0.fewer borders missed);
+    kept = λ freer. freer_cleared way.piece.borders.items shut used (before.0.kept freer) (misses_free used way.piece.borders.items free);
+  },
+  λ other found low at missed. elim (below_next other place low) [
+    | inl less ↦ cleared_open shut way.piece.borders.items found.piece.borders.items (before.1 other found less at missed)
+    | inr same ↦
+        let is : way ≡ found = one_way (ways_at task spot) place other way found here at same in
+        subst (λ (w : Way). misses (cleared_all shut way.piece.borders.items) w.piece.borders.items ≡ true) is
+        (free_misses (cleared_all shut way.piece.borders.items) way.piece.borders.items (λ border among marked. cleared_here way.piece.borders.items shut border among marked))
+  ],
+)
+
+pub open_same : (task : Task) (used : List Bool) (spot place : ℕ) (way : Way) (shut : List Bool) → slice_get (ways_at task spot) place ≡ Some way → misses used way.piece.borders.items ≡ false → AreOpenBelow task used spot place shut → AreOpenBelow task used spot (place + 1) shut
+open_same task used spot place way shut here met before other found low at missed =
+    elim (below_next other place low) [
+      | inl less ↦ before other found less at missed
+      | inr same ↦
+          let is : way ≡ found = one_way (ways_at task spot) place other way found here at same in
+          absurd (falsely (misses used found.piece.borders.items) missed (ap (λ (w : Way). misses used w.piece.borders.items) (sym is) ∙ met))
+    ]
+
+pub open_all : (task : Task) (used : List Bool) (spot : ℕ) (ways : List Way) (count : ℕ) (shut : List Bool) → ways_at task spot ≡ ways → length ways ≤ count → AreOpenBelow task used spot count shut → AreOpen task used spot shut
+open_all task used spot ways count shut there all below place way at missed =
+    let low : place < length ways = slice_get_within ways place way (ap (λ ws. slice_get ws place) (sym there) ∙ at) in
+    below place way (omega (arith, low, all)) at missed
+
+-- the ways from no stop are open, those from one more are, and those from one need not be
+pub shut_none : (task : Task) (used reach : List Bool) → length used ≡ 279 → IsShutBelow task used reach 0 (replicate 279 true)
+shut_none task used reach whole =
+    record {
+      kept = subst (λ (n : ℕ). Freer (replicate n true) used) whole (freer_full used);
+      open_ways = λ spot low. absurd (omega (arith, low));
+    }
+
+pub shut_more : (task : Task) (used reach : List Bool) (stop : ℕ) (old new : List Bool) → IsShutBelow task used reach stop old → Opens used old new → AreOpen task used stop new → IsShutBelow task used reach (stop + 1) new
+shut_more task used reach stop old new before opens here =
+    record {
+      kept = opens.kept before.kept;
+      open_ways = λ spot low is out. elim (below_next spot stop low) [
+        | inl less ↦ λ place way at free. opens.fewer way.piece.borders.items (before.open_ways spot less is out place way at free)
+        | inr same ↦ subst (λ (n : ℕ). AreOpen task used n new) (sym same) here
+      ];
+    }
+
+does_set_out : (task : Task) (reach : List Bool) (spot : ℕ) → stop_in (node_at task spot) ≡ true → SetsOut task reach spot → sets_out task reach spot ≡ true
+does_set_out task reach spot stops out =
+    both_are (stop_in (node_at task spot)) (own_in (node_at task spot) || (get_or reach spot false && not (ends_in (node_at task spot)))) stops
+    (by_out (own_in (node_at task spot)) (get_or reach spot false) (ends_in (node_at task spot)) out)
+  where
+    by_out : (own lies ends : Bool) → (own ≡ true) ⊎ ((lies ≡ true) × (ends ≡ false)) → (own || (lies && not ends)) ≡ true
+    by_out true lies ends out = refl
+    by_out false lies ends (inl own) = let wrong : false ≡ true = own in absurd cc
+    by_out false lies ends (inr on) = both_are lies (not ends) on.0 (ap not on.1)
+
+pub shut_same : (task : Task) (used reach : List Bool) (stop : ℕ) (shut : List Bool) → sets_out task reach stop ≡ false → IsShutBelow task used reach stop shut → IsShutBelow task used reach (stop + 1) shut
+shut_same task used reach stop shut none before =
+    record {
+      kept = before.kept;
+      open_ways = λ spot low is out. elim (below_next spot stop low) [
+        | inl less ↦ before.open_ways spot less is out
+        | inr same ↦ absurd (falsely (sets_out task reach spot) (does_set_out task reach spot is.1 out) (ap (sets_out task reach) same ∙ none))
+      ];
+    }
+
+pub stop_of_one : (task : Task) (reach : List Bool) (spot : ℕ) → sets_out task reach spot ≡ true → stop_in (node_at task spot) ≡ true
+stop_of_one task reach spot is =
+    both_first (stop_in (node_at task spot)) (own_in (node_at task spot) || (get_or reach spot false && not (ends_in (node_at task spot)))) is
+
+-- the same state with other borders used
+abbrev with_used : Settled → List Bool → Settled
+with_used settled used = record settled { used = used }
+
+abbrev state_with : State → List Bool → State
+state_with (between settled) used = between (with_used settled used)
+state_with (standing settled run) used = standing (with_used settled used) run
+
+module _ (task : Task) (fit : IsFit task) (ready : AreReady task) (first reach shut : List Bool) (reaches : IsInReach task first reach) (shuts : IsShutBelow task first reach 744 shut) where
+  -- borders that are used since then are used in both
+  record Shares (used others : List Bool) : Type 0 where
+    pub still : (border : ℕ) → IsMarked first border → IsMarked used border
+    pub either : (border : ℕ) → IsMarked others border → IsMarked used border ⊎ IsMarked shut border
+    pub whole : length used ≡ 279
+    pub other_whole : length others ≡ 279
+
+  shares_more : (used others : List Bool) (borders : List ℕ) → BordersFit borders → Shares used others → Shares (marked_all used borders) (marked_all others borders)
+  shares_more used others borders fits shares =
+      record {
+        still = λ border is. (marks_more used borders fits shares.whole border).1 (inr (shares.still border is));
+        either = λ border is. elim ((marks_more others borders fits shares.other_whole border).0 is) [
+          | inl among ↦ inl ((marks_more used borders fits shares.whole border).1 (inl among))
+          | inr before ↦ elim (shares.either border before) [
+            | inl marked ↦ inl ((marks_more used borders fits shares.whole border).1 (inr marked))
+            | inr known ↦ inr known
+          ]
+        ];
+        whole = length_marked used borders ∙ shares.whole;
+        other_whole = length_marked others borders ∙ shares.other_whole;
+      }
+
+  -- a run that goes on
+  record Goes (settled : Settled) (run : Standing) (others : List Bool) : Type 0 where
+    pub shares : Shares settled.used others
+    pub stands : IsStop task run.head
+    pub begins : IsStop task run.home
+    pub head : ends_in (node_at task run.head) ≡ false → SetsOut task reach run.head
+    pub home : SetsOut task reach run.home
+
+  abbrev GoesOn : State → List Bool → Type 0
+  GoesOn (between settled) others = Shares settled.used others
+  GoesOn (standing settled run) others = Goes settled run others
+
+  ways_of : (stop : ℕ) → IsStop task stop → AreWaysOf task stop (ways_at task stop)
+  ways_of stop is = by_from (slice_get task.departures.items stop) refl
+    where
+      by_from : (found : Option Departures) → slice_get task.departures.items stop ≡ found → AreWaysOf task stop (ways_in found)
+      by_from None at = absurd (none_at task.departures.items stop at (omega (arith, is.0, ready.long)))
+      by_from (Some from) at = ready.each stop from at is.1
+
+  is_stop : (spot : ℕ) → stop_in (node_at task spot) ≡ true → IsStop task spot
+  is_stop spot stops = (by_node (node_at task spot) refl stops, stops)
+    where
+      by_node : (node : Option Node) → node_at task spot ≡ node → stop_in node ≡ true → spot < 744
+      by_node None at is = absurd (let wrong : false ≡ true = is in cc)
+      by_node (Some node) at is = omega (arith, fit.all, slice_get_within task.spots.items spot node at)
+
+  -- the next way
+  record Takes_it (others : List Bool) (run : Standing) (way : Way) : Type 0 where
+    pub can : can_take task run others way.piece ≡ true
+    pub lies : LiesAhead reach way.piece.to
+    pub fits : PieceFits task false way.piece
+    pub stop : IsStop task way.piece.to
+
+  takes_it : (used others : List Bool) → Shares used others → (spot : ℕ) → IsStop task spot → SetsOut task reach spot → (place : ℕ) (way : Way) → slice_get (ways_at task spot) place ≡ Some way → (run : Standing) → can_take task run used way.piece ≡ true → Takes_it others run way
+  takes_it used others shares spot is out place way at run can =
+      let borders = way.piece.borders.items in
+      let come = both_first (may_come (stop_in (node_at task way.piece.to)) run way.piece.to) (misses used borders) can in
+      let free : misses used borders ≡ true = both_second (may_come (stop_in (node_at task way.piece.to)) run way.piece.to) (misses used borders) can in
+      let before : misses first borders ≡ true = free_misses first borders (λ border among marked. misses_free used borders free border among (shares.still border marked)) in
+      let open_way : misses shut borders ≡ true = shuts.open_ways spot is.0 is out place way at before in
+      let fits = way_fits task fit spot (ways_at task spot) (ways_of spot is) is.1 way (among_place (ways_at task spot) place way at) in
+      record {
+        can = both_are (may_come (stop_in (node_at task way.piece.to)) run way.piece.to) (misses others borders) come
+            (free_misses others borders (λ border among marked. elim (shares.either border marked) [
+              | inl used_it ↦ misses_free used borders free border among used_it
+              | inr shut_it ↦ misses_free shut borders open_way border among shut_it
+            ]));
+        lies = reaches spot is out place way at before;
+        fits = fits.0;
+        stop = (fits.0.to, fits.1);
+      }
+
+  goes_next : (settled : Settled) (run : Standing) (others : List Bool) → Shares settled.used others → IsStop task run.home → SetsOut task reach run.home → (way : Way) → Takes_it others run way → Goes (using settled way.piece) (along task run way.piece) (marked_all others way.piece.borders.items)
+  goes_next settled run others shares begins home way takes =
+      record {
+        shares = shares_more settled.used others way.piece.borders.items takes.fits.borders shares;
+        stands = takes.stop;
+        begins = begins;
+        head = λ passes. inr (takes.lies, passes);
+        home = home;
+      }
+
+  -- moves to the end, with other borders used
+  record Moved (state : State) (total : ℕ) : Type 0 where
+    pub moves : List Move
+    pub completes : Completes task state moves
+    pub same : total_after task state moves ≡ total
+
+  move_by : (fuel : ℕ) (moves : List Move) → length moves ≤ fuel → (state : State) (others : List Bool) → GoesOn state others → Completes task state moves → Moved (state_with state others) (total_after task state moves)
+  move_by fuel [] enough (between settled) others goes completes = record { moves = []; completes = completes; same = refl }
+  move_by fuel [] enough (standing settled run) others goes completes = absurd completes
+  move_by zero (move ∷ moves) enough state others goes completes = absurd (omega (arith, enough))
+  move_by (suc fuel) (pass ∷ moves) enough (between settled) others goes completes =
+      let rest : Moved (between (with_used (passed settled) others)) (total_after task (between (passed settled)) moves) = move_by fuel moves (omega (arith, enough)) (between (passed settled)) others goes completes.1 in
+      record { moves = pass ∷ rest.moves; completes = (completes.0, rest.completes); same = rest.same }
+  move_by (suc fuel) (pass ∷ moves) enough (standing settled run) others goes completes = absurd completes.0
+  move_by (suc fuel) (begin stop index piece ∷ moves) enough (between settled) others goes completes =
+      let may = completes.0 in
+      let is : IsStop task stop = is_stop stop may.begins in
+      let run = begun task settled stop index in
+      let by : ByWay task fit stop may.begins (ways_at task stop) (ways_of stop is) settled run index piece moves = by_way task fit stop may.begins (ways_at task stop) (ways_of stop is) settled run goes.whole index piece moves may.leads may.taken completes.1 in
+      let takes : Takes_it others run by.way = takes_it settled.used others goes stop is (inl may.token) by.place_of by.way by.stands run by.can in
+      let rest : Moved (standing (using (with_used settled others) by.way.piece) (along task run by.way.piece)) (total_after task (standing (using settled by.way.piece) (along task run by.way.piece)) by.later) = move_by fuel by.later (omega (arith, by.shorter, enough)) (standing (using settled by.way.piece) (along task run by.way.piece)) (marked_all others by.way.piece.borders.items) (goes_next settled run others goes is (inl may.token) by.way takes) by.completes in
+      let back : ByPieces task fit stop may.begins (ways_at task stop) (ways_of stop is) (with_used settled others) run by.way rest.moves = by_pieces task fit stop may.begins (ways_at task stop) (ways_of stop is) (with_used settled others) run by.way (among_place (ways_at task stop) by.place_of by.way by.stands) takes.can rest.moves rest.completes in
+      record {
+        moves = begin stop index back.piece ∷ back.moves;
+        completes = (record { train = may.train; begins = may.begins; token = may.token; leads = subst (λ (n : ℕ). LeadsFrom task stop n back.piece) by.first back.leads; taken = back.can }, back.completes);
+        same = back.total ∙ (rest.same ∙ sym by.total);
+      }
+  move_by (suc fuel) (begin stop index piece ∷ moves) enough (standing settled run) others goes completes = absurd completes.0
+  move_by (suc fuel) (go index piece ∷ moves) enough (between settled) others goes completes = absurd completes.0
+  move_by (suc fuel) (go index piece ∷ moves) enough (standing settled run) others goes completes =
+      let may = completes.0 in
+      let stop = run.head in
+      let is : IsStop task stop = goes.stands in
+      let by : ByWay task fit stop is.1 (ways_at task stop) (ways_of stop is) settled run index piece moves = by_way task fit stop is.1 (ways_at task stop) (ways_of stop is) settled run goes.shares.whole index piece moves may.leads may.taken completes.1 in
+      let takes : Takes_it others run by.way = takes_it settled.used others goes.shares stop is (goes.head may.passes) by.place_of by.way by.stands run by.can in
+      let rest : Moved (standing (using (with_used settled others) by.way.piece) (along task run by.way.piece)) (total_after task (standing (using settled by.way.piece) (along task run by.way.piece)) by.later) = move_by fuel by.later (omega (arith, by.shorter, enough)) (standing (using settled by.way.piece) (along task run by.way.piece)) (marked_all others by.way.piece.borders.items) (goes_next settled run others goes.shares goes.begins goes.home by.way takes) by.completes in
+      let back : ByPieces task fit stop is.1 (ways_at task stop) (ways_of stop is) (with_used settled others) run by.way rest.moves = by_pieces task fit stop is.1 (ways_at task stop) (ways_of stop is) (with_used settled others) run by.way (among_place (ways_at task stop) by.place_of by.way by.stands) takes.can rest.moves rest.completes in
+      record {
+        moves = go by.way.first back.piece ∷ back.moves;
+        completes = (record { passes = may.passes; leads = back.leads; taken = back.can }, back.completes);
+        same = back.total ∙ (rest.same ∙ sym by.total);
+      }
+  move_by (suc fuel) (turn index piece ∷ moves) enough (between settled) others goes completes = absurd completes.0
+  move_by (suc fuel) (turn index piece ∷ moves) enough (standing settled ran) others goes completes =
+      let may = completes.0 in
+      let run = turned_back ran in
+      let stop = ran.home in
+      let is : IsStop task stop = goes.begins in
+      let by : ByWay task fit stop is.1 (ways_at task stop) (ways_of stop is) settled run index piece moves = by_way task fit stop is.1 (ways_at task stop) (ways_of stop is) settled run goes.shares.whole index piece moves may.leads may.taken completes.1 in
+      let takes : Takes_it others run by.way = takes_it settled.used others goes.shares stop is goes.home by.place_of by.way by.stands run by.can in
+      let rest : Moved (standing (using (with_used settled others) by.way.piece) (along task run by.way.piece)) (total_after task (standing (using settled by.way.piece) (along task run by.way.piece)) by.later) = move_by fuel by.later (omega (arith, by.shorter, enough)) (standing (using settled by.way.piece) (along task run by.way.piece)) (marked_all others by.way.piece.borders.items) (goes_next settled run others goes.shares goes.begins goes.home by.way takes) by.completes in
+      let back : ByPieces task fit stop is.1 (ways_at task stop) (ways_of stop is) (with_used settled others) run by.way rest.moves = by_pieces task fit stop is.1 (ways_at task stop) (ways_of stop is) (with_used settled others) run by.way (among_place (ways_at task stop) by.place_of by.way by.stands) takes.can rest.moves rest.completes in
+      record {
+        moves = turn by.way.first back.piece ∷ back.moves;
+        completes = (record { once = may.once; stands = may.stands; later = omega (arith, may.later, by.first); passes = may.passes; leads = back.leads; taken = back.can }, back.completes);
+        same = back.total ∙ (rest.same ∙ sym by.total);
+      }
+  move_by (suc fuel) (settle ∷ moves) enough (between settled) others goes completes = absurd completes.0
+  move_by (suc fuel) (settle ∷ moves) enough (standing settled run) others goes completes =
+      let rest : Moved (between (with_used (settling settled run) others)) (total_after task (between (settling settled run)) moves) = move_by fuel moves (omega (arith, enough)) (between (settling settled run)) others goes.shares completes.1 in
+      record { moves = settle ∷ rest.moves; completes = (completes.0, rest.completes); same = rest.same }
+
+-- what is earned from a state is earned from one that is alike
+pub low_alike : (task : Task) → IsFit task → AreReady task → (settled like : Settled) → length settled.used ≡ 279 → IsAlike task settled like → (most : ℕ) → EarnsAtMost task like most → EarnsAtMost task settled most
+low_alike task fit ready settled like whole alike most low moves completes =
+    let shares : Shares task fit ready settled.used alike.reach like.used alike.reaches alike.shut settled.used like.used = record { still = λ border is. is; either = λ border is. inr is; whole = whole; other_whole = freer_length like.used settled.used alike.shut.kept ∙ whole } in
+    let moved : Moved task fit ready settled.used alike.reach like.used alike.reaches alike.shut (between (with_used settled like.used)) (total_after task (between settled) moves) = move_by task fit ready settled.used alike.reach like.used alike.reaches alike.shut (length moves) moves (omega arith) (between settled) like.used shares completes in
+    let there : EarnsAtMost task (with_used settled like.used) most = subst (λ (s : Settled). EarnsAtMost task s most) alike.same low in
+    subst (λ (n : ℕ). n ≤ most) moved.same (there moved.moves moved.completes)
+
+-- and the other way round
+pub low_back : (task : Task) (settled like : Settled) → IsAlike task settled like → (most : ℕ) → EarnsAtMost task settled most → EarnsAtMost task like most
+low_back task settled like alike most low =
+    subst (λ (s : Settled). EarnsAtMost task s most) (sym alike.same) from_used
+  where
+    from_used : EarnsAtMost task (with_used settled like.used) most
+    from_used moves completes =
+        let easy : Eased task settled.kind settled.cap (between (with_used settled like.used)) moves settled.total settled.used = ease task moves settled.kind settled.cap (between (with_used settled like.used)) settled.total settled.used (inr (refl, omega arith)) alike.shut.kept completes in
+        omega (arith, easy.earns, low moves easy.completes)

@@ -1,0 +1,74 @@
+-- What the trains that are left can come to: the borders that no way from there crosses make no difference to them, so two
+-- states between runs that differ in such borders alone are alike.
+use Rattle.std.specs.Prelude.{◌≡◌, ℕ, ◌<◌, Bool, true, false, not, ◌&&◌, ◌||◌, ◌⊎◌, Some, List, [], ◌∷◌, get_or, replicate, set, slice_get}
+use Rattle.best_run.specs.declared.state.Settled.{Settled}
+use Rattle.best_run.specs.declared.state.Standing.{Standing}
+use Rattle.best_run.specs.declared.task.Task.{Task}
+use Rattle.best_run.specs.declared.task.Way.{Way}
+use Rattle.best_run.specs.Ahead.{LiesAhead, Widens}
+use Rattle.best_run.specs.Kept.{Freer}
+use Rattle.best_run.specs.Moves.{ends_in, misses, node_at, own_in, stop_in}
+use Rattle.best_run.specs.Ways.{IsStop, ways_at}
+
+-- each way from a stop that crosses no used border leads to a stop in reach
+abbrev pub AllLead : Task → List Bool → List Bool → ℕ → Type 0
+AllLead task used reach spot =
+    (place : ℕ) (way : Way) → slice_get (ways_at task spot) place ≡ Some way → misses used way.piece.borders.items ≡ true → LiesAhead reach way.piece.to
+
+-- a run may set out from a token of the company, and go on from a stop in reach that it may pass
+abbrev pub SetsOut : Task → List Bool → ℕ → Type 0
+SetsOut task reach spot = (own_in (node_at task spot) ≡ true) ⊎ (LiesAhead reach spot × (ends_in (node_at task spot) ≡ false))
+
+abbrev pub sets_out : Task → List Bool → ℕ → Bool
+sets_out task reach spot =
+    stop_in (node_at task spot) && (own_in (node_at task spot) || (get_or reach spot false && not (ends_in (node_at task spot))))
+
+-- all stops to which a run may come lie in reach
+abbrev pub IsInReach : Task → List Bool → List Bool → Type 0
+IsInReach task used reach = (spot : ℕ) → IsStop task spot → SetsOut task reach spot → AllLead task used reach spot
+
+-- the same for tokens before one, and for the stops that lie in reach so far
+pub record ReachesBelow (task : Task) (used : List Bool) (most : ℕ) (reach : List Bool) : Type 0 where
+  pub own : (spot : ℕ) → spot < most → IsStop task spot → own_in (node_at task spot) ≡ true → AllLead task used reach spot
+  pub all : (spot : ℕ) → LiesAhead reach spot → ends_in (node_at task spot) ≡ false → AllLead task used reach spot
+
+-- a run that has visited nothing
+abbrev pub anywhere : Standing
+anywhere =
+    record { home = 0; first = 0; turned = false; head = 0; most = 0; left = 1; value = 0; visited = replicate 744 false }
+
+-- more stops lie in reach, and all to which a way from a stop leads
+pub record WidensTo (task : Task) (settled : Settled) (spot : ℕ) (old new : List Bool) : Type 0 where
+  pub widens : Widens task settled anywhere old new
+  pub here : AllLead task settled.used new spot
+
+-- the marks of some borders are taken away
+abbrev pub cleared_all : List Bool → List ℕ → List Bool
+cleared_all marks [] = marks
+cleared_all marks (border ∷ borders) = cleared_all (set marks border false) borders
+
+-- each way from a stop before a place that crosses no used border crosses none of the shut ones
+abbrev pub AreOpenBelow : Task → List Bool → ℕ → ℕ → List Bool → Type 0
+AreOpenBelow task used spot most shut =
+    (place : ℕ) (way : Way) → place < most → slice_get (ways_at task spot) place ≡ Some way → misses used way.piece.borders.items ≡ true → misses shut way.piece.borders.items ≡ true
+
+abbrev pub AreOpen : Task → List Bool → ℕ → List Bool → Type 0
+AreOpen task used spot shut =
+    (place : ℕ) (way : Way) → slice_get (ways_at task spot) place ≡ Some way → misses used way.piece.borders.items ≡ true → misses shut way.piece.borders.items ≡ true
+
+-- fewer borders are shut, and among them are still the used ones, if they were before
+pub record Opens (used old new : List Bool) : Type 0 where
+  pub fewer : (borders : List ℕ) → misses old borders ≡ true → misses new borders ≡ true
+  pub kept : Freer old used → Freer new used
+
+-- each way from the stops before one from which a run may go on is open, and the used borders are shut
+pub record IsShutBelow (task : Task) (used reach : List Bool) (most : ℕ) (shut : List Bool) : Type 0 where
+  pub kept : Freer shut used
+  pub open_ways : (spot : ℕ) → spot < most → IsStop task spot → SetsOut task reach spot → AreOpen task used spot shut
+
+-- a state differs from another only in borders that no run to come can cross
+pub record IsAlike (task : Task) (settled like : Settled) : Type 0 where
+  pub same : like ≡ record settled { used = like.used }
+  pub reach : List Bool
+  pub reaches : IsInReach task settled.used reach
+  pub shut : IsShutBelow task settled.used reach 744 like.used
