@@ -13,6 +13,9 @@ use reach::Network;
 use std::alloc::{AllocError, Global};
 use tables::{Amount, Company, Kind};
 
+/// How many explored states are kept at most.
+const MOST_PLACES: usize = 8192;
+
 impl Task {
     /// Tries all ways of the last trains by themselves, so many of them.
     fn settle_last(&self, count: usize, bounds: &[Amount], best: &mut Found)
@@ -50,6 +53,19 @@ impl Task {
         Ok(bounds)
     }
 
+    /// How many explored states are kept: none for one train, and fewer where there are few ways, since
+    /// to set them up takes time as well. Any number would do.
+    fn places(&self) -> usize {
+        if self.trains.len() < 2 {
+            return 0;
+        }
+        let mut ways: usize = 0;
+        for from in &self.departures {
+            ways = ways.saturating_add(from.ways.len());
+        }
+        (ways.saturating_mul(ways) / 4).min(MOST_PLACES)
+    }
+
     /// The greatest total of all ways from nothing settled to the end, in dollars. The only error
     /// is want of memory.
     fn greatest(&self, alloc: Global) -> Result<Amount, AllocError>
@@ -57,7 +73,7 @@ impl Task {
         requires ready { AreReady self.now }
         ensures { IfOk result (IsTop self.now) }
     {
-        let mut best = Found::nothing(alloc, self.trains.len())?;
+        let mut best = Found::nothing(alloc, self.trains.len(), self.places())?;
         let bounds = self.settle_suffixes(alloc, &mut best)?;
         self.settle_last(self.trains.len(), &bounds, &mut best);
         Ok(best.amount)

@@ -7,15 +7,13 @@ use crate::state::{BORDERS, Settled};
 use std::alloc::{AllocError, Global};
 use tables::Amount;
 
-/// How many states are kept: each at one place, in place of the one that stood there.
-const PLACES: usize = 8192;
-
 /// What has been found.
 #[derive(Drop)]
 pub(crate) struct Found {
     /// The greatest total so far, in dollars.
     pub(crate) amount: Amount,
-    /// States between runs that have been explored: no way on from there earns more.
+    /// States between runs that have been explored: no way on from there earns more. Each stands at one
+    /// place, in place of the one that stood there.
     pub(crate) explored: Vec<Settled>,
 }
 
@@ -27,13 +25,13 @@ fn place_of(settled: &Settled) -> usize {
             sum = (sum ^ border as u64).wrapping_mul(0x9E37_79B9_7F4A_7C15);
         }
     }
-    (sum >> 40) as usize % PLACES
+    (sum >> 40) as usize
 }
 
 impl Found {
-    /// Nothing is found yet. At each place stands a state in which none of so many trains is left. The
-    /// only error is want of memory.
-    pub(crate) fn nothing(alloc: Global, trains: usize) -> Result<Found, AllocError>
+    /// Nothing is found yet. At each of so many places stands a state in which none of so many trains is
+    /// left. The only error is want of memory.
+    pub(crate) fn nothing(alloc: Global, trains: usize, places: usize) -> Result<Found, AllocError>
         ensures { IfOk result (IsNothing trains) }
     {
         let over = Settled {
@@ -44,7 +42,7 @@ impl Found {
             used: [false; BORDERS],
         };
         let mut explored = Vec::new(alloc);
-        for _ in 0..PLACES {
+        for _ in 0..places {
             explored.push(over)?;
         }
         Ok(Found {
@@ -58,17 +56,20 @@ impl Found {
     pub(crate) fn covers(&self, settled: &Settled) -> bool
         ensures { IsTrue result → IsCovered self.now settled.now }
     {
-        let place = place_of(settled);
-        place < self.explored.len() && self.explored[place].covers(settled)
+        let places = self.explored.len();
+        if places == 0 {
+            return false;
+        }
+        self.explored[place_of(settled) % places].covers(settled)
     }
 
     /// Keeps a state that has been explored.
     pub(crate) fn keep(&mut self, settled: &Settled)
         ensures { IsKept settled.now self.old self.new }
     {
-        let place = place_of(settled);
-        if place < self.explored.len() {
-            self.explored[place] = *settled;
+        let places = self.explored.len();
+        if places > 0 {
+            self.explored[place_of(settled) % places] = *settled;
         }
     }
 }
