@@ -6,11 +6,13 @@
 //! `Described` how a position is laid out for it, `Ways` how pieces of plain track make ways from
 //! stop to stop, `Fit` what keeps its numbers within their bounds, `Suffix` what the last trains earn
 //! by themselves, and equal trains one after another, which bounds what they earn behind others,
-//! `Ahead` what may lie ahead of a run, which bounds what it may still earn.
+//! `Ahead` what may lie ahead of a run, which bounds what it may still earn, `Kept` which states between
+//! runs need not be explored since another one was, `Alike` which of them are alike to the trains left.
 //!
 //! Reading order: `best` (the public call), `trains` (their order), `spots` (the spots of a position
 //! with the pieces of track between them), `ways` (from stop to stop), `task`, `state` (the trains
-//! settled so far, and the run begun), `outlook` (what lies ahead of that run), `search`.
+//! settled so far, and the run begun), `outlook` (what lies ahead of that run), `explored` (what has been
+//! found, and what need not be explored again), `alike` (states between runs that are alike), `search`.
 #![tactic(auto)]
 
 mod alike;
