@@ -9,8 +9,12 @@
 #[cfg(test)]
 mod best;
 #[cfg(test)]
+mod best_agrees;
+#[cfg(test)]
 mod boards;
 #[cfg(test)]
 mod books;
 #[cfg(test)]
 mod lines;
+#[cfg(test)]
+mod slow_search;

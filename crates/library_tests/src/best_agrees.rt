@@ -1,0 +1,317 @@
+//! The greatest revenue agrees with a slow search over all runs and all sets, on small boards.
+
+use crate::slow_search::slow_revenues;
+use best_run::greatest_revenue;
+use board::Board;
+use map_tables::{Hex, Lay, Place, Rotation, StopNumber, TileNo};
+use std::alloc::{AllocError, Global};
+use tables::{Amount, Company, Kind};
+
+/// A tile: its hex, its number, how far it is turned, and whether its two stops are changed round.
+type Tile = (Hex, TileNo, Rotation, bool);
+
+/// A token: its hex, the stop there, and whose it is.
+type Token = (Hex, StopNumber, Company);
+
+/// What lies on a board.
+struct Laid {
+    name: &'static str,
+    phase: Kind,
+    tiles: &'static [Tile],
+    tokens: &'static [Token],
+    companies: &'static [Company],
+    /// What the first of these companies earns with three 2s, found by hand on the map.
+    by_three_twos: Amount,
+}
+
+/// The lists of trains that are tried on each board.
+const LISTS: [&[Kind]; 12] = [
+    &[],
+    &[Kind::Two],
+    &[Kind::Three],
+    &[Kind::Four],
+    &[Kind::Diesel],
+    &[Kind::Two, Kind::Two],
+    &[Kind::Two, Kind::Three],
+    &[Kind::Four, Kind::Three],
+    &[Kind::Four, Kind::Diesel],
+    &[Kind::Two, Kind::Two, Kind::Two],
+    &[Kind::Two, Kind::Three, Kind::Four],
+    &[Kind::Three, Kind::Two, Kind::Diesel],
+];
+
+/// The tiles of a board, as they lie.
+fn lays_of(alloc: Global, tiles: &[Tile]) -> Result<Vec<Lay>, AllocError> {
+    let mut lays = Vec::new(alloc);
+    for (hex, tile, rot, swap) in tiles {
+        lays.push(Lay {
+            hex: *hex,
+            tile: *tile,
+            rot: *rot,
+            swap: *swap,
+        })?;
+    }
+    Ok(lays)
+}
+
+/// The tokens of a board, at their places.
+fn tokens_of(alloc: Global, tokens: &[Token]) -> Result<Vec<(Place, Company)>, AllocError> {
+    let mut places = Vec::new(alloc);
+    for (hex, number, company) in tokens {
+        let place = Place {
+            hex: *hex,
+            stop: Some(*number),
+        };
+        places.push((place, *company))?;
+    }
+    Ok(places)
+}
+
+const PRR: Company = Company::Pennsylvania;
+
+const NYC: Company = Company::NewYorkCentral;
+
+const ERIE: Company = Company::Erie;
+
+const CO: Company = Company::ChesapeakeOhio;
+
+const CPR: Company = Company::CanadianPacific;
+
+const BO: Company = Company::BaltimoreOhio;
+
+const NYNH: Company = Company::NewHaven;
+
+const BM: Company = Company::BostonMaine;
+/// The boards. On each a company is tried that has no token there.
+const BOARDS: [Laid; 12] = [
+    Laid {
+        name: "a line of three cities, a token in the middle and one at an end",
+        phase: Kind::Two,
+        tiles: &[
+            (Hex::H10, TileNo::T57, Rotation::One, false),
+            (Hex::H14, TileNo::T9, Rotation::One, false),
+            (Hex::H16, TileNo::T57, Rotation::One, false),
+        ],
+        tokens: &[
+            (Hex::H12, StopNumber::First, PRR),
+            (Hex::H16, StopNumber::First, PRR),
+        ],
+        companies: &[PRR, NYC, BM],
+        by_three_twos: 60,
+    },
+    Laid {
+        name: "the line with tokens at both ends, and past a full city by the track beside it",
+        phase: Kind::Two,
+        tiles: &[
+            (Hex::H10, TileNo::T57, Rotation::One, false),
+            (Hex::H14, TileNo::T9, Rotation::One, false),
+            (Hex::H16, TileNo::T57, Rotation::One, false),
+        ],
+        tokens: &[
+            (Hex::H10, StopNumber::First, PRR),
+            (Hex::H16, StopNumber::First, PRR),
+            (Hex::H12, StopNumber::First, NYC),
+        ],
+        companies: &[PRR, NYC, BM],
+        by_three_twos: 60,
+    },
+    Laid {
+        name: "a full city at an end",
+        phase: Kind::Two,
+        tiles: &[
+            (Hex::H10, TileNo::T57, Rotation::One, false),
+            (Hex::H14, TileNo::T9, Rotation::One, false),
+            (Hex::H16, TileNo::T57, Rotation::One, false),
+        ],
+        tokens: &[
+            (Hex::H12, StopNumber::First, PRR),
+            (Hex::H16, StopNumber::First, NYC),
+        ],
+        companies: &[PRR, NYC, BM],
+        by_three_twos: 60,
+    },
+    Laid {
+        name: "one stop that leads nowhere",
+        phase: Kind::Two,
+        tiles: &[],
+        tokens: &[(Hex::H12, StopNumber::First, PRR)],
+        companies: &[PRR, NYC, BM],
+        by_three_twos: 0,
+    },
+    Laid {
+        name: "a full city with a city beyond it",
+        phase: Kind::Three,
+        tiles: &[
+            (Hex::H10, TileNo::T57, Rotation::One, false),
+            (Hex::H14, TileNo::T9, Rotation::One, false),
+            (Hex::H16, TileNo::T57, Rotation::One, false),
+            (Hex::H18, TileNo::T59, Rotation::One, false),
+        ],
+        tokens: &[
+            (Hex::H12, StopNumber::First, PRR),
+            (Hex::H16, StopNumber::First, NYC),
+            (Hex::H18, StopNumber::First, ERIE),
+        ],
+        companies: &[PRR, NYC, ERIE, BM],
+        by_three_twos: 60,
+    },
+    Laid {
+        name: "a triangle of plain track between three cities",
+        phase: Kind::Five,
+        tiles: &[
+            (Hex::F12, TileNo::T39, Rotation::Four, false),
+            (Hex::F14, TileNo::T39, Rotation::Zero, false),
+            (Hex::G13, TileNo::T39, Rotation::Two, false),
+            (Hex::G11, TileNo::T9, Rotation::Zero, false),
+            (Hex::H10, TileNo::T57, Rotation::Zero, false),
+            (Hex::E13, TileNo::T8, Rotation::Five, false),
+            (Hex::E11, TileNo::T59, Rotation::Four, false),
+            (Hex::G15, TileNo::T8, Rotation::One, false),
+            (Hex::F16, TileNo::T57, Rotation::Zero, false),
+        ],
+        tokens: &[
+            (Hex::H10, StopNumber::First, PRR),
+            (Hex::F16, StopNumber::First, PRR),
+            (Hex::E11, StopNumber::First, ERIE),
+        ],
+        companies: &[PRR, ERIE, BM],
+        by_three_twos: 60,
+    },
+    Laid {
+        name: "the Gulf, entered by both of its hexes",
+        phase: Kind::Three,
+        tiles: &[
+            (Hex::I3, TileNo::T20, Rotation::Zero, false),
+            (Hex::H4, TileNo::T14, Rotation::Zero, false),
+            (Hex::H6, TileNo::T7, Rotation::Zero, false),
+            (Hex::I5, TileNo::T47, Rotation::Zero, false),
+            (Hex::J4, TileNo::T8, Rotation::One, false),
+        ],
+        tokens: &[
+            (Hex::H4, StopNumber::First, PRR),
+            (Hex::H4, StopNumber::First, CO),
+        ],
+        companies: &[PRR, CO, BM],
+        by_three_twos: 120,
+    },
+    Laid {
+        name: "the Canadian West, entered by both of its hexes",
+        phase: Kind::Three,
+        tiles: &[
+            (Hex::B10, TileNo::T15, Rotation::Two, false),
+            (Hex::B12, TileNo::T7, Rotation::One, false),
+            (Hex::C11, TileNo::T8, Rotation::Zero, false),
+            (Hex::D10, TileNo::T59, Rotation::Three, false),
+        ],
+        tokens: &[
+            (Hex::B10, StopNumber::First, CPR),
+            (Hex::D10, StopNumber::First, PRR),
+        ],
+        companies: &[CPR, PRR, BM],
+        by_three_twos: 190,
+    },
+    Laid {
+        name: "two towns in a hex and two cities in another, each passed twice",
+        phase: Kind::Three,
+        tiles: &[
+            (Hex::G17, TileNo::T55, Rotation::Zero, false),
+            (Hex::F18, TileNo::T7, Rotation::Five, false),
+            (Hex::G19, TileNo::T54, Rotation::Zero, false),
+            (Hex::H16, TileNo::T14, Rotation::Zero, false),
+            (Hex::G15, TileNo::T8, Rotation::Four, false),
+            (Hex::H14, TileNo::T7, Rotation::Three, false),
+            (Hex::H18, TileNo::T59, Rotation::Three, false),
+        ],
+        tokens: &[
+            (Hex::G19, StopNumber::First, NYNH),
+            (Hex::H16, StopNumber::First, PRR),
+            (Hex::H16, StopNumber::First, NYC),
+        ],
+        companies: &[NYNH, PRR, NYC, BM],
+        by_three_twos: 170,
+    },
+    Laid {
+        name: "the two towns changed round, and one of the cities full",
+        phase: Kind::Three,
+        tiles: &[
+            (Hex::G17, TileNo::T55, Rotation::Zero, true),
+            (Hex::F18, TileNo::T7, Rotation::Five, false),
+            (Hex::G19, TileNo::T54, Rotation::Zero, false),
+            (Hex::H16, TileNo::T14, Rotation::Zero, false),
+            (Hex::G15, TileNo::T8, Rotation::Four, false),
+            (Hex::H14, TileNo::T7, Rotation::Three, false),
+        ],
+        tokens: &[
+            (Hex::G19, StopNumber::First, NYNH),
+            (Hex::G19, StopNumber::Second, NYC),
+            (Hex::H16, StopNumber::First, PRR),
+        ],
+        companies: &[NYNH, PRR, NYC, BM],
+        by_three_twos: 70,
+    },
+    Laid {
+        name: "a red area behind a full city",
+        phase: Kind::Five,
+        tiles: &[
+            (Hex::I15, TileNo::T53, Rotation::Zero, false),
+            (Hex::J14, TileNo::T57, Rotation::Zero, false),
+            (Hex::H14, TileNo::T8, Rotation::Five, false),
+            (Hex::I17, TileNo::T8, Rotation::One, false),
+            (Hex::H18, TileNo::T59, Rotation::Zero, false),
+        ],
+        tokens: &[
+            (Hex::I15, StopNumber::First, BO),
+            (Hex::H12, StopNumber::First, PRR),
+            (Hex::J14, StopNumber::First, NYC),
+        ],
+        companies: &[BO, PRR, NYC, BM],
+        by_three_twos: 220,
+    },
+    Laid {
+        name: "a ring of cities in the east",
+        phase: Kind::Five,
+        tiles: &[
+            (Hex::E19, TileNo::T63, Rotation::Zero, false),
+            (Hex::E21, TileNo::T24, Rotation::Four, false),
+            (Hex::E23, TileNo::T53, Rotation::One, false),
+            (Hex::D22, TileNo::T9, Rotation::One, false),
+            (Hex::D20, TileNo::T8, Rotation::Four, false),
+            (Hex::F22, TileNo::T57, Rotation::One, false),
+            (Hex::F20, TileNo::T69, Rotation::Zero, false),
+        ],
+        tokens: &[
+            (Hex::E19, StopNumber::First, NYC),
+            (Hex::E23, StopNumber::First, BM),
+            (Hex::G19, StopNumber::First, NYNH),
+        ],
+        companies: &[NYC, BM, NYNH, CPR],
+        by_three_twos: 230,
+    },
+];
+
+/// Each company that is named on each board earns with each list of trains what the slow search finds.
+#[test]
+fn agrees_with_a_slow_search(rt: HostRuntime) -> Result<(), AllocError> {
+    for laid in BOARDS.iter() {
+        let name = laid.name;
+        let lays = lays_of(rt.alloc(), laid.tiles)?;
+        let tokens = tokens_of(rt.alloc(), laid.tokens)?;
+        let Ok(board) = Board::of(rt.alloc(), &lays, &tokens, laid.phase) else {
+            panic!(rt; "refused: {name}")
+        };
+        for company in laid.companies {
+            let slow = slow_revenues(rt.alloc(), &board, *company, &LISTS)?;
+            for (trains, revenue) in LISTS.iter().zip(slow.iter()) {
+                let best = greatest_revenue(rt.alloc(), &board, *company, trains)?;
+                let count = trains.len();
+                assert_eq!(rt; best, *revenue, "{name}: {company:?} with {count} trains");
+            }
+        }
+        if let Some(company) = laid.companies.first() {
+            let twos = [Kind::Two; 3];
+            let best = greatest_revenue(rt.alloc(), &board, *company, &twos)?;
+            assert_eq!(rt; best, laid.by_three_twos, "{name}");
+        }
+    }
+    Ok(())
+}
