@@ -3,7 +3,8 @@
 //! path. What a report shows is a game of `games/`, which `./check` plays.
 //!
 //! Reading order: `lines` (lines read and printed), `boards` (tiles and tokens), `best` (the greatest
-//! revenue), `books` (money, tenths, events).
+//! revenue), `best_agrees` (the same beside a slow search, on small boards), `slow_search` (that
+//! search), `books` (money, tenths, events).
 #![tactic(auto)]
 
 #[cfg(test)]
