@@ -1,5 +1,5 @@
 -- The call that an order to run the best makes of a runner.
-use Rattle.std.proofs.Common.{◌≡◌, ℕ, ℤ, pos, List, [], ◌∷◌, Result, Ok, Err, refl, sym, ap, subst, ◌∙◌, inl}
+use Rattle.std.proofs.Common.{◌≡◌, ℕ, ℤ, pos, List, [], ◌∷◌, Result, Ok, Err, refl, sym, subst, inl}
 use Rattle.certificate.specs.declared.runner.RunnerFault.{RunnerFault}
 use Rattle.history.specs.declared.event.Event.{Event}
 use Rattle.operating.specs.Best.{trains_now}

@@ -1,11 +1,6 @@
 -- Courses one after another make the calls of one and then those of the other.
 use Rattle.std.proofs.Common.{◌≡◌, zero, suc, List, [], ◌∷◌, ◌++◌, Result, Ok, Err, refl, subst, inl, inr}
-use Rattle.certificate.specs.declared.runner.RunnerFault.{RunnerFault}
 use Rattle.operating.specs.Calls.{AreMade, Call, Course, Earns, Makes, SomeTimesThen, Then, TimesThen, Unasked}
-use Rattle.reach.specs.Position.{Position}
-use Rattle.tables.specs.declared.rolling_stock.Kind.{Kind}
-use Rattle.tables.specs.declared.roster.Company.{Company}
-use Rattle.tables.specs.declared.round.Round.{Round}
 
 module _ {Runner : Type 0} (earns : Earns Runner) where
   -- calls made after others are made with them

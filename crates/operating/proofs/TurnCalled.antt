@@ -14,12 +14,10 @@ use Rattle.operating.specs.Turn.{BlockEnds, BlockLeads, IsCompanyTurn, LinesLead
 use Rattle.operating.specs.TurnCalls.{BegunCalls, BestCalls, BlockCalls, EndCalls, LineCalls, LinesCall, OrderCalls, ReadingCalls, TurnCalls}
 use Rattle.operating.specs.declared.operator.Operator.{Operator}
 use Rattle.operating.specs.declared.progress.Progress.{Progress}
-use Rattle.reach.specs.Position.{Position}
 use Rattle.order_grammar.specs.declared.fault.Fault.{Fault}
 use Rattle.order_grammar.specs.declared.order.Order.{Order}
 use Rattle.sheets.specs.Block.{block_for}
 use Rattle.sheets.specs.Part.{Numbered}
-use Rattle.tables.specs.declared.rolling_stock.Kind.{Kind}
 use Rattle.tables.specs.declared.roster.Company.{Company}
 use Rattle.tables.specs.declared.round.Round.{Round}
 use Rattle.tables.specs.declared.seat.Seat.{Seat}
