@@ -7,3 +7,4 @@ pub mod Kept
 pub mod Alike
 pub mod Kinds
 pub mod Ways
+pub mod Claimed

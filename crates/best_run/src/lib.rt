@@ -16,7 +16,11 @@
 #![tactic(auto)]
 
 mod alike;
+mod answer;
 mod best;
+mod bounds;
+mod choices;
+mod claimed;
 mod explored;
 mod outlook;
 mod runner;
@@ -25,7 +29,11 @@ mod spots;
 mod state;
 mod task;
 mod trains;
+mod walked;
 mod ways;
+mod written;
 
+pub use answer::Best;
 pub use best::greatest_revenue;
+pub use claimed::best;
 pub use runner::Search;

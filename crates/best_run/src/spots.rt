@@ -57,7 +57,7 @@ const NUMBERED: usize = 3;
 
 /// The number of the border at a side of a hex.
 #[tactic(auto, unfolding(certificate::specs::Legal::border_of))]
-fn border(hex: Hex, side: Side) -> usize
+pub(crate) fn border(hex: Hex, side: Side) -> usize
     ensures { result ≡ border_of hex side }
 {
     let number = side.number();

@@ -1,5 +1,6 @@
 //! The greatest revenue agrees with a slow search over all runs and all sets, on small boards.
 
+use crate::claims::claimed;
 use crate::slow_search::slow_revenues;
 use best_run::greatest_revenue;
 use board::Board;
@@ -305,6 +306,12 @@ fn agrees_with_a_slow_search(rt: HostRuntime) -> Result<(), AllocError> {
                 let best = greatest_revenue(rt.alloc(), &board, *company, trains)?;
                 let count = trains.len();
                 assert_eq!(rt; best, *revenue, "{name}: {company:?} with {count} trains");
+                let claim = claimed(rt.alloc(), &board, *company, trains)?;
+                assert_eq!(rt;
+                    claim,
+                    Some(*revenue),
+                    "{name}: {company:?}, a claim of {count}"
+                );
             }
         }
         if let Some(company) = laid.companies.first() {

@@ -16,6 +16,8 @@ mod boards;
 #[cfg(test)]
 mod books;
 #[cfg(test)]
+mod claims;
+#[cfg(test)]
 mod lines;
 #[cfg(test)]
 mod slow_search;

@@ -1,0 +1,1 @@
+-- What the walk down the choice tree finds.
