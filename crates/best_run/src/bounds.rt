@@ -1,11 +1,10 @@
 //! What a node of the choice tree earns and may still earn. No sum here overflows: one that is too great is
-//! the greatest number, which is more than any trains earn.
-ghost use Rattle.std.specs.Prelude.{◌≡◌, ◌<◌, ◌≤◌, ◌-◌, IfOk, drop, length, map, reverse};
-ghost use Rattle.best_run.specs.Claimed.{capped, more_sums, node_at, sums_of, train_run};
+//! the greatest amount, which is more than any trains earn.
+ghost use Rattle.std.specs.Prelude.{◌≡◌, ℕ, List, ◌∷◌, [], ◌<◌, IfOk, length, reverse};
+ghost use Rattle.best_run.specs.Claimed.{capped, node_at, sums_of};
 ghost use Rattle.certificate.specs.Legal.{worth};
 ghost use Rattle.certificate.specs.Set.{revenue_of};
-ghost use Rattle.certificate.specs.Tree.{bound, may_all_earn, may_earn, new_values, still_to_come};
-ghost use Rattle.reach.specs.Position.{value_of};
+ghost use Rattle.certificate.specs.Tree.{bound, may_all_earn, new_values, still_to_come};
 ghost use Rattle.tables.specs.Train.{stops_of};
 
 use crate::choices::{has_stop, visited};
@@ -39,7 +38,8 @@ impl Sums {
 
     /// Those of one value more.
     fn with(&self, value: Amount) -> Sums
-        ensures { result ≡ more_sums value self.now }
+        ensures { (values : List ℕ) → self.now ≡ sums_of values →
+            result ≡ sums_of (value ∷ values) }
     {
         let [none, one, two, three, four, five, six] = self.greatest;
         Sums {
@@ -57,7 +57,10 @@ impl Sums {
     }
 
     /// The sum of the greatest values, as many as a train may visit that has visited so many stops.
-    fn still_to_come(&self, kind: Kind, count: usize) -> Amount {
+    fn still_to_come(&self, kind: Kind, count: usize) -> Amount
+        ensures { (values : List ℕ) → self.now ≡ sums_of values →
+            result ≡ capped (still_to_come (stops_of kind) count values) }
+    {
         match kind.stops() {
             Some(most) => self.greatest[most.saturating_sub(count)],
             None => self.all,
@@ -96,12 +99,12 @@ pub(crate) fn revenue<N: Network>(
     network: &N,
     settled: &[SettledRun],
 ) -> Result<Amount, AllocError>
-    ensures { let runs = reverse (map train_run settled.now) in
+    ensures { let runs = reverse settled.now in
         IfOk result (λ earned. earned ≡ capped (revenue_of (N.position network.now) runs)) }
 {
     let mut sum: Amount = 0;
     for run in settled {
-        let stops = visited(alloc, &run.steps)?;
+        let stops = visited(alloc, run.steps())?;
         sum = sum.saturating_add(worth(network, &stops));
     }
     Ok(sum)
@@ -130,21 +133,18 @@ pub(crate) fn bound<N: Network>(
     reached: &[Stop],
     walk: &Walk,
 ) -> Result<Amount, AllocError>
-    requires { walk.now.next < length walk.now.trains.items }
+    requires { walk.now.next < length walk.now.trains }
     ensures { let position = N.position network.now in
         let node = node_at walk.now in
         IfOk result (λ amount. amount ≡ capped (bound position reached.now node)) }
 {
-    let stops = visited(alloc, &walk.begun)?;
+    let stops = visited(alloc, walk.begun())?;
     let here = worth(network, &stops);
     let sums = new_sums(network, &stops, reached);
-    let still = sums.still_to_come(walk.trains[walk.next], stops.len());
-    let later = may_all_earn(network, reached, &walk.trains[walk.next + 1..]);
-    let settled = revenue(alloc, network, &walk.settled)?;
-    Ok(
-        settled
-            .saturating_add(here)
-            .saturating_add(still)
-            .saturating_add(later),
-    )
+    let trains = walk.trains();
+    let still = sums.still_to_come(trains[0], stops.len());
+    let later = may_all_earn(network, reached, &trains[1..]);
+    let settled = revenue(alloc, network, walk.settled())?;
+    let coming = here.saturating_add(still.saturating_add(later));
+    Ok(settled.saturating_add(coming))
 }

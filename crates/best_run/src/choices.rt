@@ -1,16 +1,17 @@
 //! What may be chosen at a node of the choice tree. Each test goes over the steps that lie behind.
-ghost use Rattle.std.specs.Prelude.{◌≡◌, ◌++◌, ◌∷◌, [], IfOk, IsTrue, reverse};
+ghost use Rattle.std.specs.Prelude.{◌≡◌, ◌==◌, ◌||◌, ◌++◌, ◌∷◌, [], IfOk, OnOk, length, reverse};
 ghost use Rattle.best_run.specs.Claimed.{node_at, twin_of};
-ghost use Rattle.certificate.specs.Fault.{has_border, has_stop, is_full};
-ghost use Rattle.certificate.specs.Legal.{border_at, border_of, crossed, listed, visited};
-ghost use Rattle.certificate.specs.Tree.{goes_over, hexes_of, is_finished, is_used_up, leads_on, taken_borders, ways_by};
+ghost use Rattle.certificate.specs.Fault.{has_border, has_stop, has_token, is_full};
+ghost use Rattle.certificate.specs.Legal.{border_at, crossed, listed, visited};
+ghost use Rattle.certificate.specs.Tree.{gone_over, goes_over, hexes_of, is_finished, is_new_stop, is_used_up, leads_on, run_borders, taken_borders, ways_by};
 ghost use Rattle.map_tables.specs.Track.{end_order};
+ghost use Rattle.reach.specs.Position.{is_red};
 ghost use Rattle.reach.specs.Reached.{stop_order};
 ghost use Rattle.reach.specs.Walk.{stop_of};
 ghost use Rattle.tables.specs.Train.{stops_of};
 
 use crate::spots::border;
-use crate::walked::Walk;
+use crate::walked::{SettledRun, Walk};
 use map_tables::{End, Hex, Link, Stop, neighbour};
 use reach::{Network, Spot, Step};
 use std::alloc::{AllocError, Global};
@@ -69,6 +70,13 @@ fn crosses(steps: &[Step], number: usize) -> bool
     ensures { result ≡ has_border number (crossed (reverse steps.now)) }
 {
     steps.iter().any(|step| is_at(step.entered(), number))
+}
+
+/// Whether one of some runs crosses the border with a number.
+fn run_crosses(settled: &[SettledRun], number: usize) -> bool
+    ensures { result ≡ has_border number (run_borders (reverse settled.now)) }
+{
+    settled.iter().any(|run| crosses(run.steps(), number))
 }
 
 /// Whether two stops are one, by their places in the order of the map.
@@ -130,22 +138,25 @@ fn is_stop(spot: Spot, stop: Stop) -> bool
     }
 }
 
+/// Whether a company has a token at a stop.
+fn has_token<N: Network>(network: &N, company: Company, stop: Stop) -> bool
+    ensures { result ≡ has_token (N.position network.now) company stop }
+{
+    network.token(stop, company)
+}
+
+/// Whether a stop is a city that is full for a company.
+fn is_full<N: Network>(network: &N, company: Company, stop: Stop) -> bool
+    ensures { result ≡ is_full (N.position network.now) company stop }
+{
+    network.full(stop, company)
+}
+
 /// Whether a run that visits these stops is finished: two or more, and a token of the company.
 pub(crate) fn is_finished<N: Network>(network: &N, company: Company, stops: &[Stop]) -> bool
     ensures { result ≡ is_finished (N.position network.now) company stops.now }
 {
-    stops.len() >= 2 && stops.iter().any(|stop| network.token(*stop, company))
-}
-
-/// Whether no run of a train goes on from a stop, after it has visited so many.
-pub(crate) fn ends_at<N: Network>(
-    network: &N,
-    company: Company,
-    kind: Kind,
-    stop: Stop,
-    count: usize,
-) -> bool {
-    network.red(stop) || network.full(stop, company) || is_used_up(kind, count)
+    stops.len() >= 2 && stops.iter().any(|stop| has_token(network, company, *stop))
 }
 
 /// Whether a train has used up its stops.
@@ -158,15 +169,40 @@ fn is_used_up(kind: Kind, count: usize) -> bool
     }
 }
 
+/// Whether no run of a train goes on from a stop, after it has visited so many.
+pub(crate) fn ends_at<N: Network>(
+    network: &N,
+    company: Company,
+    kind: Kind,
+    stop: Stop,
+    count: usize,
+) -> bool
+    ensures { let position = N.position network.now in
+        let stops = is_full position company stop || is_used_up (stops_of kind) count in
+        result ≡ (is_red position stop || stops) }
+{
+    network.red(stop) || is_full(network, company, stop) || is_used_up(kind, count)
+}
+
 impl Walk {
+    /// Whether the head of the run that is begun is at the border with a number.
+    fn stands_at(&self, number: usize) -> bool
+        ensures { let crosses = has_border number (crossed self.now.begun) in
+            has_border number (gone_over self.now.begun) ≡ (result || crosses) }
+    {
+        match self.head() {
+            Some(head) => is_at(head, number),
+            None => false,
+        }
+    }
+
     /// Whether the border with a number is crossed, or the head is at it.
     fn has_taken(&self, number: usize) -> bool
         ensures { result ≡ has_border number (taken_borders (node_at self.now)) }
     {
-        if self.head().is_some_and(|head| is_at(head, number)) {
-            return true;
-        }
-        crosses(&self.begun, number) || self.settled.iter().any(|run| crosses(&run.steps, number))
+        self.stands_at(number)
+            || crosses(self.begun(), number)
+            || run_crosses(self.settled(), number)
     }
 
     /// Whether a step leads over a border that was not crossed.
@@ -182,15 +218,22 @@ impl Walk {
         }
     }
 
+    /// Whether a spot is one of these stops, and not in the run that is begun.
+    fn is_new(&self, ends: &[Stop], spot: Spot) -> bool
+        ensures { let stops = visited (node_at self.now).begun in
+            result ≡ is_new_stop ends.now stops (stop_of spot) }
+    {
+        match spot.stop() {
+            Some(stop) => has_stop(stop, ends) && !visits(self.begun(), stop),
+            None => false,
+        }
+    }
+
     /// Whether a step leads to one of these stops that is not in the run, or over a border that was not
     /// crossed.
     pub(crate) fn leads_on(&self, ends: &[Stop], step: Step) -> bool
         ensures { result ≡ leads_on ends.now (node_at self.now) step }
     {
-        let is_new = match step.left().stop() {
-            Some(stop) => has_stop(stop, ends) && !visits(&self.begun, stop),
-            None => false,
-        };
-        is_new || self.goes_over(step)
+        self.is_new(ends, step.left()) || self.goes_over(step)
     }
 }

@@ -1,8 +1,25 @@
 //! A revenue with runs that earn it. The greatest revenue comes from the search of `best`; then one walk down
 //! the choice tree finds a leaf that earns it.
-ghost use Rattle.std.specs.Prelude.{◌≡◌, ◌<◌, ◌≤◌, ◌∷◌, ◌++◌, [], IfOk, length};
-ghost use Rattle.best_run.specs.Claimed.{Looks, StandsIn, node_at};
+//!
+//! Each function that looks below some children of the node where the walk stands answers whether it has found a
+//! leaf there that earns the goal. The walk then stands at this leaf, and else where it stood.
+ghost use Rattle.std.specs.Prelude.{◌≡◌, ◌∷◌, [], Some, IfOk, length};
+ghost use Rattle.best_run.specs.Claimed.{
+  Chooses,
+  Looks,
+  StandsIn,
+  by_finish,
+  by_passing,
+  by_spot,
+  by_step,
+  by_stop,
+  by_stops,
+  head_of,
+  node_at,
+  passed_over,
+};
 ghost use Rattle.certificate.specs.Claim.{ClaimHolds};
+ghost use Rattle.certificate.specs.Legal.{visited};
 ghost use Rattle.certificate.specs.Set.{IsGreatest};
 ghost use Rattle.certificate.specs.Tree.{children};
 
@@ -13,7 +30,10 @@ use crate::choices::{ends_at, is_finished, twin_of, visited, way_by};
 use crate::trains::greatest_first;
 use crate::walked::Walk;
 use crate::written::claimed_runs;
-use certificate::Claim;
+use certificate::{
+    Claim, a_greatest_exists, leaves_are_legal_sets, legal_sets_are_leaves, no_leaf_earns_more,
+    one_greatest,
+};
 use map_tables::{End, Stop};
 use reach::{Network, Reach, Spot, Step, reached};
 use std::alloc::{AllocError, Global};
@@ -30,12 +50,18 @@ struct Goal {
     revenue: Amount,
 }
 
-/// Looks for a leaf at or below the node where the walk stands. Where it finds one that earns the goal, it
-/// stands there; else it stands where it stood. The only error is want of memory.
+/// Looks at the node where the walk stands and below it. A node whose bound is under the goal is left out.
+/// The only error is want of memory, here and below.
 #[cycle(find)]
-fn find<N: Network>(network: &N, goal: &Goal, walk: &mut Walk) -> Result<bool, AllocError> {
-    if walk.next >= walk.trains.len() {
-        return Ok(revenue(goal.alloc, network, &walk.settled)? == goal.revenue);
+fn find<N: Network>(network: &N, goal: &Goal, walk: &mut Walk) -> Result<bool, AllocError>
+    requires { StandsIn (N.position network.now) goal.now walk.old }
+    ensures { let looks = Looks (N.position network.now) goal.now (node_at walk.old ∷ []) in
+        IfOk result (looks walk.old walk.new) }
+{
+    network.keeps_laws();
+    no_leaf_earns_more();
+    if walk.trains().is_empty() {
+        return Ok(revenue(goal.alloc, network, walk.settled())? == goal.revenue);
     }
     if bound(goal.alloc, network, goal.reach.stops(), walk)? < goal.revenue {
         return Ok(false);
@@ -48,7 +74,15 @@ fn find<N: Network>(network: &N, goal: &Goal, walk: &mut Walk) -> Result<bool, A
 
 /// Looks below the children of a node at which no run is begun.
 #[cycle(find)]
-fn begin<N: Network>(network: &N, goal: &Goal, walk: &mut Walk) -> Result<bool, AllocError> {
+fn begin<N: Network>(network: &N, goal: &Goal, walk: &mut Walk) -> Result<bool, AllocError>
+    requires none { walk.old.begun ≡ [] }
+    requires chooses { let position = N.position network.now in
+        let nodes = children position goal.now.company goal.now.reach.stops (node_at walk.old) in
+        Chooses position goal.now walk.old nodes }
+    ensures { let position = N.position network.now in
+        let nodes = children position goal.now.company goal.now.reach.stops (node_at walk.old) in
+        IfOk result (Looks position goal.now nodes walk.old walk.new) }
+{
     Ok(pass_over(network, goal, walk)? || set_out(network, goal, walk)?)
 }
 
@@ -59,14 +93,19 @@ fn go_on<N: Network>(
     goal: &Goal,
     head: Spot,
     walk: &mut Walk,
-) -> Result<bool, AllocError> {
+) -> Result<bool, AllocError>
+    requires head { head_of walk.old.begun ≡ Some head }
+    requires chooses { let position = N.position network.now in
+        let nodes = children position goal.now.company goal.now.reach.stops (node_at walk.old) in
+        Chooses position goal.now walk.old nodes }
+    ensures { let position = N.position network.now in
+        let nodes = children position goal.now.company goal.now.reach.stops (node_at walk.old) in
+        IfOk result (Looks position goal.now nodes walk.old walk.new) }
+{
     match head.stop() {
         Some(stop) => {
-            let stops = visited(goal.alloc, &walk.begun)?;
-            Ok(
-                finish(network, goal, &stops, walk)?
-                    || pass_stop(network, goal, stop, stops.len(), walk)?,
-            )
+            let stops = visited(goal.alloc, walk.begun())?;
+            Ok(finish(network, goal, &stops, walk)? || pass_stop(network, goal, stop, walk)?)
         }
         None => match head.across() {
             Some(at) => leave(network, goal, at, goal.reach.stops(), walk),
@@ -77,7 +116,12 @@ fn go_on<N: Network>(
 
 /// Looks where the next train does not run.
 #[cycle(find)]
-fn pass_over<N: Network>(network: &N, goal: &Goal, walk: &mut Walk) -> Result<bool, AllocError> {
+fn pass_over<N: Network>(network: &N, goal: &Goal, walk: &mut Walk) -> Result<bool, AllocError>
+    requires { let nodes = node_at (passed_over walk.old) ∷ [] in
+        Chooses (N.position network.now) goal.now walk.old nodes }
+    ensures { let nodes = node_at (passed_over walk.old) ∷ [] in
+        IfOk result (Looks (N.position network.now) goal.now nodes walk.old walk.new) }
+{
     walk.pass_over();
     if find(network, goal, walk)? {
         return Ok(true);
@@ -88,7 +132,14 @@ fn pass_over<N: Network>(network: &N, goal: &Goal, walk: &mut Walk) -> Result<bo
 
 /// Looks where the run of the next train leaves a reached stop.
 #[cycle(find)]
-fn set_out<N: Network>(network: &N, goal: &Goal, walk: &mut Walk) -> Result<bool, AllocError> {
+fn set_out<N: Network>(network: &N, goal: &Goal, walk: &mut Walk) -> Result<bool, AllocError>
+    requires { let position = N.position network.now in
+        let nodes = by_stops position walk.old goal.now.reach.stops in
+        Chooses position goal.now walk.old nodes }
+    ensures { let position = N.position network.now in
+        let nodes = by_stops position walk.old goal.now.reach.stops in
+        IfOk result (Looks position goal.now nodes walk.old walk.new) }
+{
     for stop in goal.reach.stops() {
         if leave_stop(network, goal, *stop, walk)? {
             return Ok(true);
@@ -97,14 +148,21 @@ fn set_out<N: Network>(network: &N, goal: &Goal, walk: &mut Walk) -> Result<bool
     Ok(false)
 }
 
-/// Looks where the run that is begun is finished, if it has two stops and an own token.
+/// Looks where the run that is begun is finished, which visits these stops, if they are two and an own token.
 #[cycle(find)]
 fn finish<N: Network>(
     network: &N,
     goal: &Goal,
     stops: &[Stop],
     walk: &mut Walk,
-) -> Result<bool, AllocError> {
+) -> Result<bool, AllocError>
+    requires { let position = N.position network.now in
+        let nodes = by_finish position goal.now.company walk.old stops.now in
+        Chooses position goal.now walk.old nodes }
+    ensures { let position = N.position network.now in
+        let nodes = by_finish position goal.now.company walk.old stops.now in
+        IfOk result (Looks position goal.now nodes walk.old walk.new) }
+{
     if !is_finished(network, goal.company, stops) {
         return Ok(false);
     }
@@ -122,10 +180,18 @@ fn pass_stop<N: Network>(
     network: &N,
     goal: &Goal,
     stop: Stop,
-    count: usize,
     walk: &mut Walk,
-) -> Result<bool, AllocError> {
-    if ends_at(network, goal.company, walk.trains[walk.next], stop, count) {
+) -> Result<bool, AllocError>
+    requires { let position = N.position network.now in
+        let nodes = by_passing position goal.now.company walk.old stop in
+        Chooses position goal.now walk.old nodes }
+    ensures { let position = N.position network.now in
+        let nodes = by_passing position goal.now.company walk.old stop in
+        IfOk result (Looks position goal.now nodes walk.old walk.new) }
+{
+    let stops = visited(goal.alloc, walk.begun())?;
+    let kind = walk.trains()[0];
+    if ends_at(network, goal.company, kind, stop, stops.len()) {
         return Ok(false);
     }
     leave_stop(network, goal, stop, walk)
@@ -138,7 +204,13 @@ fn leave_stop<N: Network>(
     goal: &Goal,
     stop: Stop,
     walk: &mut Walk,
-) -> Result<bool, AllocError> {
+) -> Result<bool, AllocError>
+    requires { let position = N.position network.now in
+        Chooses position goal.now walk.old (by_stop position walk.old stop) }
+    ensures { let position = N.position network.now in
+        let nodes = by_stop position walk.old stop in
+        IfOk result (Looks position goal.now nodes walk.old walk.new) }
+{
     let end = End::Stop(stop.number);
     if let Some(hex) = twin_of(stop.hex) {
         if leave(network, goal, Spot { hex, end }, &[], walk)? {
@@ -157,7 +229,13 @@ fn leave<N: Network>(
     at: Spot,
     ends: &[Stop],
     walk: &mut Walk,
-) -> Result<bool, AllocError> {
+) -> Result<bool, AllocError>
+    requires { let position = N.position network.now in
+        Chooses position goal.now walk.old (by_spot position ends.now walk.old at) }
+    ensures { let position = N.position network.now in
+        let nodes = by_spot position ends.now walk.old at in
+        IfOk result (Looks position goal.now nodes walk.old walk.new) }
+{
     let links = network.links(at.hex);
     for link in links.as_slice() {
         if let Some(step) = way_by(at.end, *link) {
@@ -178,7 +256,12 @@ fn take<N: Network>(
     ends: &[Stop],
     step: Step,
     walk: &mut Walk,
-) -> Result<bool, AllocError> {
+) -> Result<bool, AllocError>
+    requires { let nodes = by_step ends.now walk.old step in
+        Chooses (N.position network.now) goal.now walk.old nodes }
+    ensures { let nodes = by_step ends.now walk.old step in
+        IfOk result (Looks (N.position network.now) goal.now nodes walk.old walk.new) }
+{
     if !walk.leads_on(ends, step) {
         return Ok(false);
     }
@@ -204,6 +287,10 @@ pub fn best<N: Network>(
         IfOk result (λ best. IsGreatest position company trains.now best.claim.revenue) }
 {
     network.keeps_laws();
+    a_greatest_exists();
+    one_greatest();
+    legal_sets_are_leaves();
+    leaves_are_legal_sets();
     let revenue = greatest_revenue(alloc, network, company, trains)?;
     let reach = reached(alloc, network, company)?;
     let goal = Goal {
@@ -214,7 +301,7 @@ pub fn best<N: Network>(
     };
     let mut walk = Walk::root(alloc, greatest_first(alloc, trains)?);
     let _ = find(network, &goal, &mut walk)?;
-    let runs = claimed_runs(alloc, &walk.settled)?;
+    let runs = claimed_runs(alloc, walk.settled())?;
     Ok(Best {
         claim: Claim { revenue, runs },
     })

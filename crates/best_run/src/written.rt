@@ -43,8 +43,8 @@ pub(crate) fn claimed_runs(
     let mut runs = ClaimedRuns::new(alloc);
     for run in settled.iter().rev() {
         runs.push(ClaimedRun {
-            kind: run.kind,
-            run: places(&run.steps),
+            kind: run.kind(),
+            run: places(run.steps()),
         })?;
     }
     Ok(runs)
