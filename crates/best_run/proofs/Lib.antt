@@ -25,3 +25,6 @@ pub mod Laid
 pub mod Described
 pub mod Along
 pub mod Likened
+pub mod Descending
+pub mod Looking
+pub mod Children

@@ -5,6 +5,7 @@ use Rattle.std.specs.Prelude.{◌≡◌, ℕ, ◌+◌, ◌-◌, ◌<◌, ◌≤�
 use Rattle.map_tables.specs.declared.hex.Hex.{Hex}
 use Rattle.map_tables.specs.declared.hex.Hex.TheVariants.{A9, A11, I1, J2}
 use Rattle.map_tables.specs.declared.place.Stop.{Stop}
+use Rattle.reach.specs.Lawful.{IsLawful}
 use Rattle.reach.specs.Position.{Position, IsAmong}
 use Rattle.reach.specs.Reached.{IsReach}
 use Rattle.reach.specs.Walk.{left_at}
@@ -12,7 +13,6 @@ use Rattle.reach.specs.declared.walk.Spot.{Spot}
 use Rattle.reach.specs.declared.walk.Step.{Step}
 use Rattle.tables.specs.declared.rolling_stock.Kind.{Kind}
 use Rattle.tables.specs.declared.rolling_stock.Kind.TheVariants.{Two}
-use Rattle.tables.specs.declared.roster.Company.{Company}
 use Rattle.certificate.specs.Set.{TrainRun, revenue_of}
 use Rattle.certificate.specs.Tree.{IsBelow, IsLeaf, Node, children, for_each, greatest_sum, is_finished, is_last_stop, leads_on, node_if, node_of, total, with_step, with_steps, ways_at, ways_from}
 use Rattle.certificate.specs.TreeLaws.{IsInTree}
@@ -128,13 +128,17 @@ abbrev pub by_stops : Position → Stand → List Stop → List Node
 by_stops position stand stops = for_each (by_stop position stand) stops
 
 -- the child with the run finished that visits these stops
-abbrev pub by_finish : Position → Company → Stand → List Stop → List Node
-by_finish position company stand stops = node_if (is_finished position company stops) (node_at (settled_by stand))
+abbrev pub by_finish : Position → Goal → Stand → List Stop → List Node
+by_finish position goal stand stops = node_if (is_finished position goal.company goal.reach.stops stops) (node_at (settled_by stand))
 
 -- the children that pass a stop
-abbrev pub by_passing : Position → Company → Stand → Stop → List Node
-by_passing position company stand stop =
-    if is_last_stop position company (node_at stand) (train_in_hand stand) stop then [] else by_stop position stand stop
+abbrev pub by_passing : Position → Goal → Stand → Stop → List Node
+by_passing position goal stand stop =
+    if is_last_stop position goal.company goal.reach.stops (node_at stand) (train_in_hand stand) stop then [] else by_stop position stand stop
+
+-- all children
+abbrev pub all_children : Position → Goal → Stand → List Node
+all_children position goal stand = children position goal.company goal.reach.stops (node_at stand)
 
 -- a leaf that earns the goal, at or below one of some nodes
 abbrev pub IsFoundBelow : Position → Goal → List Node → Node → Type 0
@@ -149,6 +153,7 @@ pub record Looks (position : Position) (goal : Goal) (nodes : List Node) (old ne
 
 -- a walk stands in the tree of some trains
 pub record StandsIn (position : Position) (goal : Goal) (stand : Stand) : Type 0 where
+  pub lawful : IsLawful position
   pub reach : IsReach position goal.company goal.reach
   pub low : goal.revenue ≤ 50000
   pub within : stand.next ≤ length stand.trains
@@ -158,4 +163,4 @@ pub record StandsIn (position : Position) (goal : Goal) (stand : Stand) : Type 0
 pub record Chooses (position : Position) (goal : Goal) (stand : Stand) (nodes : List Node) : Type 0 where
   pub stands : StandsIn position goal stand
   pub train : stand.next < length stand.trains
-  pub chosen : (node : Node) → IsAmong node nodes → IsAmong node (children position goal.company goal.reach.stops (node_at stand))
+  pub chosen : (node : Node) → IsAmong node nodes → IsAmong node (all_children position goal stand)

@@ -1,9 +1,10 @@
 //! What may be chosen at a node of the choice tree. Each test goes over the steps that lie behind.
-ghost use Rattle.std.specs.Prelude.{◌≡◌, ◌==◌, ◌||◌, ◌++◌, ◌∷◌, [], IfOk, OnOk, length, reverse};
+ghost use Rattle.std.specs.Prelude.{◌≡◌, ◌==◌, not, nat_lt, ◌&&◌, ◌||◌, ◌++◌, ◌∷◌, [], IfOk, OnOk, length, reverse};
+ghost use Rattle.std.specs.List.{list_any};
 ghost use Rattle.best_run.specs.Claimed.{node_at, twin_of};
 ghost use Rattle.certificate.specs.Fault.{has_border, has_stop, has_token, is_full};
 ghost use Rattle.certificate.specs.Legal.{border_at, crossed, listed, visited};
-ghost use Rattle.certificate.specs.Tree.{gone_over, goes_over, hexes_of, is_finished, is_new_stop, is_used_up, leads_on, run_borders, taken_borders, ways_by};
+ghost use Rattle.certificate.specs.Tree.{gone_over, goes_over, hexes_of, is_new_stop, is_used_up, leads_on, run_borders, taken_borders, ways_by};
 ghost use Rattle.map_tables.specs.Track.{end_order};
 ghost use Rattle.reach.specs.Position.{is_red};
 ghost use Rattle.reach.specs.Reached.{stop_order};
@@ -154,7 +155,8 @@ fn is_full<N: Network>(network: &N, company: Company, stop: Stop) -> bool
 
 /// Whether a run that visits these stops is finished: two or more, and a token of the company.
 pub(crate) fn is_finished<N: Network>(network: &N, company: Company, stops: &[Stop]) -> bool
-    ensures { result ≡ is_finished (N.position network.now) company stops.now }
+    ensures { let tokens = list_any (has_token (N.position network.now) company) stops.now in
+        result ≡ (not (nat_lt (length stops.now) 2) && tokens) }
 {
     stops.len() >= 2 && stops.iter().any(|stop| has_token(network, company, *stop))
 }

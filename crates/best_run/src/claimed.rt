@@ -3,11 +3,12 @@
 //!
 //! Each function that looks below some children of the node where the walk stands answers whether it has found a
 //! leaf there that earns the goal. The walk then stands at this leaf, and else where it stood.
-ghost use Rattle.std.specs.Prelude.{◌≡◌, ◌∷◌, [], Some, IfOk, length};
+ghost use Rattle.std.specs.Prelude.{◌≡◌, ◌∷◌, [], Some, IfOk};
 ghost use Rattle.best_run.specs.Claimed.{
   Chooses,
   Looks,
   StandsIn,
+  all_children,
   by_finish,
   by_passing,
   by_spot,
@@ -19,9 +20,7 @@ ghost use Rattle.best_run.specs.Claimed.{
   passed_over,
 };
 ghost use Rattle.certificate.specs.Claim.{ClaimHolds};
-ghost use Rattle.certificate.specs.Legal.{visited};
 ghost use Rattle.certificate.specs.Set.{IsGreatest};
-ghost use Rattle.certificate.specs.Tree.{children};
 
 use crate::answer::Best;
 use crate::best::greatest_revenue;
@@ -77,10 +76,10 @@ fn find<N: Network>(network: &N, goal: &Goal, walk: &mut Walk) -> Result<bool, A
 fn begin<N: Network>(network: &N, goal: &Goal, walk: &mut Walk) -> Result<bool, AllocError>
     requires none { walk.old.begun ≡ [] }
     requires chooses { let position = N.position network.now in
-        let nodes = children position goal.now.company goal.now.reach.stops (node_at walk.old) in
+        let nodes = all_children position goal.now walk.old in
         Chooses position goal.now walk.old nodes }
     ensures { let position = N.position network.now in
-        let nodes = children position goal.now.company goal.now.reach.stops (node_at walk.old) in
+        let nodes = all_children position goal.now walk.old in
         IfOk result (Looks position goal.now nodes walk.old walk.new) }
 {
     Ok(pass_over(network, goal, walk)? || set_out(network, goal, walk)?)
@@ -96,10 +95,10 @@ fn go_on<N: Network>(
 ) -> Result<bool, AllocError>
     requires head { head_of walk.old.begun ≡ Some head }
     requires chooses { let position = N.position network.now in
-        let nodes = children position goal.now.company goal.now.reach.stops (node_at walk.old) in
+        let nodes = all_children position goal.now walk.old in
         Chooses position goal.now walk.old nodes }
     ensures { let position = N.position network.now in
-        let nodes = children position goal.now.company goal.now.reach.stops (node_at walk.old) in
+        let nodes = all_children position goal.now walk.old in
         IfOk result (Looks position goal.now nodes walk.old walk.new) }
 {
     match head.stop() {
@@ -157,10 +156,10 @@ fn finish<N: Network>(
     walk: &mut Walk,
 ) -> Result<bool, AllocError>
     requires { let position = N.position network.now in
-        let nodes = by_finish position goal.now.company walk.old stops.now in
+        let nodes = by_finish position goal.now walk.old stops.now in
         Chooses position goal.now walk.old nodes }
     ensures { let position = N.position network.now in
-        let nodes = by_finish position goal.now.company walk.old stops.now in
+        let nodes = by_finish position goal.now walk.old stops.now in
         IfOk result (Looks position goal.now nodes walk.old walk.new) }
 {
     if !is_finished(network, goal.company, stops) {
@@ -183,10 +182,10 @@ fn pass_stop<N: Network>(
     walk: &mut Walk,
 ) -> Result<bool, AllocError>
     requires { let position = N.position network.now in
-        let nodes = by_passing position goal.now.company walk.old stop in
+        let nodes = by_passing position goal.now walk.old stop in
         Chooses position goal.now walk.old nodes }
     ensures { let position = N.position network.now in
-        let nodes = by_passing position goal.now.company walk.old stop in
+        let nodes = by_passing position goal.now walk.old stop in
         IfOk result (Looks position goal.now nodes walk.old walk.new) }
 {
     let stops = visited(goal.alloc, walk.begun())?;
