@@ -28,3 +28,4 @@ pub mod Likened
 pub mod Descending
 pub mod Looking
 pub mod Children
+pub mod Reversed

@@ -74,9 +74,10 @@ fn new_sums<N: Network>(network: &N, stops: &[Stop], reached: &[Stop]) -> Sums
         result ≡ sums_of (new_values position stops.now reached.now) }
 {
     let mut sums = Sums::none();
-    for stop in reached.iter().rev() {
-        if !has_stop(*stop, stops) {
-            sums = sums.with(network.value(*stop));
+    for later in 0..reached.len() {
+        let stop = reached[reached.len() - 1 - later];
+        if !has_stop(stop, stops) {
+            sums = sums.with(network.value(stop));
         }
     }
     sums

@@ -109,7 +109,8 @@ pub(crate) fn visited(alloc: Global, steps: &[Step]) -> Result<Vec<Stop>, AllocE
     ensures { IfOk result (λ stops. stops.items ≡ visited (reverse steps.now)) }
 {
     let mut stops = Vec::new(alloc);
-    for step in steps.iter().rev() {
+    for later in 0..steps.len() {
+        let step = steps[steps.len() - 1 - later];
         push_stop(step.left(), &mut stops)?;
     }
     if let Some(first) = steps.first() {
