@@ -1,5 +1,5 @@
 //! The greatest revenue of a company's trains: `greatest_revenue` answers what the best legal set of
-//! runs earns, on any `reach::Network`.
+//! runs earns, on any `reach::Network`; `best` answers the same with runs that earn it.
 //!
 //! The definitions of a legal set and of the greatest revenue are those of `certificate`. Those of
 //! this crate, in `specs/`, are of the search alone: `Moves` says what it goes over, move by move,
@@ -7,12 +7,15 @@
 //! stop to stop, `Fit` what keeps its numbers within their bounds, `Suffix` what the last trains earn
 //! by themselves, and equal trains one after another, which bounds what they earn behind others,
 //! `Ahead` what may lie ahead of a run, which bounds what it may still earn, `Kept` which states between
-//! runs need not be explored since another one was, `Alike` which of them are alike to the trains left.
+//! runs need not be explored since another one was, `Alike` which of them are alike to the trains left,
+//! `Claimed` where a walk down the choice tree stands and what it finds.
 //!
 //! Reading order: `best` (the public call), `trains` (their order), `spots` (the spots of a position
 //! with the pieces of track between them), `ways` (from stop to stop), `task`, `state` (the trains
 //! settled so far, and the run begun), `outlook` (what lies ahead of that run), `explored` (what has been
-//! found, and what need not be explored again), `alike` (states between runs that are alike), `search`.
+//! found, and what need not be explored again), `alike` (states between runs that are alike), `search`;
+//! then `claimed` (the public call for runs), `walked` (where the walk down the choice tree stands),
+//! `choices` (what may be chosen there), `bounds` (what it may still earn), `written`.
 #![tactic(auto)]
 
 mod alike;

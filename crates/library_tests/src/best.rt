@@ -1,6 +1,7 @@
 //! The greatest revenue of a company's trains: worked examples, found by hand on the printed map.
 
 use crate::boards::{PRR, laid, of_prr};
+use crate::claims::claimed;
 use best_run::greatest_revenue;
 use map_tables::{Hex, TileNo};
 use tables::{Company, Kind};
@@ -13,6 +14,7 @@ fn runs_a_link(rt: HostRuntime) {
     };
     let twos = [Kind::Two, Kind::Two];
     assert_eq!(rt; greatest_revenue(rt.alloc(), &board, PRR, &twos), Ok(30));
+    assert_eq!(rt; claimed(rt.alloc(), &board, PRR, &twos), Ok(Some(30)));
     assert_eq!(rt; greatest_revenue(rt.alloc(), &board, PRR, &[]), Ok(0));
     let other = Company::NewYorkCentral;
     assert_eq!(rt; greatest_revenue(rt.alloc(), &board, other, &twos), Ok(0));
@@ -31,4 +33,5 @@ fn runs_two_trains(rt: HostRuntime) {
     };
     let trains = [Kind::Two, Kind::Three];
     assert_eq!(rt; greatest_revenue(rt.alloc(), &board, PRR, &trains), Ok(60));
+    assert_eq!(rt; claimed(rt.alloc(), &board, PRR, &trains), Ok(Some(60)));
 }

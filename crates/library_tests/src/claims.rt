@@ -2,12 +2,23 @@
 //! other over the borders that are used, and together they earn what is claimed.
 
 use best_run::best;
-use certificate::{Used, check_run};
+use certificate::{ClaimedRun, Used, check_run};
 use reach::Network;
 use std::alloc::{AllocError, Global};
 use tables::{Amount, Company, Kind, Money};
 
-/// The revenue that is claimed, if all runs of the claim are legal and earn it together.
+/// Whether a claim runs no more trains of each kind than there are.
+fn are_taken_from(trains: &[Kind], runs: &[ClaimedRun]) -> bool {
+    for kind in Kind::ALL {
+        let have = trains.iter().filter(|train| **train == kind).count();
+        if have < runs.iter().filter(|run| run.kind == kind).count() {
+            return false;
+        }
+    }
+    true
+}
+
+/// The revenue that is claimed, if all runs of the claim are legal, of these trains, and earn it together.
 pub(crate) fn claimed<N: Network>(
     alloc: Global,
     network: &N,
@@ -24,7 +35,8 @@ pub(crate) fn claimed<N: Network>(
         }
     }
     let revenue = answer.claim.revenue;
-    Ok(if total == revenue as Money {
+    let are_taken = are_taken_from(trains, answer.claim.runs.as_slice());
+    Ok(if are_taken && total == revenue as Money {
         Some(revenue)
     } else {
         None
