@@ -1,4 +1,4 @@
-//! A revenue with runs that earn it. The greatest revenue comes from the search of `best`; then one walk down
+//! A revenue with runs that earn it. The greatest revenue comes from the search of `revenue`; then one walk down
 //! the choice tree finds a leaf that earns it.
 //!
 //! Each function that looks below some children of the node where the walk stands answers whether it has found a
@@ -23,9 +23,9 @@ ghost use Rattle.certificate.specs.Claim.{ClaimHolds};
 ghost use Rattle.certificate.specs.Set.{IsGreatest};
 
 use crate::answer::Best;
-use crate::best::greatest_revenue;
 use crate::bounds::{bound, revenue};
 use crate::choices::{ends_at, is_finished, twin_of, visited, way_by};
+use crate::revenue::greatest_revenue;
 use crate::trains::greatest_first;
 use crate::walked::Walk;
 use crate::written::claimed_runs;

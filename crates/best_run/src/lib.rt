@@ -10,7 +10,7 @@
 //! runs need not be explored since another one was, `Alike` which of them are alike to the trains left,
 //! `Claimed` where a walk down the choice tree stands and what it finds.
 //!
-//! Reading order: `best` (the public call), `trains` (their order), `spots` (the spots of a position
+//! Reading order: `revenue` (the public call), `trains` (their order), `spots` (the spots of a position
 //! with the pieces of track between them), `ways` (from stop to stop), `task`, `state` (the trains
 //! settled so far, and the run begun), `outlook` (what lies ahead of that run), `explored` (what has been
 //! found, and what need not be explored again), `alike` (states between runs that are alike), `search`;
@@ -20,12 +20,12 @@
 
 mod alike;
 mod answer;
-mod best;
 mod bounds;
 mod choices;
 mod claimed;
 mod explored;
 mod outlook;
+mod revenue;
 mod runner;
 mod search;
 mod spots;
@@ -37,6 +37,6 @@ mod ways;
 mod written;
 
 pub use answer::Best;
-pub use best::greatest_revenue;
 pub use claimed::best;
+pub use revenue::greatest_revenue;
 pub use runner::Search;

@@ -1,7 +1,7 @@
 ghost use Rattle.std.specs.Prelude.{◌≡◌, IfOk, false, pos};
 ghost use Rattle.certificate.specs.Set.{IsGreatestMoney};
 
-use crate::best::greatest_revenue;
+use crate::revenue::greatest_revenue;
 use certificate::{Runner, RunnerFault};
 use reach::Network;
 use std::alloc::{AllocError, Global};

@@ -6,7 +6,7 @@ use Rattle.certificate.proofs.Greatest.{order_of_trains}
 use Rattle.certificate.proofs.Leaves.{same_number}
 use Rattle.best_run.specs.Described.{Describes}
 use Rattle.best_run.proofs.Greatest.{greatest_found}
-use Rattle.best_run.proofs.best.greatest_revenue.Goals as goal
+use Rattle.best_run.proofs.revenue.greatest_revenue.Goals as goal
 
 pub returns : goal.returns
 returns g c =
