@@ -116,16 +116,16 @@ module _ (position : Position) (goal : Goal) where
       (stand : Stand) (answer : Bool) → goal.revenue ≤ 50000 → IsLeaf (node_at stand) →
       (answer ≡ true → capped (revenue_of position stand.settled) ≡ goal.revenue) →
       (answer ≡ false → capped (revenue_of position stand.settled) ≡ goal.revenue → ⊥) → Looks position goal (node_at stand ∷ []) stand stand answer
-  looks_leaf stand answer low leaf yes no =
+  looks_leaf stand answer low leaf earns misses =
       record {
         found = λ is.
-            ((node_at stand, inl refl, ([], tt, refl)), leaf, capped_is (revenue_of position stand.settled) goal.revenue low (yes is));
+            ((node_at stand, inl refl, ([], tt, refl)), leaf, capped_is (revenue_of position stand.settled) goal.revenue low (earns is));
         back = λ is. refl;
         none = λ is other found. elim (found.0.1) [
           | inl here ↦
               let below : IsBelow position goal.company goal.reach.stops (node_at stand) other = subst (λ (n : Node). IsBelow position goal.company goal.reach.stops n other) (sym here) found.0.2 in
               let same : node_at stand ≡ other = leaf_alone position goal.company goal.reach.stops (node_at stand) other leaf below in
-              no is (is_capped (revenue_of position stand.settled) goal.revenue low (ap (λ (n : Node). revenue_of position n.settled) same ∙ found.2))
+              misses is (is_capped (revenue_of position stand.settled) goal.revenue low (ap (λ (n : Node). revenue_of position n.settled) same ∙ found.2))
           | inr none ↦ absurd none
         ];
       }

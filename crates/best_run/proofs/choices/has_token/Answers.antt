@@ -1,0 +1,7 @@
+-- The network's answer and the test say one fact.
+use Rattle.certificate.proofs.Tests.{has_token_is, tests_agree}
+use Rattle.best_run.proofs.choices.has_token.Goals as goal
+
+pub returns : goal.returns
+returns g c =
+    tests_agree c.token.result _ c.token.ensures (has_token_is (g.N.Network.position c.args.network.now) c.args.company c.args.stop)

@@ -1,0 +1,7 @@
+-- The network's answer and the test say one fact.
+use Rattle.certificate.proofs.Tests.{is_full_is, tests_agree}
+use Rattle.best_run.proofs.choices.is_full.Goals as goal
+
+pub returns : goal.returns
+returns g c =
+    tests_agree c.full.result _ c.full.ensures (is_full_is (g.N.Network.position c.args.network.now) c.args.company c.args.stop)
