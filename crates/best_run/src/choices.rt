@@ -8,7 +8,8 @@ ghost use Rattle.certificate.specs.Tree.{gone_over, goes_over, hexes_of, is_new_
 ghost use Rattle.map_tables.specs.Track.{end_order};
 ghost use Rattle.reach.specs.Position.{is_red};
 ghost use Rattle.reach.specs.Reached.{stop_order};
-ghost use Rattle.reach.specs.Walk.{stop_of};
+ghost use Rattle.reach.specs.Walk.{entered_at, stop_of};
+ghost use Rattle.reach.specs.declared.walk.Step.{Step};
 ghost use Rattle.tables.specs.Train.{stops_of};
 
 use crate::spots::border;
@@ -66,11 +67,20 @@ fn is_at(spot: Spot, number: usize) -> bool
     }
 }
 
+/// Whether one of some steps is entered at the border with a number.
+fn enters(steps: &[Step], number: usize) -> bool
+    ensures { let enters = λ (step : Step). has_border number
+        (border_at (entered_at step).hex (entered_at step).end) in
+        result ≡ list_any enters steps.now }
+{
+    steps.iter().any(|step| is_at(step.entered(), number))
+}
+
 /// Whether a walk crosses the border with a number.
 fn crosses(steps: &[Step], number: usize) -> bool
     ensures { result ≡ has_border number (crossed (reverse steps.now)) }
 {
-    steps.iter().any(|step| is_at(step.entered(), number))
+    enters(steps, number)
 }
 
 /// Whether one of some runs crosses the border with a number.
