@@ -4,6 +4,7 @@ ghost use Rattle.std.specs.List.{list_any};
 ghost use Rattle.best_run.specs.Claimed.{node_at, twin_of};
 ghost use Rattle.certificate.specs.Fault.{has_border, has_stop, has_token, is_full};
 ghost use Rattle.certificate.specs.Legal.{border_at, crossed, listed, visited};
+ghost use Rattle.certificate.specs.Set.{TrainRun};
 ghost use Rattle.certificate.specs.Tree.{gone_over, goes_over, hexes_of, is_new_stop, is_used_up, leads_on, run_borders, taken_borders, ways_by};
 ghost use Rattle.map_tables.specs.Track.{end_order};
 ghost use Rattle.reach.specs.Position.{is_red};
@@ -83,11 +84,26 @@ fn crosses(steps: &[Step], number: usize) -> bool
     enters(steps, number)
 }
 
+/// Whether a settled run crosses the border with a number.
+fn settled_crosses(run: &SettledRun, number: usize) -> bool
+    ensures { result ≡ has_border number (crossed run.now.steps) }
+{
+    crosses(run.steps(), number)
+}
+
+/// Whether one of some runs crosses it, in whichever order they stand.
+fn one_crosses(settled: &[SettledRun], number: usize) -> bool
+    ensures { let crosses = λ (run : TrainRun). has_border number (crossed run.steps) in
+        result ≡ list_any crosses settled.now }
+{
+    settled.iter().any(|run| settled_crosses(run, number))
+}
+
 /// Whether one of some runs crosses the border with a number.
 fn run_crosses(settled: &[SettledRun], number: usize) -> bool
     ensures { result ≡ has_border number (run_borders (reverse settled.now)) }
 {
-    settled.iter().any(|run| crosses(run.steps(), number))
+    one_crosses(settled, number)
 }
 
 /// Whether two stops are one, by their places in the order of the map.
