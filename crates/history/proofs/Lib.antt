@@ -2,7 +2,9 @@ pub mod Choices
 pub mod EventAtEnd
 pub mod Rolling
 pub mod Places
-pub mod Words
+pub mod Noted
+pub mod NetTables
+pub mod Empty
 pub mod Standing
 pub mod BidWords
 pub mod Tied

@@ -5,6 +5,7 @@ pub mod Kept
 pub mod Event
 pub mod LookBack
 pub mod Bids
+pub mod Books
 pub mod Shares
 pub mod Operating
 pub mod Trains

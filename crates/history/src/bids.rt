@@ -1,7 +1,7 @@
 //! Standing bids, and what the standing orders of a seat say.
 ghost use Rattle.std.specs.Prelude.{◌≡◌, ◌^◌, ◌<◌, ◌≤◌, option_map, pos};
 ghost use Rattle.history.specs.Orders.{limit_of, par_ordered_of};
-ghost use Rattle.history.specs.Bids.{AreStanding, AreTied, NotesBid, NotesBidOn, bid_of, bids_elsewhere_of, bids_of, bids_on, free_cash_of, free_for, tied_on};
+ghost use Rattle.history.specs.Bids.{AreStanding, NotesBidOn, bid_of, bids_elsewhere_of, bids_of, bids_on, free_cash_of, free_for, tied_on};
 
 use crate::aspect::{InRound, last_said};
 use crate::event::{Bid, Bidding, Event, Holder, Party};
@@ -22,7 +22,11 @@ impl Past<'_> {
     pub fn standing_bid(&self, private: Private, seat: Seat) -> Option<Amount>
         ensures { result ≡ bid_of self.now.events.now private seat }
     {
-        last_said(&BidOn(private, seat), self.events).flatten()
+        let number = seat.number();
+        if number >= PLAYERS_MOST {
+            return last_said(&BidOn(private, seat), self.events).flatten();
+        }
+        self.books.bids[private.place()][number]
     }
 
     /// The standing bids on a private, in the order of the seats.
@@ -41,15 +45,11 @@ impl Past<'_> {
         bids
     }
 
-    /// The standing bid of each of six seats on a private, by one look over the list.
+    /// The standing bid of each of six seats on a private.
     fn standing_by_seat(&self, private: Private) -> [Option<Amount>; PLAYERS_MOST]
         ensures { AreStanding self.now.events.now private result }
     {
-        let mut standing = [None; PLAYERS_MOST];
-        for event in self.events {
-            note_bid_on(&mut standing, private, event);
-        }
-        standing
+        self.books.bids[private.place()]
     }
 
     /// How far a seat goes in an auction of a private, by its last obeyed LIMIT line of this round.
@@ -71,24 +71,11 @@ impl Past<'_> {
         ensures sum { result ≡ pos (bids_of self.now.events.now seat) }
         ensures within { bids_of self.now.events.now seat < 2 ^ 35 }
     {
-        let tied = self.tied_by(seat);
         let mut sum: u64 = 0;
         for private in Private::ALL {
-            sum += u64::from(tied[private.place()]);
+            sum += u64::from(self.tied_on(seat, private));
         }
         Money::from(sum)
-    }
-
-    /// What a seat's standing bid on each private ties, by the private's place in the roster, by
-    /// one look over the list.
-    fn tied_by(&self, seat: Seat) -> [Amount; 6]
-        ensures { AreTied self.now.events.now seat result }
-    {
-        let mut tied = [0; 6];
-        for event in self.events {
-            note_bid(&mut tied, seat, event);
-        }
-        tied
     }
 
     /// What a seat can spend on a private, in dollars: its cash less its standing bids on the
@@ -122,23 +109,8 @@ impl Past<'_> {
     }
 }
 
-/// Notes what an event says of a seat's bids in a table of what they tie.
-fn note_bid(tied: &mut [Amount; 6], seat: Seat, event: &Event)
-    ensures { NotesBid seat event.now tied.old tied.new }
-{
-    match event.bidding() {
-        Some(Bidding::Made(private, bid)) => {
-            if bid.seat == seat {
-                tied[private.place()] = bid.amount;
-            }
-        }
-        Some(Bidding::Ended(private)) => tied[private.place()] = 0,
-        None => {}
-    }
-}
-
 /// Notes what an event says of the bids on a private in a table of the seats' standing bids.
-fn note_bid_on(standing: &mut [Option<Amount>; PLAYERS_MOST], private: Private, event: &Event)
+pub(crate) fn note_bid_on(standing: &mut [Option<Amount>; PLAYERS_MOST], private: Private, event: &Event)
     ensures { NotesBidOn private event.now standing.old standing.new }
 {
     match event.bidding() {

@@ -18,6 +18,7 @@
 
 mod aspect;
 mod bids;
+mod books;
 mod event;
 mod kept;
 mod kept_place;
@@ -25,6 +26,8 @@ mod kept_run;
 mod laws;
 mod list;
 mod look_back;
+mod nets;
+mod noting;
 mod offers;
 mod operating;
 mod owners;
@@ -33,8 +36,10 @@ mod shares;
 mod tell;
 mod topics;
 mod trains;
+mod walk;
 
 pub use aspect::TrainCount;
+pub use books::Books;
 pub use event::{
     Bid, Bidding, Event, Holder, Office, Ownership, ParValue, Party, Payment, Placement, SUM_MOST,
     Shareholder, TrainMove, TrainPlace, TrainSeller, Transfer,
@@ -58,3 +63,4 @@ pub use ruling::{
 };
 pub use shares::Tenths;
 pub use trains::so_many;
+pub use walk::Walk;

@@ -9,6 +9,7 @@ ghost use Rattle.history.specs.Sound.{IsSound};
 ghost use Rattle.history.specs.Trains.{phase_of, trains_held, trains_sold};
 
 use crate::aspect::TrainCount;
+use crate::books::Books;
 use crate::event::{Event, Holder, Party, SUM_MOST, Shareholder};
 use crate::kept::KeptOrder;
 use crate::look_back::Past;
@@ -20,15 +21,18 @@ use std::alloc::{AllocError, Global};
 use std::marker::Model;
 use tables::{Company, Kind, Money, Private, Round, Seat, Square};
 
-/// A game: the number of its seats and the list of its events, oldest first.
+/// A game: the number of its seats and the list of its events, oldest first; and beside it the
+/// books of that list, which say what it says.
 #[derive(Debug, Drop)]
 pub struct History {
     seats: usize,
     events: Vec<Event>,
+    books: Books,
 }
 
 impl Model for History {
     ghost use Rattle.std.specs.Prelude.{All, ◌≤◌};
+    ghost use Rattle.history.specs.Books.{AreBooksOf};
     ghost use Rattle.history.specs.Event.{sum_of};
     ghost use Rattle.history.specs.LookBack.{Game};
 
@@ -36,7 +40,8 @@ impl Model for History {
 
     ghost view = { λ a. record { seats = a.seats; events = a.events.items } };
 
-    ghost invariant = { λ a. All (λ event. sum_of event ≤ 1000000) a.events.items };
+    ghost invariant = { λ a.
+        All (λ event. sum_of event ≤ 1000000) a.events.items × AreBooksOf a.books a.events.items };
 }
 
 impl History {
@@ -48,6 +53,7 @@ impl History {
         History {
             seats,
             events: Vec::new(alloc),
+            books: Books::start(),
         }
     }
 
@@ -64,7 +70,10 @@ impl History {
         ensures ok { OnOk result (self.new ≡ with_event self.old event) }
         ensures err { OnErr result (self.new ≡ self.old) }
     {
+        let mut books = self.books;
+        books.note(&event);
         self.events.push(event)?;
+        self.books = books;
         Ok(())
     }
 
@@ -91,6 +100,7 @@ impl History {
         Past {
             seats: self.seats,
             events: self.events.as_slice(),
+            books: &self.books,
         }
     }
 
@@ -167,7 +177,7 @@ impl History {
         KeptOrder::keep(*self.events.allocator(), order)
     }
 
-    /// The owners of all privates, by one look over the list.
+    /// The owners of all privates.
     pub fn owners(&self) -> Owners
         ensures owner { (private : Private) →
             owner_in result private ≡ owner_of self.now.events private }

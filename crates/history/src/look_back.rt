@@ -1,10 +1,13 @@
 ghost use Rattle.std.specs.Prelude.{◌≡◌, length};
+ghost use Rattle.history.specs.Books.{AreBooksOf};
 ghost use Rattle.history.specs.LookBack.{FitsMemory, IsModerate, bankrupt_in, broken_in, cash_of, cheapest_in, cheapest_of, is_sold, is_sold_in, owner_in, owner_of, priority_of, round_of, start_of, sv_price_of};
 
-use crate::aspect::{balance, last_said};
+use crate::aspect::balance;
+use crate::books::Books;
 use crate::event::{Event, Holder, Party};
+use crate::nets::entry_of_party;
 use crate::owners::Owners;
-use crate::topics::{Actor, Cash, Owner, RoundPlayed, SvPrice};
+use crate::topics::Cash;
 use tables::{Amount, Money, Private, Round, Seat, bank_start, face, start_money};
 
 /// A list of events with the number of seats: a game as it stood after them.
@@ -14,7 +17,26 @@ pub struct Past<'a> {
     pub seats: usize,
     /// What had happened, oldest first.
     pub events: &'a [Event],
+    /// What they say.
+    pub(crate) books: &'a Books,
     ghost short: { FitsMemory events.now },
+    ghost kept: { AreBooksOf books.now events.now },
+}
+
+impl<'a> Past<'a> {
+    /// A game as it stood after these events, of which these are the books.
+    pub fn of(seats: usize, events: &'a [Event], books: &'a Books) -> Past<'a>
+        requires short { FitsMemory events.now }
+        requires kept { AreBooksOf books.now events.now }
+        ensures seats { result.seats ≡ seats }
+        ensures events { result.events.now ≡ events.now }
+    {
+        Past {
+            seats,
+            events,
+            books,
+        }
+    }
 }
 
 impl Past<'_> {
@@ -24,24 +46,29 @@ impl Past<'_> {
         ensures sum { result ≡ cash_of self.now.seats self.now.events.now party }
         ensures within { IsModerate result }
     {
-        balance(&Cash(party), start_of(self.seats, party), self.events)
+        let start = start_of(self.seats, party);
+        let entry = entry_of_party(party);
+        if entry >= self.books.cash.len() {
+            return balance(&Cash(party), start, self.events);
+        }
+        Money::from(start) + self.books.cash[entry]
     }
 
     /// Who owns a private; `None` while it is unsold, and once it is closed.
     pub fn owner(&self, private: Private) -> Option<Holder>
         ensures { result ≡ owner_of self.now.events.now private }
     {
-        last_said(&Owner(private), self.events).flatten()
+        self.books.owners.owner(private)
     }
 
     /// Whether a private has been sold.
     pub fn is_sold(&self, private: Private) -> bool
         ensures { result ≡ is_sold self.now.events.now private }
     {
-        last_said(&Owner(private), self.events).is_some()
+        self.books.owners.is_sold(private)
     }
 
-    /// The owners of all privates, by one look over the list.
+    /// The owners of all privates, as the books have them.
     pub fn owners(&self) -> Owners
         ensures owner { (private : Private) →
             owner_in result private ≡ owner_of self.now.events.now private }
@@ -49,13 +76,7 @@ impl Past<'_> {
             is_sold_in result private ≡ is_sold self.now.events.now private }
         ensures cheapest { cheapest_in result ≡ cheapest_of self.now.events.now }
     {
-        let mut said = [None; 6];
-        for event in self.events {
-            if let Some(ownership) = event.ownership() {
-                said[ownership.private.place()] = Some(ownership.owner);
-            }
-        }
-        Owners { said }
+        self.books.owners
     }
 
     /// The first private in roster order that is unsold.
@@ -69,32 +90,30 @@ impl Past<'_> {
     pub fn sv_price(&self) -> Amount
         ensures { result ≡ sv_price_of self.now.events.now }
     {
-        last_said(&SvPrice, self.events).unwrap_or(face(Private::SchuylkillValley))
+        self.books
+            .sv_price
+            .unwrap_or(face(Private::SchuylkillValley))
     }
 
     /// Whether the bank is broken.
     pub fn broken(&self) -> bool
         ensures { result ≡ broken_in self.now.events.now }
     {
-        self.events
-            .iter()
-            .any(|event| matches!(event, Event::Broken))
+        self.books.broken
     }
 
     /// Whether a president is bankrupt, so that the game is over.
     pub fn bankrupt(&self) -> bool
         ensures { result ≡ bankrupt_in self.now.events.now }
     {
-        self.events
-            .iter()
-            .any(|event| matches!(event, Event::Bankrupt(_)))
+        self.books.bankrupt
     }
 
     /// The round that began last; `None` before the first.
     pub fn round(&self) -> Option<Round>
         ensures { result ≡ round_of self.now.events.now }
     {
-        last_said(&RoundPlayed, self.events)
+        self.books.round
     }
 
     /// The holder of priority: the seat at the left of the last seat that bought a private, bid on
@@ -102,7 +121,7 @@ impl Past<'_> {
     pub fn priority(&self) -> Seat
         ensures { result ≡ priority_of self.now.seats self.now.events.now }
     {
-        match last_said(&Actor, self.events) {
+        match self.books.actor {
             Some(actor) => actor.left(self.seats),
             None => Seat(0),
         }

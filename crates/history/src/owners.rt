@@ -1,7 +1,10 @@
 ghost use Rattle.std.specs.Prelude.{◌≡◌};
-ghost use Rattle.history.specs.LookBack.{cheapest_in, is_sold_in, owner_in};
+ghost use Rattle.std.specs.Option.{option_or};
+ghost use Rattle.history.specs.Books.{word_in};
+ghost use Rattle.history.specs.Event.{ownership_of};
+ghost use Rattle.history.specs.LookBack.{cheapest_in, is_sold_in, owner_in, owner_said};
 
-use crate::event::Holder;
+use crate::event::{Event, Holder};
 use tables::Private;
 
 /// What was said last of the owner of each private, made by one look over a list of events.
@@ -12,6 +15,23 @@ pub struct Owners {
 }
 
 impl Owners {
+    /// No private is sold.
+    pub(crate) fn unsold() -> Owners
+        ensures { (private : Private) → word_in result private ≡ None }
+    {
+        Owners { said: [None; 6] }
+    }
+
+    /// Notes what an event says of the owner of a private, if it speaks of one.
+    pub(crate) fn note(&mut self, event: &Event)
+        ensures { (private : Private) → word_in self.new private
+            ≡ option_or (owner_said private (ownership_of event.now)) (word_in self.old private) }
+    {
+        if let Some(ownership) = event.ownership() {
+            self.said[ownership.private.place()] = Some(ownership.owner);
+        }
+    }
+
     /// Who owns a private; `None` while it is unsold, and once it is closed.
     pub fn owner(&self, private: Private) -> Option<Holder>
         ensures { result ≡ owner_in self.now private }

@@ -6,7 +6,8 @@ ghost use Rattle.history.specs.Shares.{arrival_of, has_sold_in_round, is_floated
 use crate::aspect::{InRound, balance, last_place, last_said};
 use crate::event::Shareholder;
 use crate::look_back::Past;
-use crate::topics::{Float, Par, President, SaleBy, Shares, TokenSquare};
+use crate::nets::entry_of_tenths;
+use crate::topics::{SaleBy, Shares, TokenSquare};
 use tables::{Amount, Company, Money, Seat, Square};
 
 /// A number of tenths of a company: what came in less what went out, from 0 to 10 in a sound game.
@@ -18,14 +19,19 @@ impl Past<'_> {
         ensures sum { result ≡ shares_of self.now.events.now company place }
         ensures within { IsModerate result }
     {
-        balance(&Shares(company, place), start_tenths(place), self.events)
+        let start = start_tenths(place);
+        let entry = entry_of_tenths(company, place);
+        if entry >= self.books.tenths.len() {
+            return balance(&Shares(company, place), start, self.events);
+        }
+        Tenths::from(start) + self.books.tenths[entry]
     }
 
     /// A company's par value in dollars; `None` while it has none.
     pub fn par(&self, company: Company) -> Option<Money>
         ensures { result ≡ option_map pos (par_of self.now.events.now company) }
     {
-        last_said(&Par(company), self.events).map(Money::from)
+        self.books.pars[company.place()].map(Money::from)
     }
 
     /// Whether a company is started: its token has a square.
@@ -39,7 +45,7 @@ impl Past<'_> {
     pub fn floated(&self, company: Company) -> bool
         ensures { result ≡ is_floated self.now.events.now company }
     {
-        last_said(&Float(company), self.events).is_some()
+        self.books.floats[company.place()].is_some()
     }
 
     /// Whether a seat has sold tenths of a company since the last round began.
@@ -55,7 +61,7 @@ impl Past<'_> {
     pub fn square(&self, company: Company) -> Option<Square>
         ensures { result ≡ square_of self.now.events.now company }
     {
-        last_said(&TokenSquare(company), self.events)
+        self.books.squares[company.place()]
     }
 
     /// The place in the list, from 0, of the event that set the square of a company's token: the
@@ -70,7 +76,7 @@ impl Past<'_> {
     pub fn president(&self, company: Company) -> Option<Seat>
         ensures { result ≡ president_of self.now.events.now company }
     {
-        last_said(&President(company), self.events)
+        self.books.presidents[company.place()]
     }
 }
 

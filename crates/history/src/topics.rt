@@ -38,23 +38,6 @@ impl Account for Cash {
     }
 }
 
-/// The owner of a private: a holder, or nobody.
-#[derive(Clone, Copy)]
-pub(crate) struct Owner(pub Private);
-
-impl Topic for Owner {
-    type Word = Option<Holder>;
-
-    ghost word = { λ a event. owner_said a.0 (ownership_of event) };
-
-    fn word(&self, event: &Event) -> Option<Option<Holder>> {
-        match event.ownership() {
-            Some(ownership) if ownership.private == self.0 => Some(ownership.owner),
-            _ => None,
-        }
-    }
-}
-
 /// The price of SV.
 #[derive(Clone, Copy)]
 pub(crate) struct SvPrice;
@@ -182,23 +165,6 @@ impl Account for Shares {
     }
 }
 
-/// The par value of a company.
-#[derive(Clone, Copy)]
-pub(crate) struct Par(pub Company);
-
-impl Topic for Par {
-    type Word = Amount;
-
-    ghost word = { λ a event. par_said a.0 (par_set event) };
-
-    fn word(&self, event: &Event) -> Option<Amount> {
-        match event.par() {
-            Some(par) if par.company == self.0 => Some(par.price),
-            _ => None,
-        }
-    }
-}
-
 /// The square of a company's token.
 #[derive(Clone, Copy)]
 pub(crate) struct TokenSquare(pub Company);
@@ -211,40 +177,6 @@ impl Topic for TokenSquare {
     fn word(&self, event: &Event) -> Option<Square> {
         match event.square() {
             Some(placement) if placement.company == self.0 => Some(placement.square),
-            _ => None,
-        }
-    }
-}
-
-/// The president of a company.
-#[derive(Clone, Copy)]
-pub(crate) struct President(pub Company);
-
-impl Topic for President {
-    type Word = Seat;
-
-    ghost word = { λ a event. president_said a.0 (office_of event) };
-
-    fn word(&self, event: &Event) -> Option<Seat> {
-        match event.office() {
-            Some(office) if office.company == self.0 => Some(office.president),
-            _ => None,
-        }
-    }
-}
-
-/// The float of a company.
-#[derive(Clone, Copy)]
-pub(crate) struct Float(pub Company);
-
-impl Topic for Float {
-    type Word = Company;
-
-    ghost word = { λ a event. float_said a.0 (floated_by event) };
-
-    fn word(&self, event: &Event) -> Option<Company> {
-        match event.floated() {
-            Some(company) if company == self.0 => Some(company),
             _ => None,
         }
     }

@@ -5,10 +5,10 @@ ghost use Rattle.history.specs.Trains.{phase_of, so_many, stable_size, train_goe
 ghost use Rattle.history.specs.Event.{train_moved};
 ghost use Rattle.history.specs.declared.event.TrainPlace.TheVariants.{Bank};
 
-use crate::aspect::{TrainCount, count, last_said};
+use crate::aspect::{TrainCount, count};
 use crate::event::{Event, TrainPlace};
 use crate::look_back::Past;
-use crate::topics::{AllTrainsAt, PhaseBegun, TrainsAt};
+use crate::topics::{AllTrainsAt, TrainsAt};
 use tables::{Company, Kind, Money};
 
 impl Past<'_> {
@@ -50,7 +50,7 @@ impl Past<'_> {
     pub fn phase(&self) -> Kind
         ensures { result ≡ phase_of self.now.events.now }
     {
-        last_said(&PhaseBegun, self.events).unwrap_or(Kind::Two)
+        self.books.phase.unwrap_or(Kind::Two)
     }
 }
 

@@ -3,6 +3,7 @@ ghost use Rattle.report.specs.Report.{report_of};
 ghost use Rattle.std.specs.Prelude.{◌≡◌, IfOk, OnErr};
 
 use crate::text::{length_of_round, push_end, push_header, push_round, push_unread};
+use history::Walk;
 use rounds::Game;
 use std::alloc::{AllocError, Global};
 use std::marker::Model;
@@ -24,16 +25,20 @@ enum Stage {
 pub struct Parts<'a> {
     game: &'a Game<'a>,
     stage: Stage,
+    /// Along the events of the game, up to the last round that was taken.
+    walk: Walk<'a>,
 }
 
 /// To a contract it is the text that is still to come.
 impl<'a> Model for Parts<'a> {
-    ghost use Rattle.std.specs.Prelude.{ℕ, List};
+    ghost use Rattle.std.specs.Prelude.{◌≡◌, ℕ, List};
     ghost use Rattle.report.specs.Parts.{text_from};
 
     ghost Value = { List ℕ };
 
     ghost view = { λ parts. text_from parts.game.now parts.stage };
+
+    ghost invariant = { λ parts. parts.walk.events.now ≡ parts.game.now.game.events };
 }
 
 impl<'a> Parts<'a> {
@@ -44,6 +49,7 @@ impl<'a> Parts<'a> {
         Parts {
             game,
             stage: Stage::Header,
+            walk: Walk::along(game.history().events()),
         }
     }
 
@@ -55,7 +61,7 @@ impl<'a> Parts<'a> {
     {
         let (part, after) = match self.stage {
             Stage::Header => header_part(alloc, self.game)?,
-            Stage::Rounds(begun) => part_from(alloc, self.game, begun)?,
+            Stage::Rounds(begun) => part_from(alloc, self.game, begun, &mut self.walk)?,
             Stage::Done => return Ok(None),
         };
         self.stage = after;
@@ -86,8 +92,15 @@ fn header_part(alloc: Global, game: &Game) -> Result<(Vec<u8>, Stage), AllocErro
 }
 
 /// The round whose events begin at a place, or the end where none does, and what comes after it.
-fn part_from(alloc: Global, game: &Game, begun: usize) -> Result<(Vec<u8>, Stage), AllocError>
-    ensures { IfOk result (λ taken. TakesFront (text_from game.now (Stage.Rounds begun))
+fn part_from(
+    alloc: Global,
+    game: &Game,
+    begun: usize,
+    walk: &mut Walk,
+) -> Result<(Vec<u8>, Stage), AllocError>
+    requires along { walk.old.events.now ≡ game.now.game.events }
+    ensures along { walk.new.events.now ≡ walk.old.events.now }
+    ensures part { IfOk result (λ taken. TakesFront (text_from game.now (Stage.Rounds begun))
         taken.0.items (text_from game.now taken.1)) }
 {
     let mut part = Vec::new(alloc);
@@ -95,7 +108,7 @@ fn part_from(alloc: Global, game: &Game, begun: usize) -> Result<(Vec<u8>, Stage
     let events = history.events();
     if begun < events.len() {
         let end = begun + length_of_round(&events[begun..]);
-        push_round(&mut part, game, begun, end)?;
+        push_round(&mut part, game, begun, end, walk)?;
         Ok((part, Stage::Rounds(end)))
     } else {
         push_unread(&mut part, game.sheets().unread())?;

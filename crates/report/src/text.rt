@@ -5,7 +5,7 @@ ghost use Rattle.report.specs.Report.{IsLengthOfRound, awaiting_text, end_of_pla
 use crate::line::{push_event, push_name};
 use crate::statement::push_statement;
 use crate::worth::push_worths;
-use history::{Event, Past};
+use history::{Event, Walk};
 use order_grammar::{Fault, print_number, print_round};
 use rounds::{End, Game};
 use sheets::{FileFault, Sheets};
@@ -38,7 +38,7 @@ pub fn round_text(alloc: Global, game: &Game, round: Round) -> Result<Vec<u8>, A
     while begun < events.len() {
         let end = begun + length_of_round(&events[begun..]);
         if is_round(&events[begun..end], &round) {
-            push_round(&mut out, game, begun, end)?;
+            push_round(&mut out, game, begun, end, &mut Walk::along(events))?;
             return Ok(out);
         }
         begun = end;
@@ -60,15 +60,18 @@ pub(crate) fn push_header(out: &mut Vec<u8>, sheets: &Sheets) -> Result<(), Allo
 }
 
 /// Adds the text of the round whose events stand from `begun` up to `end`: their lines, and the
-/// statement after them.
+/// statement after them, to which the walk along the events goes.
 pub(crate) fn push_round(
     out: &mut Vec<u8>,
     game: &Game,
     begun: usize,
     end: usize,
+    walk: &mut Walk,
 ) -> Result<(), AllocError>
     requires ordered { begun ≤ end }
     requires within { end ≤ length game.now.game.events }
+    requires along { walk.old.events.now ≡ game.now.game.events }
+    ensures along { walk.new.events.now ≡ walk.old.events.now }
     ensures { OnOk result (Adds out.old out.new (text_between game.now begun end)) }
 {
     let history = game.history();
@@ -76,11 +79,8 @@ pub(crate) fn push_round(
     for event in &events[begun..end] {
         push_event(out, game.sheets(), event)?;
     }
-    let past = Past {
-        seats: history.seats(),
-        events: &events[..end],
-    };
-    push_statement(out, game.sheets(), &past)
+    walk.go(end);
+    push_statement(out, game.sheets(), &walk.past(history.seats()))
 }
 
 /// How many events the first of these rounds has.

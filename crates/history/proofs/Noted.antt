@@ -1,0 +1,57 @@
+-- What the books have after one more event.
+use Rattle.std.proofs.Common.{◌≡◌, ℕ, ◌+◌, ◌^◌, ◌<◌, ◌||◌, Bool, true, false, List, [], ◌∷◌, ◌++◌, Option, ℤ, pos, ◌+ℤ◌, ◌-ℤ◌, get_or, length, take, unwrap_or, refl, ap, subst, sym, ◌∙◌, arith, length-append, length-take-le}
+use Rattle.std.proofs.lemmas.List.{take_more}
+use Rattle.std.proofs.lemmas.List.Folds.{list_any-append}
+use Rattle.std.proofs.lemmas.Int.{ints}
+use Rattle.std.specs.List.{list_any}
+use Rattle.std.specs.Option.{option_or}
+use Rattle.history.proofs.BidWords.{bid_of_at_end}
+use Rattle.history.proofs.EventAtEnd.{balance_at_end, last_said_at_end}
+use Rattle.history.specs.Bids.{bid_of, bid_said}
+use Rattle.history.specs.Books.{AreBooksOf, IsNet}
+use Rattle.history.specs.Event.{bidding_of}
+use Rattle.history.specs.LookBack.{IsModerate, last_said}
+use Rattle.history.specs.declared.books.Books.{Books}
+use Rattle.history.specs.declared.event.Event.{Event}
+use Rattle.tables.specs.declared.roster.Private.{Private}
+use Rattle.tables.specs.declared.seat.Seat.{Seat}
+
+-- the last word is that of the event, or else the one before
+pub word_noted : {A : Type 0} (says : Event → Option A) (events : List Event) (event : Event) (old new : Option A) → new ≡ option_or (says event) old → old ≡ last_said says events → new ≡ last_said says (events ++ event ∷ [])
+word_noted says events event old new noted before =
+    noted ∙ ap (option_or (says event)) before ∙ sym (last_said_at_end says events event)
+
+-- a test that is not met adds nothing
+or_false : (flag : Bool) → (flag || false) ≡ flag
+or_false true = refl
+or_false false = refl
+
+-- a bid on a private is what the event says, or else the one before
+pub bid_noted : (events : List Event) (event : Event) (private : Private) (seat : Seat) (old new : Option ℕ) → new ≡ unwrap_or (bid_said private seat (bidding_of event)) old → old ≡ bid_of events private seat → new ≡ bid_of (events ++ event ∷ []) private seat
+bid_noted events event private seat old new noted before =
+    noted ∙ ap (unwrap_or (bid_said private seat (bidding_of event))) before ∙ sym (bid_of_at_end events event private seat)
+
+-- a test that some event has met
+pub flag_noted : (says : Event → Bool) (events : List Event) (event : Event) (old new : Bool) → new ≡ (old || says event) → old ≡ list_any says events → new ≡ list_any says (events ++ event ∷ [])
+flag_noted says events event old new noted before =
+    noted ∙ ap (λ flag. flag || says event) before ∙ sym (list_any-append says events (event ∷ []) ∙ ap (λ flag. list_any says events || flag) (or_false (says event)))
+
+-- the entry of an account
+pub net_noted : (brings takes : Event → ℕ) (events : List Event) (event : Event) (old new : ℤ) → length events < 2 ^ 63 → brings event < 2 ^ 32 → takes event < 2 ^ 32 → (IsModerate old → new ≡ (old +ℤ pos (brings event)) -ℤ pos (takes event)) → IsNet brings takes events old → IsNet brings takes (events ++ event ∷ []) new
+net_noted brings takes events event old new short few_in few_out moves before =
+    let moderate : IsModerate old = record {
+      not_under = omega (arith, ints, short, before.not_under);
+      not_over = omega (arith, ints, short, before.not_over);
+    } in
+    let moved = moves moderate in
+    let longer : length (events ++ event ∷ []) ≡ length events + 1 = length-append events (event ∷ []) in
+    record {
+      is = moved ∙ ap (λ net. (net +ℤ pos (brings event)) -ℤ pos (takes event)) before.is ∙ sym (balance_at_end 0 brings takes events event);
+      not_under = omega (arith, ints, moved, longer, few_in, few_out, before.not_under);
+      not_over = omega (arith, ints, moved, longer, few_in, few_out, before.not_over);
+    }
+
+-- the books of a list up to a place, and those with the event there
+pub one_more : (events : List Event) (i : ℕ) (event d : Event) (old new : Books) → i < length events → event ≡ get_or events i d → AreBooksOf old (take i events) → length events < 2 ^ 63 → ((before : List Event) → length before < 2 ^ 63 → AreBooksOf old before → AreBooksOf new (before ++ event ∷ [])) → AreBooksOf new (take (i + 1) events)
+one_more events i event d old new below is before short notes =
+    subst (AreBooksOf new) (ap (λ e. take i events ++ e ∷ []) is ∙ sym (take_more events i d below)) (notes (take i events) (omega (arith, length-take-le i events)) before)

@@ -1,0 +1,15 @@
+use Rattle.std.proofs.Common.{ℕ, arith, sym, subst, ◌<◌}
+use Rattle.history.proofs.NetTables.{account_moderate, company_low}
+use Rattle.history.specs.Books.{IsNet, net_at, row_of}
+use Rattle.history.specs.declared.event.Event.{Event}
+use Rattle.history.specs.Event.{transfer_of}
+use Rattle.history.specs.Shares.{brought_to, taken_from}
+use Rattle.history.proofs.look_back.Past.shares.Goals as goal
+
+pub returns-clause-within : goal.returns-clause-within
+returns-clause-within c =
+    let brings = λ (e : Event). brought_to c.args.company c.args.place (transfer_of e) in
+    let takes = λ (e : Event). taken_from c.args.company c.args.place (transfer_of e) in
+    let has : row_of c.args.place < 8 = omega (arith, c.entry_of_tenths-entry.ensures, c.if-entry-ge64.false, company_low c.args.company) in
+    let kept = subst (λ (entry : ℕ). IsNet brings takes c.args.self.now.events.now (net_at c.args.self.now.books.now.tenths entry)) (sym c.entry_of_tenths-entry.ensures) (c.args.self.now.kept.tenths c.args.company c.args.place has) in
+    account_moderate c.start_tenths-start.result brings takes c.args.self.now.events.now c.from.result _ c.args.self.now.short (omega (arith, c.start_tenths-start.type_inv)) c.from.ensures kept

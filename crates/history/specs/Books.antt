@@ -1,0 +1,104 @@
+-- The books of a list of events: what its readers answer, kept while the events come. Tables are by the places
+-- of the privates and the companies in the roster, and by the numbers of the six seats that a table has.
+use Rattle.std.specs.Prelude.{◌≡◌, ℕ, ◌<◌, ◌+◌, ◌*◌, ◌^◌, ℤ, pos, neg_ℤ, ◌≤ℤ◌, [], List, length, Option, None, slice_index_or}
+use Rattle.history.specs.Bids.{bid_of}
+use Rattle.history.specs.Event.{floated_by, ownership_of, payment_of, phase_set, round_of as round_begun, sv_price_set, transfer_of}
+use Rattle.history.specs.LookBack.{actor_of, balance, bankrupt_in, broken_in, last_said, owner_said, paid_by, paid_to}
+use Rattle.history.specs.Shares.{brought_to, float_said, par_of, president_of, square_of, taken_from}
+use Rattle.history.specs.declared.books.Books.{Books}
+use Rattle.history.specs.declared.event.Event.{Event}
+use Rattle.history.specs.declared.event.Holder.{Holder}
+use Rattle.history.specs.declared.event.Holder.TheVariants as holder
+use Rattle.history.specs.declared.event.Party.{Party}
+use Rattle.history.specs.declared.event.Party.TheVariants as party
+use Rattle.history.specs.declared.event.Shareholder.{Shareholder}
+use Rattle.history.specs.declared.event.Shareholder.TheVariants.{InitialOffering, BankPool, Seat as OfSeat}
+use Rattle.history.specs.declared.owners.Owners.{Owners}
+use Rattle.tables.specs.Roster.{place_of_company, place_of_private}
+use Rattle.tables.specs.Seat.{seat_at}
+use Rattle.tables.specs.declared.roster.Company.{Company}
+use Rattle.tables.specs.declared.roster.Private.{Private}
+
+-- what the books have as the last word on a private's owner
+abbrev pub word_in : Owners → Private → Option (Option Holder)
+word_in owners private = slice_index_or owners.said (place_of_private private) None
+
+-- what the list says last of a private's owner
+abbrev pub word_on : List Event → Private → Option (Option Holder)
+word_on events private = last_said (λ event. owner_said private (ownership_of event)) events
+
+-- what the list says last of a company's float
+abbrev pub float_on : List Event → Company → Option Company
+float_on events company = last_said (λ event. float_said company (floated_by event)) events
+
+-- what a table has for a company
+abbrev pub at_company : {A : Type 0} → List (Option A) → Company → Option A
+at_company table company = slice_index_or table (place_of_company company) None
+
+-- what a table has as a seat's standing bid on a private
+abbrev pub bid_in : List (List (Option ℕ)) → Private → ℕ → Option ℕ
+bid_in bids private number = slice_index_or (slice_index_or bids (place_of_private private) []) number None
+
+-- the entry of a party in a table of cash
+abbrev pub party_entry : Party → ℕ
+party_entry party.Bank = 0
+party_entry (party.Holder (holder.Company company)) = 1 + place_of_company company
+party_entry (party.Holder (holder.Seat seat)) = 9 + seat.0
+
+-- the party has an entry: a seat is one of six
+abbrev pub HasEntry : Party → Type 0
+HasEntry party = party_entry party < 15
+
+-- the row of a place in a table of tenths
+abbrev pub row_of : Shareholder → ℕ
+row_of InitialOffering = 0
+row_of BankPool = 1
+row_of (OfSeat seat) = 2 + seat.0
+
+-- the entry of the tenths of a company at a place
+abbrev pub tenths_entry : Company → Shareholder → ℕ
+tenths_entry company place = 8 * row_of place + place_of_company company
+
+-- the place has entries: a seat is one of six
+abbrev pub HasTenths : Shareholder → Type 0
+HasTenths place = row_of place < 8
+
+-- an entry of a table of nets
+abbrev pub net_at : List ℤ → ℕ → ℤ
+net_at nets entry = slice_index_or nets entry (pos 0)
+
+-- a change by a sum of money keeps it in reach of a number
+pub record IsSafe (net : ℤ) : Type 0 where
+  pub not_under : neg_ℤ (pos (2 ^ 110)) ≤ℤ net
+  pub not_over : net ≤ℤ pos (2 ^ 110)
+
+-- what came to a party less what went from it, as a table has it
+abbrev pub cash_net : List ℤ → Party → ℤ
+cash_net nets party = net_at nets (party_entry party)
+
+-- the same of the tenths of a company at a place
+abbrev pub tenths_net : List ℤ → Company → Shareholder → ℤ
+tenths_net nets company place = net_at nets (tenths_entry company place)
+
+-- a net is what came in less what went out, and no further from 0 than the events can bring it
+pub record IsNet (brings takes : Event → ℕ) (events : List Event) (net : ℤ) : Type 0 where
+  pub is : net ≡ balance 0 brings takes events
+  pub not_under : neg_ℤ (pos (2 ^ 32 * length events)) ≤ℤ net
+  pub not_over : net ≤ℤ pos (2 ^ 32 * length events)
+
+-- the books have what the list says
+pub record AreBooksOf (books : Books) (events : List Event) : Type 0 where
+  pub owners : (private : Private) → word_in books.owners private ≡ word_on events private
+  pub bids : (private : Private) (number : ℕ) → number < 6 → bid_in books.bids private number ≡ bid_of events private (seat_at number)
+  pub sv_price : books.sv_price ≡ last_said sv_price_set events
+  pub actor : books.actor ≡ last_said actor_of events
+  pub round : books.round ≡ last_said round_begun events
+  pub phase : books.phase ≡ last_said phase_set events
+  pub broken : books.broken ≡ broken_in events
+  pub bankrupt : books.bankrupt ≡ bankrupt_in events
+  pub pars : (company : Company) → at_company books.pars company ≡ par_of events company
+  pub squares : (company : Company) → at_company books.squares company ≡ square_of events company
+  pub presidents : (company : Company) → at_company books.presidents company ≡ president_of events company
+  pub floats : (company : Company) → at_company books.floats company ≡ float_on events company
+  pub cash : (party : Party) → HasEntry party → IsNet (λ e. paid_to party (payment_of e)) (λ e. paid_by party (payment_of e)) events (cash_net books.cash party)
+  pub tenths : (company : Company) (place : Shareholder) → HasTenths place → IsNet (λ e. brought_to company place (transfer_of e)) (λ e. taken_from company place (transfer_of e)) events (tenths_net books.tenths company place)

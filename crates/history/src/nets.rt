@@ -1,0 +1,101 @@
+//! Tables of nets: what came to each entry, less what went from it. The entries are those of the
+//! bank, the companies and six seats; a further seat has an entry behind the table's end.
+ghost use Rattle.std.specs.Prelude.{◌≡◌, ◌==◌, ◌<◌, ◌≤◌, ◌+ℤ◌, ◌-ℤ◌, ◌≤ℤ◌, ◌^◌, ℕ, if◌then◌else◌, length, neg_ℤ, pos};
+ghost use Rattle.history.specs.Books.{HasEntry, HasTenths, IsSafe, cash_net, net_at, party_entry, tenths_entry, tenths_net};
+ghost use Rattle.history.specs.Event.{payment_of, transfer_of};
+ghost use Rattle.history.specs.LookBack.{IsModerate, paid_by, paid_to};
+ghost use Rattle.history.specs.Shares.{brought_to, taken_from};
+
+use crate::event::{Event, Holder, Party, Shareholder};
+use tables::{Amount, Company, Money};
+
+/// A net with a change that is a sum of money, or less one.
+fn changed(net: Money, change: Money) -> Money
+    requires not_under { neg_ℤ (pos (2 ^ 32)) ≤ℤ change }
+    requires not_over { change ≤ℤ pos (2 ^ 32) }
+    ensures { IsSafe net → result ≡ net +ℤ change }
+{
+    net.saturating_add(change)
+}
+
+/// Changes an entry of a table, if it has that entry.
+fn change(nets: &mut [Money], at: usize, change: Money)
+    requires not_under { neg_ℤ (pos (2 ^ 32)) ≤ℤ change }
+    requires not_over { change ≤ℤ pos (2 ^ 32) }
+    ensures length { length nets.new ≡ length nets.old }
+    ensures changed { (entry : ℕ) → entry < length nets.old → IsSafe (net_at nets.old entry) →
+        net_at nets.new entry ≡ net_at nets.old entry +ℤ (if at == entry then change else pos 0) }
+{
+    if at < nets.len() {
+        nets[at] = changed(nets[at], change);
+    }
+}
+
+/// Moves a sum from one entry of a table to another.
+fn move_sum(nets: &mut [Money], from: usize, to: usize, sum: Amount)
+    ensures length { length nets.new ≡ length nets.old }
+    ensures moved { (entry : ℕ) → entry < length nets.old → IsModerate (net_at nets.old entry) →
+        net_at nets.new entry ≡ (net_at nets.old entry +ℤ pos (if to == entry then sum else 0))
+            -ℤ pos (if from == entry then sum else 0) }
+{
+    change(nets, to, Money::from(sum));
+    change(nets, from, -Money::from(sum));
+}
+
+/// The entry of a party in a table of cash.
+pub(crate) fn entry_of_party(party: Party) -> usize
+    ensures { result ≡ party_entry party }
+{
+    match party {
+        Party::Bank => 0,
+        Party::Holder(Holder::Company(company)) => 1 + company.place(),
+        Party::Holder(Holder::Seat(seat)) => 9 + seat.number(),
+    }
+}
+
+/// Notes the payment that an event makes.
+pub(crate) fn note_payment(nets: &mut [Money; 15], event: &Event)
+    ensures moved { (party : Party) → HasEntry party → IsModerate (cash_net nets.old party) →
+        cash_net nets.new party
+            ≡ (cash_net nets.old party +ℤ pos (paid_to party (payment_of event.now)))
+                -ℤ pos (paid_by party (payment_of event.now)) }
+    ensures to { (party : Party) → paid_to party (payment_of event.now) < 2 ^ 32 }
+    ensures by { (party : Party) → paid_by party (payment_of event.now) < 2 ^ 32 }
+{
+    if let Some(payment) = event.payment() {
+        let from = entry_of_party(payment.from);
+        let to = entry_of_party(payment.to);
+        move_sum(nets, from, to, payment.amount);
+    }
+}
+
+/// The entry of the tenths of a company at a place in a table of tenths.
+pub(crate) fn entry_of_tenths(company: Company, place: Shareholder) -> usize
+    ensures { result ≡ tenths_entry company place }
+{
+    let row = match place {
+        Shareholder::InitialOffering => 0,
+        Shareholder::BankPool => 1,
+        Shareholder::Seat(seat) => 2 + seat.number(),
+    };
+    8 * row + company.place()
+}
+
+/// Notes the tenths that an event moves.
+pub(crate) fn note_transfer(nets: &mut [Money; 64], event: &Event)
+    ensures moved { (company : Company) (place : Shareholder) → HasTenths place →
+        IsModerate (tenths_net nets.old company place) → tenths_net nets.new company place
+            ≡ (tenths_net nets.old company place
+                +ℤ pos (brought_to company place (transfer_of event.now)))
+                -ℤ pos (taken_from company place (transfer_of event.now)) }
+    ensures to { (company : Company) (place : Shareholder) →
+        brought_to company place (transfer_of event.now) < 2 ^ 32 }
+    ensures by { (company : Company) (place : Shareholder) →
+        taken_from company place (transfer_of event.now) < 2 ^ 32 }
+{
+    if let Some(transfer) = event.transfer() {
+        let from = entry_of_tenths(transfer.company, transfer.from);
+        let to = entry_of_tenths(transfer.company, transfer.to);
+        move_sum(nets, from, to, Amount::from(transfer.tenths));
+    }
+}

@@ -1,0 +1,72 @@
+//! A way along a list of events, with the books of those that were passed.
+ghost use Rattle.std.specs.Prelude.{◌≡◌, ◌+◌, ◌<◌, ◌≤◌, length, take};
+ghost use Rattle.history.specs.Books.{AreBooksOf};
+ghost use Rattle.history.specs.LookBack.{FitsMemory};
+
+use crate::books::Books;
+use crate::event::Event;
+use crate::look_back::Past;
+
+/// A list of events, of which the first so many were passed, and the books of those. One who asks
+/// for a game as it stood, and later for the same game as it stood later, notes each event once.
+#[derive(Clone, Copy, Debug)]
+pub struct Walk<'a> {
+    /// All events.
+    pub events: &'a [Event],
+    /// How many of them were passed.
+    pub passed: usize,
+    books: Books,
+    ghost short: { FitsMemory events.now },
+    ghost within: { passed ≤ length events.now },
+    ghost kept: { AreBooksOf books (take passed events.now) },
+}
+
+impl<'a> Walk<'a> {
+    /// Before the first of these events.
+    pub fn along(events: &'a [Event]) -> Walk<'a>
+        requires { FitsMemory events.now }
+        ensures events { result.events.now ≡ events.now }
+        ensures passed { result.passed ≡ 0 }
+    {
+        Walk {
+            events,
+            passed: 0,
+            books: Books::start(),
+        }
+    }
+
+    /// Goes to the place behind so many events, back to the start first where it lies before.
+    pub fn go(&mut self, end: usize)
+        requires { end ≤ length self.old.events.now }
+        ensures events { self.new.events.now ≡ self.old.events.now }
+        ensures passed { self.new.passed ≡ end }
+    {
+        let mut walk = *self;
+        if walk.passed > end {
+            walk = Walk::along(self.events);
+        }
+        while walk.passed < end {
+            walk.pass();
+        }
+        *self = walk;
+    }
+
+    /// Passes the next event.
+    fn pass(&mut self)
+        requires { self.old.passed < length self.old.events.now }
+        ensures events { self.new.events.now ≡ self.old.events.now }
+        ensures passed { self.new.passed ≡ self.old.passed + 1 }
+    {
+        let events = self.events;
+        self.books.note(&events[self.passed]);
+        self.passed += 1;
+    }
+
+    /// The game as it stood after the events that were passed.
+    pub fn past(&self, seats: usize) -> Past<'_>
+        ensures seats { result.seats ≡ seats }
+        ensures events { result.events.now ≡ take self.now.passed self.now.events.now }
+    {
+        Past::of(seats, &self.events[..self.passed], &self.books)
+    }
+}
