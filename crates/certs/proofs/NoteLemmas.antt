@@ -1,207 +1,80 @@
--- Notes of what the events of a game say of its companies.
-use Rattle.std.proofs.Common.{◌≡◌, ℕ, zero, suc, ◌+◌, ◌*◌, ◌^◌, ◌<◌, ◌≤◌, ◌==◌, if◌then◌else◌, List, [], ◌∷◌, Option, None, ℤ, pos, ◌+ℤ◌, ◌-ℤ◌, ◌≤ℤ◌, length, get_or, set, take, refl, sym, ap, subst, ◌∙◌, inl, inr, arith}
-use Rattle.std.proofs.lemmas.Bool.{cases_eq}
+-- Notes of what a game says of its companies: the rows of their tenths.
+use Rattle.std.proofs.Common.{◌≡◌, ℕ, zero, suc, ◌+◌, ◌<◌, List, [], ◌∷◌, ℤ, pos, get_or, arith}
 use Rattle.std.proofs.lemmas.Int.{ints}
-use Rattle.std.proofs.lemmas.List.{get_or-set_same, get_or-set_other, length-set, take_more}
-use Rattle.std.specs.Option.{option_or}
-use lib.IntN.{neg_ℤ}
-use Rattle.certs.specs.Notes.{AreNear, ArePresidentsOf, AreSquaresOf, AreTenthsOf, IsChange, NotesOffice, NotesSquare, NotesTransfer}
-use Rattle.certs.specs.Rows.{IsBounded, IsNear, index_of}
-use Rattle.certs.proofs.RowLemmas.{bounded_of, parts}
-use Rattle.history.proofs.EventAtEnd.{last_said_at_end, shares_of_at_end}
-use Rattle.history.specs.LookBack.{last_said}
-use Rattle.history.specs.Event.{office_of, square_set, transfer_of}
-use Rattle.history.specs.Shares.{brought_to, president_said, shares_of, square_said, start_tenths, taken_from}
+use Rattle.certs.proofs.RowLemmas.{bounded_of}
+use Rattle.certs.specs.Notes.{AreTenthsOf, IsRowOf}
+use Rattle.certs.specs.Rows.{IsBounded}
+use Rattle.history.specs.LookBack.{IsModerate}
+use Rattle.history.specs.Shares.{shares_of}
 use Rattle.history.specs.declared.event.Event.{Event}
-use Rattle.history.specs.declared.event.Shareholder.{Shareholder}
 use Rattle.history.specs.declared.event.Shareholder.TheVariants.{InitialOffering, BankPool, Seat as OfSeat}
-use Rattle.tables.specs.Roster.{place_of_company}
+use Rattle.tables.specs.Seat.{seat_at}
 use Rattle.tables.specs.declared.roster.Company.{Company}
 use Rattle.tables.specs.declared.roster.Company.TheVariants.{Pennsylvania, NewYorkCentral, CanadianPacific, BaltimoreOhio, ChesapeakeOhio, Erie, NewHaven, BostonMaine}
-use Rattle.tables.specs.declared.seat.Seat.{Seat}
-use Rattle.tables.specs.declared.squares.Square.{Square}
 use mir.Syntax.{w128}
 use mir.Val.{of_z, to_z}
 
--- a value once it is kept
-abbrev pub kept : ℤ → ℤ
-kept z = to_z w128 (of_z w128 z)
+-- a moderate number is the one that keeps it
+pub kept_is : (n tenths : ℤ) → IsModerate n → n ≡ tenths → to_z w128 (of_z w128 n) ≡ tenths
+kept_is n tenths moderate is = omega (arith, ints, moderate.not_under, moderate.not_over, is)
 
--- more moves can bring a row further
-pub near_wider : (few more : ℕ) (row : List ℤ) → few ≤ more → IsNear few row → IsNear more row
-near_wider few more row fewer near =
-    record {
-      not_under = λ i. let under = near.not_under i in omega (arith, ints, under, fewer);
-      not_over = λ i. let over = near.not_over i in omega (arith, ints, over, fewer);
-      short = near.short;
-    }
+-- and stays moderate
+pub kept_moderate : (n : ℤ) → IsModerate n → IsModerate (to_z w128 (of_z w128 n))
+kept_moderate n moderate = record {
+  not_under = omega (arith, ints, moderate.not_under, moderate.not_over);
+  not_over = omega (arith, ints, moderate.not_under, moderate.not_over);
+}
 
--- an entry that a change brings no further than one more move can
-near_entry : (row : List ℤ) (i k moves : ℕ) (change entry : ℤ) → i < length row → entry ≡ get_or row i (pos 0) +ℤ change → IsChange change → IsNear moves row → (neg_ℤ (pos (256 * (moves + 1))) ≤ℤ get_or (set row i entry) k (pos 0)) × (get_or (set row i entry) k (pos 0) ≤ℤ pos (256 * (moves + 1)))
-near_entry row i k moves change entry within is few near =
-    elim (cases_eq k i) [
-      | inl same ↦
-          let here : get_or (set row i entry) k (pos 0) ≡ entry = ap (λ (n : ℕ). get_or (set row i entry) n (pos 0)) same ∙ get_or-set_same row i entry (pos 0) within in
-          let under = near.not_under i in
-          let over = near.not_over i in
-          let low = few.not_under in
-          let high = few.not_over in
-          (omega (arith, ints, here, is, under, low), omega (arith, ints, here, is, over, high))
-      | inr apart ↦
-          let there : get_or (set row i entry) k (pos 0) ≡ get_or row k (pos 0) = get_or-set_other row i k entry (pos 0) apart in
-          let under = near.not_under k in
-          let over = near.not_over k in
-          (omega (arith, ints, there, under), omega (arith, ints, there, over))
-    ]
+-- a row of eight
+abbrev pub row_of_eight : ℤ → ℤ → ℤ → ℤ → ℤ → ℤ → ℤ → ℤ → List ℤ
+row_of_eight a b c d e f g h = a ∷ b ∷ c ∷ d ∷ e ∷ f ∷ g ∷ h ∷ []
 
--- a change is one move
-pub near_set : (row : List ℤ) (i moves : ℕ) (change entry : ℤ) → i < length row → entry ≡ get_or row i (pos 0) +ℤ change → IsChange change → IsNear moves row → IsNear (moves + 1) (set row i entry)
-near_set row i moves change entry within is few near =
-    record {
-      not_under = λ k. (near_entry row i k moves change entry within is few near).0;
-      not_over = λ k. (near_entry row i k moves change entry within is few near).1;
-      short = omega (arith, length-set row i entry, near.short);
-    }
+-- whose entries are moderate is so at each place
+moderate_at : (a b c d e f g h : ℤ) → IsModerate a → IsModerate b → IsModerate c → IsModerate d → IsModerate e → IsModerate f → IsModerate g → IsModerate h → (i : ℕ) → IsModerate (get_or (row_of_eight a b c d e f g h) i (pos 0))
+moderate_at a b c d e f g h of_a of_b of_c of_d of_e of_f of_g of_h zero = of_a
+moderate_at a b c d e f g h of_a of_b of_c of_d of_e of_f of_g of_h (suc zero) = of_b
+moderate_at a b c d e f g h of_a of_b of_c of_d of_e of_f of_g of_h (suc (suc zero)) = of_c
+moderate_at a b c d e f g h of_a of_b of_c of_d of_e of_f of_g of_h (suc (suc (suc zero))) = of_d
+moderate_at a b c d e f g h of_a of_b of_c of_d of_e of_f of_g of_h (suc (suc (suc (suc zero)))) = of_e
+moderate_at a b c d e f g h of_a of_b of_c of_d of_e of_f of_g of_h (suc (suc (suc (suc (suc zero))))) = of_f
+moderate_at a b c d e f g h of_a of_b of_c of_d of_e of_f of_g of_h (suc (suc (suc (suc (suc (suc zero)))))) = of_g
+moderate_at a b c d e f g h of_a of_b of_c of_d of_e of_f of_g of_h (suc (suc (suc (suc (suc (suc (suc zero))))))) = of_h
+moderate_at a b c d e f g h of_a of_b of_c of_d of_e of_f of_g of_h (suc (suc (suc (suc (suc (suc (suc (suc i)))))))) =
+    record { not_under = omega (arith, ints); not_over = omega (arith, ints) }
 
--- the value that is kept
-pub change_is : (row : List ℤ) (i : ℕ) (change : ℤ) → IsChange change → IsNear (2 ^ 71) row → kept (kept (get_or row i (pos 0)) +ℤ kept change) ≡ get_or row i (pos 0) +ℤ change
-change_is row i change few near =
-    let under = near.not_under i in
-    let over = near.not_over i in
-    let low = few.not_under in
-    let high = few.not_over in
-    omega (arith, ints, under, over, low, high)
+-- and bounded
+pub row_bounded : (a b c d e f g h : ℤ) → IsModerate a → IsModerate b → IsModerate c → IsModerate d → IsModerate e → IsModerate f → IsModerate g → IsModerate h → IsBounded (row_of_eight a b c d e f g h)
+row_bounded a b c d e f g h of_a of_b of_c of_d of_e of_f of_g of_h =
+    bounded_of (row_of_eight a b c d e f g h) (omega arith) (moderate_at a b c d e f g h of_a of_b of_c of_d of_e of_f of_g of_h)
 
--- a row that is near is bounded
-pub near_bounded : (row : List ℤ) → IsNear (2 ^ 70) row → IsBounded row
-near_bounded row near =
-    bounded_of row near.short (λ i. let under = near.not_under i in let over = near.not_over i in record { not_under = omega (arith, ints, under); not_over = omega (arith, ints, over) })
+-- the tenths of a company at a seat
+abbrev tenths_with : List Event → Company → ℕ → ℤ
+tenths_with events company number = shares_of events company (OfSeat (seat_at number))
 
--- with one row changed by two moves
-pub near_rows : (rows : List (List ℤ)) (at moves : ℕ) (row : List ℤ) → at < length rows → IsNear (moves + 2) row → AreNear moves rows → AreNear (moves + 2) (set rows at row)
-near_rows rows at moves row within near each k =
-    elim (cases_eq k at) [
-      | inl same ↦ subst (λ (i : ℕ). IsNear (moves + 2) (get_or (set rows at row) i [])) (sym same) (subst (λ (r : List ℤ). IsNear (moves + 2) r) (sym (get_or-set_same rows at row [] within)) near)
-      | inr apart ↦ subst (λ (r : List ℤ). IsNear (moves + 2) r) (sym (get_or-set_other rows at k row [] apart)) (near_wider moves (moves + 2) (get_or rows k []) (omega arith) (each k))
-    ]
+-- seat by seat
+with_seat : (events : List Event) (company : Company) (a b c d e f g h : ℤ) → c ≡ tenths_with events company 0 → d ≡ tenths_with events company 1 → e ≡ tenths_with events company 2 → f ≡ tenths_with events company 3 → g ≡ tenths_with events company 4 → h ≡ tenths_with events company 5 → (number : ℕ) → number < 6 → get_or (row_of_eight a b c d e f g h) (2 + number) (pos 0) ≡ tenths_with events company number
+with_seat events company a b c d e f g h s0 s1 s2 s3 s4 s5 zero low = s0
+with_seat events company a b c d e f g h s0 s1 s2 s3 s4 s5 (suc zero) low = s1
+with_seat events company a b c d e f g h s0 s1 s2 s3 s4 s5 (suc (suc zero)) low = s2
+with_seat events company a b c d e f g h s0 s1 s2 s3 s4 s5 (suc (suc (suc zero))) low = s3
+with_seat events company a b c d e f g h s0 s1 s2 s3 s4 s5 (suc (suc (suc (suc zero)))) low = s4
+with_seat events company a b c d e f g h s0 s1 s2 s3 s4 s5 (suc (suc (suc (suc (suc zero))))) low = s5
+with_seat events company a b c d e f g h s0 s1 s2 s3 s4 s5 (suc (suc (suc (suc (suc (suc number)))))) low = absurd (omega (arith, low))
 
--- one event more says the last of it, or leaves what was said before
-said_more : {A : Type 0} (says : Event → Option A) (events : List Event) (i : ℕ) (event : Event) → i < length events → event ≡ get_or events i event → last_said says (take (i + 1) events) ≡ option_or (says event) (last_said says (take i events))
-said_more says events i event below is =
-    ap (last_said says) (take_more events i event below)
-    ∙ last_said_at_end says (take i events) (get_or events i event)
-    ∙ ap (λ (e : Event). option_or (says e) (last_said says (take i events))) (sym is)
+-- the row with the bank's tenths of a company and those of six seats
+pub row_is : (events : List Event) (company : Company) (a b c d e f g h : ℤ) → a ≡ shares_of events company InitialOffering → b ≡ shares_of events company BankPool → c ≡ tenths_with events company 0 → d ≡ tenths_with events company 1 → e ≡ tenths_with events company 2 → f ≡ tenths_with events company 3 → g ≡ tenths_with events company 4 → h ≡ tenths_with events company 5 → IsRowOf events company (row_of_eight a b c d e f g h)
+row_is events company a b c d e f g h ipo pool s0 s1 s2 s3 s4 s5 InitialOffering has = ipo
+row_is events company a b c d e f g h ipo pool s0 s1 s2 s3 s4 s5 BankPool has = pool
+row_is events company a b c d e f g h ipo pool s0 s1 s2 s3 s4 s5 (OfSeat seat) has =
+    with_seat events company a b c d e f g h s0 s1 s2 s3 s4 s5 seat.0 (omega (arith, has))
 
--- the presidents with one event more
-pub presidents_more : (events : List Event) (i : ℕ) (event : Event) (old new : List (Option Seat)) → i < length events → event ≡ get_or events i event → ArePresidentsOf (take i events) old → NotesOffice old new event → ArePresidentsOf (take (i + 1) events) new
-presidents_more events i event old new below is before notes company =
-    notes company
-    ∙ ap (option_or (president_said company (office_of event))) (before company)
-    ∙ sym (said_more (λ e. president_said company (office_of e)) events i event below is)
-
--- the squares with one event more
-pub squares_more : (events : List Event) (i : ℕ) (event : Event) (old new : List (Option Square)) → i < length events → event ≡ get_or events i event → AreSquaresOf (take i events) old → NotesSquare old new event → AreSquaresOf (take (i + 1) events) new
-squares_more events i event old new below is before notes company =
-    notes company
-    ∙ ap (option_or (square_said company (square_set event))) (before company)
-    ∙ sym (said_more (λ e. square_said company (square_set e)) events i event below is)
-
--- tenths less a part and more another, by the event that moves them
-abbrev moved_by : Event → Company → Shareholder → ℤ → ℤ
-moved_by event company place tenths =
-    (tenths +ℤ pos (brought_to company place (transfer_of event))) -ℤ pos (taken_from company place (transfer_of event))
-
--- the tenths with one event more
-pub tenths_more : (events : List Event) (i : ℕ) (event : Event) (old new : List (List ℤ)) → i < length events → event ≡ get_or events i event → AreTenthsOf (take i events) old → NotesTransfer old new event → AreTenthsOf (take (i + 1) events) new
-tenths_more events i event old new below is before notes company place has =
-    notes company place has
-    ∙ ap (moved_by event company place) (before company place has)
-    ∙ sym (
-    ap (λ (list : List Event). shares_of list company place) (take_more events i event below)
-    ∙ shares_of_at_end (take i events) (get_or events i event) company place
-    ∙ ap (λ (e : Event). moved_by e company place (shares_of (take i events) company place)) (sym is)
-    )
-
--- the two changes of an entry by the tenths of a transfer
-pub both_changes : (before between after sum : ℤ) (from to i tenths : ℕ) → tenths < 256 → sum ≡ pos tenths → between ≡ before +ℤ (if from == i then kept (pos 0 -ℤ kept sum) else pos 0) → after ≡ between +ℤ (if to == i then kept sum else pos 0) → after ≡ (before +ℤ (if to == i then pos tenths else pos 0)) -ℤ (if from == i then pos tenths else pos 0)
-both_changes before between after sum from to i tenths few is first second =
-    let less : kept (pos 0 -ℤ kept sum) ≡ pos 0 -ℤ pos tenths = omega (arith, ints, few, is) in
-    let more : kept sum ≡ pos tenths = omega (arith, ints, few, is) in
-    parts (from == i) (to == i) before between after (pos tenths) (first ∙ ap (λ (z : ℤ). before +ℤ (if from == i then z else pos 0)) less) (second ∙ ap (λ (z : ℤ). between +ℤ (if to == i then z else pos 0)) more)
-
--- a row at first
-abbrev start_row : List ℤ
-start_row = pos 10 ∷ pos 0 ∷ pos 0 ∷ pos 0 ∷ pos 0 ∷ pos 0 ∷ pos 0 ∷ pos 0 ∷ []
-
--- the same of each of eight companies
-abbrev eight : {A : Type 0} → A → List A
-eight a = a ∷ a ∷ a ∷ a ∷ a ∷ a ∷ a ∷ a ∷ []
-
--- what eight places have each has, and past them the default
-eight_have : {A : Type 0} (P : A → Type 0) (a d : A) → P a → P d → (k : ℕ) → P (get_or (eight a) k d)
-eight_have P a d one other zero = one
-eight_have P a d one other (suc zero) = one
-eight_have P a d one other (suc (suc zero)) = one
-eight_have P a d one other (suc (suc (suc zero))) = one
-eight_have P a d one other (suc (suc (suc (suc zero)))) = one
-eight_have P a d one other (suc (suc (suc (suc (suc zero))))) = one
-eight_have P a d one other (suc (suc (suc (suc (suc (suc zero)))))) = one
-eight_have P a d one other (suc (suc (suc (suc (suc (suc (suc zero))))))) = one
-eight_have P a d one other (suc (suc (suc (suc (suc (suc (suc (suc k)))))))) = other
-
--- the same of each company
-eight_noted : {A : Type 0} (a d : A) (company : Company) → get_or (eight a) (place_of_company company) d ≡ a
-eight_noted a d Pennsylvania = refl
-eight_noted a d NewYorkCentral = refl
-eight_noted a d CanadianPacific = refl
-eight_noted a d BaltimoreOhio = refl
-eight_noted a d ChesapeakeOhio = refl
-eight_noted a d Erie = refl
-eight_noted a d NewHaven = refl
-eight_noted a d BostonMaine = refl
-
--- no place but the first has tenths at first
-none_after : (i : ℕ) → get_or start_row (suc i) (pos 0) ≡ pos 0
-none_after zero = refl
-none_after (suc zero) = refl
-none_after (suc (suc zero)) = refl
-none_after (suc (suc (suc zero))) = refl
-none_after (suc (suc (suc (suc zero)))) = refl
-none_after (suc (suc (suc (suc (suc zero))))) = refl
-none_after (suc (suc (suc (suc (suc (suc zero)))))) = refl
-none_after (suc (suc (suc (suc (suc (suc (suc i))))))) = refl
-
--- the tenths of a place at first
-start_at : (place : Shareholder) → get_or start_row (index_of place) (pos 0) ≡ pos (start_tenths place)
-start_at InitialOffering = refl
-start_at BankPool = refl
-start_at (OfSeat seat) =
-    let one : 2 + seat.0 ≡ suc (seat.0 + 1) = omega arith in
-    ap (λ (i : ℕ). get_or start_row i (pos 0)) one ∙ none_after (seat.0 + 1)
-
--- before the first event the tenths are those at first
-pub tenths_at_first : AreTenthsOf [] (eight start_row)
-tenths_at_first company place has =
-    ap (λ (row : List ℤ). get_or row (index_of place) (pos 0)) (eight_noted start_row [] company)
-    ∙ start_at place
-    ∙ omega (arith, ints)
-
--- no company has a president
-pub presidents_at_first : ArePresidentsOf [] (eight None)
-presidents_at_first company = eight_noted None None company
-
--- or a square
-pub squares_at_first : AreSquaresOf [] (eight None)
-squares_at_first company = eight_noted None None company
-
--- an entry of a row at first
-start_low : (i : ℕ) → (neg_ℤ (pos 256) ≤ℤ get_or start_row i (pos 0)) × (get_or start_row i (pos 0) ≤ℤ pos 256)
-start_low zero = (omega (arith, ints), omega (arith, ints))
-start_low (suc i) = let none = none_after i in (omega (arith, ints, none), omega (arith, ints, none))
-
--- each row is near at first
-pub near_at_first : AreNear 1 (eight start_row)
-near_at_first =
-    eight_have (IsNear 1) start_row []
-    (record { not_under = λ i. (start_low i).0; not_over = λ i. (start_low i).1; short = omega arith })
-    (record { not_under = λ i. omega (arith, ints); not_over = λ i. omega (arith, ints); short = omega arith })
+-- the rows of all companies
+pub rows_are : (events : List Event) (a b c d e f g h : List ℤ) → IsRowOf events Pennsylvania a → IsRowOf events NewYorkCentral b → IsRowOf events CanadianPacific c → IsRowOf events BaltimoreOhio d → IsRowOf events ChesapeakeOhio e → IsRowOf events Erie f → IsRowOf events NewHaven g → IsRowOf events BostonMaine h → AreTenthsOf events (a ∷ b ∷ c ∷ d ∷ e ∷ f ∷ g ∷ h ∷ [])
+rows_are events a b c d e f g h of_a of_b of_c of_d of_e of_f of_g of_h Pennsylvania = of_a
+rows_are events a b c d e f g h of_a of_b of_c of_d of_e of_f of_g of_h NewYorkCentral = of_b
+rows_are events a b c d e f g h of_a of_b of_c of_d of_e of_f of_g of_h CanadianPacific = of_c
+rows_are events a b c d e f g h of_a of_b of_c of_d of_e of_f of_g of_h BaltimoreOhio = of_d
+rows_are events a b c d e f g h of_a of_b of_c of_d of_e of_f of_g of_h ChesapeakeOhio = of_e
+rows_are events a b c d e f g h of_a of_b of_c of_d of_e of_f of_g of_h Erie = of_f
+rows_are events a b c d e f g h of_a of_b of_c of_d of_e of_f of_g of_h NewHaven = of_g
+rows_are events a b c d e f g h of_a of_b of_c of_d of_e of_f of_g of_h BostonMaine = of_h

@@ -31,21 +31,9 @@ pub record IsBounded (row : List ℤ) : Type 0 where
 abbrev pub AreBounded : List (List ℤ) → Type 0
 AreBounded rows = (k : ℕ) → IsBounded (slice_index_or rows k [])
 
--- a row of at most eight entries that is no further from 0 than so many moves can bring it, each of fewer
--- than 256 tenths
-pub record IsNear (moves : ℕ) (row : List ℤ) : Type 0 where
-  pub not_under : (i : ℕ) → neg_ℤ (pos (256 * moves)) ≤ℤ slice_index_or row i (pos 0)
-  pub not_over : (i : ℕ) → slice_index_or row i (pos 0) ≤ℤ pos (256 * moves)
-  pub short : length row ≤ 8
-
 -- tenths at one place of a row
 abbrev pub only_at : ℕ → ℕ → ℤ → ℤ
 only_at index k tenths = if index == k then tenths else pos 0
-
--- a row is another in which tenths came to a place, or went from it where they are under 0
-abbrev pub IsChanged : List ℤ → List ℤ → ℕ → ℤ → Type 0
-IsChanged old new index change =
-    (k : ℕ) → k < 8 → slice_index_or new k (pos 0) ≡ slice_index_or old k (pos 0) +ℤ only_at index k change
 
 -- a row is another in which tenths went from one place to another
 abbrev pub IsMoved : List ℤ → List ℤ → ℕ → ℕ → ℕ → Type 0

@@ -1,13 +1,12 @@
-//! Tables of what the events of a game say of its companies, noted event by event.
-ghost use Rattle.std.specs.Prelude.{◌^◌, ◌+◌, ℕ};
-ghost use Rattle.certs.specs.Notes.{AreNear, AreNoted, IsChange, NotesOffice, NotesSquare, NotesTransfer};
-ghost use Rattle.certs.specs.Rows.{IsChanged, IsNear};
+//! Tables of what a game says of its companies, as the books of the game have it.
+ghost use Rattle.certs.specs.Notes.{AreNoted, ArePresidentsOf, AreSquaresOf, AreTenthsOf, IsRowOf};
+ghost use Rattle.certs.specs.Rows.{AreBounded, IsBounded};
 
-use crate::rows::{Row, index_of};
-use history::{Event, Past, Tenths};
-use tables::{Seat, Square};
+use crate::rows::Row;
+use history::{Past, Shareholder};
+use tables::{Company, Seat, Square};
 
-/// What a list of events says of each company, by its place in the roster.
+/// What is said of each company, by its place in the roster.
 #[derive(Clone, Copy, Debug)]
 pub(crate) struct Notes {
     /// The tenths of each company by their places.
@@ -18,70 +17,79 @@ pub(crate) struct Notes {
     pub squares: [Option<Square>; 8],
 }
 
-/// The notes of a game, by one look over its events.
+/// The notes of a game.
 pub(crate) fn notes_of(past: &Past) -> Notes
     ensures { AreNoted past.now.events.now result }
 {
-    let mut tenths = [START; 8];
-    let mut presidents = [None; 8];
-    let mut squares = [None; 8];
-    for event in past.events {
-        note_transfer(&mut tenths, event);
-        note_office(&mut presidents, event);
-        note_square(&mut squares, event);
-    }
     Notes {
-        tenths,
-        presidents,
-        squares,
+        tenths: rows_of(past),
+        presidents: presidents_of(past),
+        squares: squares_of(past),
     }
 }
 
-/// The tenths of a company at first: all ten are in the initial offering.
-const START: Row = [10, 0, 0, 0, 0, 0, 0, 0];
-
-/// Notes the tenths that an event moves.
-fn note_transfer(rows: &mut [Row; 8], event: &Event)
-    requires near { AreNear (2 ^ 70) rows.old }
-    ensures tenths { NotesTransfer rows.old rows.new event.now }
-    ensures near { (n : ℕ) → AreNear n rows.old → AreNear (n + 2) rows.new }
+/// The tenths of each company.
+fn rows_of(past: &Past) -> [Row; 8]
+    ensures tenths { AreTenthsOf past.now.events.now result }
+    ensures bounded { AreBounded result }
 {
-    if let Some(transfer) = event.transfer() {
-        let place = transfer.company.place();
-        let tenths = Tenths::from(transfer.tenths);
-        let row = changed(rows[place], index_of(transfer.from), -tenths);
-        rows[place] = changed(row, index_of(transfer.to), tenths);
-    }
+    [
+        row_of(past, Company::Pennsylvania),
+        row_of(past, Company::NewYorkCentral),
+        row_of(past, Company::CanadianPacific),
+        row_of(past, Company::BaltimoreOhio),
+        row_of(past, Company::ChesapeakeOhio),
+        row_of(past, Company::Erie),
+        row_of(past, Company::NewHaven),
+        row_of(past, Company::BostonMaine),
+    ]
 }
 
-/// A row after tenths came to the place with this index, or went from it where they are under 0. A
-/// seat past the sixth has no place in a row: it is passed over.
-fn changed(mut row: Row, index: usize, change: Tenths) -> Row
-    requires near { IsNear (2 ^ 71) row }
-    requires few { IsChange change }
-    ensures changed { IsChanged row result index change }
-    ensures near { (n : ℕ) → IsNear n row → IsNear (n + 1) result }
+/// The tenths of a company.
+fn row_of(past: &Past, company: Company) -> Row
+    ensures tenths { IsRowOf past.now.events.now company result }
+    ensures bounded { IsBounded result }
 {
-    if index < row.len() {
-        row[index] += change;
-    }
-    row
+    [
+        past.shares(company, Shareholder::InitialOffering),
+        past.shares(company, Shareholder::BankPool),
+        past.shares(company, Shareholder::Seat(Seat(0))),
+        past.shares(company, Shareholder::Seat(Seat(1))),
+        past.shares(company, Shareholder::Seat(Seat(2))),
+        past.shares(company, Shareholder::Seat(Seat(3))),
+        past.shares(company, Shareholder::Seat(Seat(4))),
+        past.shares(company, Shareholder::Seat(Seat(5))),
+    ]
 }
 
-/// Notes the president that an event names.
-fn note_office(presidents: &mut [Option<Seat>; 8], event: &Event)
-    ensures { NotesOffice presidents.old presidents.new event.now }
+/// The president of each company.
+fn presidents_of(past: &Past) -> [Option<Seat>; 8]
+    ensures { ArePresidentsOf past.now.events.now result }
 {
-    if let Some(office) = event.office() {
-        presidents[office.company.place()] = Some(office.president);
-    }
+    [
+        past.president(Company::Pennsylvania),
+        past.president(Company::NewYorkCentral),
+        past.president(Company::CanadianPacific),
+        past.president(Company::BaltimoreOhio),
+        past.president(Company::ChesapeakeOhio),
+        past.president(Company::Erie),
+        past.president(Company::NewHaven),
+        past.president(Company::BostonMaine),
+    ]
 }
 
-/// Notes the square on which an event sets a token.
-fn note_square(squares: &mut [Option<Square>; 8], event: &Event)
-    ensures { NotesSquare squares.old squares.new event.now }
+/// The square of each company.
+fn squares_of(past: &Past) -> [Option<Square>; 8]
+    ensures { AreSquaresOf past.now.events.now result }
 {
-    if let Some(placement) = event.square() {
-        squares[placement.company.place()] = Some(placement.square);
-    }
+    [
+        past.square(Company::Pennsylvania),
+        past.square(Company::NewYorkCentral),
+        past.square(Company::CanadianPacific),
+        past.square(Company::BaltimoreOhio),
+        past.square(Company::ChesapeakeOhio),
+        past.square(Company::Erie),
+        past.square(Company::NewHaven),
+        past.square(Company::BostonMaine),
+    ]
 }

@@ -109,12 +109,17 @@ fn moves_operating(now: &Past, seat: Seat, sale: Sale, operating: Option<Company
     ensures { result ≡ moves_presidency now.now.seats now.now.events.now seat sale operating }
 {
     match operating {
-        Some(company) => {
-            company == sale.company
-                && another_has(now, company, seat, would_keep(now, seat, sale) + 1)
-        }
+        Some(company) => company == sale.company && another_has_more(now, seat, sale),
         None => false,
     }
+}
+
+/// Whether another seat would have strictly more of the company.
+fn another_has_more(now: &Past, seat: Seat, sale: Sale) -> bool
+    ensures { result ≡ another_seat_has now.now.seats now.now.events.now sale.company seat
+        (kept_after now.now.events.now seat sale +ℤ pos 1) }
+{
+    another_has(now, sale.company, seat, would_keep(now, seat, sale) + 1)
 }
 
 /// What the seat would keep of the company.
