@@ -1,5 +1,5 @@
 //! Trains that a company discards: by the lines of its president, or else the least that it has.
-ghost use Rattle.std.specs.Prelude.{◌≡◌, OnOk, IfOk};
+ghost use Rattle.std.specs.Prelude.{◌≡◌, OnOk, IfOk, Some};
 ghost use Rattle.operating.specs.Discards.{discard_in as kind_in_order, discard_judgement};
 ghost use Rattle.operating.specs.Discards.{discarded_by as discarded_kind, first_held as the_first_held};
 ghost use Rattle.operating.specs.Discards.{has_train as company_has, is_no_discard as no_discard};
@@ -90,12 +90,24 @@ fn lines_of(
     ensures { IfOk result (λ lines. lines.items
         ≡ lines_of past.now.events.now company president) }
 {
+    match president {
+        Some(seat) => lines_in(alloc, past.events, company, seat),
+        None => Ok(Vec::new(alloc)),
+    }
+}
+
+/// The same of a list of events, for a seat.
+fn lines_in(
+    alloc: Global,
+    events: &[Event],
+    company: Company,
+    seat: Seat,
+) -> Result<Vec<Kind>, AllocError>
+    ensures { IfOk result (λ lines. lines.items ≡ lines_of events.now company (Some seat)) }
+{
     let mut lines = Vec::new(alloc);
-    let Some(seat) = president else {
-        return Ok(lines);
-    };
     let mut presides = false;
-    for event in past.events {
+    for event in events {
         note(&mut lines, event, seat, company, presides)?;
         presides = presides_after(presides, event, seat, company);
     }
