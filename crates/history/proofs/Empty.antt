@@ -2,7 +2,6 @@
 use Rattle.std.proofs.Common.{◌≡◌, ℕ, zero, suc, ◌<◌, List, [], Option, None, pos, refl, arith}
 use Rattle.std.specs.Prelude.{replicate}
 use Rattle.std.proofs.lemmas.Int.{ints}
-
 use Rattle.history.proofs.Tied.{none_standing}
 use Rattle.history.specs.Books.{IsNet, at_company, bid_in, net_at}
 use Rattle.history.specs.declared.event.Event.{Event}

@@ -101,14 +101,14 @@ transfer_moved transfer made company place from to tenths old new is from_is to_
 pub account_kept : (start : ℕ) (brings takes : Event → ℕ) (events : List Event) (from net : ℤ) → length events < 2 ^ 63 → start < 2 ^ 32 → from ≡ pos start → IsNet brings takes events net → to_z w128 (of_z w128 (to_z w128 (of_z w128 from) +ℤ to_z w128 (of_z w128 net))) ≡ balance start brings takes events
 account_kept start brings takes events from net short few is kept =
     let added : to_z w128 (of_z w128 (to_z w128 (of_z w128 from) +ℤ to_z w128 (of_z w128 net))) ≡ pos start +ℤ net =
-      omega (arith, ints, short, few, is, kept.not_under, kept.not_over) in
+    omega (arith, ints, short, few, is, kept.not_under, kept.not_over) in
     added ∙ omega (arith, ints, kept.is)
 
 -- and moderate
 pub account_moderate : (start : ℕ) (brings takes : Event → ℕ) (events : List Event) (from net : ℤ) → length events < 2 ^ 63 → start < 2 ^ 32 → from ≡ pos start → IsNet brings takes events net → IsModerate (to_z w128 (of_z w128 (to_z w128 (of_z w128 from) +ℤ to_z w128 (of_z w128 net))))
 account_moderate start brings takes events from net short few is kept =
     let added : to_z w128 (of_z w128 (to_z w128 (of_z w128 from) +ℤ to_z w128 (of_z w128 net))) ≡ pos start +ℤ net =
-      omega (arith, ints, short, few, is, kept.not_under, kept.not_over) in
+    omega (arith, ints, short, few, is, kept.not_under, kept.not_over) in
     record {
       not_under = omega (arith, ints, added, short, few, kept.not_under, kept.not_over);
       not_over = omega (arith, ints, added, short, few, kept.not_under, kept.not_over);

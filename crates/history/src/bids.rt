@@ -110,7 +110,11 @@ impl Past<'_> {
 }
 
 /// Notes what an event says of the bids on a private in a table of the seats' standing bids.
-pub(crate) fn note_bid_on(standing: &mut [Option<Amount>; PLAYERS_MOST], private: Private, event: &Event)
+pub(crate) fn note_bid_on(
+    standing: &mut [Option<Amount>; PLAYERS_MOST],
+    private: Private,
+    event: &Event,
+)
     ensures { NotesBidOn private event.now standing.old standing.new }
 {
     match event.bidding() {

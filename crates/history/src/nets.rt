@@ -36,7 +36,7 @@ fn move_sum(nets: &mut [Money], from: usize, to: usize, sum: Amount)
     ensures length { length nets.new ≡ length nets.old }
     ensures moved { (entry : ℕ) → entry < length nets.old → IsModerate (net_at nets.old entry) →
         net_at nets.new entry ≡ (net_at nets.old entry +ℤ pos (if to == entry then sum else 0))
-            -ℤ pos (if from == entry then sum else 0) }
+        -ℤ pos (if from == entry then sum else 0) }
 {
     change(nets, to, Money::from(sum));
     change(nets, from, -Money::from(sum));
@@ -57,8 +57,8 @@ pub(crate) fn entry_of_party(party: Party) -> usize
 pub(crate) fn note_payment(nets: &mut [Money; 15], event: &Event)
     ensures moved { (party : Party) → HasEntry party → IsModerate (cash_net nets.old party) →
         cash_net nets.new party
-            ≡ (cash_net nets.old party +ℤ pos (paid_to party (payment_of event.now)))
-                -ℤ pos (paid_by party (payment_of event.now)) }
+        ≡ (cash_net nets.old party +ℤ pos (paid_to party (payment_of event.now)))
+        -ℤ pos (paid_by party (payment_of event.now)) }
     ensures to { (party : Party) → paid_to party (payment_of event.now) < 2 ^ 32 }
     ensures by { (party : Party) → paid_by party (payment_of event.now) < 2 ^ 32 }
 {
@@ -85,9 +85,9 @@ pub(crate) fn entry_of_tenths(company: Company, place: Shareholder) -> usize
 pub(crate) fn note_transfer(nets: &mut [Money; 64], event: &Event)
     ensures moved { (company : Company) (place : Shareholder) → HasTenths place →
         IsModerate (tenths_net nets.old company place) → tenths_net nets.new company place
-            ≡ (tenths_net nets.old company place
-                +ℤ pos (brought_to company place (transfer_of event.now)))
-                -ℤ pos (taken_from company place (transfer_of event.now)) }
+        ≡ (tenths_net nets.old company place
+        +ℤ pos (brought_to company place (transfer_of event.now)))
+        -ℤ pos (taken_from company place (transfer_of event.now)) }
     ensures to { (company : Company) (place : Shareholder) →
         brought_to company place (transfer_of event.now) < 2 ^ 32 }
     ensures by { (company : Company) (place : Shareholder) →

@@ -47,7 +47,7 @@ pub(crate) fn note_square(squares: &mut [Option<Square>; 8], event: &Event)
 pub(crate) fn note_president(presidents: &mut [Option<Seat>; 8], event: &Event)
     ensures { (company : Company) → at_company presidents.new company
         ≡ option_or (president_said company (office_of event.now))
-            (at_company presidents.old company) }
+        (at_company presidents.old company) }
 {
     if let Some(office) = event.office() {
         presidents[office.company.place()] = Some(office.president);
@@ -68,7 +68,7 @@ pub(crate) fn note_float(floats: &mut [Option<Company>; 8], event: &Event)
 pub(crate) fn note_bids(bids: &mut [[Option<Amount>; PLAYERS_MOST]; 6], event: &Event)
     ensures { (private : Private) (number : ℕ) → number < 6 → bid_in bids.new private number
         ≡ unwrap_or (bid_said private (seat_at number) (bidding_of event.now))
-            (bid_in bids.old private number) }
+        (bid_in bids.old private number) }
 {
     let private = match event.bidding() {
         Some(Bidding::Made(private, _)) => private,
