@@ -27,11 +27,15 @@ pub net_kept : (n : ℤ) → IsSafe n → to_z w128 (of_z w128 n) ≡ n
 net_kept n safe = omega (arith, ints, safe.not_under, safe.not_over)
 
 -- so is a sum
-pub sum_kept : (n change : ℤ) → IsSafe n → neg_ℤ (pos (2 ^ 32)) ≤ℤ change → change ≤ℤ pos (2 ^ 32) → to_z w128 (of_z w128 n) +ℤ to_z w128 (of_z w128 change) ≡ n +ℤ change
+pub sum_kept :
+    (n change : ℤ) → IsSafe n → neg_ℤ (pos (2 ^ 32)) ≤ℤ change → change ≤ℤ pos (2 ^ 32) →
+    to_z w128 (of_z w128 n) +ℤ to_z w128 (of_z w128 change) ≡ n +ℤ change
 sum_kept n change safe not_under not_over = omega (arith, ints, safe.not_under, safe.not_over, not_under, not_over)
 
 -- the entry that is changed, and the others
-pub entry_changed : (nets : List ℤ) (at entry : ℕ) (change value : ℤ) → at < length nets → (IsSafe (net_at nets at) → value ≡ net_at nets at +ℤ change) → IsSafe (net_at nets entry) → net_at (set nets at value) entry ≡ net_at nets entry +ℤ (if at == entry then change else pos 0)
+pub entry_changed :
+    (nets : List ℤ) (at entry : ℕ) (change value : ℤ) → at < length nets → (IsSafe (net_at nets at) → value ≡ net_at nets at +ℤ change) →
+    IsSafe (net_at nets entry) → net_at (set nets at value) entry ≡ net_at nets entry +ℤ (if at == entry then change else pos 0)
 entry_changed nets at entry change value low is safe =
     grind (arith, get_or-set_same, get_or-set_other, cases_eq at entry, eq-eqb at entry, plus_none (net_at nets entry))
 
@@ -59,7 +63,11 @@ same_entry (party.Holder (holder.Company a)) (party.Holder (holder.Seat b)) =
     grind (arith, company_low a, eq-eqb (1 + place_of_company a) (9 + b.0))
 
 -- a payment moves its amount from its entry to its other
-pub payment_moved : (payment : Payment) (made : Option Payment) (of : Party) (from to : ℕ) (old new : ℤ) → Some payment ≡ made → from ≡ party_entry payment.from → to ≡ party_entry payment.to → new ≡ (old +ℤ pos (if to == party_entry of then payment.amount else 0)) -ℤ pos (if from == party_entry of then payment.amount else 0) → new ≡ (old +ℤ pos (paid_to of made)) -ℤ pos (paid_by of made)
+pub payment_moved :
+    (payment : Payment) (made : Option Payment) (of : Party) (from to : ℕ) (old new : ℤ) → Some payment ≡ made → from ≡ party_entry payment.from →
+    to ≡ party_entry payment.to →
+    new ≡ (old +ℤ pos (if to == party_entry of then payment.amount else 0)) -ℤ pos (if from == party_entry of then payment.amount else 0) →
+    new ≡ (old +ℤ pos (paid_to of made)) -ℤ pos (paid_by of made)
 payment_moved payment made of from to old new is from_is to_is moved =
     rw (sym is, same_entry payment.to of, same_entry payment.from of, sym from_is, sym to_is) moved
 
@@ -86,26 +94,38 @@ both_tests true b n = refl
 both_tests false b n = refl
 
 -- the tenths that come to a place, by entries
-part_by_entry : (a b : Company) (at place : Shareholder) (tenths : ℕ) → (if same_company a b then (if same_shareholder at place then tenths else 0) else 0) ≡ (if tenths_entry a at == tenths_entry b place then tenths else 0)
+part_by_entry :
+    (a b : Company) (at place : Shareholder) (tenths : ℕ) →
+    (if same_company a b then (if same_shareholder at place then tenths else 0) else 0) ≡ (if tenths_entry a at == tenths_entry b place then tenths else 0)
 part_by_entry a b at place tenths =
     both_tests (same_company a b) (same_shareholder at place) tenths
     ∙ ap (λ test. if same_company a b && test then tenths else 0) (same_row at place)
     ∙ ap (λ test. if test then tenths else 0) (row_same (place_of_company a) (place_of_company b) (row_of at) (row_of place) (company_low a) (company_low b))
 
 -- a transfer moves its tenths from its entry to its other
-pub transfer_moved : (transfer : Transfer) (made : Option Transfer) (company : Company) (place : Shareholder) (from to tenths : ℕ) (old new : ℤ) → Some transfer ≡ made → from ≡ tenths_entry transfer.company transfer.from → to ≡ tenths_entry transfer.company transfer.to → tenths ≡ transfer.tenths → new ≡ (old +ℤ pos (if to == tenths_entry company place then tenths else 0)) -ℤ pos (if from == tenths_entry company place then tenths else 0) → new ≡ (old +ℤ pos (brought_to company place made)) -ℤ pos (taken_from company place made)
+pub transfer_moved :
+    (transfer : Transfer) (made : Option Transfer) (company : Company) (place : Shareholder) (from to tenths : ℕ) (old new : ℤ) → Some transfer ≡ made →
+    from ≡ tenths_entry transfer.company transfer.from → to ≡ tenths_entry transfer.company transfer.to → tenths ≡ transfer.tenths →
+    new ≡ (old +ℤ pos (if to == tenths_entry company place then tenths else 0)) -ℤ pos (if from == tenths_entry company place then tenths else 0) →
+    new ≡ (old +ℤ pos (brought_to company place made)) -ℤ pos (taken_from company place made)
 transfer_moved transfer made company place from to tenths old new is from_is to_is many moved =
-    rw (sym is, part_by_entry transfer.company company transfer.to place transfer.tenths, part_by_entry transfer.company company transfer.from place transfer.tenths, sym from_is, sym to_is, sym many) moved
+    let to_place = part_by_entry transfer.company company transfer.to place transfer.tenths in
+    let from_place = part_by_entry transfer.company company transfer.from place transfer.tenths in
+    rw (sym is, to_place, from_place, sym from_is, sym to_is, sym many) moved
 
 -- a start with a net is an account
-pub account_kept : (start : ℕ) (brings takes : Event → ℕ) (events : List Event) (from net : ℤ) → length events < 2 ^ 63 → start < 2 ^ 32 → from ≡ pos start → IsNet brings takes events net → to_z w128 (of_z w128 (to_z w128 (of_z w128 from) +ℤ to_z w128 (of_z w128 net))) ≡ balance start brings takes events
+pub account_kept :
+    (start : ℕ) (brings takes : Event → ℕ) (events : List Event) (from net : ℤ) → length events < 2 ^ 63 → start < 2 ^ 32 → from ≡ pos start →
+    IsNet brings takes events net → to_z w128 (of_z w128 (to_z w128 (of_z w128 from) +ℤ to_z w128 (of_z w128 net))) ≡ balance start brings takes events
 account_kept start brings takes events from net short few is kept =
     let added : to_z w128 (of_z w128 (to_z w128 (of_z w128 from) +ℤ to_z w128 (of_z w128 net))) ≡ pos start +ℤ net =
     omega (arith, ints, short, few, is, kept.not_under, kept.not_over) in
     added ∙ omega (arith, ints, kept.is)
 
 -- and moderate
-pub account_moderate : (start : ℕ) (brings takes : Event → ℕ) (events : List Event) (from net : ℤ) → length events < 2 ^ 63 → start < 2 ^ 32 → from ≡ pos start → IsNet brings takes events net → IsModerate (to_z w128 (of_z w128 (to_z w128 (of_z w128 from) +ℤ to_z w128 (of_z w128 net))))
+pub account_moderate :
+    (start : ℕ) (brings takes : Event → ℕ) (events : List Event) (from net : ℤ) → length events < 2 ^ 63 → start < 2 ^ 32 → from ≡ pos start →
+    IsNet brings takes events net → IsModerate (to_z w128 (of_z w128 (to_z w128 (of_z w128 from) +ℤ to_z w128 (of_z w128 net))))
 account_moderate start brings takes events from net short few is kept =
     let added : to_z w128 (of_z w128 (to_z w128 (of_z w128 from) +ℤ to_z w128 (of_z w128 net))) ≡ pos start +ℤ net =
     omega (arith, ints, short, few, is, kept.not_under, kept.not_over) in

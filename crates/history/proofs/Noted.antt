@@ -17,7 +17,9 @@ use Rattle.tables.specs.declared.roster.Private.{Private}
 use Rattle.tables.specs.declared.seat.Seat.{Seat}
 
 -- the last word is that of the event, or else the one before
-pub word_noted : {A : Type 0} (says : Event → Option A) (events : List Event) (event : Event) (old new : Option A) → new ≡ option_or (says event) old → old ≡ last_said says events → new ≡ last_said says (events ++ event ∷ [])
+pub word_noted :
+    {A : Type 0} (says : Event → Option A) (events : List Event) (event : Event) (old new : Option A) → new ≡ option_or (says event) old →
+    old ≡ last_said says events → new ≡ last_said says (events ++ event ∷ [])
 word_noted says events event old new noted before =
     noted ∙ ap (option_or (says event)) before ∙ sym (last_said_at_end says events event)
 
@@ -27,17 +29,25 @@ or_false true = refl
 or_false false = refl
 
 -- a bid on a private is what the event says, or else the one before
-pub bid_noted : (events : List Event) (event : Event) (private : Private) (seat : Seat) (old new : Option ℕ) → new ≡ unwrap_or (bid_said private seat (bidding_of event)) old → old ≡ bid_of events private seat → new ≡ bid_of (events ++ event ∷ []) private seat
+pub bid_noted :
+    (events : List Event) (event : Event) (private : Private) (seat : Seat) (old new : Option ℕ) →
+    new ≡ unwrap_or (bid_said private seat (bidding_of event)) old → old ≡ bid_of events private seat → new ≡ bid_of (events ++ event ∷ []) private seat
 bid_noted events event private seat old new noted before =
     noted ∙ ap (unwrap_or (bid_said private seat (bidding_of event))) before ∙ sym (bid_of_at_end events event private seat)
 
 -- a test that some event has met
-pub flag_noted : (says : Event → Bool) (events : List Event) (event : Event) (old new : Bool) → new ≡ (old || says event) → old ≡ list_any says events → new ≡ list_any says (events ++ event ∷ [])
+pub flag_noted :
+    (says : Event → Bool) (events : List Event) (event : Event) (old new : Bool) → new ≡ (old || says event) → old ≡ list_any says events →
+    new ≡ list_any says (events ++ event ∷ [])
 flag_noted says events event old new noted before =
-    noted ∙ ap (λ flag. flag || says event) before ∙ sym (list_any-append says events (event ∷ []) ∙ ap (λ flag. list_any says events || flag) (or_false (says event)))
+    noted
+    ∙ ap (λ flag. flag || says event) before
+    ∙ sym (list_any-append says events (event ∷ []) ∙ ap (λ flag. list_any says events || flag) (or_false (says event)))
 
 -- the entry of an account
-pub net_noted : (brings takes : Event → ℕ) (events : List Event) (event : Event) (old new : ℤ) → length events < 2 ^ 63 → brings event < 2 ^ 32 → takes event < 2 ^ 32 → (IsModerate old → new ≡ (old +ℤ pos (brings event)) -ℤ pos (takes event)) → IsNet brings takes events old → IsNet brings takes (events ++ event ∷ []) new
+pub net_noted :
+    (brings takes : Event → ℕ) (events : List Event) (event : Event) (old new : ℤ) → length events < 2 ^ 63 → brings event < 2 ^ 32 → takes event < 2 ^ 32 →
+    (IsModerate old → new ≡ (old +ℤ pos (brings event)) -ℤ pos (takes event)) → IsNet brings takes events old → IsNet brings takes (events ++ event ∷ []) new
 net_noted brings takes events event old new short few_in few_out moves before =
     let moderate : IsModerate old = record {
       not_under = omega (arith, ints, short, before.not_under);
@@ -52,6 +62,10 @@ net_noted brings takes events event old new short few_in few_out moves before =
     }
 
 -- the books of a list up to a place, and those with the event there
-pub one_more : (events : List Event) (i : ℕ) (event d : Event) (old new : Books) → i < length events → event ≡ get_or events i d → AreBooksOf old (take i events) → length events < 2 ^ 63 → ((before : List Event) → length before < 2 ^ 63 → AreBooksOf old before → AreBooksOf new (before ++ event ∷ [])) → AreBooksOf new (take (i + 1) events)
+pub one_more :
+    (events : List Event) (i : ℕ) (event d : Event) (old new : Books) → i < length events → event ≡ get_or events i d → AreBooksOf old (take i events) →
+    length events < 2 ^ 63 → ((before : List Event) → length before < 2 ^ 63 → AreBooksOf old before → AreBooksOf new (before ++ event ∷ [])) →
+    AreBooksOf new (take (i + 1) events)
 one_more events i event d old new below is before short notes =
-    subst (AreBooksOf new) (ap (λ e. take i events ++ e ∷ []) is ∙ sym (take_more events i d below)) (notes (take i events) (omega (arith, length-take-le i events)) before)
+    let longer = ap (λ e. take i events ++ e ∷ []) is ∙ sym (take_more events i d below) in
+    subst (AreBooksOf new) longer (notes (take i events) (omega (arith, length-take-le i events)) before)

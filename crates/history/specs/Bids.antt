@@ -8,7 +8,7 @@ use Rattle.history.specs.declared.event.Bid.{Bid}
 use Rattle.history.specs.declared.event.Bidding.{Bidding}
 use Rattle.history.specs.declared.event.Bidding.TheVariants.{Made, Ended}
 use Rattle.history.specs.declared.event.Event.{Event}
-use Rattle.tables.specs.Roster.{place_of_private, privates, same_private}
+use Rattle.tables.specs.Roster.{privates, same_private}
 use Rattle.tables.specs.Seat.{all_seats, seat_at}
 use Rattle.tables.specs.declared.roster.Private.{Private}
 use Rattle.tables.specs.declared.seat.Seat.{Seat}
@@ -46,24 +46,6 @@ NotesBidOn private event old new =
 -- what a seat's standing bid on a private ties
 abbrev pub tied_on : List Event → Seat → Private → ℕ
 tied_on events seat private = unwrap_or (bid_of events private seat) 0
-
--- what a table by the places of the privates has for a private
-abbrev pub tied_at : List ℕ → Private → ℕ
-tied_at tied private = slice_index_or tied (place_of_private private) 0
-
--- the table has what a seat's standing bids tie
-abbrev pub AreTied : List Event → Seat → List ℕ → Type 0
-AreTied events seat tied = (private : Private) → tied_at tied private ≡ tied_on events seat private
-
--- what is tied after a word on a bid, if there is one
-abbrev pub tied_after : Option (Option ℕ) → ℕ → ℕ
-tied_after None before = before
-tied_after (Some bid) before = unwrap_or bid 0
-
--- a table after an event has what the event says of a seat's bids, and else what it had
-abbrev pub NotesBid : Seat → Event → List ℕ → List ℕ → Type 0
-NotesBid seat event old new =
-    (private : Private) → tied_at new private ≡ tied_after (bid_said private seat (bidding_of event)) (tied_at old private)
 
 -- the sum of a seat's standing bids
 abbrev pub bids_of : List Event → Seat → ℕ

@@ -101,4 +101,6 @@ pub record AreBooksOf (books : Books) (events : List Event) : Type 0 where
   pub presidents : (company : Company) → at_company books.presidents company ≡ president_of events company
   pub floats : (company : Company) → at_company books.floats company ≡ float_on events company
   pub cash : (party : Party) → HasEntry party → IsNet (λ e. paid_to party (payment_of e)) (λ e. paid_by party (payment_of e)) events (cash_net books.cash party)
-  pub tenths : (company : Company) (place : Shareholder) → HasTenths place → IsNet (λ e. brought_to company place (transfer_of e)) (λ e. taken_from company place (transfer_of e)) events (tenths_net books.tenths company place)
+  pub tenths :
+      (company : Company) (place : Shareholder) → HasTenths place →
+      IsNet (λ e. brought_to company place (transfer_of e)) (λ e. taken_from company place (transfer_of e)) events (tenths_net books.tenths company place)

@@ -12,8 +12,10 @@
 //!
 //! Reading order: `event` (events and their aspects), `ruling` (what became of a line), `kept_place`,
 //! `kept_run` and `kept` (how an event keeps that), `aspect` (the ways of looking back), `topics`
-//! (what is looked for), `look_back`, `owners`, `bids`, `offers`, `shares`, `operating` and `trains`
-//! (the readers of `Past`), `list` (`History`), `tell` (events that follow from the list alone), `laws`.
+//! (what is looked for), `nets` and `noting` (how an event changes what is kept), `books` (what a
+//! list says, kept event by event), `look_back`, `owners`, `bids`, `offers`, `shares`, `operating`
+//! and `trains` (the readers of `Past`), `walk` (along a list, with its books), `list` (`History`),
+//! `tell` (events that follow from the list alone), `laws`.
 #![tactic(auto)]
 
 mod aspect;

@@ -10,7 +10,8 @@ returns c = λ events short before.
     let event = c.args.event.now in
     record {
       owners = λ private. word_noted (λ e. owner_said private (ownership_of e)) events event _ _ (c.note.ensures private) (before.owners private);
-      bids = λ private number low. bid_noted events event private (seat_at number) _ _ (c.note_bids.ensures private number low) (before.bids private number low);
+      bids = λ private number low.
+          bid_noted events event private (seat_at number) _ _ (c.note_bids.ensures private number low) (before.bids private number low);
       sv_price = word_noted sv_price_set events event _ _ c.note-2.ensures before.sv_price;
       actor = word_noted actor_of events event _ _ c.note-3.ensures before.actor;
       round = word_noted round_of events event _ _ c.note-4.ensures before.round;
@@ -19,8 +20,14 @@ returns c = λ events short before.
       bankrupt = flag_noted tells_bankrupt events event _ _ c.note_bankrupt.ensures before.bankrupt;
       pars = λ company. word_noted (λ e. par_said company (par_set e)) events event _ _ (c.note_par.ensures company) (before.pars company);
       squares = λ company. word_noted (λ e. square_said company (square_set e)) events event _ _ (c.note_square.ensures company) (before.squares company);
-      presidents = λ company. word_noted (λ e. president_said company (office_of e)) events event _ _ (c.note_president.ensures company) (before.presidents company);
+      presidents = λ company.
+          word_noted (λ e. president_said company (office_of e)) events event _ _ (c.note_president.ensures company) (before.presidents company);
       floats = λ company. word_noted (λ e. float_said company (floated_by e)) events event _ _ (c.note_float.ensures company) (before.floats company);
-      cash = λ party has. net_noted (λ e. paid_to party (payment_of e)) (λ e. paid_by party (payment_of e)) events event _ _ short (c.note_payment.ensures.to party) (c.note_payment.ensures.by party) (c.note_payment.ensures.moved party has) (before.cash party has);
-      tenths = λ company place has. net_noted (λ e. brought_to company place (transfer_of e)) (λ e. taken_from company place (transfer_of e)) events event _ _ short (c.note_transfer.ensures.to company place) (c.note_transfer.ensures.by company place) (c.note_transfer.ensures.moved company place has) (before.tenths company place has);
+      cash = λ party has.
+          net_noted (λ e. paid_to party (payment_of e)) (λ e. paid_by party (payment_of e)) events event _ _ short (c.note_payment.ensures.to party)
+          (c.note_payment.ensures.by party) (c.note_payment.ensures.moved party has) (before.cash party has);
+      tenths = λ company place has.
+          net_noted (λ e. brought_to company place (transfer_of e)) (λ e. taken_from company place (transfer_of e)) events event _ _ short
+          (c.note_transfer.ensures.to company place) (c.note_transfer.ensures.by company place)
+          (c.note_transfer.ensures.moved company place has) (before.tenths company place has);
     }

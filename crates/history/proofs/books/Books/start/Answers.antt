@@ -21,5 +21,6 @@ returns c = record {
   presidents = nothing_said;
   floats = nothing_said;
   cash = λ party has. no_net (λ e. paid_to party (payment_of e)) (λ e. paid_by party (payment_of e)) 15 (party_entry party);
-  tenths = λ company place has. no_net (λ e. brought_to company place (transfer_of e)) (λ e. taken_from company place (transfer_of e)) 64 (tenths_entry company place);
+  tenths = λ company place has.
+      no_net (λ e. brought_to company place (transfer_of e)) (λ e. taken_from company place (transfer_of e)) 64 (tenths_entry company place);
 }
