@@ -72,7 +72,7 @@ pub(crate) fn push_round(
     requires within { end ≤ length game.now.game.events }
     requires along { walk.old.events.now ≡ game.now.game.events }
     ensures along { walk.new.events.now ≡ walk.old.events.now }
-    ensures { OnOk result (Adds out.old out.new (text_between game.now begun end)) }
+    ensures text { OnOk result (Adds out.old out.new (text_between game.now begun end)) }
 {
     let history = game.history();
     let events = history.events();

@@ -4,8 +4,8 @@ use Rattle.report.specs.Report.{IsLengthOfRound, text_between}
 use Rattle.report.proofs.Taken.{round_taken, same_part}
 use Rattle.report.proofs.parts.part_from.Goals as goal
 
-pub returns-in_ok-push_round : goal.returns-in_ok-push_round
-returns-in_ok-push_round c =
+pub returns-in_ok-push_round-clause-part : goal.returns-in_ok-push_round-clause-part
+returns-in_ok-push_round-clause-part c =
     let played = c.args.game.now in
     let begun = c.args.begun in
     let count = c.length_of_round.result in
