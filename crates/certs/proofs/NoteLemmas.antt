@@ -30,7 +30,9 @@ abbrev pub row_of_eight : ℤ → ℤ → ℤ → ℤ → ℤ → ℤ → ℤ �
 row_of_eight a b c d e f g h = a ∷ b ∷ c ∷ d ∷ e ∷ f ∷ g ∷ h ∷ []
 
 -- whose entries are moderate is so at each place
-moderate_at : (a b c d e f g h : ℤ) → IsModerate a → IsModerate b → IsModerate c → IsModerate d → IsModerate e → IsModerate f → IsModerate g → IsModerate h → (i : ℕ) → IsModerate (get_or (row_of_eight a b c d e f g h) i (pos 0))
+moderate_at :
+    (a b c d e f g h : ℤ) → IsModerate a → IsModerate b → IsModerate c → IsModerate d → IsModerate e → IsModerate f → IsModerate g → IsModerate h → (i : ℕ) →
+    IsModerate (get_or (row_of_eight a b c d e f g h) i (pos 0))
 moderate_at a b c d e f g h of_a of_b of_c of_d of_e of_f of_g of_h zero = of_a
 moderate_at a b c d e f g h of_a of_b of_c of_d of_e of_f of_g of_h (suc zero) = of_b
 moderate_at a b c d e f g h of_a of_b of_c of_d of_e of_f of_g of_h (suc (suc zero)) = of_c
@@ -43,7 +45,9 @@ moderate_at a b c d e f g h of_a of_b of_c of_d of_e of_f of_g of_h (suc (suc (s
     record { not_under = omega (arith, ints); not_over = omega (arith, ints) }
 
 -- and bounded
-pub row_bounded : (a b c d e f g h : ℤ) → IsModerate a → IsModerate b → IsModerate c → IsModerate d → IsModerate e → IsModerate f → IsModerate g → IsModerate h → IsBounded (row_of_eight a b c d e f g h)
+pub row_bounded :
+    (a b c d e f g h : ℤ) → IsModerate a → IsModerate b → IsModerate c → IsModerate d → IsModerate e → IsModerate f → IsModerate g → IsModerate h →
+    IsBounded (row_of_eight a b c d e f g h)
 row_bounded a b c d e f g h of_a of_b of_c of_d of_e of_f of_g of_h =
     bounded_of (row_of_eight a b c d e f g h) (omega arith) (moderate_at a b c d e f g h of_a of_b of_c of_d of_e of_f of_g of_h)
 
@@ -52,7 +56,10 @@ abbrev tenths_with : List Event → Company → ℕ → ℤ
 tenths_with events company number = shares_of events company (OfSeat (seat_at number))
 
 -- seat by seat
-with_seat : (events : List Event) (company : Company) (a b c d e f g h : ℤ) → c ≡ tenths_with events company 0 → d ≡ tenths_with events company 1 → e ≡ tenths_with events company 2 → f ≡ tenths_with events company 3 → g ≡ tenths_with events company 4 → h ≡ tenths_with events company 5 → (number : ℕ) → number < 6 → get_or (row_of_eight a b c d e f g h) (2 + number) (pos 0) ≡ tenths_with events company number
+with_seat :
+    (events : List Event) (company : Company) (a b c d e f g h : ℤ) → c ≡ tenths_with events company 0 → d ≡ tenths_with events company 1 →
+    e ≡ tenths_with events company 2 → f ≡ tenths_with events company 3 → g ≡ tenths_with events company 4 → h ≡ tenths_with events company 5 → (number : ℕ) →
+    number < 6 → get_or (row_of_eight a b c d e f g h) (2 + number) (pos 0) ≡ tenths_with events company number
 with_seat events company a b c d e f g h s0 s1 s2 s3 s4 s5 zero low = s0
 with_seat events company a b c d e f g h s0 s1 s2 s3 s4 s5 (suc zero) low = s1
 with_seat events company a b c d e f g h s0 s1 s2 s3 s4 s5 (suc (suc zero)) low = s2
@@ -62,14 +69,20 @@ with_seat events company a b c d e f g h s0 s1 s2 s3 s4 s5 (suc (suc (suc (suc (
 with_seat events company a b c d e f g h s0 s1 s2 s3 s4 s5 (suc (suc (suc (suc (suc (suc number)))))) low = absurd (omega (arith, low))
 
 -- the row with the bank's tenths of a company and those of six seats
-pub row_is : (events : List Event) (company : Company) (a b c d e f g h : ℤ) → a ≡ shares_of events company InitialOffering → b ≡ shares_of events company BankPool → c ≡ tenths_with events company 0 → d ≡ tenths_with events company 1 → e ≡ tenths_with events company 2 → f ≡ tenths_with events company 3 → g ≡ tenths_with events company 4 → h ≡ tenths_with events company 5 → IsRowOf events company (row_of_eight a b c d e f g h)
+pub row_is :
+    (events : List Event) (company : Company) (a b c d e f g h : ℤ) → a ≡ shares_of events company InitialOffering → b ≡ shares_of events company BankPool →
+    c ≡ tenths_with events company 0 → d ≡ tenths_with events company 1 → e ≡ tenths_with events company 2 → f ≡ tenths_with events company 3 →
+    g ≡ tenths_with events company 4 → h ≡ tenths_with events company 5 → IsRowOf events company (row_of_eight a b c d e f g h)
 row_is events company a b c d e f g h ipo pool s0 s1 s2 s3 s4 s5 InitialOffering has = ipo
 row_is events company a b c d e f g h ipo pool s0 s1 s2 s3 s4 s5 BankPool has = pool
 row_is events company a b c d e f g h ipo pool s0 s1 s2 s3 s4 s5 (OfSeat seat) has =
     with_seat events company a b c d e f g h s0 s1 s2 s3 s4 s5 seat.0 (omega (arith, has))
 
 -- the rows of all companies
-pub rows_are : (events : List Event) (a b c d e f g h : List ℤ) → IsRowOf events Pennsylvania a → IsRowOf events NewYorkCentral b → IsRowOf events CanadianPacific c → IsRowOf events BaltimoreOhio d → IsRowOf events ChesapeakeOhio e → IsRowOf events Erie f → IsRowOf events NewHaven g → IsRowOf events BostonMaine h → AreTenthsOf events (a ∷ b ∷ c ∷ d ∷ e ∷ f ∷ g ∷ h ∷ [])
+pub rows_are :
+    (events : List Event) (a b c d e f g h : List ℤ) → IsRowOf events Pennsylvania a → IsRowOf events NewYorkCentral b → IsRowOf events CanadianPacific c →
+    IsRowOf events BaltimoreOhio d → IsRowOf events ChesapeakeOhio e → IsRowOf events Erie f → IsRowOf events NewHaven g → IsRowOf events BostonMaine h →
+    AreTenthsOf events (a ∷ b ∷ c ∷ d ∷ e ∷ f ∷ g ∷ h ∷ [])
 rows_are events a b c d e f g h of_a of_b of_c of_d of_e of_f of_g of_h Pennsylvania = of_a
 rows_are events a b c d e f g h of_a of_b of_c of_d of_e of_f of_g of_h NewYorkCentral = of_b
 rows_are events a b c d e f g h of_a of_b of_c of_d of_e of_f of_g of_h CanadianPacific = of_c

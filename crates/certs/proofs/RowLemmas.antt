@@ -68,7 +68,9 @@ abbrev part : ℕ → ℕ → ℤ → ℤ
 part i k sum = if i == k then sum else pos 0
 
 -- two changes of an entry
-parts : (from to : Bool) (before between after tenths : ℤ) → between ≡ before +ℤ (if from then pos 0 -ℤ tenths else pos 0) → after ≡ between +ℤ (if to then tenths else pos 0) → after ≡ (before +ℤ (if to then tenths else pos 0)) -ℤ (if from then tenths else pos 0)
+parts :
+    (from to : Bool) (before between after tenths : ℤ) → between ≡ before +ℤ (if from then pos 0 -ℤ tenths else pos 0) →
+    after ≡ between +ℤ (if to then tenths else pos 0) → after ≡ (before +ℤ (if to then tenths else pos 0)) -ℤ (if from then tenths else pos 0)
 parts true true before between after tenths first second = omega (arith, ints)
 parts true false before between after tenths first second = omega (arith, ints)
 parts false true before between after tenths first second = omega (arith, ints)

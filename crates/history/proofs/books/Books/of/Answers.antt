@@ -6,7 +6,8 @@ use Rattle.history.proofs.books.Books.of.Goals as goal
 
 pub loop-event-preserved : goal.loop-event-preserved
 loop-event-preserved c =
-    one_more c.args.events.now c.loop-event.event-index c.event-item.result c.event-item.result _ _ c.loop-event-test.true c.event-item.is c.loop-event.invariant c.requires c.note.ensures
+    one_more c.args.events.now c.loop-event.event-index c.event-item.result c.event-item.result _ _ c.loop-event-test.true c.event-item.is
+    c.loop-event.invariant c.requires c.note.ensures
 
 pub returns : goal.returns
 returns c =

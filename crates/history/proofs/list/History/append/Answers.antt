@@ -6,4 +6,5 @@ use Rattle.history.proofs.list.History.append.Goals as goal
 
 pub invariant_of-self-2 : goal.invariant_of-self-2
 invariant_of-self-2 c =
-    rw c.in_ok-push.ensures.items (All-push (λ (e : Event). sum_of e ≤ 1000000) _ _ c.self.invariant.0 c.requires, c.note.ensures _ (omega (arith, c.push.ensures)) c.self.invariant.1)
+    let sums = All-push (λ (e : Event). sum_of e ≤ 1000000) _ _ c.self.invariant.0 c.requires in
+    rw c.in_ok-push.ensures.items (sums, c.note.ensures _ (omega (arith, c.push.ensures)) c.self.invariant.1)

@@ -11,8 +11,10 @@ returns-clause-sum c =
     let brings = λ (e : Event). paid_to c.args.party (payment_of e) in
     let takes = λ (e : Event). paid_by c.args.party (payment_of e) in
     let has : party_entry c.args.party < 15 = omega (arith, c.entry_of_party-entry.ensures, c.if-entry-ge15.false) in
-    let kept = subst (λ (entry : ℕ). IsNet brings takes c.args.self.now.events.now (net_at c.args.self.now.books.now.cash entry)) (sym c.entry_of_party-entry.ensures) (c.args.self.now.kept.cash c.args.party has) in
-    account_kept c.start_of-start.result brings takes c.args.self.now.events.now c.from.result _ c.args.self.now.short (omega (arith, c.start_of-start.type_inv)) c.from.ensures kept
+    let net_of = λ (entry : ℕ). IsNet brings takes c.args.self.now.events.now (net_at c.args.self.now.books.now.cash entry) in
+    let kept = subst net_of (sym c.entry_of_party-entry.ensures) (c.args.self.now.kept.cash c.args.party has) in
+    account_kept c.start_of-start.result brings takes c.args.self.now.events.now c.from.result _ c.args.self.now.short
+    (omega (arith, c.start_of-start.type_inv)) c.from.ensures kept
     ∙ ap (λ (start : ℕ). balance start brings takes c.args.self.now.events.now) c.start_of-start.ensures
 
 pub returns-clause-within : goal.returns-clause-within
@@ -20,5 +22,7 @@ returns-clause-within c =
     let brings = λ (e : Event). paid_to c.args.party (payment_of e) in
     let takes = λ (e : Event). paid_by c.args.party (payment_of e) in
     let has : party_entry c.args.party < 15 = omega (arith, c.entry_of_party-entry.ensures, c.if-entry-ge15.false) in
-    let kept = subst (λ (entry : ℕ). IsNet brings takes c.args.self.now.events.now (net_at c.args.self.now.books.now.cash entry)) (sym c.entry_of_party-entry.ensures) (c.args.self.now.kept.cash c.args.party has) in
-    account_moderate c.start_of-start.result brings takes c.args.self.now.events.now c.from.result _ c.args.self.now.short (omega (arith, c.start_of-start.type_inv)) c.from.ensures kept
+    let net_of = λ (entry : ℕ). IsNet brings takes c.args.self.now.events.now (net_at c.args.self.now.books.now.cash entry) in
+    let kept = subst net_of (sym c.entry_of_party-entry.ensures) (c.args.self.now.kept.cash c.args.party has) in
+    account_moderate c.start_of-start.result brings takes c.args.self.now.events.now c.from.result _ c.args.self.now.short
+    (omega (arith, c.start_of-start.type_inv)) c.from.ensures kept

@@ -11,5 +11,7 @@ returns-clause-within c =
     let brings = λ (e : Event). brought_to c.args.company c.args.place (transfer_of e) in
     let takes = λ (e : Event). taken_from c.args.company c.args.place (transfer_of e) in
     let has : row_of c.args.place < 8 = omega (arith, c.entry_of_tenths-entry.ensures, c.if-entry-ge64.false, company_low c.args.company) in
-    let kept = subst (λ (entry : ℕ). IsNet brings takes c.args.self.now.events.now (net_at c.args.self.now.books.now.tenths entry)) (sym c.entry_of_tenths-entry.ensures) (c.args.self.now.kept.tenths c.args.company c.args.place has) in
-    account_moderate c.start_tenths-start.result brings takes c.args.self.now.events.now c.from.result _ c.args.self.now.short (omega (arith, c.start_tenths-start.type_inv)) c.from.ensures kept
+    let net_of = λ (entry : ℕ). IsNet brings takes c.args.self.now.events.now (net_at c.args.self.now.books.now.tenths entry) in
+    let kept = subst net_of (sym c.entry_of_tenths-entry.ensures) (c.args.self.now.kept.tenths c.args.company c.args.place has) in
+    account_moderate c.start_tenths-start.result brings takes c.args.self.now.events.now c.from.result _ c.args.self.now.short
+    (omega (arith, c.start_tenths-start.type_inv)) c.from.ensures kept
