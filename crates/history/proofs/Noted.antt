@@ -7,10 +7,11 @@ use Rattle.std.specs.List.{list_any}
 use Rattle.std.specs.Option.{option_or}
 use Rattle.history.proofs.BidWords.{bid_of_at_end}
 use Rattle.history.proofs.EventAtEnd.{balance_at_end, last_said_at_end}
+use Rattle.history.proofs.Places.{last_place_at_end}
 use Rattle.history.specs.Bids.{bid_of, bid_said}
-use Rattle.history.specs.Books.{AreBooksOf, IsNet}
+use Rattle.history.specs.Books.{AreBooksOf, IsNet, here_if}
 use Rattle.history.specs.Event.{bidding_of}
-use Rattle.history.specs.LookBack.{IsModerate, last_said}
+use Rattle.history.specs.LookBack.{IsModerate, last_place_from, last_said}
 use Rattle.history.specs.declared.books.Books.{Books}
 use Rattle.history.specs.declared.event.Event.{Event}
 use Rattle.tables.specs.declared.roster.Private.{Private}
@@ -22,6 +23,17 @@ pub word_noted :
     old ≡ last_said says events → new ≡ last_said says (events ++ event ∷ [])
 word_noted says events event old new noted before =
     noted ∙ ap (option_or (says event)) before ∙ sym (last_said_at_end says events event)
+
+-- the place of the event that speaks last
+pub place_noted :
+    {A : Type 0} (says : Event → Option A) (events : List Event) (event : Event) (place : ℕ) (old new : Option ℕ) → place ≡ length events →
+    new ≡ option_or (here_if (says event) place) old → old ≡ last_place_from says 0 events → new ≡ last_place_from says 0 (events ++ event ∷ [])
+place_noted says events event place old new at noted before =
+    let from_start : length events ≡ 0 + length events = omega arith in
+    noted
+    ∙ ap (λ n. option_or (here_if (says event) n) old) (at ∙ from_start)
+    ∙ ap (option_or (here_if (says event) (0 + length events))) before
+    ∙ sym (last_place_at_end says 0 events event)
 
 -- a test that is not met adds nothing
 or_false : (flag : Bool) → (flag || false) ≡ flag

@@ -1,10 +1,10 @@
 -- The books of a list of events: what its readers answer, kept while the events come. Tables are by the places
 -- of the privates and the companies in the roster, and by the numbers of the six seats that a table has.
-use Rattle.std.specs.Prelude.{◌≡◌, ℕ, ◌<◌, ◌+◌, ◌*◌, ◌^◌, ℤ, pos, neg_ℤ, ◌≤ℤ◌, [], List, length, Option, None, slice_index_or}
+use Rattle.std.specs.Prelude.{◌≡◌, ℕ, ◌<◌, ◌+◌, ◌*◌, ◌^◌, ℤ, pos, neg_ℤ, ◌≤ℤ◌, [], List, length, Option, Some, None, is_some, if◌then◌else◌, slice_index_or}
 use Rattle.history.specs.Bids.{bid_of}
-use Rattle.history.specs.Event.{floated_by, ownership_of, payment_of, phase_set, round_of as round_begun, sv_price_set, transfer_of}
-use Rattle.history.specs.LookBack.{actor_of, balance, bankrupt_in, broken_in, last_said, owner_said, paid_by, paid_to}
-use Rattle.history.specs.Shares.{brought_to, float_said, par_of, president_of, square_of, taken_from}
+use Rattle.history.specs.Event.{floated_by, ownership_of, payment_of, phase_set, round_of as round_begun, square_set, sv_price_set, transfer_of}
+use Rattle.history.specs.LookBack.{actor_of, balance, bankrupt_in, broken_in, last_place_from, last_said, owner_said, paid_by, paid_to}
+use Rattle.history.specs.Shares.{brought_to, float_said, par_of, president_of, square_of, square_said, taken_from}
 use Rattle.history.specs.declared.books.Books.{Books}
 use Rattle.history.specs.declared.event.Event.{Event}
 use Rattle.history.specs.declared.event.Holder.{Holder}
@@ -38,6 +38,14 @@ at_company table company = slice_index_or table (place_of_company company) None
 -- what a table has as a seat's standing bid on a private
 abbrev pub bid_in : List (List (Option ℕ)) → Private → ℕ → Option ℕ
 bid_in bids private number = slice_index_or (slice_index_or bids (place_of_private private) []) number None
+
+-- this place, if an event speaks
+abbrev pub here_if : {A : Type 0} → Option A → ℕ → Option ℕ
+here_if said place = if is_some said then Some place else None
+
+-- where the list sets the square of a company last
+abbrev pub arrival_on : List Event → Company → Option ℕ
+arrival_on events company = last_place_from (λ event. square_said company (square_set event)) 0 events
 
 -- the entry of a party in a table of cash
 abbrev pub party_entry : Party → ℕ
@@ -88,6 +96,7 @@ pub record IsNet (brings takes : Event → ℕ) (events : List Event) (net : ℤ
 
 -- the books have what the list says
 pub record AreBooksOf (books : Books) (events : List Event) : Type 0 where
+  pub told : books.told ≡ length events
   pub owners : (private : Private) → word_in books.owners private ≡ word_on events private
   pub bids : (private : Private) (number : ℕ) → number < 6 → bid_in books.bids private number ≡ bid_of events private (seat_at number)
   pub sv_price : books.sv_price ≡ last_said sv_price_set events
@@ -99,6 +108,7 @@ pub record AreBooksOf (books : Books) (events : List Event) : Type 0 where
   pub pars : (company : Company) → at_company books.pars company ≡ par_of events company
   pub squares : (company : Company) → at_company books.squares company ≡ square_of events company
   pub presidents : (company : Company) → at_company books.presidents company ≡ president_of events company
+  pub arrivals : (company : Company) → at_company books.arrivals company ≡ arrival_on events company
   pub floats : (company : Company) → at_company books.floats company ≡ float_on events company
   pub cash : (party : Party) → HasEntry party → IsNet (λ e. paid_to party (payment_of e)) (λ e. paid_by party (payment_of e)) events (cash_net books.cash party)
   pub tenths :

@@ -2,7 +2,7 @@
 //! looks at.
 ghost use Rattle.std.specs.Prelude.{◌≡◌, ℕ, Bool, Option, slice_get};
 ghost use Rattle.std.specs.List.{filter_map};
-ghost use Rattle.history.specs.LookBack.{FitsMemory, IsModerate, balance, in_round, last_place_from, last_said};
+ghost use Rattle.history.specs.LookBack.{FitsMemory, IsModerate, balance, in_round, last_said};
 ghost use Rattle.history.specs.Trains.{count_of};
 ghost use Rattle.history.specs.declared.event.Event.{Event};
 
@@ -51,21 +51,6 @@ pub(crate) fn last_said<T: Topic>(topic: &T, events: &[Event]) -> Option<T::Word
         }
     }
     None
-}
-
-/// The place of the last event that speaks of a thing.
-pub(crate) fn last_place<T: Topic>(topic: &T, events: &[Event]) -> Option<usize>
-where
-    T::Word: Drop,
-    ensures { result ≡ last_place_from (T.word topic.now) 0 events.now }
-{
-    let mut last = None;
-    for (place, event) in events.iter().enumerate() {
-        if topic.word(event).is_some() {
-            last = Some(place);
-        }
-    }
-    last
 }
 
 /// What an event says of a thing, the one at this place, from 0, among those that speak of it.

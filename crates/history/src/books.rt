@@ -8,7 +8,8 @@ ghost use Rattle.history.specs.declared.event.Event.{Event as TheEvent};
 use crate::event::Event;
 use crate::nets::{note_payment, note_transfer};
 use crate::noting::{
-    note, note_bankrupt, note_bids, note_broken, note_float, note_par, note_president, note_square,
+    note, note_arrival, note_bankrupt, note_bids, note_broken, note_float, note_par,
+    note_president, note_square,
 };
 use crate::owners::Owners;
 use crate::shares::Tenths;
@@ -20,6 +21,8 @@ use tables::{Amount, Company, Kind, Money, PLAYERS_MOST, Round, Seat, Square};
 /// Of cash and tenths it is what came to each party or place, less what went from it.
 #[derive(Clone, Copy, Debug)]
 pub struct Books {
+    /// How many events there are.
+    told: usize,
     pub(crate) owners: Owners,
     pub(crate) bids: [[Option<Amount>; PLAYERS_MOST]; 6],
     pub(crate) sv_price: Option<Amount>,
@@ -31,6 +34,7 @@ pub struct Books {
     pub(crate) pars: [Option<Amount>; 8],
     pub(crate) squares: [Option<Square>; 8],
     pub(crate) presidents: [Option<Seat>; 8],
+    pub(crate) arrivals: [Option<usize>; 8],
     pub(crate) floats: [Option<Company>; 8],
     pub(crate) cash: [Money; 15],
     pub(crate) tenths: [Tenths; 64],
@@ -42,6 +46,7 @@ impl Books {
         ensures { AreBooksOf result [] }
     {
         Books {
+            told: 0,
             owners: Owners::unsold(),
             bids: [[None; PLAYERS_MOST]; 6],
             sv_price: None,
@@ -53,6 +58,7 @@ impl Books {
             pars: [None; 8],
             squares: [None; 8],
             presidents: [None; 8],
+            arrivals: [None; 8],
             floats: [None; 8],
             cash: [0; 15],
             tenths: [0; 64],
@@ -88,8 +94,10 @@ impl Books {
         note_par(&mut self.pars, event);
         note_square(&mut self.squares, event);
         note_president(&mut self.presidents, event);
+        note_arrival(&mut self.arrivals, self.told, event);
         note_float(&mut self.floats, event);
         note_payment(&mut self.cash, event);
         note_transfer(&mut self.tenths, event);
+        self.told = self.told.saturating_add(1);
     }
 }

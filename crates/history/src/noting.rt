@@ -2,7 +2,7 @@
 ghost use Rattle.std.specs.Prelude.{◌≡◌, ℕ, ◌<◌, ◌||◌, unwrap_or};
 ghost use Rattle.std.specs.Option.{option_or};
 ghost use Rattle.history.specs.Bids.{bid_said};
-ghost use Rattle.history.specs.Books.{at_company, bid_in};
+ghost use Rattle.history.specs.Books.{at_company, bid_in, here_if};
 ghost use Rattle.history.specs.Event.{bidding_of, floated_by, office_of, par_set, square_set, tells_bankrupt, tells_broken};
 ghost use Rattle.history.specs.Shares.{float_said, par_said, president_said, square_said};
 ghost use Rattle.tables.specs.Seat.{seat_at};
@@ -93,5 +93,16 @@ pub(crate) fn note_bankrupt(bankrupt: &mut bool, event: &Event)
 {
     if matches!(event, Event::Bankrupt(_)) {
         *bankrupt = true;
+    }
+}
+
+/// Notes where the event of this place in the list sets the square of a company.
+pub(crate) fn note_arrival(arrivals: &mut [Option<usize>; 8], place: usize, event: &Event)
+    ensures { (company : Company) → at_company arrivals.new company
+        ≡ option_or (here_if (square_said company (square_set event.now)) place)
+        (at_company arrivals.old company) }
+{
+    if let Some(placement) = event.square() {
+        arrivals[placement.company.place()] = Some(place);
     }
 }

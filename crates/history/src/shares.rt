@@ -3,11 +3,11 @@ ghost use Rattle.std.specs.Prelude.{◌≡◌, option_map, pos};
 ghost use Rattle.history.specs.LookBack.{IsModerate};
 ghost use Rattle.history.specs.Shares.{arrival_of, has_sold_in_round, is_floated, is_started, par_of, president_of, shares_of, square_of, start_tenths};
 
-use crate::aspect::{InRound, balance, last_place, last_said};
+use crate::aspect::{InRound, balance, last_said};
 use crate::event::Shareholder;
 use crate::look_back::Past;
 use crate::nets::entry_of_tenths;
-use crate::topics::{SaleBy, Shares, TokenSquare};
+use crate::topics::{SaleBy, Shares};
 use tables::{Amount, Company, Money, Seat, Square};
 
 /// A number of tenths of a company: what came in less what went out, from 0 to 10 in a sound game.
@@ -69,7 +69,7 @@ impl Past<'_> {
     pub fn arrival(&self, company: Company) -> usize
         ensures { result ≡ arrival_of self.now.events.now company }
     {
-        last_place(&TokenSquare(company), self.events).unwrap_or(0)
+        self.books.arrivals[company.place()].unwrap_or(0)
     }
 
     /// A company's president.

@@ -165,23 +165,6 @@ impl Account for Shares {
     }
 }
 
-/// The square of a company's token.
-#[derive(Clone, Copy)]
-pub(crate) struct TokenSquare(pub Company);
-
-impl Topic for TokenSquare {
-    type Word = Square;
-
-    ghost word = { λ a event. square_said a.0 (square_set event) };
-
-    fn word(&self, event: &Event) -> Option<Square> {
-        match event.square() {
-            Some(placement) if placement.company == self.0 => Some(placement.square),
-            _ => None,
-        }
-    }
-}
-
 /// A seat's sale of tenths of a company.
 #[derive(Clone, Copy)]
 pub(crate) struct SaleBy(pub Company, pub Seat);

@@ -1,4 +1,5 @@
-use Rattle.history.proofs.Noted.{bid_noted, flag_noted, net_noted, word_noted}
+use Rattle.std.proofs.Common.{[], ◌∷◌, arith, length-append}
+use Rattle.history.proofs.Noted.{bid_noted, flag_noted, net_noted, place_noted, word_noted}
 use Rattle.history.specs.Event.{floated_by, office_of, ownership_of, par_set, payment_of, phase_set, round_of, square_set, sv_price_set, tells_bankrupt, tells_broken, transfer_of}
 use Rattle.history.specs.LookBack.{actor_of, owner_said, paid_by, paid_to}
 use Rattle.history.specs.Shares.{brought_to, float_said, par_said, president_said, square_said, taken_from}
@@ -9,6 +10,7 @@ pub returns : goal.returns
 returns c = λ events short before.
     let event = c.args.event.now in
     record {
+      told = omega (arith, before.told, short, c.saturating_add-self.ensures, length-append events (event ∷ []));
       owners = λ private. word_noted (λ e. owner_said private (ownership_of e)) events event _ _ (c.note.ensures private) (before.owners private);
       bids = λ private number low.
           bid_noted events event private (seat_at number) _ _ (c.note_bids.ensures private number low) (before.bids private number low);
@@ -22,6 +24,7 @@ returns c = λ events short before.
       squares = λ company. word_noted (λ e. square_said company (square_set e)) events event _ _ (c.note_square.ensures company) (before.squares company);
       presidents = λ company.
           word_noted (λ e. president_said company (office_of e)) events event _ _ (c.note_president.ensures company) (before.presidents company);
+      arrivals = λ company. place_noted (λ e. square_said company (square_set e)) events event _ _ _ before.told (c.note_arrival.ensures company) (before.arrivals company);
       floats = λ company. word_noted (λ e. float_said company (floated_by e)) events event _ _ (c.note_float.ensures company) (before.floats company);
       cash = λ party has.
           net_noted (λ e. paid_to party (payment_of e)) (λ e. paid_by party (payment_of e)) events event _ _ short (c.note_payment.ensures.to party)

@@ -8,6 +8,7 @@ use Rattle.history.proofs.books.Books.start.Goals as goal
 
 pub returns : goal.returns
 returns c = record {
+  told = refl;
   owners = c.unsold.ensures;
   bids = no_bid;
   sv_price = refl;
@@ -19,6 +20,7 @@ returns c = record {
   pars = nothing_said;
   squares = nothing_said;
   presidents = nothing_said;
+  arrivals = nothing_said;
   floats = nothing_said;
   cash = λ party has. no_net (λ e. paid_to party (payment_of e)) (λ e. paid_by party (payment_of e)) 15 (party_entry party);
   tenths = λ company place has.
