@@ -1,6 +1,7 @@
 pub mod Legal
 pub mod Marks
 pub mod Named
+pub mod Written
 pub mod Fault
 pub mod Code
 pub mod Set

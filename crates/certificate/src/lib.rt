@@ -6,9 +6,10 @@
 //!
 //! The definitions, in `specs/`: `Legal` says which stops a walk visits, which borders it crosses
 //! and what a legal run is, and knows nothing of places; `Named` says which walk a list of places
-//! names; `Fault` is the table of the rules. `Law` joins them: what the places name is a legal run
-//! exactly where they break no rule. `Marks` is how the borders are told that earlier runs crossed.
-//! `Tally` is what the check keeps of the steps that it has gone over.
+//! names, and `Written` the places of a walk; `Fault` is the table of the rules. `Law` joins them:
+//! what the places name is a legal run exactly where they break no rule, and a walk is named by its
+//! places. `Marks` is how the borders are told that earlier runs crossed. `Tally` is what the check
+//! keeps of the steps that it has gone over.
 //!
 //! `Set` says what a legal set of runs is, what it earns and what the greatest revenue is, and
 //! `Greatest` what holds of it; `Claim` says when a claim of runs holds. `Tree` is the choice tree
@@ -36,7 +37,7 @@ pub use laws::{
     each_legal_run_is_named, greater_trains_earn_no_less, leaves_are_legal_sets,
     leaves_earn_their_bounds, legal_by_marks, legal_sets_are_leaves, legal_where_no_rule_is_broken,
     more_trains_earn_no_less, no_leaf_earns_more, one_greatest, order_of_trains_changes_nothing,
-    runs_earn_by_borders, runs_share_no_border, worked_tree,
+    runs_earn_by_borders, runs_share_no_border, walks_are_written, worked_tree,
 };
 pub use run_fault::RunFault;
 pub use runner::{Runner, RunnerFault};
