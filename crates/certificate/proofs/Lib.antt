@@ -10,6 +10,7 @@ pub mod Borders
 pub mod Sharing
 pub mod Counting
 pub mod Written
+pub mod Writing
 pub mod Earning
 pub mod Finite
 pub mod Choosing

@@ -16,8 +16,9 @@
 //! with the bound of a node, and `TreeLaws` joins it to the legal sets.
 //!
 //! Reading order: `check` (the public call), `run_fault`, `used`, `leg` (from place to place),
-//! `tally`, `laws`; `claim` (a revenue with runs that earn it), `runner` (what tells the greatest
-//! revenue), `two_train` (whether a company can run at all).
+//! `tally`, `laws`; `claim` (a revenue with runs that earn it), `write` (a run by its places, from
+//! its walk), `runner` (what tells the greatest revenue), `two_train` (whether a company can run at
+//! all).
 #![tactic(auto)]
 
 mod check;
@@ -29,6 +30,7 @@ mod runner;
 mod tally;
 mod two_train;
 mod used;
+mod write;
 
 pub use check::check_run;
 pub use claim::{Claim, ClaimedRun, ClaimedRuns};
@@ -43,3 +45,4 @@ pub use run_fault::RunFault;
 pub use runner::{Runner, RunnerFault};
 pub use two_train::can_run;
 pub use used::Used;
+pub use write::write_run;
