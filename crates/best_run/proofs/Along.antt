@@ -3,6 +3,7 @@
 use Rattle.std.proofs.Common.{◌≡◌, ℕ, ◌+◌, ◌<◌, ◌≤◌, Bool, true, false, ◌&&◌, ◌⊎◌, inl, inr, Option, Some, None, List, [], ◌∷◌, ◌++◌, length, slice_get, replicate, refl, sym, ap, subst, ◌∙◌, arith, le_trans, length-append}
 use Rattle.std.proofs.lemmas.Option.{slice_get_within}
 use Rattle.reach.specs.Position.{IsAmong}
+use Rattle.reach.specs.declared.walk.Step.{Step}
 use Rattle.best_run.specs.declared.explored.Found.{Found}
 use Rattle.best_run.specs.declared.task.Node.{Node}
 use Rattle.best_run.specs.declared.task.Piece.{Piece}
@@ -10,14 +11,18 @@ use Rattle.best_run.specs.declared.task.Task.{Task}
 use Rattle.best_run.specs.declared.task.Way.{Way}
 use Rattle.best_run.specs.declared.state.Settled.{Settled}
 use Rattle.best_run.specs.declared.state.Standing.{Standing}
+use Rattle.best_run.specs.declared.trail.Mark.{Mark}
+use Rattle.best_run.specs.declared.trail.Mark.TheVariants.{Go, Turn}
+use Rattle.best_run.specs.Trail.{go_along}
 use Rattle.best_run.specs.Fit.{BordersFit, IsFit, PieceFits}
-use Rattle.best_run.specs.Moves.{Any, AreExplored, CanEarn, Completes, IsBeginAt, IsGo, IsOpen, IsTurn, LeadsFrom, Move, State, Takes, Tries, along, begin, begun, between, can_take, ends_in, go, may_come, misses, node_at, own_in, pass, pieces_in, settle, standing, stop_in, total_after, turn, turned_back, using}
+use Rattle.best_run.specs.Moves.{Any, AreExplored, Completes, IsBeginAt, IsGo, IsTurn, LeadsFrom, Move, State, Tries, along, begin, begun, between, can_take, ends_in, go, marks_of, may_come, misses, node_at, own_in, pass, pieces_in, settle, standing, stop_in, total_after, turn, turned_back, using}
 use Rattle.best_run.specs.Ways.{AreFree, AreWaysOf, HasWay, Hop, IsMadeOf, LeadsTo, StandsBefore, TriesWays, borders_by, none_used}
 use Rattle.best_run.proofs.Chunks.{Back, Chunk, arrived, chunk_back, chunk_of, fits_by, free_all, free_freer, free_used, over}
 use Rattle.best_run.proofs.Described.{among_place, place_among}
 use Rattle.best_run.specs.Kept.{Freer}
 use Rattle.best_run.proofs.Eased.{freer_none}
 use Rattle.best_run.proofs.Places.{below_next}
+use Rattle.best_run.proofs.Traced.{Leads, TakesFrom, traced_both, traced_none}
 
 both_first : (a b : Bool) → (a && b) ≡ true → a ≡ true
 both_first true b is = refl
@@ -67,7 +72,7 @@ way_fits task fit stop ways are stops way among =
     let found = are.sound way among in
     let piece = found.0 in
     let hops = found.2.0 in
-    let made : IsMadeOf task none_used [] way.first piece hops way = found.2.1 in
+    let made : IsMadeOf task none_used [] [] way.first piece hops way = found.2.1 in
     let first : PieceFits task true piece = fits_at task fit stop way.first piece true stops found.1 in (
       record {
         to = leads_low task fit hops piece way.piece.to first.to made.leads;
@@ -93,13 +98,14 @@ module _ (task : Task) (fit : IsFit task) (stop : ℕ) (stops : stop_in (node_at
     pub moves : List Move
     pub completes : Completes task (standing (using settled piece) (along task run piece)) moves
     pub total : total_after task (standing (using settled piece) (along task run piece)) moves ≡ total_after task (standing (using settled way.piece) (along task run way.piece)) later
+    pub marks_are : Go piece.step ∷ marks_of moves ≡ go_along way.steps.items ++ marks_of later
 
   pub by_pieces : (settled : Settled) (run : Standing) (way : Way) → IsAmong way ways → can_take task run settled.used way.piece ≡ true → (later : List Move) → Completes task (standing (using settled way.piece) (along task run way.piece)) later → ByPieces settled run way later
   by_pieces settled run way among can later completes =
       let found = are.sound way among in
       let piece = found.0 in
       let hops = found.2.0 in
-      let made : IsMadeOf task none_used [] way.first piece hops way = found.2.1 in
+      let made : IsMadeOf task none_used [] [] way.first piece hops way = found.2.1 in
       let first : PieceFits task true piece = fits_at task fit stop way.first piece true stops found.1 in
       let borders : way.piece.borders.items ≡ borders_by piece hops = made.borders in
       let here = there_by task settled run way.piece (borders_by piece hops) way.piece.to borders refl in
@@ -115,6 +121,7 @@ module _ (task : Task) (fit : IsFit task) (stop : ℕ) (stops : stop_in (node_at
         moves = back.moves;
         completes = back.completes;
         total = back.total ∙ ap (λ s. total_after task s later) (sym here);
+        marks_are = back.marks_are ∙ ap (λ (steps : List Step). go_along steps ++ marks_of later) (sym made.steps);
       }
 
   -- what may be done by a piece begins with a way
@@ -133,7 +140,7 @@ module _ (task : Task) (fit : IsFit task) (stop : ℕ) (stops : stop_in (node_at
   by_way settled run whole place piece moves leads can completes =
       let chunk : Chunk task fit settled run piece moves = chunk_of task fit moves settled run piece (stop_in (node_at task piece.to)) refl can completes in
       let freer : Freer settled.used none_used = subst (λ (n : ℕ). Freer settled.used (replicate n false)) whole (freer_none settled.used) in
-      let has : HasWay task none_used [] place piece chunk.hops chunk.to ways = are.complete place piece chunk.hops chunk.to leads chunk.leads (free_freer piece chunk.hops settled.used none_used freer chunk.free) in
+      let has : HasWay task none_used [] [] place piece chunk.hops chunk.to ways = are.complete place piece chunk.hops chunk.to leads chunk.leads (free_freer piece chunk.hops settled.used none_used freer chunk.free) in
       let way = has.way in
       let at = place_among ways way has.among in
       let borders : way.piece.borders.items ≡ borders_by piece chunk.hops = has.made.borders in
@@ -160,7 +167,7 @@ module _ (task : Task) (fit : IsFit task) (stop : ℕ) (stops : stop_in (node_at
   -- no way has been tried, one more has been, or it is none that is to be tried
   pub ways_none : (from : State) (settled : Settled) (runs : Way → Standing) (Q : Way → Type 0) (best : Found) → TriesWays task from settled runs (λ way. StandsBefore ways 0 way × Q way) best best
   ways_none from settled runs Q best =
-      record { grows = omega arith; earned = λ possible earned. earned; known = λ known. known; most = λ known way is. absurd (omega (arith, is.0.1)) }
+      record { grows = omega arith; traced = traced_none task from best; known = λ known. known; most = λ known way is. absurd (omega (arith, is.0.1)) }
 
   ways_next : (P Q : Way → Type 0) (place : ℕ) (way other : Way) → slice_get ways place ≡ Some way → StandsBefore ways (place + 1) other → StandsBefore ways place other ⊎ (way ≡ other)
   ways_next P Q place way other at stands =
@@ -169,11 +176,11 @@ module _ (task : Task) (fit : IsFit task) (stop : ℕ) (stops : stop_in (node_at
         | inr same ↦ inr (let one : Some way ≡ Some other = sym at ∙ (ap (λ (i : ℕ). slice_get ways i) (sym same) ∙ stands.2) in cc)
       ]
 
-  pub ways_more : (from : State) (settled : Settled) (runs : Way → Standing) (Q : Way → Type 0) (place : ℕ) (way : Way) (old middle new : Found) → slice_get ways place ≡ Some way → TriesWays task from settled runs (λ w. StandsBefore ways place w × Q w) old middle → Takes task settled (runs way) way.piece middle new → (IsOpen task from → can_take task (runs way) settled.used way.piece ≡ true → IsOpen task (standing (using settled way.piece) (along task (runs way) way.piece))) → TriesWays task from settled runs (λ w. StandsBefore ways (place + 1) w × Q w) old new
-  ways_more from settled runs Q place way old middle new at before takes opens =
+  pub ways_more : (from : State) (settled : Settled) (runs : Way → Standing) (Q : Way → Type 0) (place : ℕ) (way : Way) (old middle new : Found) → slice_get ways place ≡ Some way → TriesWays task from settled runs (λ w. StandsBefore ways place w × Q w) old middle → TakesFrom task from settled (runs way) way middle new → TriesWays task from settled runs (λ w. StandsBefore ways (place + 1) w × Q w) old new
+  ways_more from settled runs Q place way old middle new at before takes =
       record {
         grows = le_trans before.grows takes.grows;
-        earned = λ possible earned. takes.earned (opens possible) (before.earned possible earned);
+        traced = traced_both task from old middle new before.grows takes.grows before.traced takes.traced;
         known = λ known. takes.known (before.known known);
         most = λ known other is can moves completes. elim (ways_next Q Q place way other at is.0) [
           | inl sooner ↦ le_trans (before.most known other (sooner, is.1) can moves completes) takes.grows
@@ -186,7 +193,7 @@ module _ (task : Task) (fit : IsFit task) (stop : ℕ) (stops : stop_in (node_at
   ways_skip from settled runs Q place way old middle at none before =
       record {
         grows = before.grows;
-        earned = before.earned;
+        traced = before.traced;
         known = before.known;
         most = λ known other is can moves completes. elim (ways_next Q Q place way other at is.0) [
           | inl sooner ↦ before.most known other (sooner, is.1) can moves completes
@@ -207,14 +214,19 @@ IsLater run way = run.first ≤ way.first
 
 module _ (task : Task) (fit : IsFit task) (settled : Settled) (whole : length settled.used ≡ 279) where
   -- on from where a run stands
-  pub open_go : (run : Standing) → (stops : stop_in (node_at task run.head) ≡ true) → ends_in (node_at task run.head) ≡ false → (ways : List Way) → (are : AreWaysOf task run.head ways) → (place : ℕ) (way : Way) → slice_get ways place ≡ Some way → IsOpen task (standing settled run) → can_take task run settled.used way.piece ≡ true → IsOpen task (standing (using settled way.piece) (along task run way.piece))
-  open_go run stops passes ways are place way at possible can moves completes =
-      let by : ByPieces task fit run.head stops ways are settled run way moves = by_pieces task fit run.head stops ways are settled run way (among_at task fit run.head stops ways are place way at) can moves completes in
-      subst (CanEarn task) by.total (possible (go way.first by.piece ∷ by.moves) (record { passes = passes; leads = by.leads; taken = by.can }, by.completes))
+  pub leads_go : (run : Standing) → (stops : stop_in (node_at task run.head) ≡ true) → ends_in (node_at task run.head) ≡ false → (ways : List Way) → (are : AreWaysOf task run.head ways) → (place : ℕ) (way : Way) → slice_get ways place ≡ Some way → can_take task run settled.used way.piece ≡ true → Leads task (standing settled run) (standing (using settled way.piece) (along task run way.piece)) (go_along way.steps.items)
+  leads_go run stops passes ways are place way at can later completes =
+      let by : ByPieces task fit run.head stops ways are settled run way later = by_pieces task fit run.head stops ways are settled run way (among_at task fit run.head stops ways are place way at) can later completes in
+      record {
+        moves = go way.first by.piece ∷ by.moves;
+        completes = (record { passes = passes; leads = by.leads; taken = by.can }, by.completes);
+        total = by.total;
+        marks_are = by.marks_are;
+      }
 
   pub go_by_ways : (run : Standing) → (stops : stop_in (node_at task run.head) ≡ true) → (ways : List Way) → (are : AreWaysOf task run.head ways) → (count : ℕ) (old new : Found) → length ways ≤ count → TriesWays task (standing settled run) settled (λ way. run) (λ way. StandsBefore ways count way × AnyWay way) old new → Tries task (standing settled run) (IsGo Any) old new
   go_by_ways run stops ways are count old new all tries =
-      record { grows = tries.grows; earned = tries.earned; known = tries.known; most = by_move }
+      record { grows = tries.grows; traced = tries.traced; known = tries.known; most = by_move }
     where
       by_move : AreExplored task old → (move : Move) (moves : List Move) → IsGo Any move → Completes task (standing settled run) (move ∷ moves) → total_after task (standing settled run) (move ∷ moves) ≤ new.amount
       by_move known pass moves is completes = absurd is
@@ -228,14 +240,19 @@ module _ (task : Task) (fit : IsFit task) (settled : Settled) (whole : length se
       by_move known settle moves is completes = absurd is
 
   -- back from where it began
-  pub open_turn : (run : Standing) → (stops : stop_in (node_at task run.home) ≡ true) → run.turned ≡ false → stop_in (node_at task run.head) ≡ true → ends_in (node_at task run.home) ≡ false → (ways : List Way) → (are : AreWaysOf task run.home ways) → (place : ℕ) (way : Way) → slice_get ways place ≡ Some way → IsLater run way → IsOpen task (standing settled run) → can_take task (turned_back run) settled.used way.piece ≡ true → IsOpen task (standing (using settled way.piece) (along task (turned_back run) way.piece))
-  open_turn run stops once stands passes ways are place way at later possible can moves completes =
-      let by : ByPieces task fit run.home stops ways are settled (turned_back run) way moves = by_pieces task fit run.home stops ways are settled (turned_back run) way (among_at task fit run.home stops ways are place way at) can moves completes in
-      subst (CanEarn task) by.total (possible (turn way.first by.piece ∷ by.moves) (record { once = once; stands = stands; later = later; passes = passes; leads = by.leads; taken = by.can }, by.completes))
+  pub leads_turn : (run : Standing) → (stops : stop_in (node_at task run.home) ≡ true) → run.turned ≡ false → stop_in (node_at task run.head) ≡ true → ends_in (node_at task run.home) ≡ false → (ways : List Way) → (are : AreWaysOf task run.home ways) → (place : ℕ) (way : Way) → slice_get ways place ≡ Some way → IsLater run way → can_take task (turned_back run) settled.used way.piece ≡ true → Leads task (standing settled run) (standing (using settled way.piece) (along task (turned_back run) way.piece)) (Turn ∷ go_along way.steps.items)
+  leads_turn run stops once stands passes ways are place way at after can later completes =
+      let by : ByPieces task fit run.home stops ways are settled (turned_back run) way later = by_pieces task fit run.home stops ways are settled (turned_back run) way (among_at task fit run.home stops ways are place way at) can later completes in
+      record {
+        moves = turn way.first by.piece ∷ by.moves;
+        completes = (record { once = once; stands = stands; later = after; passes = passes; leads = by.leads; taken = by.can }, by.completes);
+        total = by.total;
+        marks_are = ap (λ (marks : List Mark). Turn ∷ marks) by.marks_are;
+      }
 
   pub turn_by_ways : (run : Standing) → (stops : stop_in (node_at task run.home) ≡ true) → (ways : List Way) → (are : AreWaysOf task run.home ways) → (count : ℕ) (old new : Found) → length ways ≤ count → TriesWays task (standing settled run) settled (λ way. turned_back run) (λ way. StandsBefore ways count way × IsLater run way) old new → Tries task (standing settled run) (IsTurn Any) old new
   turn_by_ways run stops ways are count old new all tries =
-      record { grows = tries.grows; earned = tries.earned; known = tries.known; most = by_move }
+      record { grows = tries.grows; traced = tries.traced; known = tries.known; most = by_move }
     where
       by_move : AreExplored task old → (move : Move) (moves : List Move) → IsTurn Any move → Completes task (standing settled run) (move ∷ moves) → total_after task (standing settled run) (move ∷ moves) ≤ new.amount
       by_move known pass moves is completes = absurd is
@@ -249,15 +266,20 @@ module _ (task : Task) (fit : IsFit task) (settled : Settled) (whole : length se
       by_move known settle moves is completes = absurd is
 
   -- from a token
-  pub open_begin : (there : ℕ) → (stops : stop_in (node_at task there) ≡ true) → own_in (node_at task there) ≡ true → settled.next < length task.trains.items → (ways : List Way) → (are : AreWaysOf task there ways) → (place : ℕ) (way : Way) → slice_get ways place ≡ Some way → IsOpen task (between settled) → can_take task (begun task settled there way.first) settled.used way.piece ≡ true → IsOpen task (standing (using settled way.piece) (along task (begun task settled there way.first) way.piece))
-  open_begin there stops token train ways are place way at possible can moves completes =
+  pub leads_begin : (there : ℕ) → (stops : stop_in (node_at task there) ≡ true) → own_in (node_at task there) ≡ true → settled.next < length task.trains.items → (ways : List Way) → (are : AreWaysOf task there ways) → (place : ℕ) (way : Way) → slice_get ways place ≡ Some way → can_take task (begun task settled there way.first) settled.used way.piece ≡ true → Leads task (between settled) (standing (using settled way.piece) (along task (begun task settled there way.first) way.piece)) (go_along way.steps.items)
+  leads_begin there stops token train ways are place way at can later completes =
       let run = begun task settled there way.first in
-      let by : ByPieces task fit there stops ways are settled run way moves = by_pieces task fit there stops ways are settled run way (among_at task fit there stops ways are place way at) can moves completes in
-      subst (CanEarn task) by.total (possible (begin there way.first by.piece ∷ by.moves) (record { train = train; begins = stops; token = token; leads = by.leads; taken = by.can }, by.completes))
+      let by : ByPieces task fit there stops ways are settled run way later = by_pieces task fit there stops ways are settled run way (among_at task fit there stops ways are place way at) can later completes in
+      record {
+        moves = begin there way.first by.piece ∷ by.moves;
+        completes = (record { train = train; begins = stops; token = token; leads = by.leads; taken = by.can }, by.completes);
+        total = by.total;
+        marks_are = by.marks_are;
+      }
 
   pub begin_by_ways : (there : ℕ) → (stops : stop_in (node_at task there) ≡ true) → (ways : List Way) → (are : AreWaysOf task there ways) → (count : ℕ) (old new : Found) → length ways ≤ count → TriesWays task (between settled) settled (λ way. begun task settled there way.first) (λ way. StandsBefore ways count way × AnyWay way) old new → Tries task (between settled) (IsBeginAt there Any) old new
   begin_by_ways there stops ways are count old new all tries =
-      record { grows = tries.grows; earned = tries.earned; known = tries.known; most = by_move }
+      record { grows = tries.grows; traced = tries.traced; known = tries.known; most = by_move }
     where
       from_there : AreExplored task old → (place : ℕ) (piece : Piece) (moves : List Move) → LeadsFrom task there place piece → can_take task (begun task settled there place) settled.used piece ≡ true → Completes task (standing (using settled piece) (along task (begun task settled there place) piece)) moves → total_after task (standing (using settled piece) (along task (begun task settled there place) piece)) moves ≤ new.amount
       from_there known place piece moves leads can completes =

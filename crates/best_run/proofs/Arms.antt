@@ -22,7 +22,7 @@ use Rattle.best_run.specs.declared.state.Standing.{Standing}
 use Rattle.best_run.specs.Described.{Describes, GoesFrom, HasPieceOf, IsPieceOf, IsStopNode}
 use Rattle.best_run.specs.Moves.{LeadsFrom, along, begin, begun, between, ends_in, may_earn, node_at, own_before, settling, standing, stop_in, turn, turned_back, using}
 use Rattle.best_run.proofs.Advance.{IsMarked, Tells, mark_more, node_left, one_number, same_spot, spot_low, to_home}
-use Rattle.best_run.proofs.Backwards.{AreAlike, Starts, Turned, alike_back, alike_onto, onto_append, turned_about, worth_back}
+use Rattle.best_run.proofs.Backwards.{AreAlike, Starts, Turned, alike_back, alike_onto, onto_append, walk_turned, worth_back}
 use Rattle.best_run.proofs.Complete.{AreAhead, CanFinish, CanGo, Stands, can_go, next_stop, passes_by, settle_here, stands_at_stop, visited_first, walk_on}
 use Rattle.best_run.proofs.Prefix.{Holds, holds_first, onto}
 use Rattle.best_run.proofs.Split.{HasHome, cut, find_home, holds_part, either_way, number_of, onto_put, own_length}
@@ -246,7 +246,7 @@ module _ (position : Position) (company : Company) (lawful : IsLawful position) 
 
     run_turned : (home : Stop) (step : Step) (before : List Step) → IsRun home (step ∷ before) → IsRun home (onto (returning (step ∷ before)) [])
     run_turned home step before run =
-        let turned : Turned position lawful company most others step before = turned_about position lawful company most others step before run.holds run.ends in
+        let turned : Turned position lawful company most others step before = walk_turned position lawful company most others step before run.holds run.ends in
         let one = one_turned most others step before turned in
         let walk = turned.last ∷ turned.rest in
         subst (IsRun home) (sym turned.is)
@@ -273,7 +273,7 @@ module _ (position : Position) (company : Company) (lawful : IsLawful position) 
     came_first : (home : Stop) (last : Step) (before : List Step) (step : Step) (later : List Step) → IsRun home (onto later (step ∷ last ∷ before)) → stop_of (left_at last) ≡ Some home → (i j : ℕ) (p q : Piece) → LeadsFrom task (spot_number (entered_at (flipped last))) i p → IsPieceOf (flipped last) p → LeadsFrom task (spot_number (entered_at (flipped last))) j q → IsPieceOf step q → i ≤ j → CanFinish task (between settled) total
     came_first home last before step later run there i j p q leads_i is_p leads_j is_q order =
         let holds : Holds position company most others (last ∷ before) = holds_first position company most others (step ∷ later) last before run.holds in
-        let turned : Turned position lawful company most others last before = turned_about position lawful company most others last before holds (home, there) in
+        let turned : Turned position lawful company most others last before = walk_turned position lawful company most others last before holds (home, there) in
         let arm = onto (returning before) (flipped last ∷ []) in
         let enters : stop_of (entered_at (flipped last)) ≡ Some home = ap stop_of (flip_enters last) ∙ there in
         let one : AreOne position arm (last ∷ before) = subst (λ w. AreOne position w (last ∷ before)) (sym turned.is) (one_back position (last ∷ before) (turned.last ∷ turned.rest) (one_turned most others last before turned)) in
@@ -296,7 +296,7 @@ module _ (position : Position) (company : Company) (lawful : IsLawful position) 
         let begins : BeginsAt (λ stop. stop ≡ home) (top ∷ under) = (home, ap stop_of starts ∙ enters, refl) in
         let holds : Holds position company most others (top ∷ under) = holds_part position company most others top under last before home there begins run_whole.holds in
         let ends : EndsAtStop (top ∷ under) = run_whole.ends in
-        let turned : Turned position lawful company most others top under = turned_about position lawful company most others top under holds ends in
+        let turned : Turned position lawful company most others top under = walk_turned position lawful company most others top under holds ends in
         let walk_back : onto (returning (top ∷ under ++ back)) [] ≡ onto (returning before) (flipped last ∷ turned.last ∷ turned.rest) = turned_put (top ∷ under) last before (turned.last ∷ turned.rest) turned.is in
         let run_back : IsRun home (onto (returning before) (flipped last ∷ turned.last ∷ turned.rest)) = subst (IsRun home) walk_back (run_turned home top (under ++ back) run_whole) in
         let one : AreOne position (onto later (step ∷ [])) (turned.last ∷ turned.rest) = subst (λ w. AreOne position w (turned.last ∷ turned.rest)) (sym some.is) (one_turned most others top under turned) in

@@ -7,9 +7,12 @@ use Rattle.best_run.specs.declared.task.Piece.{Piece}
 use Rattle.best_run.specs.declared.task.Task.{Task}
 use Rattle.best_run.specs.declared.state.Settled.{Settled}
 use Rattle.best_run.specs.declared.state.Standing.{Standing}
+use Rattle.best_run.specs.declared.trail.Mark.{Mark}
+use Rattle.best_run.specs.declared.trail.Mark.TheVariants.{Go}
+use Rattle.best_run.specs.Trail.{go_along}
 use Rattle.best_run.specs.Fit.{BordersFit, IsFit}
-use Rattle.best_run.specs.Moves.{Completes, LeadsFrom, Move, along, begin, can_take, ends_in, go, left_after, marked_all, marked_if, may_come, may_earn, misses, node_at, pass, settle, standing, stop_in, total_after, turn, using, value_in}
-use Rattle.best_run.specs.Ways.{AreFree, Hop, LeadsTo, borders_by, none_used}
+use Rattle.best_run.specs.Moves.{Completes, LeadsFrom, Move, along, begin, can_take, ends_in, go, left_after, marked_all, marked_if, marks_of, may_come, may_earn, misses, node_at, pass, settle, standing, stop_in, total_after, turn, using, value_in}
+use Rattle.best_run.specs.Ways.{AreFree, Hop, LeadsTo, borders_by, none_used, steps_by}
 use Rattle.best_run.proofs.Advance.{IsMarked, free_misses, misses_free}
 use Rattle.best_run.proofs.Eased.{freer_all, freer_marked}
 use Rattle.best_run.specs.Kept.{Freer}
@@ -227,6 +230,7 @@ module _ (task : Task) (fit : IsFit task) where
     pub moves : List Move
     pub completes : Completes task (standing (using settled piece) (along task run piece)) moves
     pub total : total_after task (standing (using settled piece) (along task run piece)) moves ≡ total_after task (standing (over settled (borders_by piece hops)) (arrived task run to)) later
+    pub marks_are : Go piece.step ∷ marks_of moves ≡ go_along (steps_by piece hops) ++ marks_of later
 
   pub chunk_back : (hops : List Hop) (settled : Settled) (run : Standing) (piece : Piece) (to : ℕ) (later : List Move) → LeadsTo task piece hops to → AreFree settled.used piece hops → may_come true run to ≡ true → Completes task (standing (over settled (borders_by piece hops)) (arrived task run to)) later → Back settled run piece hops to later
   chunk_back [] settled run piece to later leads free come completes =
@@ -237,6 +241,7 @@ module _ (task : Task) (fit : IsFit task) where
         moves = later;
         completes = subst (λ (n : ℕ). Completes task (standing (using settled piece) (arrived task run n)) later) same completes;
         total = ap (λ (n : ℕ). total_after task (standing (using settled piece) (arrived task run n)) later) leads.1;
+        marks_are = refl;
       }
   chunk_back (hop ∷ hops) settled run piece to later leads free come completes =
       let side = leads.0.0 in
@@ -250,4 +255,5 @@ module _ (task : Task) (fit : IsFit task) where
         moves = go hop.place hop.piece ∷ rest.moves;
         completes = (record { passes = leads.0.1; leads = leads.1; taken = rest.can }, rest.completes);
         total = rest.total ∙ ap (λ s. total_after task s later) same;
+        marks_are = ap (λ (marks : List Mark). Go piece.step ∷ marks) rest.marks_are;
       }

@@ -1,16 +1,22 @@
 -- Ways to the end stay open where fewer borders are used, and earn as much more: so the trains that are left never earn
 -- more than they do by themselves.
-use Rattle.std.proofs.Common.{◌≡◌, ℕ, zero, suc, ◌+◌, ◌-◌, ◌≤◌, Bool, true, false, not, ◌&&◌, ◌||◌, nat_le, ◌==◌, ◌⊎◌, inl, inr, Some, List, [], ◌∷◌, ◌++◌, length, set, replicate, slice_get, refl, sym, ap, subst, ◌∙◌, arith, add-one, le_trans}
+use Rattle.std.proofs.Common.{◌≡◌, ℕ, zero, suc, ◌+◌, ◌-◌, ◌<◌, ◌≤◌, Bool, true, false, not, ◌&&◌, ◌||◌, nat_le, ◌==◌, ◌⊎◌, inl, inr, Some, None, List, [], ◌∷◌, ◌++◌, length, set, replicate, slice_get, refl, sym, ap, subst, ◌∙◌, arith, add-one, le_trans}
 use Rattle.std.proofs.lemmas.Bool.{le-leb, leb-true}
 use Rattle.best_run.specs.declared.task.Piece.{Piece}
 use Rattle.best_run.specs.declared.task.Task.{Task}
 use Rattle.best_run.specs.declared.explored.Found.{Found}
 use Rattle.best_run.specs.declared.state.Settled.{Settled}
 use Rattle.best_run.specs.declared.state.Standing.{Standing}
-use Rattle.best_run.specs.Moves.{AreExplored, CanEarn, Completes, Explores, IsOpen, Move, State, along, begin, begun, between, can_take, go, marked_all, may_come, may_earn, misses, node_at, pass, passed, settle, settling, standing, start, stop_in, total_after, total_of, turn, turned_back, using}
+use Rattle.best_run.specs.Moves.{AreExplored, Completes, Earns, Explores, IsTraced, Move, State, along, begin, begun, between, can_take, go, marked_all, may_come, may_earn, misses, node_at, pass, passed, settle, settling, standing, start, stop_in, total_after, total_of, turn, turned_back, using}
 use Rattle.best_run.specs.Kept.{Freer}
 use Rattle.best_run.specs.Suffix.{AreBounds, EarnAtMost, FallShort, IsSolved, IsTop, nothing_before}
 use Rattle.best_run.proofs.Advance.{IsMarked, free_misses, misses_free}
+use Rattle.best_run.specs.Trail.{IsWritten, marks_in}
+use Rattle.best_run.specs.declared.trail.Mark.{Mark}
+use Rattle.best_run.specs.declared.trail.Mark.TheVariants.{Pass}
+use Rattle.best_run.specs.declared.trail.Trail.{Trail}
+use Rattle.best_run.proofs.Traced.{earns_by, traced_none}
+use Rattle.best_run.proofs.Tried.{leads_pass}
 
 pub freer_none : (used : List Bool) → Freer used (replicate (length used) false)
 freer_none [] = tt
@@ -134,20 +140,11 @@ rest_low task settled bound most whole moves completes =
 -- what falls short need not be tried
 pub falls_short : (task : Task) (bounds : List ℕ) (settled : Settled) (best : Found) → AreBounds task bounds → length settled.used ≡ 279 → settled.next ≤ length task.trains.items → FallShort task bounds settled best.amount → Explores task (between settled) best best
 falls_short task bounds settled best are whole next short =
-    record { grows = omega arith; earned = λ possible earned. earned; known = λ known. known; most = λ known. most }
+    record { grows = omega arith; traced = traced_none task (between settled) best; known = λ known. known; most = λ known. most }
   where
     most : (moves : List Move) → Completes task (between settled) moves → total_after task (between settled) moves ≤ best.amount
     most moves completes =
         le_trans (rest_low task settled short.0 (are (length task.trains.items - settled.next) short.0 settled.next short.1 (omega (arith, next))) whole moves completes) short.2
-
--- the trains before one may all pass
-pub open_before : (task : Task) (next : ℕ) → next ≤ length task.trains.items → IsOpen task (between (nothing_before next))
-open_before task zero low moves completes = (moves, completes, refl)
-open_before task (suc next) low moves completes =
-    let Ends : ℕ → Type 0 = λ n. Completes task (between (nothing_before n)) moves × (total_after task (between (nothing_before n)) moves ≡ total_after task (between (nothing_before (suc next))) moves) in
-    let passed_by : Ends (next + 1) = subst Ends (sym (add-one next)) (completes, refl) in
-    let before : CanEarn task (total_after task (between (nothing_before (next + 1))) moves) = open_before task next (omega arith) (pass ∷ moves) (omega arith, passed_by.0) in
-    (before.0, before.1, before.2 ∙ passed_by.1)
 
 slice_push : (xs : List ℕ) (x i y : ℕ) → slice_get (xs ++ x ∷ []) i ≡ Some y → (slice_get xs i ≡ Some y) ⊎ ((i ≡ length xs) × (x ≡ y))
 slice_push [] x zero y is = inr (refl, let e : Some x ≡ Some y = is in cc)
@@ -156,23 +153,37 @@ slice_push (z ∷ xs) x zero y is = inl is
 slice_push (z ∷ xs) x (suc i) y is =
     elim (slice_push xs x i y is) [ inl old ↦ inl old | inr new ↦ inr (ap suc new.0, new.1) ]
 
-pub solved_none : (task : Task) (best : Found) → AreExplored task best → IsSolved task 0 [] best best
-solved_none task best known =
-    record { all = refl; true_bounds = λ count bound next is. absurd (no_such count bound is); grows = omega arith; known = known; earned = λ earned. earned }
+pub solved_none : (task : Task) (found : Found) → found.amount ≡ 0 → marks_in found.trail ≡ [] → AreExplored task found → IsSolved task 0 [] found
+solved_none task found nothing empty known =
+    record {
+      all = refl;
+      true_bounds = λ count bound next is. absurd (no_such count bound is);
+      known = known;
+      earns = λ none. record { moves = []; completes = omega arith; total = sym nothing; marks_are = empty };
+    }
   where
     no_such : (count bound : ℕ) → slice_get [] count ≡ Some bound → ⊥
     no_such zero bound is = cc
     no_such (suc count) bound is = cc
 
--- one train more is solved for
-pub solved_more : (task : Task) (count : ℕ) (bounds : List ℕ) (first old new : Found) → count ≤ length task.trains.items → IsSolved task count bounds first old → Explores task (between (nothing_before (length task.trains.items - count))) old new → IsSolved task (count + 1) (bounds ++ new.amount ∷ []) first new
-solved_more task count bounds first old new low before explores =
+-- what is found is earned from a state on, if what was found before is
+still_earned : (task : Task) (state : State) (old new : Found) → IsTraced task state old new → (old.trail.refused ≡ None → Earns task state (marks_in old.trail) old.amount) → new.trail.refused ≡ None → Earns task state (marks_in new.trail) new.amount
+still_earned task state old new traced earns none =
+    elim (traced.told none) [
+      | inl same ↦
+          let before = earns (traced.refused none) in
+          record { moves = before.moves; completes = before.completes; total = before.total ∙ sym same.amount; marks_are = same.marks ∙ before.marks_are }
+      | inr better ↦ better.earns
+    ]
+
+-- one train more is solved for; with those before it, it may pass
+pub solved_more : (task : Task) (count : ℕ) (bounds : List ℕ) (old new : Found) (trail : Trail) → count < length task.trains.items → IsSolved task count bounds old → Explores task (between (nothing_before (length task.trains.items - count))) old new → IsWritten (Pass ∷ []) new.trail trail → IsSolved task (count + 1) (bounds ++ new.amount ∷ []) (record new { trail = trail })
+solved_more task count bounds old new trail low before explores written =
     record {
       all = length_push bounds ∙ (ap suc before.all ∙ sym (add-one count));
       true_bounds = bounds_more;
-      grows = omega (arith, before.grows, explores.grows);
       known = explores.known before.known;
-      earned = λ earned. explores.earned (open_before task (length task.trains.items - count) (omega arith)) (before.earned earned);
+      earns = by_pass;
     }
   where
     length_push : (xs : List ℕ) → length (xs ++ new.amount ∷ []) ≡ suc (length xs)
@@ -188,14 +199,26 @@ solved_more task count bounds first old new low before explores =
               subst (λ (n : ℕ). EarnAtMost task n bound) (sym here) (subst (EarnAtMost task (length task.trains.items - count)) last.1 (explores.most before.known))
         ]
 
+    by_pass : trail.refused ≡ None → Earns task (between (nothing_before (length task.trains.items - (count + 1)))) (marks_in trail) new.amount
+    by_pass none =
+        let next = length task.trains.items - (count + 1) in
+        let here : length task.trains.items - count ≡ next + 1 = omega (arith, low) in
+        let last : Earns task (between (nothing_before (length task.trains.items - count))) (marks_in new.trail) new.amount = still_earned task (between (nothing_before (length task.trains.items - count))) old new explores.traced before.earns (written.refused none) in
+        let later : Earns task (between (passed (nothing_before next))) (marks_in new.trail) new.amount = subst (λ (n : ℕ). Earns task (between (nothing_before n)) (marks_in new.trail) new.amount) here last in
+        subst (λ (marks : List Mark). Earns task (between (nothing_before next)) marks new.amount) (sym (written.marks_are none))
+        (earns_by task (between (nothing_before next)) (between (passed (nothing_before next))) (Pass ∷ []) (marks_in new.trail) new.amount (leads_pass task (nothing_before next) (omega (arith, low))) later)
+
 -- all trains are solved for
-pub solved_all : (task : Task) (count : ℕ) (bounds : List ℕ) (first old new : Found) → count ≡ length task.trains.items → first.amount ≡ 0 → IsSolved task (length task.trains.items) bounds first old → Explores task (between (nothing_before (length task.trains.items - count))) old new → IsTop task new.amount
-solved_all task count bounds first old new all nothing before explores =
+pub solved_all : (task : Task) (count : ℕ) (bounds : List ℕ) (old new : Found) → count ≡ length task.trains.items → IsSolved task (length task.trains.items) bounds old → Explores task (between (nothing_before (length task.trains.items - count))) old new → IsTop task new
+solved_all task count bounds old new all before explores =
     record {
-      earned = λ earned. from_start.earned (λ moves completes. (moves, completes, refl)) (before.earned (subst (CanEarn task) (sym nothing) earned));
+      earns = still_earned task start old new from_start.traced (subst (λ (n : ℕ). old.trail.refused ≡ None → Earns task (between (nothing_before n)) (marks_in old.trail) old.amount) none before.earns);
       most = from_start.most before.known;
     }
   where
+    none : length task.trains.items - length task.trains.items ≡ 0
+    none = omega arith
+
     from_start : Explores task start old new
     from_start =
         let none : length task.trains.items - count ≡ 0 = omega (arith, all) in

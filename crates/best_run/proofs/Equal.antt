@@ -11,6 +11,7 @@ use Rattle.best_run.specs.Moves.{Completes, Explores, Move, State, along, begin,
 use Rattle.best_run.specs.Suffix.{AreCapped, AreEqual, EarnAtMost}
 use Rattle.best_run.proofs.Eased.{rest_low}
 use Rattle.best_run.proofs.Marks.{length_marked}
+use Rattle.best_run.proofs.Traced.{traced_none}
 
 second_of : (a b : Bool) → (a && b) ≡ true → b ≡ true
 second_of true b is = is
@@ -138,7 +139,7 @@ module _ (task : Task) (most cap bound : ℕ) (some : 0 < most) where
 -- what is capped need not be tried
 pub explores_capped : (task : Task) (settled : Settled) (best : Found) → length settled.used ≡ 279 → AreCapped task settled.next settled.kind settled.cap settled.total best.amount → Explores task (between settled) best best
 explores_capped task settled best whole capped =
-    record { grows = omega arith; earned = λ possible earned. earned; known = λ known. known; most = λ known. most }
+    record { grows = omega arith; traced = traced_none task (between settled) best; known = λ known. known; most = λ known. most }
   where
     most : (moves : List Move) → Completes task (between settled) moves → total_after task (between settled) moves ≤ best.amount
     most moves completes =

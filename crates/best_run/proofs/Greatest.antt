@@ -1,17 +1,24 @@
--- What the search finds is the greatest revenue.
-use Rattle.std.proofs.Common.{◌≡◌, ℕ, ◌+◌, true, false, List, [], ◌∷◌, replicate, sym, ◌∙◌, arith}
+-- What the search finds is the greatest revenue, and the runs that the trail tells earn it.
+use Rattle.std.proofs.Common.{◌≡◌, ℕ, ◌+◌, true, false, None, List, [], ◌∷◌, replicate, refl, sym, subst, ◌∙◌, arith}
 use Rattle.std.specs.List.{AllByRecursion}
 use Rattle.reach.proofs.Collected.{none_marked}
 use Rattle.reach.specs.Lawful.{IsLawful}
 use Rattle.reach.specs.Position.{Position}
 use Rattle.tables.specs.declared.rolling_stock.Kind.{Kind}
 use Rattle.tables.specs.declared.roster.Company.{Company}
-use Rattle.certificate.specs.Set.{IsEarned, IsGreatest, IsLegalSet, IsMost, TrainRun, revenue_of}
+use Rattle.certificate.specs.Claim.{NameRuns}
+use Rattle.certificate.specs.Law.{AreItsPlaces}
+use Rattle.certificate.specs.Set.{IsGreatest, IsLegalSet, IsMost, RunsLegally, TrainRun, revenue_of}
+use Rattle.certificate.specs.Written.{places_of}
+use Rattle.certificate.proofs.Written.{legal_written}
+use Rattle.best_run.specs.declared.explored.Found.{Found}
 use Rattle.best_run.specs.declared.task.Task.{Task}
 use Rattle.best_run.specs.declared.state.Settled.{Settled}
+use Rattle.best_run.specs.declared.trail.Mark.{Mark}
 use Rattle.best_run.specs.Described.{Describes}
-use Rattle.best_run.specs.Moves.{CanEarn, between, start, total_after}
+use Rattle.best_run.specs.Moves.{Earns, marks_of, start, total_after}
 use Rattle.best_run.specs.Suffix.{IsTop}
+use Rattle.best_run.specs.Trail.{CanBeClaimed, marks_in, runs_told, written}
 use Rattle.best_run.proofs.Complete.{CanFinish}
 use Rattle.best_run.proofs.Few.{length_replicate}
 use Rattle.best_run.proofs.Arms.{Used}
@@ -41,29 +48,47 @@ within_none position [] = tt
 within_none position (run ∷ runs) =
     ((λ same. absurd (omega (arith, same, two_at_least run.kind))), within_none position runs)
 
+module _ (position : Position) (company : Company) (lawful : IsLawful position) where
+  -- legal runs can be written out, and their places name their walks
+  pub can_claim : (runs : List TrainRun) → AllByRecursion (RunsLegally position company) runs → AllByRecursion CanBeClaimed runs
+  can_claim [] legal = tt
+  can_claim (run ∷ runs) legal =
+      let places : AreItsPlaces position run.steps (places_of run.steps) = legal_written position company run.kind [] run.steps lawful legal.0 in
+      (record { least = places.least; most = places.most }, can_claim runs legal.1)
+
+  pub names_them : (runs : List TrainRun) → AllByRecursion (RunsLegally position company) runs → NameRuns position (written runs) runs
+  names_them [] legal = tt
+  names_them (run ∷ runs) legal =
+      (refl, (legal_written position company run.kind [] run.steps lawful legal.0).name_it, names_them runs legal.1)
+
 module _ (position : Position) (company : Company) (lawful : IsLawful position) (kinds : List Kind) (task : Task) (describes : Describes position company kinds task) where
   -- each legal set can be earned
-  can_earn : (runs : List TrainRun) → IsLegalSet position company kinds runs → CanEarn task (revenue_of position runs)
+  can_earn : (runs : List TrainRun) → IsLegalSet position company kinds runs → CanFinish task start (0 + revenue_of position runs)
   can_earn runs set =
-      let found : CanFinish task (between nothing) (0 + revenue_of position runs) = finish_set position company kinds task describes lawful kinds runs [] nothing none_used describes.trains (record { legal = set.legal; each_once = set.each_once; apart = set.apart; avoid = avoid_none runs }) (within_none position runs) in
-      (found.0, found.1, omega (arith, found.2))
+      finish_set position company kinds task describes lawful kinds runs [] nothing none_used describes.trains (record { legal = set.legal; each_once = set.each_once; apart = set.apart; avoid = avoid_none runs }) (within_none position runs)
 
-  no_runs : IsLegalSet position company kinds []
-  no_runs = record { legal = tt; each_once = λ kind. omega arith; apart = tt }
+  -- the marks of moves from the start to the end tell a legal set of runs
+  pub record TellSet (marks : List Mark) (amount : ℕ) : Type 0 where
+    pub set : IsLegalSet position company kinds (runs_told kinds [] marks)
+    pub earns : revenue_of position (runs_told kinds [] marks) ≡ amount
+
+  pub tell_set : (marks : List Mark) (amount : ℕ) → Earns task start marks amount → TellSet marks amount
+  tell_set marks amount earns =
+      let told : RunsTold position company lawful kinds task describes [] kinds nothing (total_after task start earns.moves) (runs_told kinds [] (marks_of earns.moves)) = sound_from position company lawful kinds task describes earns.moves start earns.completes [] kinds none_used describes.trains in
+      subst (λ (all : List Mark). TellSet all amount) (sym earns.marks_are)
+      (record {
+        set = record { legal = told.set.legal; each_once = told.set.each_once; apart = told.set.apart };
+        earns = omega (arith, told.earns, earns.total);
+      })
 
   -- what has been explored from the start is the greatest
-  pub greatest_found : (best : ℕ) → IsTop task best → IsGreatest position company kinds best
-  greatest_found best top =
-      record { earned = earned; most = most }
+  pub greatest_found : (found : Found) → IsTop task found → found.trail.refused ≡ None → IsGreatest position company kinds found.amount
+  greatest_found found top none =
+      let told : TellSet (marks_in found.trail) found.amount = tell_set (marks_in found.trail) found.amount (top.earns none) in
+      record { earned = (runs_told kinds [] (marks_in found.trail), told.set, told.earns); most = most }
     where
-      most : IsMost position company kinds best
+      most : IsMost position company kinds found.amount
       most runs set =
-          let can : CanEarn task (revenue_of position runs) = can_earn runs set in
+          let can : CanFinish task start (0 + revenue_of position runs) = can_earn runs set in
           let low = top.most can.0 can.1 in
           omega (arith, low, can.2)
-
-      earned : IsEarned position company kinds best
-      earned =
-          let can : CanEarn task best = top.earned (can_earn [] no_runs) in
-          let told : RunsTold position company lawful kinds task describes [] kinds nothing (total_after task start can.0) = sound_from position company lawful kinds task describes can.0 start can.1 [] kinds none_used describes.trains in
-          (told.runs, record { legal = told.set.legal; each_once = told.set.each_once; apart = told.set.apart }, omega (arith, told.earns, can.2))

@@ -25,6 +25,7 @@ use Rattle.best_run.proofs.Eased.{rest_low}
 use Rattle.best_run.proofs.Equal.{low_settled}
 use Rattle.best_run.proofs.Marks.{length_marked}
 use Rattle.best_run.proofs.Places.{side_value}
+use Rattle.best_run.proofs.Traced.{traced_none}
 
 gain : Bool → ℕ → ℕ
 gain true more = more
@@ -320,4 +321,4 @@ module _ (task : Task) (fit : IsFit task) (ready : AreReady task) (first : Settl
 -- what cannot earn more need not be tried
 pub explores_hopeless : (task : Task) (settled : Settled) (run : Standing) (best : Found) → EndsAtMost task settled run best.amount → Explores task (standing settled run) best best
 explores_hopeless task settled run best ends =
-    record { grows = omega arith; earned = λ possible earned. earned; known = λ known. known; most = λ known. ends }
+    record { grows = omega arith; traced = traced_none task (standing settled run) best; known = λ known. known; most = λ known. ends }

@@ -1,13 +1,16 @@
 -- A state that is covered by one that has been explored earns no more than the best found; a state that has been explored may
 -- be kept.
-use Rattle.std.proofs.Common.{◌≡◌, ℕ, zero, suc, ◌+◌, ◌<◌, ◌≤◌, Bool, true, false, ◌⊎◌, inl, inr, Some, List, [], ◌∷◌, ◌++◌, drop, get_or, length, set, slice_get, sym, subst, arith, add-one, drop-cons}
+use Rattle.std.proofs.Common.{◌≡◌, ℕ, zero, suc, ◌+◌, ◌<◌, ◌≤◌, Bool, true, false, ◌⊎◌, inl, inr, Some, List, [], ◌∷◌, ◌++◌, drop, get_or, length, set, slice_get, sym, ap, subst, ◌∙◌, arith, add-one, drop-cons}
 use Rattle.best_run.specs.declared.explored.Found.{Found}
 use Rattle.best_run.specs.declared.state.Settled.{Settled}
 use Rattle.best_run.specs.declared.task.Task.{Task}
+use Rattle.best_run.specs.declared.trail.Trail.{Trail}
 use Rattle.best_run.specs.Kept.{Covers, Freer, IsCovered, IsKept, IsNothing}
-use Rattle.best_run.specs.Moves.{AreExplored, CanEarn, Completes, EarnsAtMost, Explores, between, total_after}
+use Rattle.best_run.specs.Moves.{AreExplored, Completes, EarnsAtMost, Explores, between, total_after}
 use Rattle.best_run.specs.Suffix.{nothing_before}
+use Rattle.best_run.specs.Trail.{marks_in}
 use Rattle.best_run.proofs.Eased.{Eased, ease}
+use Rattle.best_run.proofs.Traced.{traced_both, traced_none}
 use Rattle.best_run.proofs.Tried.{over_most}
 
 -- what is covered earns no more
@@ -24,7 +27,7 @@ pub explores_covered : (task : Task) (settled like : Settled) (best : Found) →
 explores_covered task settled like best alike is =
     record {
       grows = omega arith;
-      earned = λ possible earned. earned;
+      traced = traced_none task (between settled) best;
       known = λ known. known;
       most = λ known. alike best.amount (low_covered task is.entry like best.amount is.covers (known is.place is.entry is.there));
     }
@@ -34,7 +37,10 @@ pub explores_kept : (task : Task) (settled like : Settled) (old new kept : Found
 explores_kept task settled like old new kept alike explores is =
     record {
       grows = omega (arith, explores.grows, is.amount);
-      earned = λ possible earned. subst (λ (n : ℕ). CanEarn task n) (sym is.amount) (explores.earned possible earned);
+      traced = traced_both task (between settled) old new kept explores.grows (omega (arith, is.amount)) explores.traced (record {
+        refused = λ none. ap (λ (t : Trail). t.refused) (sym is.trail) ∙ none;
+        told = λ none. inl (record { amount = is.amount; marks = ap marks_in is.trail });
+      });
       known = λ known place entry there. subst (λ (n : ℕ). EarnsAtMost task entry n) (sym is.amount) (elim (is.only place entry there) [
         | inl before ↦ explores.known known place entry before
         | inr same ↦ subst (λ (s : Settled). EarnsAtMost task s new.amount) same (alike new.amount (explores.most known))

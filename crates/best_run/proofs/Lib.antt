@@ -1,4 +1,5 @@
 pub mod Marks
+pub mod Traced
 pub mod Tried
 pub mod Places
 pub mod Ahead
@@ -19,6 +20,7 @@ pub mod Departing
 pub mod Chunks
 pub mod Sets
 pub mod Runs
+pub mod Told
 pub mod Sound
 pub mod Greatest
 pub mod Laid

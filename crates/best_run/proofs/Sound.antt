@@ -1,5 +1,6 @@
--- Whatever moves lead to the end, they are the runs of a legal set, and earn what the set earns.
-use Rattle.std.proofs.Common.{◌≡◌, ◌↔◌, ℕ, ◌+◌, ◌<◌, ◌≤◌, Bool, true, false, not, ◌&&◌, ltb, ◌⊎◌, inl, inr, Option, Some, None, IfSome, List, [], ◌∷◌, ◌++◌, length, get_or, drop, refl, sym, ap, subst, ◌∙◌, arith, length-append}
+-- Whatever moves lead to the end, the runs that their marks tell are a legal set, and earn what the moves earn.
+use Rattle.std.proofs.Common.{◌≡◌, ◌↔◌, ℕ, ◌+◌, ◌<◌, ◌≤◌, Bool, true, false, not, ◌&&◌, ltb, ◌⊎◌, inl, inr, Option, Some, None, IfSome, List, [], ◌∷◌, ◌++◌, length, get_or, drop, map, refl, sym, ap, subst, ◌∙◌, arith, length-append}
+use mathlib.Core.List.{reverse_aux}
 use Rattle.std.specs.List.{AllByRecursion}
 use Rattle.std.proofs.lemmas.Bool.{ltb-true}
 use Rattle.map_tables.specs.declared.hex.Hex.{Hex}
@@ -20,17 +21,21 @@ use Rattle.tables.specs.declared.roster.Company.{Company}
 use Rattle.certificate.specs.Legal.{AreAtMost, AreDistinct, EndsAtStop, HasSuch, border_at, border_of, crossed, earned, first_stop, listed, visited}
 use Rattle.certificate.specs.Set.{RunsLegally, ShareNoBorder, TrainRun, revenue_of}
 use Rattle.certificate.proofs.Marks.{among_both}
+use Rattle.certificate.proofs.TwoTrain.{returning}
 use Rattle.best_run.specs.declared.task.Piece.{Piece}
 use Rattle.best_run.specs.declared.task.Task.{Task}
 use Rattle.best_run.specs.declared.state.Settled.{Settled}
 use Rattle.best_run.specs.declared.state.Standing.{Standing}
+use Rattle.best_run.specs.declared.trail.Mark.{Mark}
+use Rattle.best_run.specs.declared.trail.Mark.TheVariants.{Pass, Go, Turn, Settle}
+use Rattle.best_run.specs.Trail.{runs_told, turned_about, turned_step}
 use Rattle.best_run.specs.Described.{Describes, IsPieceOf, IsSideNode, IsStepFrom, IsStopNode, most_of, most_of_all}
-use Rattle.best_run.specs.Moves.{Allows, Completes, Move, State, along, begin, begun, between, can_take, ends_in, go, may_come, may_earn, misses, node_at, pass, passed, settle, settling, standing, stop_in, total_after, turn, turned_back, using}
+use Rattle.best_run.specs.Moves.{Allows, Completes, Move, State, along, begin, begun, between, can_take, ends_in, go, marks_of, may_come, may_earn, misses, node_at, pass, passed, settle, settling, standing, stop_in, total_after, turn, turned_back, using}
 use Rattle.best_run.proofs.Advance.{IsMarked, Tells, misses_free, node_left, one_number, to_home, to_side, to_stop}
 use Rattle.best_run.proofs.Complete.{next_stop}
-use Rattle.best_run.proofs.Prefix.{Holds}
+use Rattle.best_run.proofs.Prefix.{Holds, onto}
 use Rattle.best_run.proofs.Arms.{AreOne, Used, begun_tells, one_turned}
-use Rattle.best_run.proofs.Backwards.{Turned, turned_about}
+use Rattle.best_run.proofs.Backwards.{Turned, walk_turned}
 use Rattle.best_run.proofs.Split.{such_alike, such_later}
 use Rattle.best_run.proofs.Runs.{drop_first, drop_none}
 use Rattle.best_run.proofs.Sets.{Avoids, IsSetFor}
@@ -83,6 +88,14 @@ two_at_least Four = omega arith
 two_at_least Five = omega arith
 two_at_least Six = omega arith
 two_at_least Diesel = omega arith
+
+-- a walk turned about is its steps, each the other way, the last one first
+turned_walk : (steps : List Step) → turned_about steps ≡ onto (returning steps) []
+turned_walk steps = all_turned steps []
+  where
+    all_turned : (steps done : List Step) → map turned_step (reverse_aux steps done) ≡ onto (returning steps) (map turned_step done)
+    all_turned [] done = refl
+    all_turned (step ∷ before) done = all_turned before (step ∷ done)
 
 module _ (position : Position) (company : Company) (lawful : IsLawful position) (kinds : List Kind) (task : Task) (describes : Describes position company kinds task) where
   abbrev Told : ℕ → List ℕ → Spot → List Stop → List ℕ → Settled → Standing → Type 0
@@ -147,66 +160,67 @@ module _ (position : Position) (company : Company) (lawful : IsLawful position) 
         | inr over ↦ inr (sym one.1 ∙ over)
       ]
 
-  -- what runs are made of some moves, from a state on
-  pub record RunsTold (others : List ℕ) (left : List Kind) (settled : Settled) (total : ℕ) : Type 0 where
-    pub runs : List TrainRun
+  -- some runs are a set for the trains that are left, and earn what is earned from a state on
+  pub record RunsTold (others : List ℕ) (left : List Kind) (settled : Settled) (total : ℕ) (runs : List TrainRun) : Type 0 where
     pub set : IsSetFor position company left others runs
     pub earns : settled.total + revenue_of position runs ≡ total
 
-  pub record RunTold (others : List ℕ) (kind : Kind) (left : List Kind) (settled : Settled) (total : ℕ) : Type 0 where
+  -- the first of some runs is that of the next train
+  pub record RunTold (others : List ℕ) (kind : Kind) (left : List Kind) (settled : Settled) (total : ℕ) (told : List TrainRun) : Type 0 where
     pub steps : List Step
     pub legal : RunsLegally position company (record { kind = kind; steps = steps })
     pub avoids : Avoids others (record { kind = kind; steps = steps })
     pub runs : List TrainRun
     pub set : IsSetFor position company left (crossed steps ++ others) runs
     pub earns : settled.total + (earned position steps + revenue_of position runs) ≡ total
+    pub are : told ≡ record { kind = kind; steps = steps } ∷ runs
 
   -- the borders of a piece change nothing in what the others earn
-  keep_settled : (others : List ℕ) (kind : Kind) (left : List Kind) (settled : Settled) (piece : Piece) (total : ℕ) → RunTold others kind left (using settled piece) total → RunTold others kind left settled total
-  keep_settled others kind left settled piece total told =
-      record { steps = told.steps; legal = told.legal; avoids = told.avoids; runs = told.runs; set = told.set; earns = told.earns }
+  keep_settled : (others : List ℕ) (kind : Kind) (left : List Kind) (settled : Settled) (piece : Piece) (total : ℕ) (runs : List TrainRun) → RunTold others kind left (using settled piece) total runs → RunTold others kind left settled total runs
+  keep_settled others kind left settled piece total runs told =
+      record { steps = told.steps; legal = told.legal; avoids = told.avoids; runs = told.runs; set = told.set; earns = told.earns; are = told.are }
 
   -- a run that has not turned back began where its walk does
   abbrev pub BeginsHome : Standing → Step → List Step → Type 0
   BeginsHome run step before = run.turned ≡ false → run.home ≡ spot_number (begins_at step before)
 
-  abbrev pub SoundFrom : State → ℕ → Type 0
-  SoundFrom (between settled) total =
-      (others : List ℕ) (left : List Kind) → Used others settled → drop settled.next task.trains.items ≡ most_of_all left → RunsTold others left settled total
-  SoundFrom (standing settled run) total =
-      (others : List ℕ) (kind : Kind) (left : List Kind) (step : Step) (before : List Step) → Told (most_of (stops_of kind)) others (left_at step) (visited (step ∷ before)) (crossed (step ∷ before)) settled run → Holds position company (most_of (stops_of kind)) others (step ∷ before) → HasSuch (λ stop. HasToken position stop company) (visited (step ∷ before)) → BeginsHome run step before → drop (settled.next + 1) task.trains.items ≡ most_of_all left → RunTold others kind left settled total
+  -- from a state on some marks tell such runs
+  abbrev pub SoundFrom : State → ℕ → List Mark → Type 0
+  SoundFrom (between settled) total marks =
+      (others : List ℕ) (left : List Kind) → Used others settled → drop settled.next task.trains.items ≡ most_of_all left → RunsTold others left settled total (runs_told left [] marks)
+  SoundFrom (standing settled run) total marks =
+      (others : List ℕ) (kind : Kind) (left : List Kind) (step : Step) (before : List Step) → Told (most_of (stops_of kind)) others (left_at step) (visited (step ∷ before)) (crossed (step ∷ before)) settled run → Holds position company (most_of (stops_of kind)) others (step ∷ before) → HasSuch (λ stop. HasToken position stop company) (visited (step ∷ before)) → BeginsHome run step before → drop (settled.next + 1) task.trains.items ≡ most_of_all left → RunTold others kind left settled total (runs_told (kind ∷ left) (step ∷ before) marks)
 
   -- the end: all trains are settled
-  at_end : (settled : Settled) → length task.trains.items ≤ settled.next → SoundFrom (between settled) settled.total
+  at_end : (settled : Settled) → length task.trains.items ≤ settled.next → SoundFrom (between settled) settled.total []
   at_end settled over others [] used trains =
-      record { runs = []; set = record { legal = tt; each_once = λ kind. omega arith; apart = tt; avoid = tt }; earns = omega arith }
+      record { set = record { legal = tt; each_once = λ kind. omega arith; apart = tt; avoid = tt }; earns = omega arith }
   at_end settled over others (kind ∷ left) used trains =
       absurd (omega (arith, (drop_first task.trains.items settled.next (most_of (stops_of kind)) (most_of_all left) trains).0))
 
   -- the next train does not run
-  has_passed : (settled : Settled) (total : ℕ) → settled.next < length task.trains.items → SoundFrom (between (passed settled)) total → SoundFrom (between settled) total
-  has_passed settled total before rest others [] used trains = absurd (omega (arith, drop_none task.trains.items settled.next trains))
-  has_passed settled total before rest others (kind ∷ left) used trains =
+  has_passed : (settled : Settled) (total : ℕ) (marks : List Mark) → settled.next < length task.trains.items → SoundFrom (between (passed settled)) total marks → SoundFrom (between settled) total (Pass ∷ marks)
+  has_passed settled total marks before rest others [] used trains = absurd (omega (arith, drop_none task.trains.items settled.next trains))
+  has_passed settled total marks before rest others (kind ∷ left) used trains =
       let next = drop_first task.trains.items settled.next (most_of (stops_of kind)) (most_of_all left) trains in
-      let told : RunsTold others left (passed settled) total = rest others left (record { used = used.used; whole = used.whole }) next.2 in
+      let told : RunsTold others left (passed settled) total (runs_told left [] marks) = rest others left (record { used = used.used; whole = used.whole }) next.2 in
       record {
-        runs = told.runs;
         set = record { legal = told.set.legal; each_once = λ k. omega (arith, told.set.each_once k); apart = told.set.apart; avoid = told.set.avoid };
         earns = told.earns;
       }
 
   -- a run is settled
-  has_settled : (settled : Settled) (run : Standing) (total : ℕ) → stop_in (node_at task run.head) ≡ true → SoundFrom (between (settling settled run)) total → SoundFrom (standing settled run) total
-  has_settled settled run total may rest others kind left step before tells holds own home trains =
+  has_settled : (settled : Settled) (run : Standing) (total : ℕ) (marks : List Mark) → stop_in (node_at task run.head) ≡ true → SoundFrom (between (settling settled run)) total marks → SoundFrom (standing settled run) total (Settle ∷ marks)
+  has_settled settled run total marks may rest others kind left step before tells holds own home trains =
       ends_by (stop_of (left_at step)) refl
     where
-      ends_by : (found : Option Stop) → stop_of (left_at step) ≡ found → RunTold others kind left settled total
+      ends_by : (found : Option Stop) → stop_of (left_at step) ≡ found → RunTold others kind left settled total (runs_told (kind ∷ left) (step ∷ before) (Settle ∷ marks))
       ends_by None side =
           let node : IsSideNode (node_at task (spot_number (left_at step))) = node_left position company kinds task describes (left_at step) None side in
           let stops : stop_in (node_at task (spot_number (left_at step))) ≡ true = subst (λ (n : ℕ). stop_in (node_at task n) ≡ true) tells.head may in
           absurd (let wrong : true ≡ false = sym stops ∙ node.stops in cc)
       ends_by (Some stop) there =
-          let told : RunsTold (crossed (step ∷ before) ++ others) left (settling settled run) total =
+          let told : RunsTold (crossed (step ∷ before) ++ others) left (settling settled run) total (runs_told left [] marks) =
           rest (crossed (step ∷ before) ++ others) left
           (record {
             used = λ border. let all : IsAmong border (crossed (step ∷ before) ++ others) ↔ (IsAmong border (crossed (step ∷ before)) ⊎ IsAmong border others) = among_both border (crossed (step ∷ before)) others in
@@ -232,20 +246,21 @@ module _ (position : Position) (company : Company) (lawful : IsLawful position) 
               no_full_inside = holds.full;
             };
             avoids = holds.free;
-            runs = told.runs;
+            runs = runs_told left [] marks;
             set = told.set;
             earns = let total = told.earns in omega (arith, tells.value);
+            are = refl;
           }
 
   -- a run goes on
-  has_gone : (settled : Settled) (run : Standing) (index : ℕ) (piece : Piece) (total : ℕ) → Allows task (standing settled run) (go index piece) → SoundFrom (standing (using settled piece) (along task run piece)) total → SoundFrom (standing settled run) total
-  has_gone settled run index piece total may rest others kind left step before tells holds own home trains =
+  has_gone : (settled : Settled) (run : Standing) (index : ℕ) (piece : Piece) (total : ℕ) (marks : List Mark) → Allows task (standing settled run) (go index piece) → SoundFrom (standing (using settled piece) (along task run piece)) total marks → SoundFrom (standing settled run) total (Go piece.step ∷ marks)
+  has_gone settled run index piece total marks may rest others kind left step before tells holds own home trains =
       let from : IsStepFrom position run.head piece = describes.sound run.head index piece may.leads in
       let next = from.step in
       let joined : AreJoined (left_at step) (entered_at next) = joined_here (left_at step) run.head tells.head from.goes.spot (entered_at next) from.goes.number_is from.goes.joined in
       let went : Went (most_of (stops_of kind)) others (visited (step ∷ before)) (crossed (step ∷ before)) settled run next piece = went_by (most_of (stops_of kind)) others (left_at step) (visited (step ∷ before)) (crossed (step ∷ before)) settled run tells next piece from.piece_is may.taken (stop_of (left_at next)) refl in
       let passes = may_pass (left_at step) (stop_of (left_at step)) refl (entered_at next) joined (subst (λ (n : ℕ). ends_in (node_at task n) ≡ false) tells.head may.passes) in
-      let told : RunTold others kind left (using settled piece) total =
+      let told : RunTold others kind left (using settled piece) total (runs_told (kind ∷ left) (next ∷ step ∷ before) marks) =
       rest others kind left next (step ∷ before) went.told
       (record {
         walk = (from.track, joined, holds.walk);
@@ -258,7 +273,10 @@ module _ (position : Position) (company : Company) (lawful : IsLawful position) 
         full = (passes.1, holds.full);
       })
       (such_later (λ stop. HasToken position stop company) (listed (stop_of (left_at next))) (visited (step ∷ before)) own) home trains
-      in keep_settled others kind left settled piece total told
+      in
+      let runs : Step → List TrainRun = λ last. runs_told (kind ∷ left) (last ∷ step ∷ before) marks in
+      keep_settled others kind left settled piece total (runs piece.step)
+      (subst (λ (last : Step). RunTold others kind left (using settled piece) total (runs last)) (sym from.piece_is.step_is) told)
 
   -- where a run stands at a stop, its walk ends at one
   ends_there : (step : Step) (before : List Step) (number : ℕ) → number ≡ spot_number (left_at step) → stop_in (node_at task number) ≡ true → (found : Option Stop) → stop_of (left_at step) ≡ found → EndsAtStop (step ∷ before)
@@ -268,18 +286,20 @@ module _ (position : Position) (company : Company) (lawful : IsLawful position) 
   ends_there step before number is stops (Some stop) there = (stop, there)
 
   -- a run turns back: its walk is turned about, and goes on where it began
-  has_turned : (settled : Settled) (run : Standing) (index : ℕ) (piece : Piece) (total : ℕ) → Allows task (standing settled run) (turn index piece) → SoundFrom (standing (using settled piece) (along task (turned_back run) piece)) total → SoundFrom (standing settled run) total
-  has_turned settled run index piece total may rest others kind left step before tells holds own home trains =
+  has_turned : (settled : Settled) (run : Standing) (index : ℕ) (piece : Piece) (total : ℕ) (marks : List Mark) → Allows task (standing settled run) (turn index piece) → SoundFrom (standing (using settled piece) (along task (turned_back run) piece)) total marks → SoundFrom (standing settled run) total (Turn ∷ Go piece.step ∷ marks)
+  has_turned settled run index piece total marks may rest others kind left step before tells holds own home trains =
       let most = most_of (stops_of kind) in
       let ends : EndsAtStop (step ∷ before) = ends_there step before run.head tells.head may.stands (stop_of (left_at step)) refl in
-      let turned : Turned position lawful company most others step before = turned_about position lawful company most others step before holds ends in
+      let turned : Turned position lawful company most others step before = walk_turned position lawful company most others step before holds ends in
       let walk = turned.last ∷ turned.rest in
       let one : AreOne position (step ∷ before) walk = one_turned position company lawful kinds task describes most others step before turned in
       let at_home : run.home ≡ spot_number (left_at turned.last) = home may.once ∙ ap spot_number (sym turned.stands) in
       let tells_back : Told most others (left_at turned.last) (visited walk) (crossed walk) settled (turned_back run) = to_home position company kinds task describes most others (left_at step) (visited (step ∷ before)) (crossed (step ∷ before)) settled run tells (left_at turned.last) (visited walk) (crossed walk) at_home one.stops one.worth one.borders in
-      has_gone settled (turned_back run) index piece total (record { passes = may.passes; leads = may.leads; taken = may.taken }) rest others kind left turned.last turned.rest tells_back turned.holds
+      let about : turned_about (step ∷ before) ≡ walk = turned_walk (step ∷ before) ∙ turned.is in
+      subst (λ (steps : List Step). RunTold others kind left settled total (runs_told (kind ∷ left) steps (Go piece.step ∷ marks))) (sym about)
+      (has_gone settled (turned_back run) index piece total marks (record { passes = may.passes; leads = may.leads; taken = may.taken }) rest others kind left turned.last turned.rest tells_back turned.holds
       (such_alike (λ stop. HasToken position stop company) (visited (step ∷ before)) (visited walk) one.stops own)
-      (λ once. absurd (let wrong : true ≡ false = once in cc)) trains
+      (λ once. absurd (let wrong : true ≡ false = once in cc)) trains)
 
   -- a step leads from a stop with this number
   enters_stop : (number : ℕ) → stop_in (node_at task number) ≡ true → (spot next : Spot) → spot_number spot ≡ number → AreJoined spot next → (found : Option Stop) → stop_of spot ≡ found → (stop : Stop) × (stop_of next ≡ Some stop) × (number ≡ spot_number next)
@@ -306,11 +326,10 @@ module _ (position : Position) (company : Company) (lawful : IsLawful position) 
       }
 
   -- a run of the first train before those of the others is a set
-  set_more : (others : List ℕ) (kind : Kind) (left : List Kind) (settled : Settled) (total : ℕ) → RunTold others kind left settled total → RunsTold others (kind ∷ left) settled total
-  set_more others kind left settled total told =
-      let run : TrainRun = record { kind = kind; steps = told.steps } in
-      record {
-        runs = run ∷ told.runs;
+  set_more : (others : List ℕ) (kind : Kind) (left : List Kind) (settled : Settled) (total : ℕ) (runs : List TrainRun) → RunTold others kind left settled total runs → RunsTold others (kind ∷ left) settled total runs
+  set_more others kind left settled total runs told =
+      subst (RunsTold others (kind ∷ left) settled total) (sym told.are)
+      (record {
         set = record {
           legal = (told.legal, told.set.legal);
           each_once = λ k. omega (arith, told.set.each_once k);
@@ -318,7 +337,7 @@ module _ (position : Position) (company : Company) (lawful : IsLawful position) 
           avoid = (told.avoids, avoid_by told.runs told.set.avoid);
         };
         earns = told.earns;
-      }
+      })
     where
       apart_by : (runs : List TrainRun) → AllByRecursion (Avoids (crossed told.steps ++ others)) runs → AllByRecursion (λ other. ShareNoBorder told.steps other.steps) runs
       apart_by [] avoid = tt
@@ -329,9 +348,9 @@ module _ (position : Position) (company : Company) (lawful : IsLawful position) 
       avoid_by (run ∷ runs) avoid = ((λ border here there. avoid.0 border here ((among_both border (crossed told.steps) others).1 (inr there))), avoid_by runs avoid.1)
 
   -- a run begins
-  has_begun : (settled : Settled) (number index : ℕ) (piece : Piece) (total : ℕ) → Allows task (between settled) (begin number index piece) → SoundFrom (standing (using settled piece) (along task (begun task settled number index) piece)) total → SoundFrom (between settled) total
-  has_begun settled number index piece total may rest others [] used trains = absurd (omega (arith, may.train, drop_none task.trains.items settled.next trains))
-  has_begun settled number index piece total may rest others (kind ∷ left) used trains =
+  has_begun : (settled : Settled) (number index : ℕ) (piece : Piece) (total : ℕ) (marks : List Mark) → Allows task (between settled) (begin number index piece) → SoundFrom (standing (using settled piece) (along task (begun task settled number index) piece)) total marks → SoundFrom (between settled) total (Go piece.step ∷ marks)
+  has_begun settled number index piece total marks may rest others [] used trains = absurd (omega (arith, may.train, drop_none task.trains.items settled.next trains))
+  has_begun settled number index piece total marks may rest others (kind ∷ left) used trains =
       let most = most_of (stops_of kind) in
       let next = drop_first task.trains.items settled.next most (most_of_all left) trains in
       let from : IsStepFrom position number piece = describes.sound number index piece may.leads in
@@ -346,23 +365,26 @@ module _ (position : Position) (company : Company) (lawful : IsLawful position) 
       let told = subst (λ vs. Tells task position company most others (left_at step) vs (crossed (step ∷ [])) (using settled piece) (along task (begun task settled number index) piece)) (sym visits) went.told in
       let node : IsStopNode position company stop (node_at task number) = subst (λ (n : ℕ). IsStopNode position company stop (node_at task n)) (sym entered.2) (node_left position company kinds task describes (entered_at step) (Some stop) entered.1) in
       let own : HasSuch (λ s. HasToken position s company) (visited (step ∷ [])) = subst (HasSuch (λ s. HasToken position s company)) (sym visits) (such_later (λ s. HasToken position s company) (listed (stop_of (left_at step))) (stop ∷ []) (inl (node.own.0 may.token))) in
-      set_more others kind left settled total
-      (keep_settled others kind left settled piece total (rest others kind left step [] told (first_holds most others settled (begun task settled number index) step piece stop entered.1 from.track went) own (λ once. entered.2) next.2))
+      let runs : Step → List TrainRun = λ first. runs_told (kind ∷ left) (first ∷ []) marks in
+      set_more others kind left settled total (runs piece.step)
+      (keep_settled others kind left settled piece total (runs piece.step)
+      (subst (λ (first : Step). RunTold others kind left (using settled piece) total (runs first)) (sym from.piece_is.step_is)
+      (rest others kind left step [] told (first_holds most others settled (begun task settled number index) step piece stop entered.1 from.track went) own (λ once. entered.2) next.2)))
 
-  pub sound_from : (moves : List Move) (state : State) → Completes task state moves → SoundFrom state (total_after task state moves)
+  pub sound_from : (moves : List Move) (state : State) → Completes task state moves → SoundFrom state (total_after task state moves) (marks_of moves)
   sound_from [] (between settled) completes = at_end settled completes
   sound_from [] (standing settled run) completes = absurd completes
-  sound_from (pass ∷ moves) (between settled) completes = has_passed settled (total_after task (between (passed settled)) moves) completes.0 (sound_from moves (between (passed settled)) completes.1)
+  sound_from (pass ∷ moves) (between settled) completes = has_passed settled (total_after task (between (passed settled)) moves) (marks_of moves) completes.0 (sound_from moves (between (passed settled)) completes.1)
   sound_from (pass ∷ moves) (standing settled run) completes = absurd completes.0
   sound_from (begin number index piece ∷ moves) (between settled) completes =
-      has_begun settled number index piece (total_after task (standing (using settled piece) (along task (begun task settled number index) piece)) moves) completes.0 (sound_from moves (standing (using settled piece) (along task (begun task settled number index) piece)) completes.1)
+      has_begun settled number index piece (total_after task (standing (using settled piece) (along task (begun task settled number index) piece)) moves) (marks_of moves) completes.0 (sound_from moves (standing (using settled piece) (along task (begun task settled number index) piece)) completes.1)
   sound_from (begin number index piece ∷ moves) (standing settled run) completes = absurd completes.0
   sound_from (go index piece ∷ moves) (between settled) completes = absurd completes.0
   sound_from (go index piece ∷ moves) (standing settled run) completes =
-      has_gone settled run index piece (total_after task (standing (using settled piece) (along task run piece)) moves) completes.0 (sound_from moves (standing (using settled piece) (along task run piece)) completes.1)
+      has_gone settled run index piece (total_after task (standing (using settled piece) (along task run piece)) moves) (marks_of moves) completes.0 (sound_from moves (standing (using settled piece) (along task run piece)) completes.1)
   sound_from (turn index piece ∷ moves) (between settled) completes = absurd completes.0
   sound_from (turn index piece ∷ moves) (standing settled run) completes =
-      has_turned settled run index piece (total_after task (standing (using settled piece) (along task (turned_back run) piece)) moves) completes.0 (sound_from moves (standing (using settled piece) (along task (turned_back run) piece)) completes.1)
+      has_turned settled run index piece (total_after task (standing (using settled piece) (along task (turned_back run) piece)) moves) (marks_of moves) completes.0 (sound_from moves (standing (using settled piece) (along task (turned_back run) piece)) completes.1)
   sound_from (settle ∷ moves) (between settled) completes = absurd completes.0
   sound_from (settle ∷ moves) (standing settled run) completes =
-      has_settled settled run (total_after task (between (settling settled run)) moves) (first_true (stop_in (node_at task run.head)) (may_earn settled.kind settled.cap run.most run.value) completes.0) (sound_from moves (between (settling settled run)) completes.1)
+      has_settled settled run (total_after task (between (settling settled run)) moves) (marks_of moves) (first_true (stop_in (node_at task run.head)) (may_earn settled.kind settled.cap run.most run.value) completes.0) (sound_from moves (between (settling settled run)) completes.1)

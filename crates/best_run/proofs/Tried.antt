@@ -7,7 +7,11 @@ use Rattle.best_run.specs.declared.task.Task.{Task}
 use Rattle.best_run.specs.declared.state.Settled.{Settled}
 use Rattle.best_run.specs.declared.state.Standing.{Standing}
 use Rattle.best_run.specs.Moves.{Allows, Any, AreExplored, Below, Completes, Explores, IsBegin, IsBeginAt, IsGo, IsTurn, Move, State, Tries, begin, between, ends_in, go, may_settle, node_at, own_in, pass, passed, settle, settling, standing, stop_in, total_after, turn}
+use Rattle.best_run.specs.Trail.{marks_in}
+use Rattle.best_run.specs.declared.trail.Mark.TheVariants.{Pass, Settle}
+use Rattle.best_run.specs.declared.trail.Trail.{Trail}
 use Rattle.best_run.proofs.Places.{below_next}
+use Rattle.best_run.proofs.Traced.{ExploresFrom, Leads, traced_both, traced_none}
 
 -- a move by which a run goes on
 abbrev pub IsOn : Move → Type 0
@@ -22,7 +26,7 @@ pub tries_none : (task : Task) (state : State) (P : Move → Type 0) (best : Fou
 tries_none task state P best none =
     record {
       grows = omega arith;
-      earned = λ possible earned. earned;
+      traced = traced_none task state best;
       known = λ known. known;
       most = λ known move moves is completes. absurd (none move is completes.0);
     }
@@ -32,7 +36,7 @@ pub tries_both : (task : Task) (state : State) (P Q R : Move → Type 0) (old mi
 tries_both task state P Q R old middle new first second either =
     record {
       grows = le_trans first.grows second.grows;
-      earned = λ possible earned. second.earned possible (first.earned possible earned);
+      traced = traced_both task state old middle new first.grows second.grows first.traced second.traced;
       known = λ known. second.known (first.known known);
       most = λ known move moves is completes. elim (either move is completes.0) [
         | inl p ↦ le_trans (first.most known move moves p completes) second.grows
@@ -45,7 +49,7 @@ pub tries_fewer : (task : Task) (state : State) (P R : Move → Type 0) (old new
 tries_fewer task state P R old new tries are =
     record {
       grows = tries.grows;
-      earned = tries.earned;
+      traced = tries.traced;
       known = tries.known;
       most = λ known move moves is completes. tries.most known move moves (are move is completes.0) completes;
     }
@@ -77,12 +81,15 @@ over_most task settled new over low (go i found ∷ moves) completes = absurd co
 over_most task settled new over low (turn i found ∷ moves) completes = absurd completes.0
 over_most task settled new over low (settle ∷ moves) completes = absurd completes.0
 
-pub over_better : (task : Task) (settled : Settled) (old : Found) → length task.trains.items ≤ settled.next → old.amount ≤ settled.total → Explores task (between settled) old (record old { amount = settled.total })
-over_better task settled old over low =
+pub over_better : (task : Task) (settled : Settled) (old : Found) (trail : Trail) → length task.trains.items ≤ settled.next → old.amount < settled.total → marks_in trail ≡ [] → trail.refused ≡ old.trail.refused → Explores task (between settled) old (record old { amount = settled.total; trail = trail })
+over_better task settled old trail over low empty same =
     record {
-      grows = low;
-      earned = λ possible earned. possible [] over;
-      known = λ known place entry there moves completes. le_trans (known place entry there moves completes) low;
+      grows = omega (arith, low);
+      traced = record {
+        refused = λ none. sym same ∙ none;
+        told = λ none. inr (record { more = low; earns = record { moves = []; completes = over; total = refl; marks_are = empty } });
+      };
+      known = λ known place entry there moves completes. le_trans (known place entry there moves completes) (omega (arith, low));
       most = λ known. over_most task settled settled.total over (omega arith);
     }
 
@@ -90,17 +97,26 @@ pub over_no_better : (task : Task) (settled : Settled) (old : Found) → length 
 over_no_better task settled old over low =
     record {
       grows = omega arith;
-      earned = λ possible earned. earned;
+      traced = traced_none task (between settled) old;
       known = λ known. known;
       most = λ known. over_most task settled old.amount over low;
     }
 
+-- a train passes, and a run is settled
+pub leads_pass : (task : Task) (settled : Settled) → settled.next < length task.trains.items → Leads task (between settled) (between (passed settled)) (Pass ∷ [])
+leads_pass task settled before later completes =
+    record { moves = pass ∷ later; completes = (before, completes); total = refl; marks_are = refl }
+
+pub leads_settle : (task : Task) (settled : Settled) (run : Standing) → may_settle task settled run ≡ true → Leads task (standing settled run) (between (settling settled run)) (Settle ∷ [])
+leads_settle task settled run may later completes =
+    record { moves = settle ∷ later; completes = (may, completes); total = refl; marks_are = refl }
+
 -- the next train has passed, and has begun all its runs
-pub explores_between : (task : Task) (settled : Settled) (old middle new : Found) → settled.next < length task.trains.items → Explores task (between (passed settled)) old middle → Tries task (between settled) (IsBegin Any) middle new → Explores task (between settled) old new
-explores_between task settled old middle new before first second =
+pub explores_between : (task : Task) (settled : Settled) (old middle new : Found) → ExploresFrom task (between settled) (between (passed settled)) old middle → Tries task (between settled) (IsBegin Any) middle new → settled.next < length task.trains.items → Explores task (between settled) old new
+explores_between task settled old middle new first second before =
     record {
       grows = le_trans first.grows second.grows;
-      earned = λ possible earned. second.earned possible (first.earned (λ moves completes. possible (pass ∷ moves) (before, completes)) earned);
+      traced = traced_both task (between settled) old middle new first.grows second.grows first.traced second.traced;
       known = λ known. second.known (first.known known);
       most = by_moves;
     }
@@ -126,11 +142,11 @@ tries_on task settled run old middle new first second =
     either settle is may = absurd is
 
 -- the run has been settled, if it may be, and has gone on
-pub explores_standing : (task : Task) (settled : Settled) (run : Standing) (old middle new : Found) → may_settle task settled run ≡ true → Explores task (between (settling settled run)) old middle → Tries task (standing settled run) IsOn middle new → Explores task (standing settled run) old new
-explores_standing task settled run old middle new own first second =
+pub explores_standing : (task : Task) (settled : Settled) (run : Standing) (old middle new : Found) → ExploresFrom task (standing settled run) (between (settling settled run)) old middle → Tries task (standing settled run) IsOn middle new → Explores task (standing settled run) old new
+explores_standing task settled run old middle new first second =
     record {
       grows = le_trans first.grows second.grows;
-      earned = λ possible earned. second.earned possible (first.earned (λ moves completes. possible (settle ∷ moves) (own, completes)) earned);
+      traced = traced_both task (standing settled run) old middle new first.grows second.grows first.traced second.traced;
       known = λ known. second.known (first.known known);
       most = by_moves;
     }
@@ -147,7 +163,7 @@ pub explores_on : (task : Task) (settled : Settled) (run : Standing) (old new : 
 explores_on task settled run old new none second =
     record {
       grows = second.grows;
-      earned = second.earned;
+      traced = second.traced;
       known = second.known;
       most = by_moves;
     }

@@ -29,6 +29,7 @@ pub record GoesFrom (number : ℕ) (step : Step) : Type 0 where
 -- a piece is that of a step: it leads to where the step is left, over the border at which it is entered
 pub record IsPieceOf (step : Step) (piece : Piece) : Type 0 where
   pub to : piece.to ≡ spot_number (left_at step)
+  pub step_is : piece.step ≡ step
   pub borders : piece.borders.items ≡ border_at (entered_at step).hex (entered_at step).end
 
 -- what a stop is to the company

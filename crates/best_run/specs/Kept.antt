@@ -3,6 +3,7 @@ use Rattle.std.specs.Prelude.{◌≡◌, ℕ, ◌≤◌, Bool, true, ◌⊎◌, 
 use Rattle.best_run.specs.declared.explored.Found.{Found}
 use Rattle.best_run.specs.declared.state.Settled.{Settled}
 use Rattle.best_run.specs.Suffix.{nothing_before}
+use Rattle.best_run.specs.Trail.{marks_in}
 
 -- what is marked in the second is marked in the first
 abbrev pub Freer : List Bool → List Bool → Type 0
@@ -30,9 +31,11 @@ pub record IsCovered (found : Found) (settled : Settled) : Type 0 where
 -- a state is kept, if at all in place of another
 pub record IsKept (settled : Settled) (old new : Found) : Type 0 where
   pub amount : new.amount ≡ old.amount
+  pub trail : new.trail ≡ old.trail
   pub only : (place : ℕ) (entry : Settled) → slice_get new.explored.items place ≡ Some entry → (slice_get old.explored.items place ≡ Some entry) ⊎ (settled ≡ entry)
 
--- nothing is found yet, and what is kept are states in which no train is left
+-- nothing is found yet, no move is told, and what is kept are states in which no train is left
 pub record IsNothing (trains : ℕ) (found : Found) : Type 0 where
   pub amount : found.amount ≡ 0
+  pub marks : marks_in found.trail ≡ []
   pub only : (place : ℕ) (entry : Settled) → slice_get found.explored.items place ≡ Some entry → nothing_before trains ≡ entry

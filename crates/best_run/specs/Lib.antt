@@ -1,3 +1,4 @@
+pub mod Trail
 pub mod Moves
 pub mod Fit
 pub mod Described

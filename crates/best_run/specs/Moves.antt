@@ -3,7 +3,7 @@
 -- once, it may turn back to the token, and go on from there by a piece that is not before the one by which it began;
 -- and it may be settled at a stop. So each run is met once: from the first of its tokens, by their numbers, since the
 -- tokens before that one are passed over, and not from both its ends.
-use Rattle.std.specs.Prelude.{◌≡◌, ℕ, zero, suc, ◌+◌, ◌-◌, ◌<◌, ◌≤◌, Bool, true, false, not, ◌&&◌, ◌||◌, nat_lt, nat_le, ◌==◌, Option, Some, None, List, [], ◌∷◌, length, get_or, set, slice_get, replicate}
+use Rattle.std.specs.Prelude.{◌≡◌, ℕ, zero, suc, ◌+◌, ◌-◌, ◌<◌, ◌≤◌, Bool, true, false, not, ◌&&◌, ◌||◌, nat_lt, nat_le, ◌==◌, ◌⊎◌, Option, Some, None, List, [], ◌∷◌, length, get_or, set, slice_get, replicate}
 use Rattle.std.specs.List.{list_any}
 use Rattle.best_run.specs.declared.task.Node.{Node}
 use Rattle.best_run.specs.declared.task.Piece.{Piece}
@@ -11,6 +11,9 @@ use Rattle.best_run.specs.declared.task.Task.{Task}
 use Rattle.best_run.specs.declared.explored.Found.{Found}
 use Rattle.best_run.specs.declared.state.Settled.{Settled}
 use Rattle.best_run.specs.declared.state.Standing.{Standing}
+use Rattle.best_run.specs.declared.trail.Mark.{Mark}
+use Rattle.best_run.specs.declared.trail.Mark.TheVariants.{Pass, Go, Turn, Settle}
+use Rattle.best_run.specs.Trail.{IsWritten, marks_in}
 
 -- what is known of a spot, by its number
 abbrev pub value_in : Option Node → ℕ
@@ -212,13 +215,43 @@ total_after task state (move ∷ moves) = total_after task (after task state mov
 abbrev pub start : State
 start = between (record { next = 0; total = 0; kind = 0; cap = 0; used = replicate 279 false })
 
--- some moves lead from the start to the end, and earn so much
-abbrev pub CanEarn : Task → ℕ → Type 0
-CanEarn task amount = (moves : List Move) × Completes task start moves × (total_after task start moves ≡ amount)
+-- the marks of some moves, from the first to the last
+abbrev pub marks_of : List Move → List Mark
+marks_of [] = []
+marks_of (pass ∷ moves) = Pass ∷ marks_of moves
+marks_of (begin stop index piece ∷ moves) = Go piece.step ∷ marks_of moves
+marks_of (go index piece ∷ moves) = Go piece.step ∷ marks_of moves
+marks_of (turn index piece ∷ moves) = Turn ∷ Go piece.step ∷ marks_of moves
+marks_of (settle ∷ moves) = Settle ∷ marks_of moves
 
--- a state is one that some moves lead to: whatever it can earn, the start can
-abbrev pub IsOpen : Task → State → Type 0
-IsOpen task state = (moves : List Move) → Completes task state moves → CanEarn task (total_after task state moves)
+-- some marks are those of moves that lead from a state to the end, and earn so much
+pub record Earns (task : Task) (state : State) (marks : List Mark) (amount : ℕ) : Type 0 where
+  pub moves : List Move
+  pub completes : Completes task state moves
+  pub total : total_after task state moves ≡ amount
+  pub marks_are : marks ≡ marks_of moves
+
+-- no more has been found, and the trail is as it was
+pub record IsAsBefore (old new : Found) : Type 0 where
+  pub amount : new.amount ≡ old.amount
+  pub marks : marks_in new.trail ≡ marks_in old.trail
+
+-- more has been found, and the trail tells how it is earned from a state on
+pub record IsBetter (task : Task) (state : State) (old new : Found) : Type 0 where
+  pub more : old.amount < new.amount
+  pub earns : Earns task state (marks_in new.trail) new.amount
+
+-- where no mark has been refused, the trail tells how what is found is earned from a state on, if it is more than before
+pub record IsTraced (task : Task) (state : State) (old new : Found) : Type 0 where
+  pub refused : new.trail.refused ≡ None → old.trail.refused ≡ None
+  pub told : new.trail.refused ≡ None → IsAsBefore old new ⊎ IsBetter task state old new
+
+-- if more has been found than so much, some marks are written in front of the trail; nothing else changes
+pub record Traces (least : ℕ) (marks : List Mark) (old new : Found) : Type 0 where
+  pub amount : new.amount ≡ old.amount
+  pub explored : new.explored.items ≡ old.explored.items
+  pub as_before : old.amount ≤ least → new.trail ≡ old.trail
+  pub written : least < old.amount → IsWritten marks old.trail new.trail
 
 -- all ways from a state between runs to the end earn at most so much
 abbrev pub EarnsAtMost : Task → Settled → ℕ → Type 0
@@ -230,25 +263,26 @@ abbrev pub AreExplored : Task → Found → Type 0
 AreExplored task found =
     (place : ℕ) (settled : Settled) → slice_get found.explored.items place ≡ Some settled → EarnsAtMost task settled found.amount
 
--- moves that begin with such a move have been tried in a state: the best found grows at most, moves from the start
--- earn it, and those that have been tried earn at most that, if what is kept as explored is
+-- moves that begin with such a move have been tried in a state: the best found grows at most, the trail tells how it is
+-- earned, and those that have been tried earn at most that, if what is kept as explored is
 pub record Tries (task : Task) (state : State) (P : Move → Type 0) (old new : Found) : Type 0 where
   pub grows : old.amount ≤ new.amount
-  pub earned : IsOpen task state → CanEarn task old.amount → CanEarn task new.amount
+  pub traced : IsTraced task state old new
   pub known : AreExplored task old → AreExplored task new
   pub most : AreExplored task old → (move : Move) (moves : List Move) → P move → Completes task state (move ∷ moves) → total_after task state (move ∷ moves) ≤ new.amount
 
 -- all ways from a state to the end have been tried
 pub record Explores (task : Task) (state : State) (old new : Found) : Type 0 where
   pub grows : old.amount ≤ new.amount
-  pub earned : IsOpen task state → CanEarn task old.amount → CanEarn task new.amount
+  pub traced : IsTraced task state old new
   pub known : AreExplored task old → AreExplored task new
   pub most : AreExplored task old → (moves : List Move) → Completes task state moves → total_after task state moves ≤ new.amount
 
 -- a piece has been tried with a run that stands before it: if the run may take it, all ways on have been tried
 pub record Takes (task : Task) (settled : Settled) (run : Standing) (piece : Piece) (old new : Found) : Type 0 where
   pub grows : old.amount ≤ new.amount
-  pub earned : (can_take task run settled.used piece ≡ true → IsOpen task (standing (using settled piece) (along task run piece))) → CanEarn task old.amount → CanEarn task new.amount
+  pub refused : new.trail.refused ≡ None → old.trail.refused ≡ None
+  pub told : new.trail.refused ≡ None → IsAsBefore old new ⊎ ((can_take task run settled.used piece ≡ true) × IsBetter task (standing (using settled piece) (along task run piece)) old new)
   pub known : AreExplored task old → AreExplored task new
   pub most : AreExplored task old → can_take task run settled.used piece ≡ true → (moves : List Move) → Completes task (standing (using settled piece) (along task run piece)) moves → total_after task (standing (using settled piece) (along task run piece)) moves ≤ new.amount
 

@@ -1,10 +1,11 @@
 -- What the last trains earn by themselves, where no border is used: none of them earns more behind other trains. Of
 -- equal trains none earns more than the one before.
-use Rattle.std.specs.Prelude.{◌≡◌, ℕ, ◌+◌, ◌-◌, ◌*◌, ◌<◌, ◌≤◌, false, Some, List, length, get_or, slice_get, replicate}
+use Rattle.std.specs.Prelude.{◌≡◌, ℕ, ◌+◌, ◌-◌, ◌*◌, ◌<◌, ◌≤◌, false, Some, None, List, length, get_or, slice_get, replicate}
 use Rattle.best_run.specs.declared.task.Task.{Task}
 use Rattle.best_run.specs.declared.explored.Found.{Found}
 use Rattle.best_run.specs.declared.state.Settled.{Settled}
-use Rattle.best_run.specs.Moves.{AreExplored, CanEarn, Completes, Move, between, start, total_after}
+use Rattle.best_run.specs.Trail.{marks_in}
+use Rattle.best_run.specs.Moves.{AreExplored, Completes, Earns, Move, between, start, total_after}
 
 -- the trains before one do not run, and nothing is used
 abbrev pub nothing_before : ℕ → Settled
@@ -40,15 +41,14 @@ pub record AreCapped (task : Task) (next kind cap total best : ℕ) : Type 0 whe
   pub short : total + (equal * cap + bound) ≤ best
 
 -- no train, the last one, the last two, .., so many in all, are solved for by themselves: what is found bounds what
--- they earn, and the best found can be earned, if what was found before can be
-pub record IsSolved (task : Task) (count : ℕ) (bounds : List ℕ) (old new : Found) : Type 0 where
+-- they earn, and the trail tells how the last ones earn it
+pub record IsSolved (task : Task) (count : ℕ) (bounds : List ℕ) (found : Found) : Type 0 where
   pub all : length bounds ≡ count
   pub true_bounds : AreBounds task bounds
-  pub grows : old.amount ≤ new.amount
-  pub known : AreExplored task new
-  pub earned : CanEarn task old.amount → CanEarn task new.amount
+  pub known : AreExplored task found
+  pub earns : found.trail.refused ≡ None → Earns task (between (nothing_before (length task.trains.items - count))) (marks_in found.trail) found.amount
 
--- so much is the most that any moves from the start earn; some earn it, if some earn nothing
-pub record IsTop (task : Task) (amount : ℕ) : Type 0 where
-  pub earned : CanEarn task 0 → CanEarn task amount
-  pub most : (moves : List Move) → Completes task start moves → total_after task start moves ≤ amount
+-- what is found is the most that any moves from the start earn, and the trail tells how
+pub record IsTop (task : Task) (found : Found) : Type 0 where
+  pub earns : found.trail.refused ≡ None → Earns task start (marks_in found.trail) found.amount
+  pub most : (moves : List Move) → Completes task start moves → total_after task start moves ≤ found.amount

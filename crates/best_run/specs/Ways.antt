@@ -2,14 +2,16 @@
 -- over a way at once.
 use Rattle.std.specs.Prelude.{◌≡◌, ℕ, ◌<◌, ◌≤◌, Bool, true, false, ◌⊎◌, Option, Some, None, List, [], ◌∷◌, ◌++◌, length, replicate, slice_get}
 use Rattle.reach.specs.Position.{IsAmong}
+use Rattle.reach.specs.declared.walk.Step.{Step}
 use Rattle.best_run.specs.declared.task.Departures.{Departures}
 use Rattle.best_run.specs.declared.task.Piece.{Piece}
 use Rattle.best_run.specs.declared.task.Task.{Task}
 use Rattle.best_run.specs.declared.task.Way.{Way}
+use Rattle.best_run.specs.declared.ways.Path.{Path}
 use Rattle.best_run.specs.declared.explored.Found.{Found}
 use Rattle.best_run.specs.declared.state.Settled.{Settled}
 use Rattle.best_run.specs.declared.state.Standing.{Standing}
-use Rattle.best_run.specs.Moves.{AreExplored, CanEarn, Completes, IsOpen, LeadsFrom, Move, State, along, can_take, ends_in, marked_all, misses, node_at, standing, stop_in, total_after, using}
+use Rattle.best_run.specs.Moves.{AreExplored, Completes, IsTraced, LeadsFrom, Move, State, along, can_take, ends_in, marked_all, misses, node_at, standing, stop_in, total_after, using}
 
 -- a piece, with its place among those that lead from a spot
 pub record Hop : Type 0 where
@@ -31,37 +33,54 @@ abbrev pub borders_by : Piece → List Hop → List ℕ
 borders_by piece [] = piece.borders.items
 borders_by piece (hop ∷ hops) = piece.borders.items ++ borders_by hop.piece hops
 
+-- their steps
+abbrev pub steps_by : Piece → List Hop → List Step
+steps_by piece [] = piece.step ∷ []
+steps_by piece (hop ∷ hops) = piece.step ∷ steps_by hop.piece hops
+
 -- none of them crosses a border that is used, or that one before it crosses
 abbrev pub AreFree : List Bool → Piece → List Hop → Type 0
 AreFree used piece [] = misses used piece.borders.items ≡ true
 AreFree used piece (hop ∷ hops) =
     (misses used piece.borders.items ≡ true) × AreFree (marked_all used piece.borders.items) hop.piece hops
 
--- a way is made of a piece at a place and of others, after some borders
-pub record IsMadeOf (task : Task) (used : List Bool) (path : List ℕ) (place : ℕ) (piece : Piece) (hops : List Hop) (way : Way) : Type 0 where
+-- a way is made of a piece at a place and of others, after some borders and steps
+pub record IsMadeOf (task : Task) (used : List Bool) (path : List ℕ) (walked : List Step) (place : ℕ) (piece : Piece) (hops : List Hop) (way : Way) : Type 0 where
   pub leads : LeadsTo task piece hops way.piece.to
   pub free : AreFree used piece hops
   pub place_is : way.first ≡ place
   pub borders : way.piece.borders.items ≡ path ++ borders_by piece hops
+  pub steps : way.steps.items ≡ walked ++ steps_by piece hops
 
 -- a way by a piece is among some
-pub record HasWay (task : Task) (used : List Bool) (path : List ℕ) (place : ℕ) (piece : Piece) (hops : List Hop) (to : ℕ) (ways : List Way) : Type 0 where
+pub record HasWay (task : Task) (used : List Bool) (path : List ℕ) (walked : List Step) (place : ℕ) (piece : Piece) (hops : List Hop) (to : ℕ) (ways : List Way) : Type 0 where
   pub way : Way
   pub among : IsAmong way ways
-  pub made : IsMadeOf task used path place piece hops way
+  pub made : IsMadeOf task used path walked place piece hops way
   pub to_is : way.piece.to ≡ to
 
 -- the ways by a piece are added to some
-pub record AddsWays (task : Task) (used : List Bool) (path : List ℕ) (place : ℕ) (piece : Piece) (old new : List Way) : Type 0 where
+pub record AddsWays (task : Task) (used : List Bool) (path : List ℕ) (walked : List Step) (place : ℕ) (piece : Piece) (old new : List Way) : Type 0 where
   pub kept : (way : Way) → IsAmong way old → IsAmong way new
-  pub sound : (way : Way) → IsAmong way new → IsAmong way old ⊎ ((hops : List Hop) × IsMadeOf task used path place piece hops way)
-  pub complete : (hops : List Hop) (to : ℕ) → LeadsTo task piece hops to → AreFree used piece hops → HasWay task used path place piece hops to new
+  pub sound : (way : Way) → IsAmong way new → IsAmong way old ⊎ ((hops : List Hop) × IsMadeOf task used path walked place piece hops way)
+  pub complete : (hops : List Hop) (to : ℕ) → LeadsTo task piece hops to → AreFree used piece hops → HasWay task used path walked place piece hops to new
+
+-- the ways by a piece after a path are added to some
+abbrev pub AddsWaysBy : Task → List Bool → Path → Piece → List Way → List Way → Type 0
+AddsWaysBy task used path piece old new =
+    AddsWays task used path.borders.items path.steps.items path.first piece old new
+
+-- a path is longer by a piece
+pub record IsLonger (path : Path) (piece : Piece) (longer : Path) : Type 0 where
+  pub first : longer.first ≡ path.first
+  pub borders : longer.borders.items ≡ path.borders.items ++ piece.borders.items
+  pub steps : longer.steps.items ≡ path.steps.items ++ piece.step ∷ []
 
 -- those by the pieces from a spot before one of them, after a piece that led there
-pub record AddsBelow (task : Task) (used : List Bool) (path : List ℕ) (place : ℕ) (spot most : ℕ) (old new : List Way) : Type 0 where
+pub record AddsBelow (task : Task) (used : List Bool) (path : List ℕ) (walked : List Step) (place : ℕ) (spot most : ℕ) (old new : List Way) : Type 0 where
   pub kept : (way : Way) → IsAmong way old → IsAmong way new
-  pub sound : (way : Way) → IsAmong way new → IsAmong way old ⊎ ((hop : Hop) × LeadsFrom task spot hop.place hop.piece × ((hops : List Hop) × IsMadeOf task used path place hop.piece hops way))
-  pub complete : (hop : Hop) (hops : List Hop) (to : ℕ) → hop.place < most → LeadsFrom task spot hop.place hop.piece → LeadsTo task hop.piece hops to → AreFree used hop.piece hops → HasWay task used path place hop.piece hops to new
+  pub sound : (way : Way) → IsAmong way new → IsAmong way old ⊎ ((hop : Hop) × LeadsFrom task spot hop.place hop.piece × ((hops : List Hop) × IsMadeOf task used path walked place hop.piece hops way))
+  pub complete : (hop : Hop) (hops : List Hop) (to : ℕ) → hop.place < most → LeadsFrom task spot hop.place hop.piece → LeadsTo task hop.piece hops to → AreFree used hop.piece hops → HasWay task used path walked place hop.piece hops to new
 
 -- no border is used
 abbrev pub none_used : List Bool
@@ -69,13 +88,13 @@ none_used = replicate 279 false
 
 -- the ways from a stop by its pieces before one of them
 pub record AreWaysFrom (task : Task) (stop most : ℕ) (ways : List Way) : Type 0 where
-  pub sound : (way : Way) → IsAmong way ways → (piece : Piece) × LeadsFrom task stop way.first piece × ((hops : List Hop) × IsMadeOf task none_used [] way.first piece hops way)
-  pub complete : (place : ℕ) (piece : Piece) (hops : List Hop) (to : ℕ) → place < most → LeadsFrom task stop place piece → LeadsTo task piece hops to → AreFree none_used piece hops → HasWay task none_used [] place piece hops to ways
+  pub sound : (way : Way) → IsAmong way ways → (piece : Piece) × LeadsFrom task stop way.first piece × ((hops : List Hop) × IsMadeOf task none_used [] [] way.first piece hops way)
+  pub complete : (place : ℕ) (piece : Piece) (hops : List Hop) (to : ℕ) → place < most → LeadsFrom task stop place piece → LeadsTo task piece hops to → AreFree none_used piece hops → HasWay task none_used [] [] place piece hops to ways
 
 -- the ways from a stop
 pub record AreWaysOf (task : Task) (stop : ℕ) (ways : List Way) : Type 0 where
-  pub sound : (way : Way) → IsAmong way ways → (piece : Piece) × LeadsFrom task stop way.first piece × ((hops : List Hop) × IsMadeOf task none_used [] way.first piece hops way)
-  pub complete : (place : ℕ) (piece : Piece) (hops : List Hop) (to : ℕ) → LeadsFrom task stop place piece → LeadsTo task piece hops to → AreFree none_used piece hops → HasWay task none_used [] place piece hops to ways
+  pub sound : (way : Way) → IsAmong way ways → (piece : Piece) × LeadsFrom task stop way.first piece × ((hops : List Hop) × IsMadeOf task none_used [] [] way.first piece hops way)
+  pub complete : (place : ℕ) (piece : Piece) (hops : List Hop) (to : ℕ) → LeadsFrom task stop place piece → LeadsTo task piece hops to → AreFree none_used piece hops → HasWay task none_used [] [] place piece hops to ways
 
 -- those from the first spots, as far as these are stops
 pub record AreDepartures (task : Task) (count : ℕ) (all : List Departures) : Type 0 where
@@ -102,10 +121,10 @@ ways_at task stop = ways_in (slice_get task.departures.items stop)
 abbrev pub StandsBefore : List Way → ℕ → Way → Type 0
 StandsBefore ways most way = (place : ℕ) × (place < most) × (slice_get ways place ≡ Some way)
 
--- such ways have been tried, each with its run: the best found grows at most, moves from the start earn it if they lead to
--- where the ways are tried, and whatever comes after one of them earns at most that
+-- such ways have been tried, each with its run: the best found grows at most, the trail tells how it is earned from where
+-- the ways are tried, and whatever comes after one of them earns at most that
 pub record TriesWays (task : Task) (from : State) (settled : Settled) (runs : Way → Standing) (P : Way → Type 0) (old new : Found) : Type 0 where
   pub grows : old.amount ≤ new.amount
-  pub earned : IsOpen task from → CanEarn task old.amount → CanEarn task new.amount
+  pub traced : IsTraced task from old new
   pub known : AreExplored task old → AreExplored task new
   pub most : AreExplored task old → (way : Way) → P way → can_take task (runs way) settled.used way.piece ≡ true → (moves : List Move) → Completes task (standing (using settled way.piece) (along task (runs way) way.piece)) moves → total_after task (standing (using settled way.piece) (along task (runs way) way.piece)) moves ≤ new.amount

@@ -1,9 +1,13 @@
 //! What has been found, and which states between runs have been explored: a state from which no more
 //! can be earned than from one of these is not explored again.
-ghost use Rattle.std.specs.Prelude.{◌≡◌, ◌<◌, IfOk, IsTrue};
+ghost use Rattle.std.specs.Prelude.{[], ◌∷◌, IfOk, IsTrue};
 ghost use Rattle.best_run.specs.Kept.{IsCovered, IsKept, IsNothing};
+ghost use Rattle.best_run.specs.Moves.{Traces};
+ghost use Rattle.best_run.specs.Trail.{go_along};
 
 use crate::state::{BORDERS, Settled};
+use crate::trail::{Mark, Trail};
+use reach::Step;
 use std::alloc::{AllocError, Global};
 use tables::Amount;
 
@@ -12,6 +16,8 @@ use tables::Amount;
 pub(crate) struct Found {
     /// The greatest total so far, in dollars.
     pub(crate) amount: Amount,
+    /// The moves that earn it.
+    pub(crate) trail: Trail,
     /// States between runs that have been explored: no way on from there earns more. Each stands at one
     /// place, in place of the one that stood there.
     pub(crate) explored: Vec<Settled>,
@@ -47,8 +53,27 @@ impl Found {
         }
         Ok(Found {
             amount: 0,
+            trail: Trail::new(alloc),
             explored,
         })
+    }
+
+    /// Tells of a move that led on to what has been found, if it is more than before.
+    pub(crate) fn trace(&mut self, before: Amount, mark: Mark)
+        ensures { Traces before (mark ∷ []) self.old self.new }
+    {
+        if self.amount > before {
+            self.trail.write(mark);
+        }
+    }
+
+    /// Tells of the steps that led on to what has been found, if it is more than before.
+    pub(crate) fn trace_steps(&mut self, before: Amount, steps: &[Step])
+        ensures { Traces before (go_along steps.now) self.old self.new }
+    {
+        if self.amount > before {
+            self.trail.write_steps(steps);
+        }
     }
 
     /// Whether a state that was explored is known to earn no less than another. It is not told of

@@ -16,16 +16,20 @@
 #![tactic(auto)]
 
 mod alike;
-mod best;
+mod answer;
+mod claimed;
 mod explored;
 mod outlook;
+mod revenue;
 mod runner;
 mod search;
 mod spots;
 mod state;
 mod task;
+mod trail;
 mod trains;
 mod ways;
 
-pub use best::greatest_revenue;
+pub use answer::Best;
+pub use revenue::best;
 pub use runner::Search;

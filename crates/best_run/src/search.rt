@@ -7,6 +7,7 @@ ghost use Rattle.best_run.specs.Moves.{Any, Explores, IsBegin, IsBeginAt, IsGo, 
 use crate::explored::Found;
 use crate::state::{Settled, Standing};
 use crate::task::{Piece, Task};
+use crate::trail::Mark;
 use tables::Amount;
 
 impl Task {
@@ -79,6 +80,7 @@ impl Task {
         if settled.next == self.trains.len() {
             if best.amount < settled.total {
                 best.amount = settled.total;
+                best.trail.clear();
             }
             return;
         }
@@ -100,8 +102,10 @@ impl Task {
         if best.covers(&alike) {
             return;
         }
+        let before = best.amount;
         let passed = settled.passed();
         self.settle_next(&passed, bounds, best);
+        best.trace(before, Mark::Pass);
         self.begin_runs(settled, bounds, best);
         best.keep(&alike);
     }
@@ -143,7 +147,9 @@ impl Task {
         for index in 0..from.ways.len() {
             let way = &from.ways[index];
             let run = begun.by(way.first);
+            let before = best.amount;
             self.take(settled, &run, &way.piece, bounds, best);
+            best.trace_steps(before, &way.steps);
         }
     }
 
@@ -194,8 +200,10 @@ impl Task {
             return;
         }
         if self.may_settle(settled, run) {
+            let before = best.amount;
             let settling = settled.settling(run);
             self.settle_next(&settling, bounds, best);
+            best.trace(before, Mark::Settle);
         }
         self.go_on(settled, run, bounds, best);
         self.turn_back(settled, run, bounds, best);
@@ -223,7 +231,10 @@ impl Task {
         settled.marks_all_borders();
         let from = &self.departures[run.head];
         for index in 0..from.ways.len() {
-            self.take(settled, run, &from.ways[index].piece, bounds, best);
+            let way = &from.ways[index];
+            let before = best.amount;
+            self.take(settled, run, &way.piece, bounds, best);
+            best.trace_steps(before, &way.steps);
         }
     }
 
@@ -251,7 +262,10 @@ impl Task {
         for index in 0..from.ways.len() {
             let way = &from.ways[index];
             if run.first <= way.first {
+                let before = best.amount;
                 self.take(settled, &back, &way.piece, bounds, best);
+                best.trace_steps(before, &way.steps);
+                best.trace(before, Mark::Turn);
             }
         }
     }

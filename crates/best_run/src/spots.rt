@@ -81,6 +81,7 @@ fn piece_of(alloc: Global, step: Step) -> Result<Piece, AllocError>
     }
     Ok(Piece {
         to: number_of(step.left()),
+        step,
         borders,
     })
 }

@@ -1,5 +1,6 @@
 ghost use Rattle.std.specs.Prelude.{◌≡◌};
 
+use reach::Step;
 use tables::Amount;
 
 /// A piece of track that leads from a spot to the next one.
@@ -7,6 +8,8 @@ use tables::Amount;
 pub(crate) struct Piece {
     /// The spot to which it leads, by its number.
     pub(crate) to: usize,
+    /// The step that it is; of the last piece, where it stands for a way.
+    pub(crate) step: Step,
     /// The borders that it crosses, by their numbers.
     pub(crate) borders: Vec<usize>,
 }
@@ -31,6 +34,8 @@ pub(crate) struct Node {
 pub(crate) struct Way {
     /// The place of its first piece among those that lead from the stop.
     pub(crate) first: usize,
+    /// The steps of its pieces, in order.
+    pub(crate) steps: Vec<Step>,
     /// The stop to which it leads, and the borders that it crosses.
     pub(crate) piece: Piece,
 }

@@ -1,5 +1,5 @@
 use crate::fault::Fault;
-use best_run::greatest_revenue;
+use best_run::best;
 use board::Board;
 use map_tables::{Hex, Lay, Place, Rotation, TileNo};
 use std::alloc::{AllocError, Global};
@@ -53,7 +53,8 @@ impl Game {
             return Err(Fault::Company);
         };
         let board = Board::of(alloc, &self.lays, &self.tokens, self.phase)?;
-        Ok(greatest_revenue(alloc, &board, company, &self.trains)?)
+        let answer = best(alloc, &board, company, &self.trains)?;
+        Ok(answer.claim.revenue)
     }
 
     /// Reads a line. The errors are `Line` and `Memory`.

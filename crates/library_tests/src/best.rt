@@ -1,8 +1,9 @@
-//! The greatest revenue of a company's trains: worked examples, found by hand on the printed map.
+//! The best of a company's trains: worked examples, found by hand on the printed map.
 
 use crate::boards::{PRR, laid, of_prr};
-use best_run::greatest_revenue;
-use map_tables::{Hex, TileNo};
+use crate::claims::claimed;
+use best_run::best;
+use map_tables::{Hex, Run, TileNo};
 use tables::{Company, Kind};
 
 /// Two 2s, of which one alone can run; no train; and a company without a token.
@@ -12,10 +13,20 @@ fn runs_a_link(rt: HostRuntime) {
         panic!(rt; "refused")
     };
     let twos = [Kind::Two, Kind::Two];
-    assert_eq!(rt; greatest_revenue(rt.alloc(), &board, PRR, &twos), Ok(30));
-    assert_eq!(rt; greatest_revenue(rt.alloc(), &board, PRR, &[]), Ok(0));
+    assert_eq!(rt; claimed(rt.alloc(), &board, PRR, &twos), Ok(Some((1, 30))));
+    assert_eq!(rt; claimed(rt.alloc(), &board, PRR, &[]), Ok(Some((0, 0))));
     let other = Company::NewYorkCentral;
-    assert_eq!(rt; greatest_revenue(rt.alloc(), &board, other, &twos), Ok(0));
+    assert_eq!(rt; claimed(rt.alloc(), &board, other, &twos), Ok(Some((0, 0))));
+}
+
+/// Whether a run leads from one hex to another, in either direction.
+fn runs_between(run: &Run, one: Hex, other: Hex) -> bool {
+    match run.as_slice() {
+        [first, .., last] => {
+            (first.hex == one && last.hex == other) || (first.hex == other && last.hex == one)
+        }
+        _ => false,
+    }
 }
 
 /// A 2 runs west from PRR's home and a 3 east, which is more than the 3 earns alone, going through.
@@ -29,6 +40,16 @@ fn runs_two_trains(rt: HostRuntime) {
     let Ok(board) = of_prr(rt.alloc(), &lays) else {
         panic!(rt; "refused")
     };
-    let trains = [Kind::Two, Kind::Three];
-    assert_eq!(rt; greatest_revenue(rt.alloc(), &board, PRR, &trains), Ok(60));
+    let trains = [Kind::Three, Kind::Two];
+    assert_eq!(rt;
+        claimed(rt.alloc(), &board, PRR, &trains),
+        Ok(Some((2, 60)))
+    );
+    let Ok(answer) = best(rt.alloc(), &board, PRR, &trains) else {
+        panic!(rt; "memory")
+    };
+    for far in [Hex::H10, Hex::H16] {
+        let mut runs = answer.claim.runs.as_slice().iter();
+        assert!(rt; runs.any(|claimed| runs_between(&claimed.run, Hex::H12, far)));
+    }
 }

@@ -4,7 +4,7 @@
 //!
 //! Reading order: `lines` (lines read and printed), `boards` (tiles and tokens), `best` (the greatest
 //! revenue), `best_agrees` (the same beside a slow search, on small boards), `slow_search` (that
-//! search), `books` (money, tenths, events).
+//! search), `claims` (the runs of a claim, checked one after the other), `books` (money, tenths, events).
 #![tactic(auto)]
 
 #[cfg(test)]
@@ -15,6 +15,8 @@ mod best_agrees;
 mod boards;
 #[cfg(test)]
 mod books;
+#[cfg(test)]
+mod claims;
 #[cfg(test)]
 mod lines;
 #[cfg(test)]

@@ -1,13 +1,16 @@
 -- Each loop adds the next ways to those tried, and together they are all moves of the state.
-use Rattle.std.proofs.Common.{◌≡◌, ◌+◌, true, false, inl, inr, Some, length, slice_get, refl, sym, ap, subst, ◌∙◌, arith}
+use Rattle.std.proofs.Common.{◌≡◌, ◌+◌, true, false, inl, inr, Some, List, [], ◌∷◌, length, slice_get, refl, sym, ap, subst, ◌∙◌, arith}
 use Rattle.std.proofs.lemmas.Option.{slice_get_read}
 use Rattle.best_run.specs.declared.explored.Found.{Found}
 use Rattle.best_run.specs.declared.state.Settled.{Settled}
 use Rattle.best_run.specs.declared.state.Standing.{Standing}
-use Rattle.best_run.specs.Moves.{Any, Below, Explores, IsBegin, IsGo, Takes, Tries, begun, begun_by, between, can_take, ends_in, node_at, own_in, standing, stop_in, turned_back}
+use Rattle.best_run.specs.declared.trail.Mark.TheVariants.{Pass, Turn, Settle}
+use Rattle.reach.specs.declared.walk.Step.{Step}
+use Rattle.best_run.specs.Trail.{go_along}
+use Rattle.best_run.specs.Moves.{Any, Below, Explores, IsBegin, IsGo, Takes, Traces, Tries, begun, begun_by, between, can_take, ends_in, node_at, own_in, passed, settling, standing, stop_in, turned_back}
 use Rattle.best_run.specs.Ways.{AreWaysOf, StandsBefore, TriesWays}
 use Rattle.best_run.proofs.Likened.{low_alike, low_back}
-use Rattle.best_run.proofs.Along.{AnyWay, IsLater, begin_by_ways, go_by_ways, open_begin, open_go, open_turn, turn_by_ways, way_fits, ways_more, ways_none, ways_skip}
+use Rattle.best_run.proofs.Along.{AnyWay, IsLater, begin_by_ways, go_by_ways, leads_begin, leads_go, leads_turn, turn_by_ways, way_fits, ways_more, ways_none, ways_skip}
 use Rattle.best_run.proofs.Departing.{departs_from}
 use Rattle.best_run.proofs.Described.{among_place}
 use Rattle.best_run.proofs.Eased.{falls_short}
@@ -15,7 +18,8 @@ use Rattle.best_run.proofs.Equal.{explores_capped}
 use Rattle.best_run.proofs.Hopeless.{explores_hopeless}
 use Rattle.best_run.proofs.Kept.{explores_covered, explores_kept}
 use Rattle.best_run.proofs.Places.{less_by, node_is, one_at_side, one_low, one_of, room_by, take_free, value_low}
-use Rattle.best_run.proofs.Tried.{begin_every, begin_more, begin_none, explores_between, explores_on, explores_standing, over_better, over_no_better, tries_on}
+use Rattle.best_run.proofs.Traced.{explores_from, takes_from, traces_both}
+use Rattle.best_run.proofs.Tried.{begin_every, begin_more, begin_none, explores_between, explores_on, explores_standing, leads_pass, leads_settle, over_better, over_no_better, tries_on}
 use Rattle.best_run.proofs.task.Task.+explore.Goals as goal
 use Rattle.best_run.proofs.task.Task.+explore.Goals.{stand-then-may_settle, stand-else-may_settle, begin_runs-then-node+then-node-2, begin_runs-else-node, begin_runs-else-node-via-then-node+else-node-2, begin_runs-else-node-via-else-node, turn_back-then-run-way, turn_back-else-run-way}
 
@@ -38,8 +42,10 @@ begin_at-loop-index-preserved t c =
     let at : slice_get ways index ≡ Some way = slice_get_read ways (length ways) index way refl (omega arith) c.index-way.ensures in
     let run = begun task settled stop way.first in
     ways_more task c.requires.fit stop c.requires.begins ways are (between settled) settled (λ w. begun task settled stop w.first) AnyWay index way _ _ _ at c.loop-index.invariant
+    (takes_from task (between settled) settled run way (go_along way.steps.items) c.loop-index.best c.take.new.best c.trace_steps.new.self
+    (leads_begin task c.requires.fit settled c.marks_all_borders.ensures stop c.requires.begins c.requires.token c.requires.next ways are index way at)
     (subst (λ (r : Standing). Takes task settled r way.piece c.loop-index.best c.take.new.best) (c.by-run.ensures ∙ ap (λ (r : Standing). begun_by r way.first) c.begun-begun.ensures) c.take.ensures)
-    (open_begin task c.requires.fit settled c.marks_all_borders.ensures stop c.requires.begins c.requires.token c.requires.next ways are index way at)
+    (subst (λ (steps : List Step). Traces c.loop-index.best.amount (go_along steps) c.take.new.best c.trace_steps.new.self) c.deref.ensures.value c.trace_steps.ensures))
 
 pub begin_at-returns : goal.begin_at-returns
 begin_at-returns t c =
@@ -63,13 +69,16 @@ go_on-loop-index-preserved t c =
     let index = c.loop-index.index in
     let node = c.index-head.result.now in
     let from = c.index-from.result.now in
-    let way = c.index.result.now in
+    let way = c.index-way.result.now in
     let ways = from.ways.items in
     let there : node_at task run.head ≡ Some node = node_is task c.requires.fit run.head node c.requires.head c.index-head.ensures in
     let are : AreWaysOf task run.head ways = departs_from task c.requires.ready run.head from c.requires.head c.index-from.ensures c.requires.stands in
-    let at : slice_get ways index ≡ Some way = slice_get_read ways (length ways) index way refl (omega arith) c.index.ensures in
-    ways_more task c.requires.fit run.head c.requires.stands ways are (standing settled run) settled (λ w. run) AnyWay index way _ _ _ at c.loop-index.invariant c.take.ensures
-    (open_go task c.requires.fit settled c.marks_all_borders.ensures run c.requires.stands (ap ends_in there ∙ c.if-head.false) ways are index way at)
+    let at : slice_get ways index ≡ Some way = slice_get_read ways (length ways) index way refl (omega arith) c.index-way.ensures in
+    ways_more task c.requires.fit run.head c.requires.stands ways are (standing settled run) settled (λ w. run) AnyWay index way _ _ _ at c.loop-index.invariant
+    (takes_from task (standing settled run) settled run way (go_along way.steps.items) c.loop-index.best c.take.new.best c.trace_steps.new.self
+    (leads_go task c.requires.fit settled c.marks_all_borders.ensures run c.requires.stands (ap ends_in there ∙ c.if-head.false) ways are index way at)
+    c.take.ensures
+    (subst (λ (steps : List Step). Traces c.loop-index.best.amount (go_along steps) c.take.new.best c.trace_steps.new.self) c.deref.ensures.value c.trace_steps.ensures))
 
 pub go_on-returns : goal.go_on-returns
 go_on-returns t c =
@@ -81,7 +90,7 @@ go_on-returns t c =
 
 pub settle_next-returns-then-best-settled : goal.settle_next-returns-then-best-settled
 settle_next-returns-then-best-settled t c =
-    over_better c.args.self.now c.args.settled.now c.args.best.now (omega arith) (omega arith)
+    over_better c.args.self.now c.args.settled.now c.args.best.now c.clear.new.self (omega arith) (omega arith) c.clear.ensures.marks c.clear.ensures.refused
 
 pub settle_next-returns-else-best-settled : goal.settle_next-returns-else-best-settled
 settle_next-returns-else-best-settled t c =
@@ -99,10 +108,13 @@ settle_next-returns-then-are_capped t c =
 pub settle_next-returns : goal.settle_next-returns
 settle_next-returns t c =
     let task = c.args.self.now in
-    explores_kept task c.args.settled.now c.alike-alike.result c.args.best.now c.begin_runs.new.best c.keep.new.self (low_back task c.args.settled.now c.alike-alike.result c.alike-alike.ensures)
-    (explores_between task c.args.settled.now c.args.best.now c.settle_next.new.best c.begin_runs.new.best (omega arith)
+    let settled = c.args.settled.now in
+    explores_kept task settled c.alike-alike.result c.args.best.now c.begin_runs.new.best c.keep.new.self (low_back task settled c.alike-alike.result c.alike-alike.ensures)
+    (explores_between task settled c.args.best.now c.trace.new.self c.begin_runs.new.best
+    (explores_from task (between settled) (between (passed settled)) (Pass ∷ []) c.args.best.now c.settle_next.new.best c.trace.new.self (leads_pass task settled (omega arith))
     (subst (λ (s : Settled). Explores task (between s) c.args.best.now c.settle_next.new.best) c.passed-passed.ensures c.settle_next.ensures)
-    c.begin_runs.ensures)
+    c.trace.ensures)
+    c.begin_runs.ensures (omega arith))
     c.keep.ensures
 
 pub settle_next-returns-then-covers : goal.settle_next-returns-then-covers
@@ -120,9 +132,12 @@ stand-returns t c =
     let run = c.args.run.now in
     elim c.if-may_settle.branch [
       | stand-then-may_settle w ↦
-          explores_standing task settled run c.args.best.now w.settle_next.new.best c.turn_back.new.best (sym c.may_settle.ensures ∙ w.if-may_settle.true)
+          explores_standing task settled run c.args.best.now w.trace.new.self c.turn_back.new.best
+          (explores_from task (standing settled run) (between (settling settled run)) (Settle ∷ []) c.args.best.now w.settle_next.new.best w.trace.new.self
+          (leads_settle task settled run (sym c.may_settle.ensures ∙ w.if-may_settle.true))
           (subst (λ (s : Settled). Explores task (between s) c.args.best.now w.settle_next.new.best) w.settling-settling.ensures w.settle_next.ensures)
-          (tries_on task settled run w.settle_next.new.best c.go_on.new.best c.turn_back.new.best
+          w.trace.ensures)
+          (tries_on task settled run w.trace.new.self c.go_on.new.best c.turn_back.new.best
           (subst (λ (b : Found). Tries task (standing settled run) (IsGo Any) b c.go_on.new.best) w.best-is c.go_on.ensures)
           c.turn_back.ensures)
       | stand-else-may_settle w ↦
@@ -192,10 +207,10 @@ go_on-take-requires t c =
     let run = c.args.run.now in
     let index = c.loop-index.index in
     let from = c.index-from.result.now in
-    let way = c.index.result.now in
+    let way = c.index-way.result.now in
     let ways = from.ways.items in
     let are : AreWaysOf task run.head ways = departs_from task c.requires.ready run.head from c.requires.head c.index-from.ensures c.requires.stands in
-    let at : slice_get ways index ≡ Some way = slice_get_read ways (length ways) index way refl (omega arith) c.index.ensures in
+    let at : slice_get ways index ≡ Some way = slice_get_read ways (length ways) index way refl (omega arith) c.index-way.ensures in
     let fits = way_fits task c.requires.fit run.head ways are c.requires.stands way (among_place ways index way at) in
     (omega arith, (c.requires.fit, (c.requires.ready, (c.requires.bounds, (c.requires.next, (fits.0, (fits.1, (c.requires.home, (c.requires.begun, omega arith)))))))))
 
@@ -263,8 +278,12 @@ turn_back-loop-index-preserved t c =
       | turn_back-then-run-way w ↦
           subst Tried (sym w.best-is)
           (ways_more task c.requires.fit run.home c.requires.begun ways are (standing settled run) settled (λ v. turned_back run) (IsLater run) index way _ _ _ at c.loop-index.invariant
+          (takes_from task (standing settled run) settled (turned_back run) way (Turn ∷ go_along way.steps.items) c.loop-index.best w.take.new.best w.trace.new.self
+          (leads_turn task c.requires.fit settled c.marks_all_borders.ensures run c.requires.begun c.if-run.false c.requires.stands (ap ends_in there ∙ c.if-index.false) ways are index way at (omega arith))
           (subst (λ (r : Standing). Takes task settled r way.piece c.loop-index.best w.take.new.best) c.turned_back-back.ensures w.take.ensures)
-          (open_turn task c.requires.fit settled c.marks_all_borders.ensures run c.requires.begun c.if-run.false c.requires.stands (ap ends_in there ∙ c.if-index.false) ways are index way at (omega arith)))
+          (traces_both c.loop-index.best.amount (go_along way.steps.items) (Turn ∷ []) w.take.new.best w.trace_steps.new.self w.trace.new.self
+          (subst (λ (steps : List Step). Traces c.loop-index.best.amount (go_along steps) w.take.new.best w.trace_steps.new.self) w.deref.ensures.value w.trace_steps.ensures)
+          w.trace.ensures)))
       | turn_back-else-run-way w ↦
           subst Tried (sym w.best-is)
           (ways_skip task c.requires.fit run.home c.requires.begun ways are (standing settled run) settled (λ v. turned_back run) (IsLater run) index way _ _ at (λ later. omega (arith, w.if-run-way.false, later)) c.loop-index.invariant)

@@ -3,7 +3,6 @@ use Rattle.std.proofs.Common.{ℕ, sym, subst, arith}
 use Rattle.best_run.specs.Kept.{IsNothing}
 use Rattle.best_run.specs.Suffix.{AreBounds}
 use Rattle.best_run.proofs.Eased.{solved_all}
-use Rattle.best_run.proofs.Kept.{nothing_explored}
 use Rattle.best_run.proofs.task.Task.greatest.Goals as goal
 
 pub settle_last-requires-clause-bounds : goal.settle_last-requires-clause-bounds
@@ -11,8 +10,7 @@ settle_last-requires-clause-bounds c = subst (AreBounds c.args.self.now) (sym c.
 
 pub returns : goal.returns
 returns c =
-    solved_all c.args.self.now c.len-2.result _ _ _ _ (omega arith) c.in_ok-best.ensures.amount c.in_ok-bounds.ensures c.settle_last.ensures
+    solved_all c.args.self.now c.len-2.result _ _ _ (omega arith) c.in_ok-bounds.ensures c.settle_last.ensures
 
-pub settle_suffixes-requires-clause-known : goal.settle_suffixes-requires-clause-known
-settle_suffixes-requires-clause-known c =
-    nothing_explored c.args.self.now _ (subst (λ (n : ℕ). IsNothing n c.in_ok-best.best) (omega arith) c.in_ok-best.ensures)
+pub settle_suffixes-requires-clause-nothing : goal.settle_suffixes-requires-clause-nothing
+settle_suffixes-requires-clause-nothing c = subst (λ (n : ℕ). IsNothing n c.in_ok-best.best) (omega arith) c.in_ok-best.ensures

@@ -1,11 +1,14 @@
--- One train more is solved for in each round.
+-- One train more is solved for in each round, and then passes.
 use Rattle.std.proofs.Common.{sym, subst, arith}
 use Rattle.best_run.specs.Suffix.{AreBounds}
 use Rattle.best_run.proofs.Eased.{solved_more, solved_none}
+use Rattle.best_run.proofs.Kept.{nothing_explored}
 use Rattle.best_run.proofs.task.Task.settle_suffixes.Goals as goal
 
 pub loop-count-init : goal.loop-count-init
-loop-count-init c = rw c.new-bounds.ensures.items (solved_none c.args.self.now c.args.best.now c.requires.known)
+loop-count-init c =
+    rw c.new-bounds.ensures.items
+    (solved_none c.args.self.now c.args.best.now c.requires.nothing.amount c.requires.nothing.marks (nothing_explored c.args.self.now c.args.best.now c.requires.nothing))
 
 pub settle_last-requires-clause-bounds : goal.settle_last-requires-clause-bounds
 settle_last-requires-clause-bounds c = subst (AreBounds c.args.self.now) (sym c.deref.ensures.value) c.loop-count.invariant.true_bounds
@@ -13,4 +16,4 @@ settle_last-requires-clause-bounds c = subst (AreBounds c.args.self.now) (sym c.
 pub loop-count-preserved : goal.loop-count-preserved
 loop-count-preserved c =
     rw c.in_ok-push.ensures.items
-    (solved_more c.args.self.now c.loop-count.count c.loop-count.bounds.items _ _ _ (omega arith) c.loop-count.invariant c.settle_last.ensures)
+    (solved_more c.args.self.now c.loop-count.count c.loop-count.bounds.items c.loop-count.best c.settle_last.new.best c.write.new.self (omega arith) c.loop-count.invariant c.settle_last.ensures c.write.ensures)

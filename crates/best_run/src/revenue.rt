@@ -1,14 +1,20 @@
-ghost use Rattle.std.specs.Prelude.{◌≡◌, ◌-◌, ◌≤◌, IfOk, false, length};
+ghost use Rattle.std.specs.Prelude.{◌≡◌, ◌-◌, ◌≤◌, IfOk, length};
 ghost use Rattle.best_run.specs.Fit.{IsFit};
-ghost use Rattle.best_run.specs.Moves.{AreExplored, Explores, between};
+ghost use Rattle.best_run.specs.Kept.{IsNothing};
+ghost use Rattle.best_run.specs.Moves.{Explores, between};
 ghost use Rattle.best_run.specs.Ways.{AreReady};
 ghost use Rattle.best_run.specs.Suffix.{AreBounds, IsSolved, IsTop, nothing_before};
+ghost use Rattle.certificate.specs.Claim.{ClaimHolds};
 ghost use Rattle.certificate.specs.Set.{IsGreatest};
 
+use crate::answer::Best;
+use crate::claimed::claimed_runs;
 use crate::explored::Found;
 use crate::state::{BORDERS, Settled};
 use crate::task::Task;
+use crate::trail::Mark;
 use crate::trains::greatest_first;
+use certificate::Claim;
 use reach::Network;
 use std::alloc::{AllocError, Global};
 use tables::{Amount, Company, Kind};
@@ -37,18 +43,20 @@ impl Task {
     }
 
     /// Solves for no train, for the last one, for the last two, and so on, up to all but the first:
-    /// what is found bounds what these trains earn behind others. The only error is want of memory.
+    /// what is found bounds what these trains earn behind others. Of one train more what has been found
+    /// is earned as well, where the first one passes. The only error is want of memory.
     fn settle_suffixes(&self, alloc: Global, best: &mut Found) -> Result<Vec<Amount>, AllocError>
         requires fit { IsFit self.now }
         requires ready { AreReady self.now }
-        requires known { AreExplored self.now best.old }
+        requires nothing { IsNothing (length self.now.trains.items) best.old }
         ensures { let all = length self.now.trains.items in
-            IfOk result (λ bounds. IsSolved self.now all bounds.items best.old best.new) }
+            IfOk result (λ bounds. IsSolved self.now all bounds.items best.new) }
     {
         let mut bounds = Vec::new(alloc);
         for count in 0..self.trains.len() {
             self.settle_last(count, &bounds, best);
             bounds.push(best.amount)?;
+            best.trail.write(Mark::Pass);
         }
         Ok(bounds)
     }
@@ -66,9 +74,9 @@ impl Task {
         (ways.saturating_mul(ways) / 4).min(MOST_PLACES)
     }
 
-    /// The greatest total of all ways from nothing settled to the end, in dollars. The only error
-    /// is want of memory.
-    fn greatest(&self, alloc: Global) -> Result<Amount, AllocError>
+    /// The greatest total of all ways from nothing settled to the end, with the moves that earn it. The
+    /// only error is want of memory.
+    fn greatest(&self, alloc: Global) -> Result<Found, AllocError>
         requires fit { IsFit self.now }
         requires ready { AreReady self.now }
         ensures { IfOk result (IsTop self.now) }
@@ -76,24 +84,31 @@ impl Task {
         let mut best = Found::nothing(alloc, self.trains.len(), self.places())?;
         let bounds = self.settle_suffixes(alloc, &mut best)?;
         self.settle_last(self.trains.len(), &bounds, &mut best);
-        Ok(best.amount)
+        Ok(best)
     }
 }
 
-/// The greatest revenue that any legal set of runs for these trains of a company earns on a
-/// network, in dollars. The only error is want of memory.
-pub fn greatest_revenue<N: Network>(
+/// The greatest revenue that any legal set of runs for these trains of a company earns on a network,
+/// with the runs of a legal set that earns it. Where no run is legal, that is nothing, by no run. The
+/// only error is want of memory.
+pub fn best<N: Network>(
     alloc: Global,
     network: &N,
     company: Company,
     trains: &[Kind],
-) -> Result<Amount, AllocError>
-    ensures { let position = N.position network.now in
-        IfOk result (IsGreatest position company trains.now) }
+) -> Result<Best, AllocError>
+    ensures holds { let position = N.position network.now in
+        IfOk result (λ best. ClaimHolds position company trains.now best.claim) }
+    ensures greatest { let position = N.position network.now in
+        IfOk result (λ best. IsGreatest position company trains.now best.claim.revenue) }
 {
     network.keeps_laws();
     let sorted = greatest_first(alloc, trains)?;
     let task = Task::of(alloc, network, company, &sorted)?;
-    let revenue = task.greatest(alloc)?;
-    Ok(revenue)
+    let top = task.greatest(alloc)?;
+    let revenue = top.amount;
+    let runs = claimed_runs(alloc, &sorted, top.trail)?;
+    Ok(Best {
+        claim: Claim { revenue, runs },
+    })
 }

@@ -1,0 +1,148 @@
+-- How the best found is earned: while nothing more is found the trail stays, and what is found from a state on is found from
+-- one before it, by the marks of the moves between them.
+use Rattle.std.proofs.Common.{◌≡◌, ℕ, ◌<◌, ◌≤◌, true, ◌⊎◌, inl, inr, None, List, ◌++◌, slice_get, refl, sym, ap, subst, ◌∙◌, arith}
+use Rattle.best_run.specs.declared.explored.Found.{Found}
+use Rattle.best_run.specs.declared.state.Settled.{Settled}
+use Rattle.best_run.specs.declared.state.Standing.{Standing}
+use Rattle.best_run.specs.declared.task.Task.{Task}
+use Rattle.best_run.specs.declared.task.Way.{Way}
+use Rattle.best_run.specs.declared.trail.Mark.{Mark}
+use Rattle.best_run.specs.declared.trail.Trail.{Trail}
+use Rattle.best_run.specs.Moves.{AreExplored, Completes, Earns, EarnsAtMost, Explores, IsAsBefore, IsBetter, IsTraced, Move, State, Takes, Traces, along, can_take, marks_of, standing, total_after, using}
+use Rattle.best_run.specs.Trail.{IsWritten, marks_in}
+use Rattle.std.proofs.lemmas.List.{append_assoc}
+
+-- nothing has been found
+pub traced_none : (task : Task) (state : State) (best : Found) → IsTraced task state best best
+traced_none task state best =
+    record { refused = λ none. none; told = λ none. inl (record { amount = refl; marks = refl }) }
+
+-- something has been found, and then something more
+pub traced_both : (task : Task) (state : State) (old middle new : Found) → old.amount ≤ middle.amount → middle.amount ≤ new.amount → IsTraced task state old middle → IsTraced task state middle new → IsTraced task state old new
+traced_both task state old middle new grows more first second =
+    record { refused = λ none. first.refused (second.refused none); told = λ none. by_second (second.refused none) (second.told none) }
+  where
+    by_first : IsAsBefore middle new → IsAsBefore old middle ⊎ IsBetter task state old middle → IsAsBefore old new ⊎ IsBetter task state old new
+    by_first same (inl before) = inl (record { amount = same.amount ∙ before.amount; marks = same.marks ∙ before.marks })
+    by_first same (inr better) =
+        inr (record {
+          more = omega (arith, better.more, same.amount);
+          earns = subst (λ (marks : List Mark). Earns task state marks new.amount) (sym same.marks)
+              (subst (λ (n : ℕ). Earns task state (marks_in middle.trail) n) (sym same.amount) better.earns);
+        })
+
+    by_second : middle.trail.refused ≡ None → IsAsBefore middle new ⊎ IsBetter task state middle new → IsAsBefore old new ⊎ IsBetter task state old new
+    by_second none (inl same) = by_first same (first.told none)
+    by_second none (inr better) = inr (record { more = omega (arith, grows, better.more); earns = better.earns })
+
+-- whatever comes after a state comes after one before it, behind some marks
+pub record ComesBy (task : Task) (from to : State) (front : List Mark) (later : List Move) : Type 0 where
+  pub moves : List Move
+  pub completes : Completes task from moves
+  pub total : total_after task from moves ≡ total_after task to later
+  pub marks_are : marks_of moves ≡ front ++ marks_of later
+
+abbrev pub Leads : Task → State → State → List Mark → Type 0
+Leads task from to front = (later : List Move) → Completes task to later → ComesBy task from to front later
+
+-- what is earned from a state on is earned from one before it
+pub earns_by : (task : Task) (from to : State) (front marks : List Mark) (amount : ℕ) → Leads task from to front → Earns task to marks amount → Earns task from (front ++ marks) amount
+earns_by task from to front marks amount leads earns =
+    let by : ComesBy task from to front earns.moves = leads earns.moves earns.completes in
+    record {
+      moves = by.moves;
+      completes = by.completes;
+      total = by.total ∙ earns.total;
+      marks_are = ap (λ (later : List Mark). front ++ later) earns.marks_are ∙ sym by.marks_are;
+    }
+
+-- what is found from a state on, once the moves that led there are told
+found_before : (task : Task) (from to : State) (front : List Mark) (old middle new : Found) → old.amount ≤ middle.amount → (middle.trail.refused ≡ None → old.trail.refused ≡ None) → Traces old.amount front middle new → (middle.trail.refused ≡ None → IsAsBefore old middle ⊎ (Leads task from to front × IsBetter task to old middle)) → IsTraced task from old new
+found_before task from to front old middle new grows refused traces told =
+    elim (same_or_more grows) [
+      | inl same ↦
+          let as_before : new.trail ≡ middle.trail = traces.as_before (omega arith) in
+          record {
+            refused = λ none. refused (subst (λ (t : Trail). t.refused ≡ None) as_before none);
+            told = λ none. elim (told (subst (λ (t : Trail). t.refused ≡ None) as_before none)) [
+              | inl before ↦ inl (record { amount = traces.amount ∙ before.amount; marks = ap marks_in as_before ∙ before.marks })
+              | inr better ↦ absurd (omega (arith, same, better.1.more))
+            ];
+          }
+      | inr more ↦
+          let written : IsWritten front middle.trail new.trail = traces.written more in
+          record {
+            refused = λ none. refused (written.refused none);
+            told = λ none. elim (told (written.refused none)) [
+              | inl before ↦ absurd (omega (arith, more, before.amount))
+              | inr better ↦ inr (record {
+                more = omega (arith, better.1.more, traces.amount);
+                earns = subst (λ (marks : List Mark). Earns task from marks new.amount) (sym (written.marks_are none))
+                    (subst (λ (n : ℕ). Earns task from (front ++ marks_in middle.trail) n) (sym traces.amount)
+                    (earns_by task from to front (marks_in middle.trail) middle.amount better.0 better.1.earns));
+              })
+            ];
+          }
+    ]
+  where
+    same_or_more : old.amount ≤ middle.amount → (middle.amount ≡ old.amount) ⊎ (old.amount < middle.amount)
+    same_or_more low = grind arith
+
+-- what is kept as explored stays so where the trail alone grows
+known_traced : (task : Task) (least : ℕ) (front : List Mark) (middle new : Found) → Traces least front middle new → AreExplored task middle → AreExplored task new
+known_traced task least front middle new traces known place entry there =
+    subst (λ (n : ℕ). EarnsAtMost task entry n) (sym traces.amount)
+    (known place entry (ap (λ (entries : List Settled). slice_get entries place) (sym traces.explored) ∙ there))
+
+-- all ways from a state on have been tried, and the trail tells of them from one before it
+pub record ExploresFrom (task : Task) (from to : State) (old new : Found) : Type 0 where
+  pub grows : old.amount ≤ new.amount
+  pub traced : IsTraced task from old new
+  pub known : AreExplored task old → AreExplored task new
+  pub most : AreExplored task old → (moves : List Move) → Completes task to moves → total_after task to moves ≤ new.amount
+
+pub explores_from : (task : Task) (from to : State) (front : List Mark) (old middle new : Found) → Leads task from to front → Explores task to old middle → Traces old.amount front middle new → ExploresFrom task from to old new
+explores_from task from to front old middle new leads explores traces =
+    record {
+      grows = omega (arith, explores.grows, traces.amount);
+      traced = found_before task from to front old middle new explores.grows explores.traced.refused traces
+          (λ none. elim (explores.traced.told none) [ inl before ↦ inl before | inr better ↦ inr (leads, better) ]);
+      known = λ known. known_traced task old.amount front middle new traces (explores.known known);
+      most = λ known moves completes. omega (arith, explores.most known moves completes, traces.amount);
+    }
+
+-- a way has been tried with a run, and the trail tells of it from where it is tried
+pub record TakesFrom (task : Task) (from : State) (settled : Settled) (run : Standing) (way : Way) (old new : Found) : Type 0 where
+  pub grows : old.amount ≤ new.amount
+  pub traced : IsTraced task from old new
+  pub known : AreExplored task old → AreExplored task new
+  pub most : AreExplored task old → can_take task run settled.used way.piece ≡ true → (moves : List Move) → Completes task (standing (using settled way.piece) (along task run way.piece)) moves → total_after task (standing (using settled way.piece) (along task run way.piece)) moves ≤ new.amount
+
+pub takes_from : (task : Task) (from : State) (settled : Settled) (run : Standing) (way : Way) (front : List Mark) (old middle new : Found) → (can_take task run settled.used way.piece ≡ true → Leads task from (standing (using settled way.piece) (along task run way.piece)) front) → Takes task settled run way.piece old middle → Traces old.amount front middle new → TakesFrom task from settled run way old new
+takes_from task from settled run way front old middle new leads takes traces =
+    let there = standing (using settled way.piece) (along task run way.piece) in
+    record {
+      grows = omega (arith, takes.grows, traces.amount);
+      traced = found_before task from there front old middle new takes.grows takes.refused traces
+          (λ none. elim (takes.told none) [ inl before ↦ inl before | inr better ↦ inr (leads better.0, better.1) ]);
+      known = λ known. known_traced task old.amount front middle new traces (takes.known known);
+      most = λ known can moves completes. omega (arith, takes.most known can moves completes, traces.amount);
+    }
+
+-- marks are written in front of others, and then more in front of these
+pub traces_both : (least : ℕ) (first second : List Mark) (old middle new : Found) → Traces least first old middle → Traces least second middle new → Traces least (second ++ first) old new
+traces_both least first second old middle new before after =
+    record {
+      amount = after.amount ∙ before.amount;
+      explored = after.explored ∙ before.explored;
+      as_before = λ low. after.as_before (omega (arith, low, before.amount)) ∙ before.as_before low;
+      written = λ more.
+          let one : IsWritten first old.trail middle.trail = before.written more in
+          let two : IsWritten second middle.trail new.trail = after.written (omega (arith, more, before.amount)) in
+          record {
+            refused = λ none. one.refused (two.refused none);
+            marks_are = λ none. two.marks_are none
+                ∙ ap (λ (marks : List Mark). second ++ marks) (one.marks_are (two.refused none))
+                ∙ sym (append_assoc second first (marks_in old.trail));
+          };
+    }

@@ -1,0 +1,75 @@
+//! The runs that a trail tells, written out by their places.
+ghost use Rattle.std.specs.Prelude.{◌≡◌, IfOk};
+ghost use Rattle.best_run.specs.Trail.{CanBeRead, IsRead, IsWalkRead, turned_about, turned_step};
+
+use crate::trail::{Mark, Trail};
+use certificate::{ClaimedRun, ClaimedRuns, write_run};
+use reach::Step;
+use std::alloc::{AllocError, Global};
+use tables::Kind;
+
+/// A step, taken the other way over its link.
+fn turned_step(step: Step) -> Step
+    ensures { result ≡ turned_step step }
+{
+    Step {
+        link: step.link,
+        turned: !step.turned,
+    }
+}
+
+/// Turns a walk about: each step is taken the other way over its link, the last one first.
+fn turn_about(walk: &mut [Step])
+    ensures { walk.new ≡ turned_about walk.old }
+{
+    walk.reverse();
+    for step in walk.iter_mut() {
+        *step = turned_step(*step);
+    }
+}
+
+/// Reads the marks of the next train, and takes them away: the walk that it runs, the latest step in
+/// front, or `None` where it does not run. The only error is want of memory.
+fn read_walk(alloc: Global, marks: &mut Vec<Mark>) -> Result<Option<Vec<Step>>, AllocError>
+    ensures { IfOk result (IsWalkRead marks.old.items marks.new.items) }
+{
+    let mut walk = Vec::new(alloc);
+    while let Some(mark) = marks.pop() {
+        match mark {
+            Mark::Pass => return Ok(None),
+            Mark::Go(step) => walk.push(step)?,
+            Mark::Turn => turn_about(&mut walk),
+            Mark::Settle => {
+                walk.reverse();
+                return Ok(Some(walk));
+            }
+        }
+    }
+    Ok(None)
+}
+
+/// The runs that a trail tells of some trains. The only error is want of memory, which may have come
+/// when the trail was written.
+pub(crate) fn claimed_runs(
+    alloc: Global,
+    kinds: &[Kind],
+    trail: Trail,
+) -> Result<ClaimedRuns, AllocError>
+    requires { CanBeRead kinds.now trail }
+    ensures { IfOk result (IsRead kinds.now trail) }
+{
+    if let Some(error) = trail.refused {
+        return Err(error);
+    }
+    let mut marks = trail.marks;
+    let mut runs = ClaimedRuns::new(alloc);
+    for kind in kinds {
+        if let Some(walk) = read_walk(alloc, &mut marks)? {
+            runs.push(ClaimedRun {
+                kind: *kind,
+                run: write_run(&walk),
+            })?;
+        }
+    }
+    Ok(runs)
+}

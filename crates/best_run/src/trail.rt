@@ -1,0 +1,68 @@
+//! The trail: how the best found is earned. The moves that earn it are told by their marks, which are
+//! written on the way back from the end, the last one first.
+ghost use Rattle.std.specs.Prelude.{◌≡◌, [], ◌∷◌, ◌++◌, None};
+ghost use Rattle.best_run.specs.Trail.{IsWritten, go_along, marks_in};
+
+use reach::Step;
+use std::alloc::{AllocError, Global};
+
+/// The mark of a move.
+#[derive(Clone, Copy)]
+pub(crate) enum Mark {
+    /// The next train does not run.
+    Pass,
+    /// Its run takes a step; with the first one it begins.
+    Go(Step),
+    /// It turns back to where it began.
+    Turn,
+    /// It is settled.
+    Settle,
+}
+
+/// The marks of moves.
+#[derive(Drop)]
+pub(crate) struct Trail {
+    /// The marks, from the last one to the first.
+    pub(crate) marks: Vec<Mark>,
+    /// The error of one that could not be written, if there was any. The marks are then of no worth.
+    pub(crate) refused: Option<AllocError>,
+}
+
+impl Trail {
+    /// No marks.
+    pub(crate) fn new(alloc: Global) -> Trail
+        ensures marks { marks_in result ≡ [] }
+        ensures refused { result.refused ≡ None }
+    {
+        Trail {
+            marks: Vec::new(alloc),
+            refused: None,
+        }
+    }
+
+    /// Takes all marks away.
+    pub(crate) fn clear(&mut self)
+        ensures marks { marks_in self.new ≡ [] }
+        ensures refused { self.new.refused ≡ self.old.refused }
+    {
+        self.marks.clear();
+    }
+
+    /// Writes a mark in front of the others.
+    pub(crate) fn write(&mut self, mark: Mark)
+        ensures { IsWritten (mark ∷ []) self.old self.new }
+    {
+        if let Err(failed) = self.marks.push(mark) {
+            self.refused = Some(AllocError::from(failed));
+        }
+    }
+
+    /// Writes the marks of some steps, one after another, in front of the others.
+    pub(crate) fn write_steps(&mut self, steps: &[Step])
+        ensures { IsWritten (go_along steps.now) self.old self.new }
+    {
+        for step in steps.iter().rev() {
+            self.write(Mark::Go(*step));
+        }
+    }
+}
