@@ -1,5 +1,5 @@
 -- A trail is read mark by mark and train by train: what all its marks tell is what was read, and what those tell that are left.
-use Rattle.std.proofs.Common.{◌≡◌, ℕ, zero, suc, ◌+◌, ◌<◌, Option, Some, None, Vec, option_map, List, [], ◌∷◌, ◌++◌, length, get_or, set, map, reverse, take, drop, refl, sym, ap, subst, ◌∙◌, arith, add-one, drop-cons}
+use Rattle.std.proofs.Common.{◌≡◌, ℕ, zero, suc, ◌+◌, ◌<◌, Option, Some, None, Vec, List, [], ◌∷◌, ◌++◌, length, get_or, set, map, reverse, take, drop, refl, sym, ap, subst, ◌∙◌, arith, add-one, drop-cons}
 use Rattle.std.specs.Global.{Global}
 use Rattle.std.specs.List.{AllByRecursion}
 use Rattle.std.proofs.lemmas.Grind.{reverse_onto}
@@ -10,7 +10,7 @@ use Rattle.certificate.specs.Set.{TrainRun}
 use Rattle.certificate.specs.Written.{places_of}
 use Rattle.certificate.specs.declared.claim.ClaimedRun.{ClaimedRun}
 use Rattle.best_run.specs.declared.trail.Mark.{Mark}
-use Rattle.best_run.specs.Trail.{CanBeClaimed, IsWalkRead, after_walk, runs_told, turned_about, turned_step, walk_told, with_run, written}
+use Rattle.best_run.specs.Trail.{CanBeClaimed, IsWalkRead, after_walk, runs_told, steps_of, turned_about, turned_step, walk_told, with_run, written}
 
 reversed_map : (xs : List Step) → reverse (map turned_step xs) ≡ map turned_step (reverse xs)
 reversed_map [] = refl
@@ -24,14 +24,20 @@ reversed_map (x ∷ xs) =
 pub about_reversed : (walk : List Step) → reverse (turned_about walk) ≡ turned_about (reverse walk)
 about_reversed walk = reversed_map (reverse walk)
 
--- one step more is taken the other way
-pub turned_more : (all walk : List Step) (i : ℕ) (d : Step) → i < length all → walk ≡ map turned_step (take i all) ++ drop i all → set walk i (turned_step (get_or walk i d)) ≡ map turned_step (take (i + 1) all) ++ drop (i + 1) all
+-- so many steps of a walk are taken the other way
+abbrev pub turned_before : ℕ → List Step → List Step
+turned_before n steps = map turned_step (take n steps) ++ drop n steps
+
+pub turned_more :
+    (all walk : List Step) (i : ℕ) (d : Step) → i < length all → walk ≡ turned_before i all →
+    set walk i (turned_step (get_or walk i d)) ≡ turned_before (i + 1) all
 turned_more all walk i d low is =
-    subst (λ (w : List Step). set w i (turned_step (get_or w i d)) ≡ map turned_step (take (i + 1) all) ++ drop (i + 1) all) (sym is)
-    (subst (λ (n : ℕ). set (map turned_step (take i all) ++ drop i all) i (turned_step (get_or (map turned_step (take i all) ++ drop i all) i d)) ≡ map turned_step (take n all) ++ drop n all) (sym (add-one i))
-    (by_place all i low))
+    subst (λ (w : List Step). set w i (turned_step (get_or w i d)) ≡ turned_before (i + 1) all) (sym is)
+    (by_place all i low ∙ ap (λ (n : ℕ). turned_before n all) (sym (add-one i)))
   where
-    by_place : (xs : List Step) (n : ℕ) → n < length xs → set (map turned_step (take n xs) ++ drop n xs) n (turned_step (get_or (map turned_step (take n xs) ++ drop n xs) n d)) ≡ map turned_step (take (suc n) xs) ++ drop (suc n) xs
+    by_place :
+        (xs : List Step) (n : ℕ) → n < length xs →
+        set (turned_before n xs) n (turned_step (get_or (turned_before n xs) n d)) ≡ turned_before (suc n) xs
     by_place [] n less = absurd (omega (arith, less))
     by_place (x ∷ xs) zero less = refl
     by_place (x ∷ xs) (suc n) less = ap (λ steps. turned_step x ∷ steps) (by_place xs n (omega (arith, less)))
@@ -41,41 +47,57 @@ pub last_read : (all rest : List Mark) (mark : Mark) → all ≡ rest ++ mark �
 last_read all rest mark is = ap reverse is ∙ reverse-append rest (mark ∷ [])
 
 -- the runs of some trains begin with that of the first one, if it runs
-pub next_told : (kinds : List Kind) (i : ℕ) (d : Kind) (old new : List Mark) (walk : Option (Vec Step Global)) → i < length kinds → IsWalkRead old new walk → runs_told (drop i kinds) [] (reverse old) ≡ with_run (get_or kinds i d) (option_map (λ (steps : Vec Step Global). steps.items) walk) (runs_told (drop (i + 1) kinds) [] (reverse new))
+pub next_told :
+    (kinds : List Kind) (i : ℕ) (d : Kind) (old new : List Mark) (walk : Option (Vec Step Global)) → i < length kinds → IsWalkRead old new walk →
+    runs_told (drop i kinds) [] (reverse old) ≡ with_run (get_or kinds i d) (steps_of walk)
+    (runs_told (drop (i + 1) kinds) [] (reverse new))
 next_told kinds i d old new walk low read =
     let kind = get_or kinds i d in
     let later : drop (suc i) kinds ≡ drop (i + 1) kinds = ap (λ (n : ℕ). drop n kinds) (sym (add-one i)) in
     ap (λ (ks : List Kind). runs_told ks [] (reverse old)) (drop-cons kinds i d low)
     ∙ ap (λ (ks : List Kind). with_run kind (walk_told [] (reverse old)) (runs_told ks [] (after_walk (reverse old)))) later
     ∙ ap (λ (w : Option (List Step)). with_run kind w (runs_told (drop (i + 1) kinds) [] (after_walk (reverse old)))) (sym read.walk_is)
-    ∙ ap (λ (ms : List Mark). with_run kind (option_map (λ (steps : Vec Step Global). steps.items) walk) (runs_told (drop (i + 1) kinds) [] ms)) (sym read.after)
+    ∙ ap (λ (ms : List Mark). with_run kind (steps_of walk) (runs_told (drop (i + 1) kinds) [] ms)) (sym read.after)
 
 -- where the first of them runs, it can be written out, and so can the others
-pub can_next : (kinds : List Kind) (i : ℕ) (d : Kind) (old new : List Mark) (walk : Option (Vec Step Global)) (steps : Vec Step Global) → i < length kinds → IsWalkRead old new walk → walk ≡ Some steps → AllByRecursion CanBeClaimed (runs_told (drop i kinds) [] (reverse old)) → CanBeClaimed (record { kind = get_or kinds i d; steps = steps.items }) × AllByRecursion CanBeClaimed (runs_told (drop (i + 1) kinds) [] (reverse new))
+pub can_next :
+    (kinds : List Kind) (i : ℕ) (d : Kind) (old new : List Mark) (walk : Option (Vec Step Global)) (steps : Vec Step Global) → i < length kinds →
+    IsWalkRead old new walk → walk ≡ Some steps → AllByRecursion CanBeClaimed (runs_told (drop i kinds) [] (reverse old)) →
+    CanBeClaimed (record { kind = get_or kinds i d; steps = steps.items }) × AllByRecursion CanBeClaimed (runs_told (drop (i + 1) kinds) [] (reverse new))
 can_next kinds i d old new walk steps low read is can =
     let later = runs_told (drop (i + 1) kinds) [] (reverse new) in
-    subst (λ (w : Option (Vec Step Global)). AllByRecursion CanBeClaimed (with_run (get_or kinds i d) (option_map (λ (v : Vec Step Global). v.items) w) later)) is
+    subst (λ (w : Option (Vec Step Global)). AllByRecursion CanBeClaimed (with_run (get_or kinds i d) (steps_of w) later)) is
     (subst (AllByRecursion CanBeClaimed) (next_told kinds i d old new walk low read) can)
 
 -- where it does not, the others can
-pub can_pass : (kinds : List Kind) (i : ℕ) (d : Kind) (old new : List Mark) (walk : Option (Vec Step Global)) → i < length kinds → IsWalkRead old new walk → walk ≡ None → AllByRecursion CanBeClaimed (runs_told (drop i kinds) [] (reverse old)) → AllByRecursion CanBeClaimed (runs_told (drop (i + 1) kinds) [] (reverse new))
+pub can_pass :
+    (kinds : List Kind) (i : ℕ) (d : Kind) (old new : List Mark) (walk : Option (Vec Step Global)) → i < length kinds → IsWalkRead old new walk →
+    walk ≡ None → AllByRecursion CanBeClaimed (runs_told (drop i kinds) [] (reverse old)) →
+    AllByRecursion CanBeClaimed (runs_told (drop (i + 1) kinds) [] (reverse new))
 can_pass kinds i d old new walk low read is can =
     let later = runs_told (drop (i + 1) kinds) [] (reverse new) in
-    subst (λ (w : Option (Vec Step Global)). AllByRecursion CanBeClaimed (with_run (get_or kinds i d) (option_map (λ (v : Vec Step Global). v.items) w) later)) is
+    subst (λ (w : Option (Vec Step Global)). AllByRecursion CanBeClaimed (with_run (get_or kinds i d) (steps_of w) later)) is
     (subst (AllByRecursion CanBeClaimed) (next_told kinds i d old new walk low read) can)
 
 -- the first of them is claimed before the others
-pub claims_next : (kinds : List Kind) (i : ℕ) (d : Kind) (old new : List Mark) (walk : Option (Vec Step Global)) (steps : Vec Step Global) (runs all : List ClaimedRun) → i < length kinds → IsWalkRead old new walk → walk ≡ Some steps → runs ++ written (runs_told (drop i kinds) [] (reverse old)) ≡ all → (runs ++ record { kind = get_or kinds i d; run = places_of steps.items } ∷ []) ++ written (runs_told (drop (i + 1) kinds) [] (reverse new)) ≡ all
+pub claims_next :
+    (kinds : List Kind) (i : ℕ) (d : Kind) (old new : List Mark) (walk : Option (Vec Step Global)) (steps : Vec Step Global)
+    (runs all : List ClaimedRun) → i < length kinds → IsWalkRead old new walk → walk ≡ Some steps →
+    runs ++ written (runs_told (drop i kinds) [] (reverse old)) ≡ all →
+    (runs ++ record { kind = get_or kinds i d; run = places_of steps.items } ∷ []) ++ written (runs_told (drop (i + 1) kinds) [] (reverse new)) ≡ all
 claims_next kinds i d old new walk steps runs all low read is so_far =
     let later = runs_told (drop (i + 1) kinds) [] (reverse new) in
     append_assoc runs (record { kind = get_or kinds i d; run = places_of steps.items } ∷ []) (written later)
-    ∙ ap (λ (w : Option (Vec Step Global)). runs ++ written (with_run (get_or kinds i d) (option_map (λ (v : Vec Step Global). v.items) w) later)) (sym is)
+    ∙ ap (λ (w : Option (Vec Step Global)). runs ++ written (with_run (get_or kinds i d) (steps_of w) later)) (sym is)
     ∙ ap (λ (told : List TrainRun). runs ++ written told) (sym (next_told kinds i d old new walk low read))
     ∙ so_far
 
-pub claims_pass : (kinds : List Kind) (i : ℕ) (d : Kind) (old new : List Mark) (walk : Option (Vec Step Global)) (runs all : List ClaimedRun) → i < length kinds → IsWalkRead old new walk → walk ≡ None → runs ++ written (runs_told (drop i kinds) [] (reverse old)) ≡ all → runs ++ written (runs_told (drop (i + 1) kinds) [] (reverse new)) ≡ all
+pub claims_pass :
+    (kinds : List Kind) (i : ℕ) (d : Kind) (old new : List Mark) (walk : Option (Vec Step Global)) (runs all : List ClaimedRun) → i < length kinds →
+    IsWalkRead old new walk → walk ≡ None → runs ++ written (runs_told (drop i kinds) [] (reverse old)) ≡ all →
+    runs ++ written (runs_told (drop (i + 1) kinds) [] (reverse new)) ≡ all
 claims_pass kinds i d old new walk runs all low read is so_far =
     let later = runs_told (drop (i + 1) kinds) [] (reverse new) in
-    ap (λ (w : Option (Vec Step Global)). runs ++ written (with_run (get_or kinds i d) (option_map (λ (v : Vec Step Global). v.items) w) later)) (sym is)
+    ap (λ (w : Option (Vec Step Global)). runs ++ written (with_run (get_or kinds i d) (steps_of w) later)) (sym is)
     ∙ ap (λ (told : List TrainRun). runs ++ written told) (sym (next_told kinds i d old new walk low read))
     ∙ so_far

@@ -18,7 +18,9 @@ traced_none task state best =
     record { refused = λ none. none; told = λ none. inl (record { amount = refl; marks = refl }) }
 
 -- something has been found, and then something more
-pub traced_both : (task : Task) (state : State) (old middle new : Found) → old.amount ≤ middle.amount → middle.amount ≤ new.amount → IsTraced task state old middle → IsTraced task state middle new → IsTraced task state old new
+pub traced_both :
+    (task : Task) (state : State) (old middle new : Found) → old.amount ≤ middle.amount → middle.amount ≤ new.amount →
+    IsTraced task state old middle → IsTraced task state middle new → IsTraced task state old new
 traced_both task state old middle new grows more first second =
     record { refused = λ none. first.refused (second.refused none); told = λ none. by_second (second.refused none) (second.told none) }
   where
@@ -46,7 +48,9 @@ abbrev pub Leads : Task → State → State → List Mark → Type 0
 Leads task from to front = (later : List Move) → Completes task to later → ComesBy task from to front later
 
 -- what is earned from a state on is earned from one before it
-pub earns_by : (task : Task) (from to : State) (front marks : List Mark) (amount : ℕ) → Leads task from to front → Earns task to marks amount → Earns task from (front ++ marks) amount
+pub earns_by :
+    (task : Task) (from to : State) (front marks : List Mark) (amount : ℕ) → Leads task from to front → Earns task to marks amount →
+    Earns task from (front ++ marks) amount
 earns_by task from to front marks amount leads earns =
     let by : ComesBy task from to front earns.moves = leads earns.moves earns.completes in
     record {
@@ -57,7 +61,10 @@ earns_by task from to front marks amount leads earns =
     }
 
 -- what is found from a state on, once the moves that led there are told
-found_before : (task : Task) (from to : State) (front : List Mark) (old middle new : Found) → old.amount ≤ middle.amount → (middle.trail.refused ≡ None → old.trail.refused ≡ None) → Traces old.amount front middle new → (middle.trail.refused ≡ None → IsAsBefore old middle ⊎ (Leads task from to front × IsBetter task to old middle)) → IsTraced task from old new
+found_before :
+    (task : Task) (from to : State) (front : List Mark) (old middle new : Found) → old.amount ≤ middle.amount →
+    (middle.trail.refused ≡ None → old.trail.refused ≡ None) → Traces old.amount front middle new →
+    (middle.trail.refused ≡ None → IsAsBefore old middle ⊎ (Leads task from to front × IsBetter task to old middle)) → IsTraced task from old new
 found_before task from to front old middle new grows refused traces told =
     elim (same_or_more grows) [
       | inl same ↦
@@ -89,7 +96,9 @@ found_before task from to front old middle new grows refused traces told =
     same_or_more low = grind arith
 
 -- what is kept as explored stays so where the trail alone grows
-known_traced : (task : Task) (least : ℕ) (front : List Mark) (middle new : Found) → Traces least front middle new → AreExplored task middle → AreExplored task new
+known_traced :
+    (task : Task) (least : ℕ) (front : List Mark) (middle new : Found) → Traces least front middle new → AreExplored task middle →
+    AreExplored task new
 known_traced task least front middle new traces known place entry there =
     subst (λ (n : ℕ). EarnsAtMost task entry n) (sym traces.amount)
     (known place entry (ap (λ (entries : List Settled). slice_get entries place) (sym traces.explored) ∙ there))
@@ -101,7 +110,9 @@ pub record ExploresFrom (task : Task) (from to : State) (old new : Found) : Type
   pub known : AreExplored task old → AreExplored task new
   pub most : AreExplored task old → (moves : List Move) → Completes task to moves → total_after task to moves ≤ new.amount
 
-pub explores_from : (task : Task) (from to : State) (front : List Mark) (old middle new : Found) → Leads task from to front → Explores task to old middle → Traces old.amount front middle new → ExploresFrom task from to old new
+pub explores_from :
+    (task : Task) (from to : State) (front : List Mark) (old middle new : Found) → Leads task from to front → Explores task to old middle →
+    Traces old.amount front middle new → ExploresFrom task from to old new
 explores_from task from to front old middle new leads explores traces =
     record {
       grows = omega (arith, explores.grows, traces.amount);
@@ -116,9 +127,15 @@ pub record TakesFrom (task : Task) (from : State) (settled : Settled) (run : Sta
   pub grows : old.amount ≤ new.amount
   pub traced : IsTraced task from old new
   pub known : AreExplored task old → AreExplored task new
-  pub most : AreExplored task old → can_take task run settled.used way.piece ≡ true → (moves : List Move) → Completes task (standing (using settled way.piece) (along task run way.piece)) moves → total_after task (standing (using settled way.piece) (along task run way.piece)) moves ≤ new.amount
+  pub most :
+      AreExplored task old → can_take task run settled.used way.piece ≡ true → (moves : List Move) →
+      Completes task (standing (using settled way.piece) (along task run way.piece)) moves →
+      total_after task (standing (using settled way.piece) (along task run way.piece)) moves ≤ new.amount
 
-pub takes_from : (task : Task) (from : State) (settled : Settled) (run : Standing) (way : Way) (front : List Mark) (old middle new : Found) → (can_take task run settled.used way.piece ≡ true → Leads task from (standing (using settled way.piece) (along task run way.piece)) front) → Takes task settled run way.piece old middle → Traces old.amount front middle new → TakesFrom task from settled run way old new
+pub takes_from :
+    (task : Task) (from : State) (settled : Settled) (run : Standing) (way : Way) (front : List Mark) (old middle new : Found) →
+    (can_take task run settled.used way.piece ≡ true → Leads task from (standing (using settled way.piece) (along task run way.piece)) front) →
+    Takes task settled run way.piece old middle → Traces old.amount front middle new → TakesFrom task from settled run way old new
 takes_from task from settled run way front old middle new leads takes traces =
     let there = standing (using settled way.piece) (along task run way.piece) in
     record {
@@ -130,7 +147,9 @@ takes_from task from settled run way front old middle new leads takes traces =
     }
 
 -- marks are written in front of others, and then more in front of these
-pub traces_both : (least : ℕ) (first second : List Mark) (old middle new : Found) → Traces least first old middle → Traces least second middle new → Traces least (second ++ first) old new
+pub traces_both :
+    (least : ℕ) (first second : List Mark) (old middle new : Found) → Traces least first old middle → Traces least second middle new →
+    Traces least (second ++ first) old new
 traces_both least first second old middle new before after =
     record {
       amount = after.amount ∙ before.amount;

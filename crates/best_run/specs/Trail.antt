@@ -80,7 +80,11 @@ pub record IsRead (kinds : List Kind) (trail : Trail) (runs : List ClaimedRun) :
   pub refused : trail.refused ≡ None
   pub runs_are : runs ≡ written (runs_told kinds [] (marks_in trail))
 
+-- the steps of a walk, if there is one
+abbrev pub steps_of : Option (Vec Step Global) → Option (List Step)
+steps_of walk = option_map (λ (steps : Vec Step Global). steps.items) walk
+
 -- the marks of the next train are read and taken away; both lists of marks are from the last to the first
 pub record IsWalkRead (old new : List Mark) (walk : Option (Vec Step Global)) : Type 0 where
-  pub walk_is : option_map (λ (steps : Vec Step Global). steps.items) walk ≡ walk_told [] (reverse old)
+  pub walk_is : steps_of walk ≡ walk_told [] (reverse old)
   pub after : reverse new ≡ after_walk (reverse old)

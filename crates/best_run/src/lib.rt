@@ -1,18 +1,20 @@
-//! The greatest revenue of a company's trains: `greatest_revenue` answers what the best legal set of
-//! runs earns, on any `reach::Network`.
+//! The best of a company's trains: `best` answers the greatest revenue that a legal set of runs earns,
+//! with runs that earn it, on any `reach::Network`.
 //!
-//! The definitions of a legal set and of the greatest revenue are those of `certificate`. Those of
-//! this crate, in `specs/`, are of the search alone: `Moves` says what it goes over, move by move,
+//! The definitions of a legal set, of the greatest revenue and of what is claimed are those of
+//! `certificate`. Those of this crate, in `specs/`, are of the search alone: `Moves` says what it goes
+//! over, move by move, `Trail` how these are written down and which runs are read from that,
 //! `Described` how a position is laid out for it, `Ways` how pieces of plain track make ways from
 //! stop to stop, `Fit` what keeps its numbers within their bounds, `Suffix` what the last trains earn
 //! by themselves, and equal trains one after another, which bounds what they earn behind others,
 //! `Ahead` what may lie ahead of a run, which bounds what it may still earn, `Kept` which states between
 //! runs need not be explored since another one was, `Alike` which of them are alike to the trains left.
 //!
-//! Reading order: `best` (the public call), `trains` (their order), `spots` (the spots of a position
+//! Reading order: `revenue` (the public call), `answer`, `trains` (their order), `spots` (the spots of a position
 //! with the pieces of track between them), `ways` (from stop to stop), `task`, `state` (the trains
-//! settled so far, and the run begun), `outlook` (what lies ahead of that run), `explored` (what has been
-//! found, and what need not be explored again), `alike` (states between runs that are alike), `search`.
+//! settled so far, and the run begun), `outlook` (what lies ahead of that run), `trail` (the moves that earn
+//! what has been found), `explored` (what has been found, and what need not be explored again), `alike`
+//! (states between runs that are alike), `search`, `claimed` (the runs that a trail tells), `runner`.
 #![tactic(auto)]
 
 mod alike;

@@ -87,11 +87,10 @@ impl Task {
         if self.falls_short(settled, bounds, best.amount) {
             return;
         }
-        let cap = settled.cap;
         if self.are_capped(
             settled.next,
             settled.kind,
-            cap,
+            settled.cap,
             settled.total,
             bounds,
             best.amount,

@@ -53,7 +53,7 @@ impl Trail {
         ensures { IsWritten (mark ∷ []) self.old self.new }
     {
         if let Err(failed) = self.marks.push(mark) {
-            self.refused = Some(AllocError::from(failed));
+            self.refused = Some(failed.into());
         }
     }
 
