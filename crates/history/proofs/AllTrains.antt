@@ -1,5 +1,5 @@
 -- A train goes from one place to another, so that those that the bank has sold are in play or have left it.
-use Rattle.std.proofs.Common.{◌≡◌, ℕ, ◌+◌, inl, inr, Bool, true, false, ◌&&◌, List, [], ◌∷◌, Option, Some, None, pos, ◌-ℤ◌, ◌+ℤ◌, refl, ap, arith}
+use Rattle.std.proofs.Common.{◌≡◌, ℕ, ◌+◌, inl, inr, Bool, true, false, ◌&&◌, List, [], ◌∷◌, Option, Some, None, pos, neg_ℤ, ◌-ℤ◌, ◌+ℤ◌, refl, ap, ◌∙◌, arith}
 use Rattle.std.proofs.lemmas.Int.{ints}
 use Rattle.std.proofs.lemmas.List.Sums.{sum_by-cons}
 use Rattle.history.proofs.Choices.{truth}
@@ -165,3 +165,26 @@ pub trains_stay : AllTrainsStay
 trains_stay [] kind = refl
 trains_stay (event ∷ events) kind =
     omega (arith, ints, together_in_front event events stables kind, trains_in_front event events place.OutOfPlay kind, sold_in_front event events kind, balanced kind (train_moved event) (none_to_bank event), trains_stay events kind)
+
+-- two tests of which one fails
+not_both : (test : Bool) → one_if (test && false) ≡ 0
+not_both true = refl
+not_both false = refl
+
+-- so none comes there
+none_comes : (kind : Kind) (move : Option TrainMove) → ComesFromBankAlone move → one_if (train_comes place.Bank kind move) ≡ 0
+none_comes kind None none = refl
+none_comes kind (Some move) none = ap (λ (is : Bool). one_if (same_kind move.kind kind && is)) none ∙ not_both (same_kind move.kind kind)
+
+-- what the bank has of a kind is under nothing by what it has sold
+pub bank_sold : (events : List Event) (kind : Kind) → trains_at events place.Bank kind ≡ neg_ℤ (pos (trains_sold events kind))
+bank_sold [] kind = refl
+bank_sold (event ∷ events) kind =
+    omega (
+      arith,
+      ints,
+      trains_in_front event events place.Bank kind,
+      sold_in_front event events kind,
+      none_comes kind (train_moved event) (none_to_bank event),
+      bank_sold events kind,
+    )

@@ -1,9 +1,11 @@
 -- All that was said of a thing, in order, and the counts of tokens and of a seat's rulings, once one more event
 -- stands at the end.
-use Rattle.std.proofs.Common.{◌≡◌, ℕ, ◌+◌, ◌<◌, List, [], ◌∷◌, ◌++◌, Option, None, length, get_or, take, cond, count_by, ap, ◌∙◌, arith}
-use Rattle.std.proofs.lemmas.List.{append-nil, take_more}
+use Rattle.std.proofs.Common.{◌≡◌, ℕ, ◌+◌, List, [], ◌∷◌, ◌++◌, Option, Some, None, Bor, option_copied, cond, count_by, slice_get, ap, sym, ◌∙◌}
+use Rattle.std.proofs.lemmas.Option.{slice_get-get_or, slice_get_past}
+use Rattle.std.specs.Slice.{IsItemAt}
+use Rattle.std.proofs.lemmas.List.{append-nil}
 use Rattle.std.proofs.lemmas.List.Elements.{filter_map-append}
-use Rattle.std.specs.List.{cons_option}
+use Rattle.std.specs.List.{cons_option, filter_map}
 use Rattle.std.proofs.lemmas.List.Sums.{fold_push, sum_by-append}
 use Rattle.history.specs.Event.{tile_laid, token_placed}
 use Rattle.history.specs.Laws.{LaysGrow, RulingsAreCounted, TokensGrow}
@@ -36,14 +38,25 @@ tokens_before events event none =
 pub rulings_at_end : RulingsAreCounted
 rulings_at_end events event seat = fold_push (rulings_then seat) 0 events event
 
--- a company's tokens, with those that one more event places
-tokens_more : (events : List Event) (i : ℕ) (d : Event) (company : Company) → i < length events → tokens_placed (take (i + 1) events) company ≡ tokens_placed (take i events) company + tokens_placed (get_or events i d ∷ []) company
-tokens_more events i d company below =
-    ap (λ (some : List Event). tokens_placed some company) (take_more events i d below)
-    ∙ ap (λ tokens. count_by (λ token. same_company token.1 company) tokens) (tokens_grow (take i events) (get_or events i d))
-    ∙ sum_by-append (λ token. cond (same_company token.1 company) 1 0) (tokens_of (take i events)) (tokens_of (get_or events i d ∷ []))
+-- a company's tokens, with those that the event at the end places
+pub tokens_at_end :
+    (events : List Event) (event : Event) (company : Company) →
+    tokens_placed (events ++ event ∷ []) company ≡ tokens_placed events company + tokens_placed (event ∷ []) company
+tokens_at_end events event company =
+    ap (λ tokens. count_by (λ token. same_company token.1 company) tokens) (tokens_grow events event)
+    ∙ sum_by-append (λ token. cond (same_company token.1 company) 1 0) (tokens_of events) (tokens_of (event ∷ []))
 
--- the count goes on by them
-pub tokens_go_on : (events : List Event) (i : ℕ) (d : Event) (company : Company) (count here : ℕ) → i < length events → count ≡ tokens_placed (take i events) company → here ≡ tokens_placed (get_or events i d ∷ []) company → count + here ≡ tokens_placed (take (i + 1) events) company
-tokens_go_on events i d company count here below so_far its =
-    omega (arith, so_far, its, tokens_more events i d company below)
+-- a list of all that was said, with what the event at the end says
+pub all_kept :
+    {A : Type 0} (says : Event → Option A) (events : List Event) (event : Event) (before after : List A) (said : Option A) → before ≡ filter_map says events →
+    said ≡ says event → after ≡ before ++ cons_option said [] → after ≡ filter_map says (events ++ event ∷ [])
+all_kept says events event before after said kept speaks grows =
+    grows
+    ∙ ap (λ all. all ++ cons_option said []) kept
+    ∙ ap (λ word. filter_map says events ++ cons_option word []) speaks
+    ∙ sym (filter_map-append says events (event ∷ []))
+
+-- what is lent of a list at a place
+pub lent_at : {A : Type 0} (list : List A) (place : ℕ) (lent : Option (Bor A)) → IsItemAt list place lent → option_copied lent ≡ slice_get list place
+lent_at list place None is = sym (slice_get_past list place is.3)
+lent_at list place (Some item) is = ap Some is.1 ∙ sym (slice_get-get_or list place item.now is.3.0)

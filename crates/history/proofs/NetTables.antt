@@ -4,9 +4,11 @@ use Rattle.std.proofs.lemmas.Bool.{cases_eq}
 use Rattle.std.proofs.lemmas.Int.{ints}
 use mir.Syntax.{w128}
 use mir.Val.{to_z, of_z}
-use Rattle.history.specs.Books.{IsNet, IsSafe, net_at, party_entry, row_of, tenths_entry}
+use Rattle.history.specs.Books.{IsNet, IsSafe, net_at, party_entry, row_of, tenths_entry, train_entry, train_row}
 use Rattle.history.specs.LookBack.{IsModerate, balance, paid_by, paid_to, same_party}
 use Rattle.history.specs.Shares.{brought_to, same_shareholder, taken_from}
+use Rattle.history.specs.Event.{stable_of}
+use Rattle.history.specs.Trains.{any_comes, any_goes, one_if, same_train_place, train_comes, train_goes}
 use Rattle.history.specs.declared.event.Event.{Event}
 use Rattle.history.specs.declared.event.Holder.TheVariants as holder
 use Rattle.history.specs.declared.event.Party.{Party}
@@ -14,8 +16,13 @@ use Rattle.history.specs.declared.event.Party.TheVariants as party
 use Rattle.history.specs.declared.event.Payment.{Payment}
 use Rattle.history.specs.declared.event.Shareholder.{Shareholder}
 use Rattle.history.specs.declared.event.Shareholder.TheVariants.{InitialOffering, BankPool, Seat as OfSeat}
+use Rattle.history.specs.declared.event.TrainMove.{TrainMove}
+use Rattle.history.specs.declared.event.TrainPlace.{TrainPlace}
+use Rattle.history.specs.declared.event.TrainPlace.TheVariants as train_place
 use Rattle.history.specs.declared.event.Transfer.{Transfer}
 use Rattle.tables.specs.Roster.{place_of_company, same_company}
+use Rattle.tables.specs.Train.{place_of_kind, same_kind}
+use Rattle.tables.specs.declared.rolling_stock.Kind.{Kind}
 use Rattle.tables.specs.declared.roster.Company.{Company}
 
 -- nothing is added
@@ -112,6 +119,65 @@ transfer_moved transfer made company place from to tenths old new is from_is to_
     let to_place = part_by_entry transfer.company company transfer.to place transfer.tenths in
     let from_place = part_by_entry transfer.company company transfer.from place transfer.tenths in
     rw (sym is, to_place, from_place, sym from_is, sym to_is, sym many) moved
+
+-- places of trains have different rows
+same_train_row : (a b : TrainPlace) → same_train_place a b ≡ (train_row a == train_row b)
+same_train_row train_place.Bank train_place.Bank = refl
+same_train_row train_place.Bank train_place.BankPool = refl
+same_train_row train_place.Bank train_place.OutOfPlay = refl
+same_train_row train_place.BankPool train_place.Bank = refl
+same_train_row train_place.BankPool train_place.BankPool = refl
+same_train_row train_place.BankPool train_place.OutOfPlay = refl
+same_train_row train_place.OutOfPlay train_place.Bank = refl
+same_train_row train_place.OutOfPlay train_place.BankPool = refl
+same_train_row train_place.OutOfPlay train_place.OutOfPlay = refl
+same_train_row train_place.Bank (train_place.Company b) = grind (arith, eq-eqb 0 (2 + place_of_company b))
+same_train_row train_place.BankPool (train_place.Company b) = grind (arith, eq-eqb 1 (2 + place_of_company b))
+same_train_row train_place.OutOfPlay (train_place.Company b) = grind (arith, company_low b, eq-eqb 10 (2 + place_of_company b))
+same_train_row (train_place.Company a) train_place.Bank = grind (arith, eq-eqb (2 + place_of_company a) 0)
+same_train_row (train_place.Company a) train_place.BankPool = grind (arith, eq-eqb (2 + place_of_company a) 1)
+same_train_row (train_place.Company a) train_place.OutOfPlay = grind (arith, company_low a, eq-eqb (2 + place_of_company a) 10)
+same_train_row (train_place.Company a) (train_place.Company b) = plus_same 2 (place_of_company a) (place_of_company b)
+
+-- a kind has a place under 8
+kind_low : (kind : Kind) → place_of_kind kind < 8
+kind_low kind = grind arith
+
+-- a place has one of eleven rows
+pub train_row_low : (place : TrainPlace) → train_row place < 11
+train_row_low place = grind arith
+
+-- trains have an entry
+pub train_entry_low : (place : TrainPlace) (kind : Kind) → train_entry place kind < 88
+train_entry_low train_place.Bank kind = omega (arith, kind_low kind)
+train_entry_low train_place.BankPool kind = omega (arith, kind_low kind)
+train_entry_low (train_place.Company company) kind = omega (arith, kind_low kind, company_low company)
+train_entry_low train_place.OutOfPlay kind = omega (arith, kind_low kind)
+
+-- whether a train is one of those at a place, by entries
+train_by_entry :
+    (a b : Kind) (at place : TrainPlace) → one_if (same_kind a b && same_train_place at place) ≡ (if train_entry at a == train_entry place b then 1 else 0)
+train_by_entry a b at place =
+    ap (λ test. one_if (same_kind a b && test)) (same_train_row at place)
+    ∙ ap one_if (row_same (place_of_kind a) (place_of_kind b) (train_row at) (train_row place) (kind_low a) (kind_low b))
+
+-- a train moves from its entry to its other
+pub train_moved_on :
+    (train : TrainMove) (made : Option TrainMove) (place : TrainPlace) (kind : Kind) (from to : ℕ) (old new : ℤ) → Some train ≡ made →
+    from ≡ train_entry train.from train.kind → to ≡ train_entry train.to train.kind →
+    new ≡ (old +ℤ pos (if to == train_entry place kind then 1 else 0)) -ℤ pos (if from == train_entry place kind then 1 else 0) →
+    new ≡ (old +ℤ pos (one_if (train_comes place kind made))) -ℤ pos (one_if (train_goes place kind made))
+train_moved_on train made place kind from to old new is from_is to_is moved =
+    rw (sym is, train_by_entry train.kind kind train.to place, train_by_entry train.kind kind train.from place, sym from_is, sym to_is) moved
+
+-- a train moves from its place to its other
+pub stable_moved :
+    (train : TrainMove) (made : Option TrainMove) (owner : Option Company) (from to : ℕ) (old new : ℤ) → Some train ≡ made → from ≡ train_row train.from →
+    to ≡ train_row train.to →
+    new ≡ (old +ℤ pos (if to == train_row (stable_of owner) then 1 else 0)) -ℤ pos (if from == train_row (stable_of owner) then 1 else 0) →
+    new ≡ (old +ℤ pos (one_if (any_comes owner made))) -ℤ pos (one_if (any_goes owner made))
+stable_moved train made owner from to old new is from_is to_is moved =
+    rw (sym is, same_train_row train.to (stable_of owner), same_train_row train.from (stable_of owner), sym from_is, sym to_is) moved
 
 -- a start with a net is an account
 pub account_kept :

@@ -1,19 +1,23 @@
 -- What the books have after one more event.
-use Rattle.std.proofs.Common.{◌≡◌, ℕ, ◌+◌, ◌^◌, ◌<◌, ◌||◌, Bool, true, false, List, [], ◌∷◌, ◌++◌, Option, ℤ, pos, ◌+ℤ◌, ◌-ℤ◌, get_or, length, take, unwrap_or, refl, ap, subst, sym, ◌∙◌, arith, length-append, length-take-le}
+use Rattle.std.proofs.Common.{◌≡◌, ℕ, ◌+◌, ◌^◌, ◌<◌, ◌||◌, Bool, true, false, if◌then◌else◌, List, [], ◌∷◌, ◌++◌, Option, Some, None, is_some, ℤ, pos, ◌≤◌, ◌+ℤ◌, ◌-ℤ◌, get_or, length, take, unwrap_or, refl, ap, subst, sym, ◌∙◌, arith, length-append, length-take-le}
 use Rattle.std.proofs.lemmas.List.{take_more}
 use Rattle.std.proofs.lemmas.List.Folds.{list_any-append}
 use Rattle.std.proofs.lemmas.Int.{ints}
 use Rattle.std.specs.List.{list_any}
-use Rattle.std.specs.Option.{option_or}
+use Rattle.std.specs.Option.{option_flatten, option_map, option_or}
 use Rattle.history.proofs.BidWords.{bid_of_at_end}
 use Rattle.history.proofs.EventAtEnd.{balance_at_end, last_said_at_end}
+use Rattle.history.proofs.InOrder.{rulings_at_end, tokens_at_end}
 use Rattle.history.proofs.Places.{last_place_at_end}
 use Rattle.history.specs.Bids.{bid_of, bid_said}
-use Rattle.history.specs.Books.{AreBooksOf, IsNet, here_if}
-use Rattle.history.specs.Event.{bidding_of}
-use Rattle.history.specs.LookBack.{IsModerate, last_place_from, last_said}
+use Rattle.history.specs.Books.{AreBooksOf, IsCounted, IsNet, flag_then, here_if}
+use Rattle.history.specs.Event.{bidding_of, round_of}
+use Rattle.history.specs.LookBack.{IsModerate, in_round, last_place_from, last_said, now_said}
+use Rattle.history.specs.Operating.{rulings_in_round, rulings_then, tokens_placed}
+use Rattle.history.specs.Trains.{one_if}
 use Rattle.history.specs.declared.books.Books.{Books}
 use Rattle.history.specs.declared.event.Event.{Event}
+use Rattle.tables.specs.declared.roster.Company.{Company}
 use Rattle.tables.specs.declared.roster.Private.{Private}
 use Rattle.tables.specs.declared.seat.Seat.{Seat}
 
@@ -40,6 +44,11 @@ or_false : (flag : Bool) → (flag || false) ≡ flag
 or_false true = refl
 or_false false = refl
 
+-- a test that is met is enough
+or_true : (flag : Bool) → (flag || true) ≡ true
+or_true true = refl
+or_true false = refl
+
 -- a bid on a private is what the event says, or else the one before
 pub bid_noted :
     (events : List Event) (event : Event) (private : Private) (seat : Seat) (old new : Option ℕ) →
@@ -56,6 +65,26 @@ flag_noted says events event old new noted before =
     ∙ ap (λ flag. flag || says event) before
     ∙ sym (list_any-append says events (event ∷ []) ∙ ap (λ flag. list_any says events || flag) (or_false (says event)))
 
+-- a flag is down where a round begins; else it is up where the event speaks or where it was before
+flag_or :
+    {A : Type 0} (begins : Bool) (said : Option A) (before : Option (Option A)) →
+    (if begins then false else (is_some (option_flatten before) || is_some said)) ≡ is_some (option_flatten (option_or (if begins then Some None else option_map Some said) before))
+flag_or true said before = refl
+flag_or false None before = or_false (is_some (option_flatten before))
+flag_or false (Some word) before = or_true (is_some (option_flatten before))
+
+-- an event adds at most one to a count of rulings
+ruling_at_most_one : (seat : Seat) (count : ℕ) (event : Event) → rulings_then seat count event ≤ count + 1
+ruling_at_most_one seat count event = grind arith
+
+-- and one to a count of tokens
+token_at_most_one : (event : Event) (company : Company) → tokens_placed (event ∷ []) company ≤ 1
+token_at_most_one event company = grind arith
+
+-- one train is few
+pub one_low : (test : Bool) → one_if test < 2 ^ 32
+one_low test = grind arith
+
 -- the entry of an account
 pub net_noted :
     (brings takes : Event → ℕ) (events : List Event) (event : Event) (old new : ℤ) → length events < 2 ^ 63 → brings event < 2 ^ 32 → takes event < 2 ^ 32 →
@@ -71,6 +100,39 @@ net_noted brings takes events event old new short few_in few_out moves before =
       is = moved ∙ ap (λ net. (net +ℤ pos (brings event)) -ℤ pos (takes event)) before.is ∙ sym (balance_at_end 0 brings takes events event);
       not_under = omega (arith, ints, moved, longer, few_in, few_out, before.not_under);
       not_over = omega (arith, ints, moved, longer, few_in, few_out, before.not_over);
+    }
+
+-- a flag of a round that some event of it has put up
+pub round_flag_noted :
+    {A : Type 0} (says : Event → Option A) (events : List Event) (event : Event) (old new : Bool) → new ≡ flag_then event (is_some (says event)) old →
+    old ≡ is_some (now_said (in_round says) events) → new ≡ is_some (now_said (in_round says) (events ++ event ∷ []))
+round_flag_noted says events event old new noted before =
+    noted
+    ∙ ap (flag_then event (is_some (says event))) before
+    ∙ flag_or (is_some (round_of event)) (says event) (last_said (in_round says) events)
+    ∙ sym (ap (λ said. is_some (option_flatten said)) (last_said_at_end (in_round says) events event))
+
+-- a count of a seat's rulings
+pub rulings_noted :
+    (events : List Event) (event : Event) (seat : Seat) (old new : ℕ) → length events < 2 ^ 63 → (old < 2 ^ 63 → new ≡ rulings_then seat old event) →
+    IsCounted (rulings_in_round events seat) events old → IsCounted (rulings_in_round (events ++ event ∷ []) seat) (events ++ event ∷ []) new
+rulings_noted events event seat old new short counts before =
+    let counted = counts (omega (arith, short, before.few)) in
+    record {
+      is = counted ∙ ap (λ (n : ℕ). rulings_then seat n event) before.is ∙ sym (rulings_at_end events event seat);
+      few = omega (arith, counted, ruling_at_most_one seat old event, before.few, length-append events (event ∷ []));
+    }
+
+-- a count of a company's tokens
+pub tokens_noted :
+    (events : List Event) (event : Event) (company : Company) (old new : ℕ) → length events < 2 ^ 63 →
+    (old < 2 ^ 63 → new ≡ old + tokens_placed (event ∷ []) company) → IsCounted (tokens_placed events company) events old →
+    IsCounted (tokens_placed (events ++ event ∷ []) company) (events ++ event ∷ []) new
+tokens_noted events event company old new short counts before =
+    let counted = counts (omega (arith, short, before.few)) in
+    record {
+      is = omega (arith, counted, before.is, tokens_at_end events event company);
+      few = omega (arith, counted, token_at_most_one event company, before.few, length-append events (event ∷ []));
     }
 
 -- the books of a list up to a place, and those with the event there

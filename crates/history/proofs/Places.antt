@@ -1,6 +1,5 @@
 -- The place of the last event that speaks of a thing, once one more event stands at the end.
-use Rattle.std.proofs.Common.{◌≡◌, ℕ, ◌+◌, ◌<◌, List, [], ◌∷◌, ◌++◌, Bool, true, false, if◌then◌else◌, Option, Some, None, is_some, length, get_or, take, sym, ap, ◌∙◌, arith}
-use Rattle.std.proofs.lemmas.List.{take_more, length-take}
+use Rattle.std.proofs.Common.{◌≡◌, ℕ, ◌+◌, List, [], ◌∷◌, ◌++◌, Option, length, sym, ap, ◌∙◌, arith}
 use Rattle.std.specs.Option.{option_or}
 use Rattle.history.proofs.EventAtEnd.{option_or_assoc, option_or_none}
 use Rattle.history.specs.Books.{here_if}

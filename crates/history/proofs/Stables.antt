@@ -1,11 +1,15 @@
 -- How many trains a company has: all that came to it, less all that went.
-use Rattle.std.proofs.Common.{◌≡◌, ℕ, ◌+◌, Bool, ◌&&◌, List, [], ◌∷◌, Option, Some, None, pos, ◌-ℤ◌, ◌+ℤ◌, refl, arith}
-use Rattle.std.proofs.lemmas.Int.{ints}
-use Rattle.std.proofs.lemmas.List.Sums.{sum_by-cons}
+use Rattle.std.proofs.Common.{◌≡◌, ℕ, zero, suc, ◌+◌, ◌<◌, ◌≤◌, ◌^◌, Bool, ◌&&◌, List, [], ◌∷◌, length, Option, Some, None, ℤ, pos, negsuc, neg_ℤ, unsigned_abs, FitsSigned, ◌≤ℤ◌, ◌-ℤ◌, ◌+ℤ◌, refl, sym, subst, ◌∙◌, arith}
+use Rattle.std.proofs.lemmas.Int.{fits_signed_from_abs, ints, to_z-of_z}
+use Rattle.std.proofs.lemmas.List.Sums.{count_by-le-length, sum_by-cons}
+use mir.Syntax.{w64, w128}
+use mir.Val.{of_z, to_z}
 use Rattle.history.proofs.AllTrains.{trains_in_front}
+use Rattle.history.proofs.NetTables.{net_kept}
+use Rattle.history.specs.Books.{IsNet}
 use Rattle.history.specs.Event.{stable_of, train_moved}
 use Rattle.history.specs.LookBack.{balance}
-use Rattle.history.specs.Trains.{any_comes, any_goes, one_if, stable_size, train_comes, train_goes}
+use Rattle.history.specs.Trains.{any_comes, any_goes, count_of, one_if, stable_size, train_comes, train_goes}
 use Rattle.history.specs.declared.event.Event.{Event}
 use Rattle.history.specs.declared.event.TrainMove.{TrainMove}
 use Rattle.tables.specs.Train.{kinds, same_kind}
@@ -70,3 +74,45 @@ pub size_is : (events : List Event) (owner : Option Company) → balance 0 (λ e
 size_is [] owner = refl
 size_is (event ∷ events) owner =
     omega (arith, ints, balance_in_front event events owner, size_in_front event events owner, size_is events owner)
+
+-- as many as were sold
+pub size_of_debt : (sold : ℕ) → unsigned_abs (neg_ℤ (pos sold)) ≡ sold
+size_of_debt zero = refl
+size_of_debt (suc sold) = refl
+
+-- a number between two bounds
+abs_low : (n : ℤ) (bound : ℕ) → neg_ℤ (pos bound) ≤ℤ n → n ≤ℤ pos bound → unsigned_abs n ≤ bound
+abs_low (pos n) bound under over = omega (arith, ints, over)
+abs_low (negsuc n) bound under over = omega (arith, ints, under)
+
+-- a count of trains is no greater than the number of events
+pub count_fits : (comes goes : Event → Bool) (events : List Event) → length events < 2 ^ 63 → FitsSigned w64 (count_of comes goes events)
+count_fits comes goes events short =
+    let came = count_by-le-length comes events in
+    let went = count_by-le-length goes events in
+    let low = abs_low (count_of comes goes events) (length events) (omega (arith, ints, came, went)) (omega (arith, ints, came, went)) in
+    fits_signed_from_abs w64 (count_of comes goes events) (omega (arith, low, short))
+
+-- the net of a table is the number that keeps it
+count_safe :
+    (comes goes : Event → Bool) (events : List Event) (net : ℤ) → length events < 2 ^ 63 →
+    IsNet (λ e. one_if (comes e)) (λ e. one_if (goes e)) events net → to_z w128 (of_z w128 net) ≡ net
+count_safe comes goes events net short kept =
+    net_kept net (record {
+      not_under = omega (arith, ints, short, kept.not_under);
+      not_over = omega (arith, ints, short, kept.not_over);
+    })
+
+-- so it fits a smaller number
+pub train_count_fits :
+    (comes goes : Event → Bool) (events : List Event) (net : ℤ) → length events < 2 ^ 63 →
+    IsNet (λ e. one_if (comes e)) (λ e. one_if (goes e)) events net → FitsSigned w64 (to_z w128 (of_z w128 net))
+train_count_fits comes goes events net short kept =
+    subst (FitsSigned w64) (sym (count_safe comes goes events net short kept ∙ kept.is)) (count_fits comes goes events short)
+
+-- which is the count
+pub train_count_kept :
+    (comes goes : Event → Bool) (events : List Event) (net : ℤ) → length events < 2 ^ 63 →
+    IsNet (λ e. one_if (comes e)) (λ e. one_if (goes e)) events net → to_z w64 (of_z w64 (to_z w128 (of_z w128 net))) ≡ count_of comes goes events
+train_count_kept comes goes events net short kept =
+    to_z-of_z w64 (to_z w128 (of_z w128 net)) (train_count_fits comes goes events net short kept) ∙ count_safe comes goes events net short kept ∙ kept.is

@@ -1,10 +1,12 @@
 -- The books of a list of events: what its readers answer, kept while the events come. Tables are by the places
 -- of the privates and the companies in the roster, and by the numbers of the six seats that a table has.
-use Rattle.std.specs.Prelude.{◌≡◌, ℕ, ◌<◌, ◌+◌, ◌*◌, ◌^◌, ℤ, pos, neg_ℤ, ◌≤ℤ◌, [], List, length, Option, Some, None, is_some, if◌then◌else◌, slice_index_or}
+use Rattle.std.specs.Prelude.{◌≡◌, ℕ, ◌<◌, ◌≤◌, ◌+◌, ◌*◌, ◌^◌, ℤ, pos, neg_ℤ, ◌≤ℤ◌, [], List, length, Bool, false, ◌||◌, Option, Some, None, is_some, if◌then◌else◌, slice_index_or}
 use Rattle.history.specs.Bids.{bid_of}
-use Rattle.history.specs.Event.{floated_by, ownership_of, payment_of, phase_set, round_of as round_begun, square_set, sv_price_set, transfer_of}
+use Rattle.history.specs.Event.{floated_by, ownership_of, payment_of, phase_set, round_of as round_begun, square_set, stable_of, sv_price_set, train_moved, transfer_of}
 use Rattle.history.specs.LookBack.{actor_of, balance, bankrupt_in, broken_in, last_place_from, last_said, owner_said, paid_by, paid_to}
-use Rattle.history.specs.Shares.{brought_to, float_said, par_of, president_of, square_of, square_said, taken_from}
+use Rattle.history.specs.Operating.{has_operated, rulings_in_round, tokens_placed}
+use Rattle.history.specs.Shares.{brought_to, float_said, has_sold_in_round, par_of, president_of, square_of, square_said, taken_from}
+use Rattle.history.specs.Trains.{any_comes, any_goes, one_if, train_comes, train_goes}
 use Rattle.history.specs.declared.books.Books.{Books}
 use Rattle.history.specs.declared.event.Event.{Event}
 use Rattle.history.specs.declared.event.Holder.{Holder}
@@ -13,11 +15,16 @@ use Rattle.history.specs.declared.event.Party.{Party}
 use Rattle.history.specs.declared.event.Party.TheVariants as party
 use Rattle.history.specs.declared.event.Shareholder.{Shareholder}
 use Rattle.history.specs.declared.event.Shareholder.TheVariants.{InitialOffering, BankPool, Seat as OfSeat}
+use Rattle.history.specs.declared.event.TrainPlace.{TrainPlace}
+use Rattle.history.specs.declared.event.TrainPlace.TheVariants as train_place
 use Rattle.history.specs.declared.owners.Owners.{Owners}
 use Rattle.tables.specs.Roster.{place_of_company, place_of_private}
 use Rattle.tables.specs.Seat.{seat_at}
+use Rattle.tables.specs.Train.{place_of_kind}
+use Rattle.tables.specs.declared.rolling_stock.Kind.{Kind}
 use Rattle.tables.specs.declared.roster.Company.{Company}
 use Rattle.tables.specs.declared.roster.Private.{Private}
+use Rattle.tables.specs.declared.seat.Seat.{Seat}
 
 -- what the books have as the last word on a private's owner
 abbrev pub word_in : Owners → Private → Option (Option Holder)
@@ -71,6 +78,33 @@ tenths_entry company place = 8 * row_of place + place_of_company company
 abbrev pub HasTenths : Shareholder → Type 0
 HasTenths place = row_of place < 8
 
+-- the row of a place in a table of trains
+abbrev pub train_row : TrainPlace → ℕ
+train_row train_place.Bank = 0
+train_row train_place.BankPool = 1
+train_row (train_place.Company company) = 2 + place_of_company company
+train_row train_place.OutOfPlay = 10
+
+-- the entry of the trains of a kind at a place
+abbrev pub train_entry : TrainPlace → Kind → ℕ
+train_entry place kind = 8 * train_row place + place_of_kind kind
+
+-- an entry of a table of counts
+abbrev pub count_at : List ℕ → ℕ → ℕ
+count_at counts entry = slice_index_or counts entry 0
+
+-- what a table has of a company's turn
+abbrev pub flag_of : List Bool → Company → Bool
+flag_of flags company = slice_index_or flags (place_of_company company) false
+
+-- what a table has of a seat's sale of tenths of a company
+abbrev pub sale_in : List (List Bool) → Company → Seat → Bool
+sale_in sales company seat = slice_index_or (slice_index_or sales (place_of_company company) []) seat.0 false
+
+-- a flag after an event: one that begins a round takes it down, and one that speaks puts it up
+abbrev pub flag_then : Event → Bool → Bool → Bool
+flag_then event speaks flag = if is_some (round_begun event) then false else (flag || speaks)
+
 -- an entry of a table of nets
 abbrev pub net_at : List ℤ → ℕ → ℤ
 net_at nets entry = slice_index_or nets entry (pos 0)
@@ -87,6 +121,19 @@ cash_net nets party = net_at nets (party_entry party)
 -- the same of the tenths of a company at a place
 abbrev pub tenths_net : List ℤ → Company → Shareholder → ℤ
 tenths_net nets company place = net_at nets (tenths_entry company place)
+
+-- the same of the trains of a kind at a place
+abbrev pub train_net : List ℤ → TrainPlace → Kind → ℤ
+train_net nets place kind = net_at nets (train_entry place kind)
+
+-- how many trains a company has, or the bank pool where there is none, as a table has it
+abbrev pub stable_net : List ℤ → Option Company → ℤ
+stable_net nets owner = net_at nets (train_row (stable_of owner))
+
+-- a number is a count of events
+pub record IsCounted (count : ℕ) (events : List Event) (kept : ℕ) : Type 0 where
+  pub is : kept ≡ count
+  pub few : kept ≤ length events
 
 -- a net is what came in less what went out, and no further from 0 than the events can bring it
 pub record IsNet (brings takes : Event → ℕ) (events : List Event) (net : ℤ) : Type 0 where
@@ -114,3 +161,13 @@ pub record AreBooksOf (books : Books) (events : List Event) : Type 0 where
   pub tenths :
       (company : Company) (place : Shareholder) → HasTenths place →
       IsNet (λ e. brought_to company place (transfer_of e)) (λ e. taken_from company place (transfer_of e)) events (tenths_net books.tenths company place)
+  pub trains :
+      (place : TrainPlace) (kind : Kind) →
+      IsNet (λ e. one_if (train_comes place kind (train_moved e))) (λ e. one_if (train_goes place kind (train_moved e))) events (train_net books.trains place kind)
+  pub stables :
+      (owner : Option Company) →
+      IsNet (λ e. one_if (any_comes owner (train_moved e))) (λ e. one_if (any_goes owner (train_moved e))) events (stable_net books.stables owner)
+  pub tokens : (company : Company) → IsCounted (tokens_placed events company) events (count_at books.tokens (place_of_company company))
+  pub operated : (company : Company) → flag_of books.operated company ≡ has_operated events company
+  pub sales : (company : Company) (seat : Seat) → seat.0 < 256 → sale_in books.sales company seat ≡ has_sold_in_round events company seat
+  pub rulings : (seat : Seat) → seat.0 < 256 → IsCounted (rulings_in_round events seat) events (count_at books.rulings seat.0)

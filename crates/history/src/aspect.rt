@@ -1,9 +1,7 @@
 //! The ways of looking back over a list of events, each generic over the aspect of an event that it
 //! looks at.
-ghost use Rattle.std.specs.Prelude.{◌≡◌, ℕ, Bool, Option, slice_get};
-ghost use Rattle.std.specs.List.{filter_map};
-ghost use Rattle.history.specs.LookBack.{FitsMemory, IsModerate, balance, in_round, last_said};
-ghost use Rattle.history.specs.Trains.{count_of};
+ghost use Rattle.std.specs.Prelude.{◌≡◌, ℕ, Option};
+ghost use Rattle.history.specs.LookBack.{IsModerate, balance, in_round, last_said};
 ghost use Rattle.history.specs.declared.event.Event.{Event};
 
 use crate::event::Event;
@@ -53,24 +51,6 @@ pub(crate) fn last_said<T: Topic>(topic: &T, events: &[Event]) -> Option<T::Word
     None
 }
 
-/// What an event says of a thing, the one at this place, from 0, among those that speak of it.
-pub(crate) fn nth_said<T: Topic>(topic: &T, events: &[Event], place: usize) -> Option<T::Word>
-where
-    T::Word: Drop,
-    ensures { result ≡ slice_get (filter_map (T.word topic.now) events.now) place }
-{
-    let mut left = place;
-    for event in events {
-        if let Some(word) = topic.word(event) {
-            if left == 0 {
-                return Some(word);
-            }
-            left -= 1;
-        }
-    }
-    None
-}
-
 /// An account to which some events bring and from which some take.
 pub(crate) trait Account {
     ghost brings: { Self → Event → ℕ };
@@ -98,41 +78,4 @@ pub(crate) fn balance<A: Account>(account: &A, start: Amount, events: &[Event]) 
         went_out += Money::from(account.takes(event));
     }
     came_in - went_out
-}
-
-/// A number of trains: those that came in less those that went out, at least 0 in a sound game.
-pub type TrainCount = i64;
-
-/// A place of trains, to which some events bring one and from which some take one.
-pub(crate) trait Stable {
-    ghost comes: { Self → Event → Bool };
-
-    ghost goes: { Self → Event → Bool };
-
-    /// Whether an event brings a train in.
-    fn comes(&self, event: &Event) -> bool
-        ensures { result ≡ comes self.now event.now };
-
-    /// Whether an event takes a train out.
-    fn goes(&self, event: &Event) -> bool
-        ensures { result ≡ goes self.now event.now };
-}
-
-/// How many trains came in, less how many went out.
-pub(crate) fn count<S: Stable>(stable: &S, events: &[Event]) -> TrainCount
-    requires { FitsMemory events.now }
-    ensures sum { result ≡ count_of (S.comes stable.now) (S.goes stable.now) events.now }
-    ensures within { IsModerate result }
-{
-    let mut came = 0;
-    let mut went = 0;
-    for event in events {
-        if stable.comes(event) {
-            came += 1;
-        }
-        if stable.goes(event) {
-            went += 1;
-        }
-    }
-    came - went
 }

@@ -6,10 +6,11 @@ ghost use Rattle.history.specs.LookBack.{FitsMemory};
 ghost use Rattle.history.specs.declared.event.Event.{Event as TheEvent};
 
 use crate::event::Event;
-use crate::nets::{note_payment, note_transfer};
+use crate::nets::{note_payment, note_stable, note_train, note_transfer};
 use crate::noting::{
-    note, note_arrival, note_bankrupt, note_bids, note_broken, note_float, note_par,
-    note_president, note_square,
+    SEATS_MOST, no_rulings, no_sales, note, note_arrival, note_bankrupt, note_bids, note_broken,
+    note_float, note_par, note_president, note_ruling, note_sale, note_square, note_token,
+    note_turn,
 };
 use crate::owners::Owners;
 use crate::shares::Tenths;
@@ -18,7 +19,8 @@ use tables::{Amount, Company, Kind, Money, PLAYERS_MOST, Round, Seat, Square};
 
 /// What a list of events says: what was said last of each thing, `None` where nothing was. Tables
 /// are by the places of the privates and the companies in the roster, and by the numbers of seats.
-/// Of cash and tenths it is what came to each party or place, less what went from it.
+/// Of cash, tenths and trains it is what came to each party or place, less what went from it. Of
+/// companies' turns, seats' sales and rulings it is what the round has had that began last.
 #[derive(Clone, Copy, Debug)]
 pub struct Books {
     /// How many events there are.
@@ -38,6 +40,12 @@ pub struct Books {
     pub(crate) floats: [Option<Company>; 8],
     pub(crate) cash: [Money; 15],
     pub(crate) tenths: [Tenths; 64],
+    pub(crate) trains: [Money; 88],
+    pub(crate) stables: [Money; 11],
+    pub(crate) tokens: [usize; 8],
+    pub(crate) operated: [bool; 8],
+    pub(crate) sales: [[bool; SEATS_MOST]; 8],
+    pub(crate) rulings: [usize; SEATS_MOST],
 }
 
 impl Books {
@@ -62,6 +70,12 @@ impl Books {
             floats: [None; 8],
             cash: [0; 15],
             tenths: [0; 64],
+            trains: [0; 88],
+            stables: [0; 11],
+            tokens: [0; 8],
+            operated: [false; 8],
+            sales: no_sales(),
+            rulings: no_rulings(),
         }
     }
 
@@ -98,6 +112,12 @@ impl Books {
         note_float(&mut self.floats, event);
         note_payment(&mut self.cash, event);
         note_transfer(&mut self.tenths, event);
+        note_train(&mut self.trains, event);
+        note_stable(&mut self.stables, event);
+        note_token(&mut self.tokens, event);
+        note_turn(&mut self.operated, event);
+        note_sale(&mut self.sales, event);
+        note_ruling(&mut self.rulings, event);
         self.told = self.told.saturating_add(1);
     }
 }

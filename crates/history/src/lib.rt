@@ -40,7 +40,6 @@ mod topics;
 mod trains;
 mod walk;
 
-pub use aspect::TrainCount;
 pub use books::Books;
 pub use event::{
     Bid, Bidding, Event, Holder, Office, Ownership, ParValue, Party, Payment, Placement, SUM_MOST,
@@ -64,5 +63,5 @@ pub use ruling::{
     TrainRule,
 };
 pub use shares::Tenths;
-pub use trains::so_many;
+pub use trains::{TrainCount, so_many};
 pub use walk::Walk;

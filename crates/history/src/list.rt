@@ -1,4 +1,5 @@
-ghost use Rattle.std.specs.Prelude.{◌≡◌, ◌↔◌, ◌≤◌, IsTrue, MatchResult, OnOk, OnErr, option_map, pos, slice_get, []};
+ghost use Rattle.std.specs.Prelude.{◌≡◌, ◌↔◌, ◌≤◌, ◌<◌, ◌++◌, IsTrue, IsOk, MatchResult, OnOk, OnErr, option_map, pos, slice_get, vec_capacity, vec_len, []};
+ghost use Rattle.std.specs.List.{cons_option};
 ghost use Rattle.history.specs.Bids.{bid_of, free_cash_of};
 ghost use Rattle.history.specs.Event.{sum_of};
 ghost use Rattle.history.specs.Kept.{TakesBox};
@@ -8,13 +9,13 @@ ghost use Rattle.history.specs.Shares.{arrival_of, has_sold_in_round, is_floated
 ghost use Rattle.history.specs.Sound.{IsSound};
 ghost use Rattle.history.specs.Trains.{phase_of, trains_held, trains_sold};
 
-use crate::aspect::TrainCount;
 use crate::books::Books;
 use crate::event::{Event, Holder, Party, SUM_MOST, Shareholder};
 use crate::kept::KeptOrder;
 use crate::look_back::Past;
 use crate::owners::Owners;
 use crate::shares::Tenths;
+use crate::trains::TrainCount;
 use map_tables::{Lay, Place};
 use order_grammar::Order;
 use std::alloc::{AllocError, Global};
@@ -22,26 +23,30 @@ use std::marker::Model;
 use tables::{Company, Kind, Money, Private, Round, Seat, Square};
 
 /// A game: the number of its seats and the list of its events, oldest first; and beside it the
-/// books of that list, which say what it says.
+/// books of that list, which say what it says, with the tiles and the tokens that lie on the map.
 #[derive(Debug, Drop)]
 pub struct History {
     seats: usize,
     events: Vec<Event>,
+    lays: Vec<Lay>,
+    tokens: Vec<(Place, Company)>,
     books: Books,
 }
 
 impl Model for History {
-    ghost use Rattle.std.specs.Prelude.{All, ◌≤◌};
+    ghost use Rattle.std.specs.Prelude.{All, ◌≡◌, ◌≤◌};
     ghost use Rattle.history.specs.Books.{AreBooksOf};
     ghost use Rattle.history.specs.Event.{sum_of};
     ghost use Rattle.history.specs.LookBack.{Game};
+    ghost use Rattle.history.specs.Operating.{lays_of, tokens_of};
 
     ghost Value = { Game };
 
     ghost view = { λ a. record { seats = a.seats; events = a.events.items } };
 
     ghost invariant = { λ a.
-        All (λ event. sum_of event ≤ 1000000) a.events.items × AreBooksOf a.books a.events.items };
+        All (λ event. sum_of event ≤ 1000000) a.events.items × AreBooksOf a.books a.events.items
+        × (a.lays.items ≡ lays_of a.events.items) × (a.tokens.items ≡ tokens_of a.events.items) };
 }
 
 impl History {
@@ -53,6 +58,8 @@ impl History {
         History {
             seats,
             events: Vec::new(alloc),
+            lays: Vec::new(alloc),
+            tokens: Vec::new(alloc),
             books: Books::start(),
         }
     }
@@ -70,10 +77,13 @@ impl History {
         ensures ok { OnOk result (self.new ≡ with_event self.old event) }
         ensures err { OnErr result (self.new ≡ self.old) }
     {
-        let mut books = self.books;
-        books.note(&event);
+        self.events.reserve(1)?;
+        self.lays.reserve(1)?;
+        self.tokens.reserve(1)?;
+        self.books.note(&event);
+        push_any(&mut self.lays, event.lay())?;
+        push_any(&mut self.tokens, event.token())?;
         self.events.push(event)?;
-        self.books = books;
         Ok(())
     }
 
@@ -252,11 +262,25 @@ impl History {
         self.now().president(company)
     }
 
+    /// The tiles that were laid, oldest first.
+    pub fn lays(&self) -> &[Lay]
+        ensures { result.now ≡ lays_of self.now.events }
+    {
+        self.lays.as_slice()
+    }
+
+    /// The tokens that were placed, oldest first, those of homes among them.
+    pub fn tokens(&self) -> &[(Place, Company)]
+        ensures { result.now ≡ tokens_of self.now.events }
+    {
+        self.tokens.as_slice()
+    }
+
     /// The tile that was laid at this place among all that were, from 0; the oldest is the first.
     pub fn laid(&self, place: usize) -> Option<Lay>
         ensures { result ≡ slice_get (lays_of self.now.events) place }
     {
-        self.now().laid(place)
+        self.lays.get(place).copied()
     }
 
     /// The token that was placed at this place among all that were, from 0, those of homes among
@@ -264,7 +288,7 @@ impl History {
     pub fn token(&self, place: usize) -> Option<(Place, Company)>
         ensures { result ≡ slice_get (tokens_of self.now.events) place }
     {
-        self.now().token(place)
+        self.tokens.get(place).copied()
     }
 
     /// How many tokens a company has placed, that of its home among them.
@@ -315,4 +339,18 @@ impl History {
     {
         self.now().free_cash(seat)
     }
+}
+
+/// Adds one at the end of a list that has room for it, if there is one.
+fn push_any<T>(list: &mut Vec<T>, one: Option<T>) -> Result<(), AllocError>
+where
+    T: Drop,
+    requires { vec_len list.old < vec_capacity list.old }
+    ensures kept { list.new.items ≡ list.old.items ++ cons_option one [] }
+    ensures ok { IsOk result }
+{
+    if let Some(one) = one {
+        list.push(one)?;
+    }
+    Ok(())
 }

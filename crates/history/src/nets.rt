@@ -1,13 +1,14 @@
 //! Tables of nets: what came to each entry, less what went from it. The entries are those of the
 //! bank, the companies and six seats; a further seat has an entry behind the table's end.
-ghost use Rattle.std.specs.Prelude.{◌≡◌, ◌==◌, ◌<◌, ◌≤◌, ◌+ℤ◌, ◌-ℤ◌, ◌≤ℤ◌, ◌^◌, ℕ, if◌then◌else◌, length, neg_ℤ, pos};
-ghost use Rattle.history.specs.Books.{HasEntry, HasTenths, IsSafe, cash_net, net_at, party_entry, tenths_entry, tenths_net};
-ghost use Rattle.history.specs.Event.{payment_of, transfer_of};
+ghost use Rattle.std.specs.Prelude.{◌≡◌, ◌==◌, ◌<◌, ◌≤◌, ◌+ℤ◌, ◌-ℤ◌, ◌≤ℤ◌, ◌^◌, ℕ, if◌then◌else◌, length, neg_ℤ, pos, Option};
+ghost use Rattle.history.specs.Books.{HasEntry, HasTenths, IsSafe, cash_net, net_at, party_entry, stable_net, tenths_entry, tenths_net, train_entry, train_net, train_row};
+ghost use Rattle.history.specs.Event.{payment_of, train_moved, transfer_of};
 ghost use Rattle.history.specs.LookBack.{IsModerate, paid_by, paid_to};
 ghost use Rattle.history.specs.Shares.{brought_to, taken_from};
+ghost use Rattle.history.specs.Trains.{any_comes, any_goes, one_if, train_comes, train_goes};
 
-use crate::event::{Event, Holder, Party, Shareholder};
-use tables::{Amount, Company, Money};
+use crate::event::{Event, Holder, Party, Shareholder, TrainPlace};
+use tables::{Amount, Company, Kind, Money};
 
 /// A net with a change that is a sum of money, or less one.
 fn changed(net: Money, change: Money) -> Money
@@ -97,5 +98,56 @@ pub(crate) fn note_transfer(nets: &mut [Money; 64], event: &Event)
         let from = entry_of_tenths(transfer.company, transfer.from);
         let to = entry_of_tenths(transfer.company, transfer.to);
         move_sum(nets, from, to, Amount::from(transfer.tenths));
+    }
+}
+
+/// The row of a place in a table of trains, and its entry in a table of how many it has.
+pub(crate) fn row_of_trains(place: TrainPlace) -> usize
+    ensures row { result ≡ train_row place }
+    ensures within { result < 11 }
+{
+    match place {
+        TrainPlace::Bank => 0,
+        TrainPlace::BankPool => 1,
+        TrainPlace::Company(company) => 2 + company.place(),
+        TrainPlace::OutOfPlay => 10,
+    }
+}
+
+/// The entry of the trains of a kind at a place in a table of trains.
+pub(crate) fn entry_of_train(place: TrainPlace, kind: Kind) -> usize
+    ensures entry { result ≡ train_entry place kind }
+    ensures within { result < 88 }
+{
+    8 * row_of_trains(place) + kind.place()
+}
+
+/// Notes the train that an event moves.
+pub(crate) fn note_train(nets: &mut [Money; 88], event: &Event)
+    ensures { (place : TrainPlace) (kind : Kind) → IsModerate (train_net nets.old place kind) →
+        train_net nets.new place kind
+        ≡ (train_net nets.old place kind
+        +ℤ pos (one_if (train_comes place kind (train_moved event.now))))
+        -ℤ pos (one_if (train_goes place kind (train_moved event.now))) }
+{
+    if let Some(train) = event.train() {
+        let from = entry_of_train(train.from, train.kind);
+        let to = entry_of_train(train.to, train.kind);
+        move_sum(nets, from, to, 1);
+    }
+}
+
+/// Notes the train that an event moves, in a table of how many trains a place has.
+pub(crate) fn note_stable(nets: &mut [Money; 11], event: &Event)
+    ensures { (owner : Option Company) → IsModerate (stable_net nets.old owner) →
+        stable_net nets.new owner
+        ≡ (stable_net nets.old owner
+        +ℤ pos (one_if (any_comes owner (train_moved event.now))))
+        -ℤ pos (one_if (any_goes owner (train_moved event.now))) }
+{
+    if let Some(train) = event.train() {
+        let from = row_of_trains(train.from);
+        let to = row_of_trains(train.to);
+        move_sum(nets, from, to, 1);
     }
 }

@@ -1,16 +1,22 @@
 //! How an event changes what the books have, table by table.
-ghost use Rattle.std.specs.Prelude.{◌≡◌, ℕ, ◌<◌, ◌||◌, unwrap_or};
+ghost use Rattle.std.specs.Prelude.{◌≡◌, ℕ, ◌<◌, ◌+◌, ◌^◌, ◌&&◌, ◌||◌, [], ◌∷◌, false, is_some, slice_index_or, unwrap_or};
 ghost use Rattle.std.specs.Option.{option_or};
 ghost use Rattle.history.specs.Bids.{bid_said};
-ghost use Rattle.history.specs.Books.{at_company, bid_in, here_if};
-ghost use Rattle.history.specs.Event.{bidding_of, floated_by, office_of, par_set, square_set, tells_bankrupt, tells_broken};
-ghost use Rattle.history.specs.Shares.{float_said, par_said, president_said, square_said};
+ghost use Rattle.history.specs.Books.{at_company, bid_in, count_at, flag_of, flag_then, here_if, sale_in};
+ghost use Rattle.history.specs.Event.{bidding_of, floated_by, office_of, operated_by, par_set, square_set, tells_bankrupt, tells_broken, transfer_of};
+ghost use Rattle.history.specs.Operating.{rulings_then, tokens_placed, turn_said};
+ghost use Rattle.history.specs.Shares.{float_said, par_said, president_said, sale_said, same_shareholder, square_said};
+ghost use Rattle.history.specs.declared.event.Shareholder.TheVariants.{BankPool, Seat as OfSeat};
+ghost use Rattle.tables.specs.Roster.{place_of_company};
 ghost use Rattle.tables.specs.Seat.{seat_at};
 
 use crate::aspect::Topic;
 use crate::bids::note_bid_on;
-use crate::event::{Bidding, Event};
+use crate::event::{Bidding, Event, Shareholder};
 use tables::{Amount, Company, PLAYERS_MOST, Private, Seat, Square};
+
+/// How many numbers of seats there are.
+pub(crate) const SEATS_MOST: usize = 256;
 
 /// Notes what an event says of a thing, if it speaks of it.
 pub(crate) fn note<T: Topic>(said: &mut Option<T::Word>, topic: &T, event: &Event)
@@ -104,5 +110,94 @@ pub(crate) fn note_arrival(arrivals: &mut [Option<usize>; 8], place: usize, even
 {
     if let Some(placement) = event.square() {
         arrivals[placement.company.place()] = Some(place);
+    }
+}
+
+/// Notes the token that an event places, in a table of how many each company has placed.
+pub(crate) fn note_token(tokens: &mut [usize; 8], event: &Event)
+    ensures { (company : Company) → count_at tokens.old (place_of_company company) < 2 ^ 63 →
+        count_at tokens.new (place_of_company company)
+        ≡ count_at tokens.old (place_of_company company)
+        + tokens_placed (event.now ∷ []) company }
+{
+    if let Some((_, company)) = event.token() {
+        let count = tokens[company.place()];
+        tokens[company.place()] = count.saturating_add(1);
+    }
+}
+
+/// Notes whose turn of an operating round an event tells; one that begins a round empties the
+/// table.
+pub(crate) fn note_turn(operated: &mut [bool; 8], event: &Event)
+    ensures { (company : Company) → flag_of operated.new company
+        ≡ flag_then event.now (is_some (turn_said company (operated_by event.now)))
+        (flag_of operated.old company) }
+{
+    if event.round().is_some() {
+        *operated = [false; 8];
+        return;
+    }
+    if let Some(company) = event.operated() {
+        operated[company.place()] = true;
+    }
+}
+
+/// A table in which no sale is told of.
+pub(crate) fn no_sales() -> [[bool; SEATS_MOST]; 8]
+    ensures { (company : Company) (seat : Seat) → sale_in result company seat ≡ false }
+{
+    [[false; SEATS_MOST]; 8]
+}
+
+/// Notes which tenths a seat sells by an event; one that begins a round empties the table.
+pub(crate) fn note_sale(sales: &mut [[bool; SEATS_MOST]; 8], event: &Event)
+    ensures { (company : Company) (seat : Seat) → seat.0 < 256 → sale_in sales.new company seat
+        ≡ flag_then event.now (is_some (sale_said company seat (transfer_of event.now)))
+        (sale_in sales.old company seat) }
+{
+    if event.round().is_some() {
+        *sales = no_sales();
+        return;
+    }
+    if let Some(transfer) = event.transfer() {
+        note_sale_of(
+            &mut sales[transfer.company.place()],
+            transfer.from,
+            transfer.to,
+        );
+    }
+}
+
+/// Notes that tenths of a company went from a seat to the bank pool, if they did.
+fn note_sale_of(sales: &mut [bool; SEATS_MOST], from: Shareholder, to: Shareholder)
+    ensures { (seat : Seat) → seat.0 < 256 → slice_index_or sales.new seat.0 false
+        ≡ (slice_index_or sales.old seat.0 false
+        || (same_shareholder from (OfSeat seat) && same_shareholder to BankPool)) }
+{
+    if let (Shareholder::Seat(seat), Shareholder::BankPool) = (from, to) {
+        sales[seat.number()] = true;
+    }
+}
+
+/// A table in which no line was ruled.
+pub(crate) fn no_rulings() -> [usize; SEATS_MOST]
+    ensures { (entry : ℕ) → count_at result entry ≡ 0 }
+{
+    [0; SEATS_MOST]
+}
+
+/// Notes of whose sheet an event rules a line, in a table of how many lines were ruled of each
+/// seat's; one that begins a round empties the table.
+pub(crate) fn note_ruling(rulings: &mut [usize; SEATS_MOST], event: &Event)
+    ensures { (seat : Seat) → seat.0 < 256 → count_at rulings.old seat.0 < 2 ^ 63 →
+        count_at rulings.new seat.0 ≡ rulings_then seat (count_at rulings.old seat.0) event.now }
+{
+    if event.round().is_some() {
+        *rulings = no_rulings();
+        return;
+    }
+    if let Some(seat) = event.ruled() {
+        let count = rulings[seat.number()];
+        rulings[seat.number()] = count.saturating_add(1);
     }
 }

@@ -1,18 +1,15 @@
 //! The things of which events speak, and the accounts that they change.
 ghost use Rattle.history.specs.Bids.{bid_said};
-ghost use Rattle.history.specs.Event.{bidding_of, floated_by, obeyed_of, office_of, operated_by, ownership_of, par_set, payment_of, phase_set, round_of as round_begun, square_set, sv_price_set, tile_laid, token_placed, train_moved, transfer_of};
-ghost use Rattle.history.specs.LookBack.{actor_of, owner_said, paid_by, paid_to};
-ghost use Rattle.history.specs.Operating.{turn_said};
+ghost use Rattle.history.specs.Event.{bidding_of, obeyed_of, payment_of, phase_set, round_of as round_begun, sv_price_set, transfer_of};
+ghost use Rattle.history.specs.LookBack.{actor_of, paid_by, paid_to};
 ghost use Rattle.history.specs.Offers.{offered_in};
 ghost use Rattle.history.specs.Orders.{limit_in, par_of_baltimore_in, said_by};
-ghost use Rattle.history.specs.Shares.{brought_to, float_said, par_said, president_said, sale_said, square_said, taken_from};
-ghost use Rattle.history.specs.Trains.{any_comes, any_goes, train_comes, train_goes};
+ghost use Rattle.history.specs.Shares.{brought_to, taken_from};
 
-use crate::aspect::{Account, Stable, Topic};
-use crate::event::{Bidding, Event, Holder, Party, Shareholder, TrainPlace};
-use map_tables::{Lay, Place};
+use crate::aspect::{Account, Topic};
+use crate::event::{Bidding, Event, Party, Shareholder};
 use order_grammar::Offer;
-use tables::{Amount, Company, Kind, Private, Round, Seat, Square};
+use tables::{Amount, Company, Kind, Private, Round, Seat};
 
 /// The cash of a party.
 #[derive(Clone, Copy)]
@@ -165,71 +162,6 @@ impl Account for Shares {
     }
 }
 
-/// A seat's sale of tenths of a company.
-#[derive(Clone, Copy)]
-pub(crate) struct SaleBy(pub Company, pub Seat);
-
-impl Topic for SaleBy {
-    type Word = u8;
-
-    ghost word = { λ a event. sale_said a.0 a.1 (transfer_of event) };
-
-    fn word(&self, event: &Event) -> Option<u8> {
-        match event.transfer() {
-            Some(transfer)
-                if transfer.company == self.0
-                    && transfer.from == Shareholder::Seat(self.1)
-                    && transfer.to == Shareholder::BankPool => { Some(transfer.tenths) }
-            _ => None,
-        }
-    }
-}
-
-/// The tiles that are laid.
-#[derive(Clone, Copy)]
-pub(crate) struct TileLaid;
-
-impl Topic for TileLaid {
-    type Word = Lay;
-
-    ghost word = { λ a event. tile_laid event };
-
-    fn word(&self, event: &Event) -> Option<Lay> {
-        event.lay()
-    }
-}
-
-/// The tokens that are placed.
-#[derive(Clone, Copy)]
-pub(crate) struct TokenPlaced;
-
-impl Topic for TokenPlaced {
-    type Word = (Place, Company);
-
-    ghost word = { λ a event. token_placed event };
-
-    fn word(&self, event: &Event) -> Option<(Place, Company)> {
-        event.token()
-    }
-}
-
-/// A company's turn of an operating round.
-#[derive(Clone, Copy)]
-pub(crate) struct TurnOf(pub Company);
-
-impl Topic for TurnOf {
-    type Word = Company;
-
-    ghost word = { λ a event. turn_said a.0 (operated_by event) };
-
-    fn word(&self, event: &Event) -> Option<Company> {
-        match event.operated() {
-            Some(company) if company == self.0 => Some(company),
-            _ => None,
-        }
-    }
-}
-
 /// The round that is played.
 #[derive(Clone, Copy)]
 pub(crate) struct RoundPlayed;
@@ -241,54 +173,6 @@ impl Topic for RoundPlayed {
 
     fn word(&self, event: &Event) -> Option<Round> {
         event.round()
-    }
-}
-
-/// The trains of a kind at a place.
-#[derive(Clone, Copy)]
-pub(crate) struct TrainsAt(pub TrainPlace, pub Kind);
-
-impl Stable for TrainsAt {
-    ghost comes = { λ a event. train_comes a.0 a.1 (train_moved event) };
-
-    ghost goes = { λ a event. train_goes a.0 a.1 (train_moved event) };
-
-    fn comes(&self, event: &Event) -> bool {
-        match event.train() {
-            Some(train) => train.kind == self.1 && train.to == self.0,
-            None => false,
-        }
-    }
-
-    fn goes(&self, event: &Event) -> bool {
-        match event.train() {
-            Some(train) => train.kind == self.1 && train.from == self.0,
-            None => false,
-        }
-    }
-}
-
-/// The trains of a company, or of the bank pool where there is none.
-#[derive(Clone, Copy)]
-pub(crate) struct AllTrainsAt(pub Option<Company>);
-
-impl Stable for AllTrainsAt {
-    ghost comes = { λ a event. any_comes a.0 (train_moved event) };
-
-    ghost goes = { λ a event. any_goes a.0 (train_moved event) };
-
-    fn comes(&self, event: &Event) -> bool {
-        match event.train() {
-            Some(train) => train.to == TrainPlace::of_owner(self.0),
-            None => false,
-        }
-    }
-
-    fn goes(&self, event: &Event) -> bool {
-        match event.train() {
-            Some(train) => train.from == TrainPlace::of_owner(self.0),
-            None => false,
-        }
     }
 }
 

@@ -1,15 +1,15 @@
 //! Trains: who has which, how many the bank has sold, and the phase.
 ghost use Rattle.std.specs.Prelude.{◌≡◌};
 ghost use Rattle.history.specs.LookBack.{IsModerate};
-ghost use Rattle.history.specs.Trains.{phase_of, so_many, stable_size, train_goes, trains_at, trains_held, trains_sold};
-ghost use Rattle.history.specs.Event.{train_moved};
-ghost use Rattle.history.specs.declared.event.TrainPlace.TheVariants.{Bank};
+ghost use Rattle.history.specs.Trains.{phase_of, so_many, stable_size, trains_at, trains_held, trains_sold};
 
-use crate::aspect::{TrainCount, count};
-use crate::event::{Event, TrainPlace};
+use crate::event::TrainPlace;
 use crate::look_back::Past;
-use crate::topics::{AllTrainsAt, TrainsAt};
+use crate::nets::{entry_of_train, row_of_trains};
 use tables::{Company, Kind, Money};
+
+/// A number of trains: those that came in less those that went out, at least 0 in a sound game.
+pub type TrainCount = i64;
 
 impl Past<'_> {
     /// The trains of a kind that a company has, or the bank pool where there is none.
@@ -25,7 +25,7 @@ impl Past<'_> {
         ensures sum { result ≡ trains_at self.now.events.now place kind }
         ensures within { IsModerate result }
     {
-        count(&TrainsAt(place, kind), self.events)
+        self.books.trains[entry_of_train(place, kind)] as TrainCount
     }
 
     /// How many trains a company has, or the bank pool where there is none.
@@ -33,17 +33,14 @@ impl Past<'_> {
         ensures sum { result ≡ stable_size self.now.events.now owner }
         ensures within { IsModerate result }
     {
-        count(&AllTrainsAt(owner), self.events)
+        self.books.stables[row_of_trains(TrainPlace::of_owner(owner))] as TrainCount
     }
 
-    /// How many trains of a kind the bank has sold.
+    /// How many trains of a kind the bank has sold: none comes to it.
     pub fn trains_sold(&self, kind: Kind) -> usize
         ensures { result ≡ trains_sold self.now.events.now kind }
     {
-        self.events
-            .iter()
-            .filter(|event| is_sale(event, kind))
-            .count()
+        self.trains_at(TrainPlace::Bank, kind).unsigned_abs() as usize
     }
 
     /// The phase, at first that of the 2.
@@ -51,16 +48,6 @@ impl Past<'_> {
         ensures { result ≡ phase_of self.now.events.now }
     {
         self.books.phase.unwrap_or(Kind::Two)
-    }
-}
-
-/// Whether the bank sells a train of the kind by an event.
-fn is_sale(event: &Event, kind: Kind) -> bool
-    ensures { result ≡ train_goes Bank kind (train_moved event.now) }
-{
-    match event.train() {
-        Some(train) => train.kind == kind && train.from == TrainPlace::Bank,
-        None => false,
     }
 }
 

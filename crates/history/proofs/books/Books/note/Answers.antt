@@ -1,8 +1,10 @@
 use Rattle.std.proofs.Common.{[], ◌∷◌, arith, length-append}
-use Rattle.history.proofs.Noted.{bid_noted, flag_noted, net_noted, place_noted, word_noted}
-use Rattle.history.specs.Event.{floated_by, office_of, ownership_of, par_set, payment_of, phase_set, round_of, square_set, sv_price_set, tells_bankrupt, tells_broken, transfer_of}
+use Rattle.history.proofs.Noted.{bid_noted, flag_noted, net_noted, one_low, place_noted, round_flag_noted, rulings_noted, tokens_noted, word_noted}
+use Rattle.history.specs.Event.{floated_by, office_of, operated_by, ownership_of, par_set, payment_of, phase_set, round_of, square_set, sv_price_set, tells_bankrupt, tells_broken, train_moved, transfer_of}
 use Rattle.history.specs.LookBack.{actor_of, owner_said, paid_by, paid_to}
-use Rattle.history.specs.Shares.{brought_to, float_said, par_said, president_said, square_said, taken_from}
+use Rattle.history.specs.Operating.{turn_said}
+use Rattle.history.specs.Shares.{brought_to, float_said, par_said, president_said, sale_said, square_said, taken_from}
+use Rattle.history.specs.Trains.{any_comes, any_goes, one_if, train_comes, train_goes}
 use Rattle.tables.specs.Seat.{seat_at}
 use Rattle.history.proofs.books.Books.note.Goals as goal
 
@@ -33,4 +35,19 @@ returns c = λ events short before.
           net_noted (λ e. brought_to company place (transfer_of e)) (λ e. taken_from company place (transfer_of e)) events event _ _ short
           (c.note_transfer.ensures.to company place) (c.note_transfer.ensures.by company place)
           (c.note_transfer.ensures.moved company place has) (before.tenths company place has);
+      trains = λ place kind.
+          net_noted (λ e. one_if (train_comes place kind (train_moved e))) (λ e. one_if (train_goes place kind (train_moved e))) events event _ _ short
+          (one_low (train_comes place kind (train_moved event))) (one_low (train_goes place kind (train_moved event)))
+          (c.note_train.ensures place kind) (before.trains place kind);
+      stables = λ owner.
+          net_noted (λ e. one_if (any_comes owner (train_moved e))) (λ e. one_if (any_goes owner (train_moved e))) events event _ _ short
+          (one_low (any_comes owner (train_moved event))) (one_low (any_goes owner (train_moved event)))
+          (c.note_stable.ensures owner) (before.stables owner);
+      tokens = λ company. tokens_noted events event company _ _ short (c.note_token.ensures company) (before.tokens company);
+      operated = λ company.
+          round_flag_noted (λ e. turn_said company (operated_by e)) events event _ _ (c.note_turn.ensures company) (before.operated company);
+      sales = λ company seat low.
+          round_flag_noted (λ e. sale_said company seat (transfer_of e)) events event _ _ (c.note_sale.ensures company seat low)
+          (before.sales company seat low);
+      rulings = λ seat low. rulings_noted events event seat _ _ short (c.note_ruling.ensures seat low) (before.rulings seat low);
     }

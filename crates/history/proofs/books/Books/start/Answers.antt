@@ -1,9 +1,11 @@
-use Rattle.std.proofs.Common.{refl}
-use Rattle.history.proofs.Empty.{no_bid, no_net, nothing_said}
-use Rattle.history.specs.Books.{party_entry, tenths_entry}
-use Rattle.history.specs.Event.{payment_of, transfer_of}
+use Rattle.std.proofs.Common.{false, refl}
+use Rattle.history.proofs.Empty.{no_bid, no_count, no_net, none_counted, nothing_said, same_throughout}
+use Rattle.history.specs.Books.{party_entry, tenths_entry, train_entry, train_row}
+use Rattle.history.specs.Event.{payment_of, stable_of, train_moved, transfer_of}
 use Rattle.history.specs.LookBack.{paid_by, paid_to}
 use Rattle.history.specs.Shares.{brought_to, taken_from}
+use Rattle.history.specs.Trains.{any_comes, any_goes, one_if, train_comes, train_goes}
+use Rattle.tables.specs.Roster.{place_of_company}
 use Rattle.history.proofs.books.Books.start.Goals as goal
 
 pub returns : goal.returns
@@ -25,4 +27,12 @@ returns c = record {
   cash = λ party has. no_net (λ e. paid_to party (payment_of e)) (λ e. paid_by party (payment_of e)) 15 (party_entry party);
   tenths = λ company place has.
       no_net (λ e. brought_to company place (transfer_of e)) (λ e. taken_from company place (transfer_of e)) 64 (tenths_entry company place);
+  trains = λ place kind.
+      no_net (λ e. one_if (train_comes place kind (train_moved e))) (λ e. one_if (train_goes place kind (train_moved e))) 88 (train_entry place kind);
+  stables = λ owner.
+      no_net (λ e. one_if (any_comes owner (train_moved e))) (λ e. one_if (any_goes owner (train_moved e))) 11 (train_row (stable_of owner));
+  tokens = λ company. no_count 8 (place_of_company company);
+  operated = λ company. same_throughout false 8 (place_of_company company);
+  sales = λ company seat low. c.no_sales.ensures company seat;
+  rulings = λ seat low. none_counted _ (c.no_rulings.ensures seat.0);
 }
