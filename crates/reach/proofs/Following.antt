@@ -80,7 +80,7 @@ module _ (position : Position) (company : Company) (lawful : IsLawful position) 
   arrives_same spot other same (inr came) = inr (came.0, came.1, came.2, came.3 ∙ same)
 
   -- marks where a link may be entered from
-  enter_joined : (marks : List Bool) (from : Spot) → IsMarked marks from → (hex : Hex) (end : End) → AreJoined from (spot_at hex end) → IfSome (stop_at_end hex end) (λ stop. ¬ IsFull position stop company) → CanEnterAt position company marks hex end
+  pub enter_joined : (marks : List Bool) (from : Spot) → IsMarked marks from → (hex : Hex) (end : End) → AreJoined from (spot_at hex end) → IfSome (stop_at_end hex end) (λ stop. ¬ IsFull position stop company) → CanEnterAt position company marks hex end
   enter_joined marks from is_marked hex (AtStop number) (inl both) may_pass =
       (subst (λ n. get_or marks n false ≡ true) (stop_number from both.0 both.1 ∙ sym (stop_number (spot_at hex (AtStop number)) both.0 both.2)) is_marked, may_pass)
   enter_joined marks from is_marked hex (AtSide side) (inl both) may_pass = absurd (let nowhere : None ≡ Some both.0 = both.2 in cc)

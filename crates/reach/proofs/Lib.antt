@@ -6,3 +6,4 @@ pub mod Marking
 pub mod Reaching
 pub mod Collected
 pub mod Equal
+pub mod Looking

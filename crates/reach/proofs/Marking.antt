@@ -1,24 +1,26 @@
--- What it is to follow steps, by the marks: one step, steps after others, and none.
-use Rattle.std.proofs.Common.{◌≡◌, ℕ, ◌<◌, ◌≤◌, Bool, true, false, not, cond, ◌||◌, ◌⊎◌, inl, inr, List, length, get_or, set, refl, ap, sym, ◌∙◌, subst, arith, get_or-set_same, get_or-set_other, length-set}
+-- What it is to follow steps, by the marks and by what waits: one step, steps after others, and none.
+use Rattle.std.proofs.Common.{◌≡◌, ℕ, ◌+◌, ◌<◌, Bool, true, false, cond, if◌then◌else◌, ◌⊎◌, inl, inr, List, [], ◌∷◌, ◌++◌, length, get_or, set, refl, ap, sym, ◌∙◌, subst, arith, get_or-set_same, get_or-set_other, length-set, length-append}
 use Rattle.std.proofs.lemmas.List.{set-get_or}
 use Rattle.std.proofs.lemmas.List.Sums.{sum_by-set}
 use Rattle.std.proofs.lemmas.Bool.{cases_eq}
+use Rattle.map_tables.specs.declared.hex.Hex.{Hex}
+use Rattle.map_tables.specs.declared.track.End.{End}
+use Rattle.map_tables.specs.declared.track.End.TheVariants.{Side as AtSide, Stop as AtStop}
 use Rattle.reach.specs.Lawful.{IsLawful}
-use Rattle.reach.specs.Position.{Position}
-use Rattle.reach.specs.Search.{spot_number, IsMarked, CanEnter, marked, Follows}
-use Rattle.reach.specs.Walk.{entered_at, left_at, IsTrack}
+use Rattle.reach.specs.Position.{Position, IsFull}
+use Rattle.reach.specs.Search.{spot_number, number_at, IsMarked, IsMarking, IsEnteredAt, IsFollowed, CanEnter, CanEnterAt, marked, Waits, AllWait, Spreads}
+use Rattle.reach.specs.Walk.{spot_at, entered_at, left_at, IsTrack}
+use Rattle.reach.specs.declared.walk.Spot.{Spot}
 use Rattle.reach.specs.declared.walk.Step.{Step}
 use Rattle.reach.proofs.Following.{walk_by, arrives_same}
+use Rattle.reach.proofs.Spots.{are_one}
 use Rattle.tables.specs.declared.roster.Company.{Company}
 
--- one more mark: there is one more, or all is as before
-one_more : (marks : List Bool) (n : ℕ) → n < length marks → get_or marks n false ≡ false → marked marks < marked (set marks n true)
+-- one more mark: there is one more
+one_more : (marks : List Bool) (n : ℕ) → n < length marks → get_or marks n false ≡ false → marked (set marks n true) ≡ marked marks + 1
 one_more marks n low was =
     let count : Bool → ℕ = λ mark. cond mark 1 0 in
     omega (arith, sum_by-set count marks n true false low, ap count was)
-
-no_more : (marks : List Bool) (n : ℕ) → get_or marks n false ≡ true → set marks n true ≡ marks
-no_more marks n was = ap (set marks n) (sym was) ∙ set-get_or marks n false
 
 -- a mark at one number: the others stay
 pub set_cases : (marks : List Bool) (n m : ℕ) → get_or (set marks n true) m false ≡ true → (n ≡ m) ⊎ (get_or marks m false ≡ true)
@@ -35,83 +37,197 @@ set_keeps marks n m low is =
       | inr other ↦ get_or-set_other marks n m true false other ∙ is
     ]
 
-or_false : (x y : Bool) → (x || y) ≡ false → (x ≡ false) × (y ≡ false)
-or_false true y h = cc
-or_false false y h = (refl, h)
+-- the spot at the end waits, by its number
+pub waits_end : (waiting : List Spot) (last spot : Spot) → spot_number last ≡ spot_number spot → Waits (waiting ++ last ∷ []) spot
+waits_end [] last spot same = inl same
+waits_end (other ∷ others) last spot same = inr (waits_end others last spot same)
 
-not_true : (b : Bool) → not b ≡ true → b ≡ false
-not_true true h = cc
-not_true false h = refl
+-- those before the end wait
+pub waits_before : (waiting : List Spot) (last spot : Spot) → Waits waiting spot → Waits (waiting ++ last ∷ []) spot
+waits_before [] last spot h = absurd h
+waits_before (other ∷ others) last spot (inl h) = inl h
+waits_before (other ∷ others) last spot (inr h) = inr (waits_before others last spot h)
 
-not_false : (b : Bool) → not b ≡ false → b ≡ true
-not_false true h = refl
-not_false false h = cc
+-- what waits is before the end, or it is the last
+pub waits_cases : (waiting : List Spot) (last spot : Spot) → Waits (waiting ++ last ∷ []) spot → Waits waiting spot ⊎ (spot_number last ≡ spot_number spot)
+waits_cases [] last spot (inl h) = inr h
+waits_cases [] last spot (inr h) = absurd h
+waits_cases (other ∷ others) last spot (inl h) = inl (inl h)
+waits_cases (other ∷ others) last spot (inr h) =
+    elim (waits_cases others last spot h) [ inl before ↦ inl (inr before) | inr same ↦ inr same ]
+
+-- a spot was marked before, and all is as it was; or it is marked, and waits
+abbrev pub MarkingCases : Spot → List Bool → List Spot → List Bool → List Spot → Type 0
+MarkingCases spot old waited new waiting =
+    (IsMarked old spot × (new ≡ old) × (waiting ≡ waited)) ⊎ ((get_or old (spot_number spot) false ≡ false) × (new ≡ set old (spot_number spot) true) × (waiting ≡ waited ++ spot ∷ []))
+
+pub marking_cases : (spot : Spot) (old : List Bool) (waited : List Spot) (new : List Bool) (waiting : List Spot) → IsMarking spot old waited new waiting → MarkingCases spot old waited new waiting
+marking_cases spot old waited new waiting marking = by_mark (get_or old (spot_number spot) false) refl
+  where
+    by_mark : (was : Bool) → get_or old (spot_number spot) false ≡ was → MarkingCases spot old waited new waiting
+    by_mark true was = inl (
+      was,
+      subst (λ b. new ≡ (if b then old else set old (spot_number spot) true)) was marking.marks,
+      subst (λ b. waiting ≡ (if b then waited else waited ++ spot ∷ [])) was marking.waits,
+    )
+    by_mark false was = inr (
+      was,
+      subst (λ b. new ≡ (if b then old else set old (spot_number spot) true)) was marking.marks,
+      subst (λ b. waiting ≡ (if b then waited else waited ++ spot ∷ [])) was marking.waits,
+    )
+
+-- a spot that is marked is marked
+pub marks_set : (spot : Spot) (old : List Bool) (waited : List Spot) (new : List Bool) (waiting : List Spot) → IsMarking spot old waited new waiting → new ≡ set old (spot_number spot) true
+marks_set spot old waited new waiting marking =
+    elim (marking_cases spot old waited new waiting marking) [
+      | inl was ↦ was.1 ∙ sym (ap (set old (spot_number spot)) (sym was.0) ∙ set-get_or old (spot_number spot) false)
+      | inr not_yet ↦ not_yet.1
+    ]
+
+-- where all that is marked waits, it does so once more is marked
+pub wait_on : (spot : Spot) (old : List Bool) (waited : List Spot) (new : List Bool) (waiting : List Spot) → AllWait old waited → IsMarking spot old waited new waiting → AllWait new waiting
+wait_on spot old waited new waiting wait marking =
+    elim (marking_cases spot old waited new waiting marking) [
+      | inl was ↦ subst (λ m. AllWait m waiting) (sym was.1) (subst (λ w. AllWait old w) (sym was.2) wait)
+      | inr not_yet ↦ subst (λ m. AllWait m waiting) (sym not_yet.1)
+          (subst (λ w. AllWait (set old (spot_number spot) true) w) (sym not_yet.2)
+          (record {
+            all = λ other is. elim (set_cases old (spot_number spot) (spot_number other) is) [
+              | inl same ↦ waits_end waited spot other same
+              | inr before ↦ waits_before waited spot other (wait.all other before)
+            ];
+            known = λ other waits. elim (waits_cases waited spot other waits) [
+              | inl before ↦ set_keeps old (spot_number spot) (spot_number other) marking.low (wait.known other before)
+              | inr same ↦ subst (λ m. get_or (set old (spot_number spot) true) m false ≡ true) same (get_or-set_same old (spot_number spot) true false marking.low)
+            ];
+          }))
+    ]
 
 module _ (position : Position) (company : Company) where
-  -- a step that may be taken
-  pub follows_step : IsLawful position → (step : Step) → IsTrack position step → (old new : List Bool) (added : Bool) → spot_number (left_at step) < length old → CanEnter position company old (entered_at step) → new ≡ set old (spot_number (left_at step)) true → added ≡ not (get_or old (spot_number (left_at step)) false) → Follows position company (λ taken. taken ≡ step) old new added
-  follows_step lawful step track old new added low can new_is added_is =
-      let n : ℕ = spot_number (left_at step) in
-      record {
-        length_kept = ap length new_is ∙ length-set old n true;
-        kept = λ spot is. subst (λ marks. IsMarked marks spot) (sym new_is) (set_keeps old n (spot_number spot) low is);
-        arrive = λ arrive spot is. elim (set_cases old n (spot_number spot) (subst (λ marks. IsMarked marks spot) new_is is)) [
-          | inl same ↦ arrives_same position company lawful (left_at step) spot same
-              (let by : (before : List Step) × _ = walk_by position company lawful old arrive step track can in inr (step, by.0, by.1, refl))
-          | inr before ↦ arrive spot before
-        ];
-        more = λ more. subst (λ marks. marked old < marked marks) (sym new_is) (one_more old n low (not_true (get_or old n false) (sym added_is ∙ more)));
-        same = λ same. new_is ∙ no_more old n (not_false (get_or old n false) (sym added_is ∙ same));
-        closed = λ same taken is can_take. subst (λ (s : Step). IsMarked old (left_at s)) (sym is) (not_false (get_or old n false) (sym added_is ∙ same));
-      }
-
-  -- a step that leads to what is marked
-  pub follows_marked : (step : Step) (marks : List Bool) → IsMarked marks (left_at step) → Follows position company (λ taken. taken ≡ step) marks marks false
-  follows_marked step marks marked_there =
+  -- steps that lead to what is marked change nothing
+  pub spreads_none : (P : Step → Type 0) (marks : List Bool) (waiting : List Spot) → ((step : Step) → P step → IsMarked marks (left_at step)) → Spreads position company P marks waiting marks waiting
+  spreads_none P marks waiting led =
       record {
         length_kept = refl;
         kept = λ spot is. is;
         arrive = λ arrive. arrive;
-        more = λ more. cc;
-        same = λ same. refl;
-        closed = λ same taken is can. subst (λ (s : Step). IsMarked marks (left_at s)) (sym is) marked_there;
+        led = led;
+        fresh = λ spot is. inl is;
+        still = λ spot waits. waits;
+        known = λ spot waits. inl waits;
+        balance = refl;
+        grown = omega arith;
       }
 
-  -- what is marked grows, or stays
-  grown : (P : Step → Type 0) (old new : List Bool) (added : Bool) → Follows position company P old new added → marked old ≤ marked new
-  grown P old new true follows = omega (arith, follows.more refl)
-  grown P old new false follows = omega (arith, ap marked (follows.same refl))
+  -- a step that may be taken, and leads to what is not marked
+  spreads_new : IsLawful position → (step : Step) → IsTrack position step → (old : List Bool) (waited : List Spot) → spot_number (left_at step) < length old → CanEnter position company old (entered_at step) → get_or old (spot_number (left_at step)) false ≡ false → Spreads position company (λ taken. taken ≡ step) old waited (set old (spot_number (left_at step)) true) (waited ++ left_at step ∷ [])
+  spreads_new lawful step track old waited low can was =
+      let n : ℕ = spot_number (left_at step) in
+      let more : marked (set old n true) ≡ marked old + 1 = one_more old n low was in
+      record {
+        length_kept = length-set old n true;
+        kept = λ spot is. set_keeps old n (spot_number spot) low is;
+        arrive = λ arrive spot is. elim (set_cases old n (spot_number spot) is) [
+          | inl same ↦ arrives_same position company lawful (left_at step) spot same
+              (let by : (before : List Step) × _ = walk_by position company lawful old arrive step track can in inr (step, by.0, by.1, refl))
+          | inr before ↦ arrive spot before
+        ];
+        led = λ taken is. subst (λ (s : Step). IsMarked (set old n true) (left_at s)) (sym is) (get_or-set_same old n true false low);
+        fresh = λ spot is. elim (set_cases old n (spot_number spot) is) [
+          | inl same ↦ inr (waits_end waited (left_at step) spot same)
+          | inr before ↦ inl before
+        ];
+        still = λ spot waits. waits_before waited (left_at step) spot waits;
+        known = λ spot waits. elim (waits_cases waited (left_at step) spot waits) [
+          | inl before ↦ inl before
+          | inr same ↦ inr (subst (λ m. get_or (set old n true) m false ≡ true) same (get_or-set_same old n true false low))
+        ];
+        balance = omega (arith, more, length-append waited (left_at step ∷ []));
+        grown = omega (arith, more);
+      }
 
-  -- more in one part is more in all
-  more_of : (P Q : Step → Type 0) (a b c : List Bool) (x y : Bool) → Follows position company P a b x → Follows position company Q b c y → (x || y) ≡ true → marked a < marked c
-  more_of P Q a b c true y first next more = omega (arith, first.more refl, grown Q b c y next)
-  more_of P Q a b c false y first next more = omega (arith, ap marked (first.same refl), next.more more)
+  -- a step that may be taken marks where it is left
+  spreads_step : IsLawful position → (step : Step) → IsTrack position step → (old : List Bool) (waited : List Spot) (new : List Bool) (waiting : List Spot) → CanEnter position company old (entered_at step) → IsMarking (left_at step) old waited new waiting → Spreads position company (λ taken. taken ≡ step) old waited new waiting
+  spreads_step lawful step track old waited new waiting can marking =
+      elim (marking_cases (left_at step) old waited new waiting marking) [
+        | inl was ↦ subst (λ m. Spreads position company (λ taken. taken ≡ step) old waited m waiting) (sym was.1)
+            (subst (λ w. Spreads position company (λ taken. taken ≡ step) old waited old w) (sym was.2)
+            (spreads_none (λ taken. taken ≡ step) old waited (λ taken is. subst (λ (s : Step). IsMarked old (left_at s)) (sym is) was.0)))
+        | inr not_yet ↦ subst (λ m. Spreads position company (λ taken. taken ≡ step) old waited m waiting) (sym not_yet.1)
+            (subst (λ w. Spreads position company (λ taken. taken ≡ step) old waited (set old (spot_number (left_at step)) true) w) (sym not_yet.2)
+            (spreads_new lawful step track old waited marking.low can not_yet.0))
+      ]
 
   -- steps after others
-  pub follows_on : (P Q R : Step → Type 0) (a b c : List Bool) (x y : Bool) → Follows position company P a b x → Follows position company Q b c y → ((step : Step) → R step → P step ⊎ Q step) → Follows position company R a c (x || y)
-  follows_on P Q R a b c x y first next either =
+  pub spreads_on : (P Q R : Step → Type 0) (a : List Bool) (u : List Spot) (b : List Bool) (v : List Spot) (c : List Bool) (w : List Spot) → Spreads position company P a u b v → Spreads position company Q b v c w → ((step : Step) → R step → P step ⊎ Q step) → Spreads position company R a u c w
+  spreads_on P Q R a u b v c w first next either =
       record {
         length_kept = next.length_kept ∙ first.length_kept;
         kept = λ spot is. next.kept spot (first.kept spot is);
         arrive = λ arrive. next.arrive (first.arrive arrive);
-        more = more_of P Q a b c x y first next;
-        same = λ same. let both : (x ≡ false) × (y ≡ false) = or_false x y same in next.same both.1 ∙ first.same both.0;
-        closed = λ same step is can. let both : (x ≡ false) × (y ≡ false) = or_false x y same in
-            elim (either step is) [
-              | inl of_first ↦ first.closed both.0 step of_first can
-              | inr of_next ↦ subst (λ marks. IsMarked marks (left_at step)) (first.same both.0)
-                  (next.closed both.1 step of_next (subst (λ marks. CanEnter position company marks (entered_at step)) (sym (first.same both.0)) can))
-            ];
+        led = λ step is. elim (either step is) [
+          | inl of_first ↦ next.kept (left_at step) (first.led step of_first)
+          | inr of_next ↦ next.led step of_next
+        ];
+        fresh = λ spot is. elim (next.fresh spot is) [
+          | inl between ↦ elim (first.fresh spot between) [ inl before ↦ inl before | inr waits ↦ inr (next.still spot waits) ]
+          | inr waits ↦ inr waits
+        ];
+        still = λ spot waits. next.still spot (first.still spot waits);
+        known = λ spot waits. elim (next.known spot waits) [
+          | inl between ↦ elim (first.known spot between) [ inl before ↦ inl before | inr is ↦ inr (next.kept spot is) ]
+          | inr is ↦ inr is
+        ];
+        balance = omega (arith, first.balance, next.balance);
+        grown = omega (arith, first.grown, next.grown);
       }
 
   -- fewer steps
-  pub follows_fewer : (P R : Step → Type 0) (a b : List Bool) (x : Bool) → Follows position company P a b x → ((step : Step) → R step → P step) → Follows position company R a b x
-  follows_fewer P R a b x follows within =
+  pub spreads_fewer : (P R : Step → Type 0) (a : List Bool) (u : List Spot) (b : List Bool) (v : List Spot) → Spreads position company P a u b v → ((step : Step) → R step → P step) → Spreads position company R a u b v
+  spreads_fewer P R a u b v spreads within =
       record {
-        length_kept = follows.length_kept;
-        kept = follows.kept;
-        arrive = follows.arrive;
-        more = follows.more;
-        same = follows.same;
-        closed = λ same step is can. follows.closed same step (within step is) can;
+        length_kept = spreads.length_kept;
+        kept = spreads.kept;
+        arrive = spreads.arrive;
+        led = λ step is. spreads.led step (within step is);
+        fresh = spreads.fresh;
+        still = spreads.still;
+        known = spreads.known;
+        balance = spreads.balance;
+        grown = spreads.grown;
       }
+
+  enters_still : (old new : List Bool) → ((spot : Spot) → IsMarked old spot → IsMarked new spot) → (hex : Hex) (end : End) → CanEnterAt position company old hex end → CanEnterAt position company new hex end
+  enters_still old new kept hex (AtSide side) can = (can.0, can.1, kept can.0 can.2)
+  enters_still old new kept hex (AtStop number) can = (kept (spot_at hex (AtStop number)) can.0, can.1)
+
+  -- where a link may be entered it may be once more is marked
+  pub can_still : (old new : List Bool) → ((spot : Spot) → IsMarked old spot → IsMarked new spot) → (at : Spot) → CanEnter position company old at → CanEnter position company new at
+  can_still old new kept at can = enters_still old new kept at.hex at.end can
+
+  enters_same : (marks : List Bool) (hex : Hex) (end : End) (other : Hex) (other_end : End) → number_at hex end ≡ number_at other other_end → CanEnterAt position company marks hex end → CanEnterAt position company marks other other_end
+  enters_same marks hex (AtSide side) other (AtSide other_side) same can =
+      (can.0, sym (are_one (spot_at hex (AtSide side)) (spot_at other (AtSide other_side)) same).1 ∙ can.1, can.2)
+  enters_same marks hex (AtStop number) other (AtStop other_number) same can =
+      let stops : _ = (are_one (spot_at hex (AtStop number)) (spot_at other (AtStop other_number)) same).0 in
+      (subst (λ n. get_or marks n false ≡ true) same can.0, λ full. can.1 (subst (λ s. IsFull position s company) (cc) full))
+  enters_same marks hex (AtSide side) other (AtStop number) same can =
+      absurd (let apart : _ = (are_one (spot_at hex (AtSide side)) (spot_at other (AtStop number)) same).0 in cc)
+  enters_same marks hex (AtStop number) other (AtSide side) same can =
+      absurd (let apart : _ = (are_one (spot_at hex (AtStop number)) (spot_at other (AtSide side)) same).0 in cc)
+
+  -- a step is followed from a spot where links may be entered
+  pub spreads_followed : IsLawful position → (step : Step) → IsTrack position step → (at : Spot) (old : List Bool) (waited : List Spot) (new : List Bool) (waiting : List Spot) → CanEnter position company old at → IsFollowed step at old waited new waiting → Spreads position company (λ taken. (taken ≡ step) × IsEnteredAt at taken) old waited new waiting
+  spreads_followed lawful step track at old waited new waiting can followed =
+      elim (cases_eq (spot_number (entered_at step)) (spot_number at)) [
+        | inl same ↦ spreads_fewer (λ taken. taken ≡ step) (λ taken. (taken ≡ step) × IsEnteredAt at taken) old waited new waiting
+            (spreads_step lawful step track old waited new waiting
+            (enters_same old at.hex at.end (entered_at step).hex (entered_at step).end (sym same) can)
+            (followed.entered same))
+            (λ taken is. is.0)
+        | inr apart ↦
+            let unchanged : (new ≡ old) × (waiting ≡ waited) = followed.other apart in
+            subst (λ m. Spreads position company (λ taken. (taken ≡ step) × IsEnteredAt at taken) old waited m waiting) (sym unchanged.0)
+            (subst (λ w. Spreads position company (λ taken. (taken ≡ step) × IsEnteredAt at taken) old waited old w) (sym unchanged.1)
+            (spreads_none (λ taken. (taken ≡ step) × IsEnteredAt at taken) old waited (λ taken is. absurd (apart (subst (λ (s : Step). IsEnteredAt at s) is.0 is.1)))))
+      ]

@@ -18,7 +18,7 @@ use Rattle.reach.proofs.Spots.{are_one, stop_number, names_itself}
 use Rattle.tables.specs.declared.roster.Company.{Company}
 
 -- a spot that is marked and is a stop
-marked_stop : (marks : List Bool) (spot : Spot) (stop : Stop) → stop_of spot ≡ Some stop → IsMarked marks spot → IsMarkedStop marks stop
+pub marked_stop : (marks : List Bool) (spot : Spot) (stop : Stop) → stop_of spot ≡ Some stop → IsMarked marks spot → IsMarkedStop marks stop
 marked_stop marks spot stop is is_marked =
     let named : joined_stop_of stop ≡ stop = names_itself spot stop is in
     (named, subst (λ n. get_or marks n false ≡ true) (stop_number spot stop is ∙ sym (stop_number (spot_at stop.hex (AtStop stop.number)) stop (ap (λ (s : Stop). Some s) named))) is_marked)

@@ -1,17 +1,18 @@
 -- What the search for what a company reaches keeps: for each end in each hex, whether some walk of the
 -- company arrives there.
-use Rattle.std.specs.Prelude.{◌≡◌, ◌↔◌, ℕ, ◌+◌, ◌*◌, ◌<◌, Bool, true, false, ◌⊎◌, List, ◌∷◌, Some, length, get_or, count_by}
+use Rattle.std.specs.Prelude.{◌≡◌, ◌↔◌, ℕ, ◌+◌, ◌*◌, ◌<◌, ◌≤◌, Bool, true, false, if◌then◌else◌, ◌⊎◌, List, [], ◌∷◌, ◌++◌, Option, Some, None, IfSome, length, get_or, set, count_by}
 use Rattle.map_tables.specs.Hex.{index_of}
 use Rattle.map_tables.specs.Place.{joined_stop_of, stop_at, stop_index_of}
 use Rattle.map_tables.specs.Side.{number_of}
 use Rattle.map_tables.specs.declared.hex.Hex.{Hex}
+use Rattle.map_tables.specs.declared.hex.Hex.TheVariants.{A9, A11, I1, J2}
 use Rattle.map_tables.specs.declared.place.Stop.{Stop}
 use Rattle.map_tables.specs.declared.track.End.{End}
 use Rattle.map_tables.specs.declared.track.End.TheVariants.{Side as AtSide, Stop as AtStop}
 use Rattle.map_tables.specs.declared.track.Link.{Link}
 use Rattle.reach.specs.Position.{Position, HasToken, IsFull, IsAmong, links_of}
 use Rattle.reach.specs.Reached.{IsWalkOf}
-use Rattle.reach.specs.Walk.{spot_at, entered_at, left_at, stop_of, across}
+use Rattle.reach.specs.Walk.{spot_at, entered_at, left_at, stop_of, across, AreJoined, IsTrack}
 use Rattle.reach.specs.declared.walk.Spot.{Spot}
 use Rattle.reach.specs.declared.walk.Step.{Step}
 use Rattle.tables.specs.declared.roster.Company.{Company}
@@ -73,15 +74,69 @@ IsClosed position company P marks =
 abbrev pub marked : List Bool → ℕ
 marked marks = count_by (λ mark. mark) marks
 
--- What it is to follow such steps once: what is marked stays so, walks still arrive at all of it, and
--- either there is more of it, or it is the same and these steps lead to no more.
-pub record Follows (position : Position) (company : Company) (P : Step → Type 0) (old new : List Bool) (added : Bool) : Type 0 where
+-- a spot waits to be looked at
+abbrev pub Waits : List Spot → Spot → Type 0
+Waits [] spot = ⊥
+Waits (other ∷ others) spot = (spot_number other ≡ spot_number spot) ⊎ Waits others spot
+
+-- all that is marked waits, and there is nothing more
+pub record AllWait (marks : List Bool) (waiting : List Spot) : Type 0 where
+  pub all : (spot : Spot) → IsMarked marks spot → Waits waiting spot
+  pub known : (spot : Spot) → Waits waiting spot → IsMarked marks spot
+
+-- a spot is marked, and waits where it was not marked before
+pub record IsMarking (spot : Spot) (old : List Bool) (waited : List Spot) (new : List Bool) (waiting : List Spot) : Type 0 where
+  pub low : spot_number spot < length old
+  pub marks : new ≡ (if get_or old (spot_number spot) false then old else set old (spot_number spot) true)
+  pub waits : waiting ≡ (if get_or old (spot_number spot) false then waited else waited ++ spot ∷ [])
+
+-- a step enters its link at a spot
+abbrev pub IsEnteredAt : Spot → Step → Type 0
+IsEnteredAt at step = spot_number (entered_at step) ≡ spot_number at
+
+-- a step is followed from a spot: where it is left is marked, if it is entered there
+pub record IsFollowed (step : Step) (at : Spot) (old : List Bool) (waited : List Spot) (new : List Bool) (waiting : List Spot) : Type 0 where
+  pub entered : IsEnteredAt at step → IsMarking (left_at step) old waited new waiting
+  pub other : ¬ IsEnteredAt at step → (new ≡ old) × (waiting ≡ waited)
+
+-- the other hex in which the stop of a hex lies
+abbrev pub twin_of : Hex → Option Hex
+twin_of J2 = Some I1
+twin_of A11 = Some A9
+twin_of hex = None
+
+-- a walk that has arrived at a stop may go on there at a spot
+pub record GoesOnAt (position : Position) (company : Company) (stop : Stop) (at : Spot) : Type 0 where
+  pub there : stop_of at ≡ Some stop
+  pub may_pass : ¬ IsFull position stop company
+
+-- a walk that has arrived at a spot may go on at another: they are joined, and the stop is none that is full
+pub record LeadsTo (position : Position) (company : Company) (from at : Spot) : Type 0 where
+  pub joined : AreJoined from at
+  pub may_pass : IfSome (stop_of at) (λ stop. ¬ IsFull position stop company)
+
+-- where the steps lead by which a walk that has arrived at a spot may go on is marked
+abbrev pub IsLookedAt : Position → Company → List Bool → Spot → Type 0
+IsLookedAt position company marks from =
+    (step : Step) → IsTrack position step → LeadsTo position company from (entered_at step) → IsMarked marks (left_at step)
+
+-- each spot that is marked waits to be looked at, or was looked at; and what waits is marked
+pub record AreLookedAt (position : Position) (company : Company) (marks : List Bool) (waiting : List Spot) : Type 0 where
+  pub known : (spot : Spot) → Waits waiting spot → IsMarked marks spot
+  pub looked : (spot : Spot) → IsMarked marks spot → Waits waiting spot ⊎ IsLookedAt position company marks spot
+
+-- What it is to follow such steps: what is marked stays so, walks still arrive at all of it, where the steps lead is
+-- marked, and as many more wait as are marked, each of those that are new among them.
+pub record Spreads (position : Position) (company : Company) (P : Step → Type 0) (old : List Bool) (waited : List Spot) (new : List Bool) (waiting : List Spot) : Type 0 where
   pub length_kept : length new ≡ length old
   pub kept : (spot : Spot) → IsMarked old spot → IsMarked new spot
   pub arrive : AllArrive position company old → AllArrive position company new
-  pub more : added ≡ true → marked old < marked new
-  pub same : added ≡ false → new ≡ old
-  pub closed : added ≡ false → IsClosed position company P old
+  pub led : (step : Step) → P step → IsMarked new (left_at step)
+  pub fresh : (spot : Spot) → IsMarked new spot → IsMarked old spot ⊎ Waits waiting spot
+  pub still : (spot : Spot) → Waits waited spot → Waits waiting spot
+  pub known : (spot : Spot) → Waits waiting spot → Waits waited spot ⊎ IsMarked new spot
+  pub balance : length waiting + marked old ≡ length waited + marked new
+  pub grown : marked old ≤ marked new
 
 -- a walk that arrives where the marks say may enter a link at one of its ends
 abbrev pub CanEnterEither : Position → Company → List Bool → Link → Type 0

@@ -43,7 +43,7 @@ impl Reach {
 
 /// What a company reaches: the stops with a token of it, and each stop and link that a walk from
 /// there touches. Such a walk may end in a city that is full for the company and may not pass
-/// one; it may pass a red stop. The only error is want of memory, for the lists of the answer.
+/// one; it may pass a red stop. The only error is want of memory, for the search and the lists of the answer.
 pub fn reached<N: Network>(
     alloc: Global,
     network: &N,
@@ -52,7 +52,7 @@ pub fn reached<N: Network>(
     ensures { IfOk result (IsReach (N.position network.now) company) }
 {
     network.keeps_laws();
-    let marks = search(network, company);
+    let marks = search(alloc, network, company)?;
     Ok(Reach {
         stops: reached_stops(alloc, &marks)?,
         links: reached_links(alloc, network, company, &marks)?,

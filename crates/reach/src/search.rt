@@ -1,10 +1,10 @@
-ghost use Rattle.std.specs.Prelude.{◌≡◌, ◌<◌, ◌↔◌, length, IsTrue, IfOk, OnOk, false, true, not, slice_index_or, slice_set, replicate};
+ghost use Rattle.std.specs.Prelude.{◌≡◌, ◌<◌, ◌↔◌, IsTrue, IfOk, OnOk, [], false, slice_index_or, replicate};
 ghost use Rattle.map_tables.specs.Hex.{index_of};
 ghost use Rattle.reach.specs.Lawful.{IsLawful};
 ghost use Rattle.reach.specs.Position.{IsAmong, links_of};
 ghost use Rattle.reach.specs.Reached.{StandInOrder, stop_order};
-ghost use Rattle.reach.specs.Search.{AllArrive, AreMarkedStops, AreTaken, CanEnter, CanEnterEither, Collects, Follows, HasAllTokens, IsClosed, spot_number};
-ghost use Rattle.reach.specs.Walk.{IsTrack};
+ghost use Rattle.reach.specs.Search.{AllArrive, AllWait, AreMarkedStops, AreTaken, CanEnter, CanEnterEither, Collects, GoesOnAt, HasAllTokens, IsClosed, IsEnteredAt, IsFollowed, IsMarked, IsMarkedStop, IsMarking, LeadsTo, Spreads, spot_number, twin_of};
+ghost use Rattle.reach.specs.Walk.{IsTrack, entered_at};
 ghost use Rattle.reach.specs.declared.walk.Step.{Step};
 
 use crate::network::Network;
@@ -16,19 +16,23 @@ use tables::Company;
 /// How many ends the hexes of the map have: six sides and two stops each.
 const SPOTS: usize = 8 * HEXES;
 
-/// The ends of the map's hexes at which some walk of the company has arrived, or may begin.
+/// The ends of the map's hexes at which some walk of the company has arrived, or may begin, and those
+/// of them that are still to be looked at.
 #[derive(Drop)]
 pub(crate) struct Marks {
     marks: [bool; SPOTS],
+    waiting: Vec<Spot>,
 }
 
 impl Marks {
     /// No walk has arrived anywhere yet.
-    fn none() -> Marks
-        ensures { result.marks ≡ replicate 744 false }
+    fn none(alloc: Global) -> Marks
+        ensures marks { result.marks ≡ replicate 744 false }
+        ensures waiting { result.waiting.items ≡ [] }
     {
         Marks {
             marks: [false; SPOTS],
+            waiting: Vec::new(alloc),
         }
     }
 
@@ -39,16 +43,17 @@ impl Marks {
         self.marks[number_of(spot)]
     }
 
-    /// Marks a spot, and says whether it was not marked before.
-    fn mark(&mut self, spot: Spot) -> bool
-        ensures low { spot_number spot < length self.old.marks }
-        ensures marked { self.new.marks ≡ slice_set self.old.marks (spot_number spot) true }
-        ensures new { result ≡ not (slice_index_or self.old.marks (spot_number spot) false) }
+    /// Marks a spot, which is to be looked at if it was not marked before.
+    fn mark(&mut self, spot: Spot) -> Result<(), AllocError>
+        ensures { OnOk result (IsMarking spot
+            self.old.marks self.old.waiting.items self.new.marks self.new.waiting.items) }
     {
         let number = number_of(spot);
-        let added = !self.marks[number];
-        self.marks[number] = true;
-        added
+        if !self.marks[number] {
+            self.marks[number] = true;
+            self.waiting.push(spot)?;
+        }
+        Ok(())
     }
 }
 
@@ -105,97 +110,176 @@ fn can_enter<N: Network>(network: &N, company: Company, marks: &Marks, spot: Spo
     }
 }
 
-/// Follows a link in one direction, and says whether that marks anything new.
-fn follow<N: Network>(network: &N, company: Company, step: Step, marks: &mut Marks) -> bool
-    requires lawful { IsLawful (N.position network.now) }
-    requires track { IsTrack (N.position network.now) step }
-    ensures { let position = N.position network.now in
-        let takes = λ (taken : Step). taken ≡ step in
-        Follows position company takes marks.old.marks marks.new.marks result }
+/// The other hex in which the stop of a hex lies, if there is one.
+fn twin(hex: Hex) -> Option<Hex>
+    ensures { result ≡ twin_of hex }
 {
-    let left = step.left();
-    if marks.has(left) {
-        return false;
+    match hex {
+        Hex::J2 => Some(Hex::I1),
+        Hex::A11 => Some(Hex::A9),
+        _ => None,
     }
-    can_enter(network, company, marks, step.entered()) && marks.mark(left)
 }
 
-/// Follows a link in both directions, and says whether that marks anything new.
-fn follow_both<N: Network>(network: &N, company: Company, link: Link, marks: &mut Marks) -> bool
+/// Follows a link in one direction if it is entered at a spot, and marks where it is left.
+fn follow(step: Step, at: Spot, marks: &mut Marks) -> Result<(), AllocError>
+    ensures { OnOk result (IsFollowed step at
+        marks.old.marks marks.old.waiting.items marks.new.marks marks.new.waiting.items) }
+{
+    if number_of(step.entered()) == number_of(at) {
+        marks.mark(step.left())?;
+    }
+    Ok(())
+}
+
+/// Follows a link in the directions in which it is entered at a spot.
+fn follow_both<N: Network>(
+    network: &N,
+    company: Company,
+    link: Link,
+    at: Spot,
+    marks: &mut Marks,
+) -> Result<(), AllocError>
     requires lawful { IsLawful (N.position network.now) }
     requires track { IsAmong link (links_of (N.position network.now) link.hex) }
-    ensures { let position = N.position network.now in
-        let takes = λ (taken : Step). taken.link ≡ link in
-        Follows position company takes marks.old.marks marks.new.marks result }
+    requires may { CanEnter (N.position network.now) company marks.old.marks at }
+    ensures { let takes = λ (taken : Step). (taken.link ≡ link) × IsEnteredAt at taken in
+        OnOk result (Spreads (N.position network.now) company takes
+        marks.old.marks marks.old.waiting.items marks.new.marks marks.new.waiting.items) }
 {
     let forward = Step {
         link,
         turned: false,
     };
     let back = Step { link, turned: true };
-    let mut added = follow(network, company, forward, marks);
-    added |= follow(network, company, back, marks);
-    added
+    follow(forward, at, marks)?;
+    follow(back, at, marks)?;
+    Ok(())
 }
 
-/// Follows the links of a hex, and says whether that marks anything new.
-fn follow_hex<N: Network>(network: &N, company: Company, hex: Hex, marks: &mut Marks) -> bool
-    requires { IsLawful (N.position network.now) }
+/// Follows the links of a hex that are entered at a spot of it.
+fn follow_from<N: Network>(
+    network: &N,
+    company: Company,
+    at: Spot,
+    marks: &mut Marks,
+) -> Result<(), AllocError>
+    requires lawful { IsLawful (N.position network.now) }
+    requires may { CanEnter (N.position network.now) company marks.old.marks at }
     ensures { let position = N.position network.now in
-        let takes = λ (taken : Step). IsAmong taken.link (links_of position hex) in
-        Follows position company takes marks.old.marks marks.new.marks result }
+        let takes = λ (taken : Step).
+        IsAmong taken.link (links_of position at.hex) × IsEnteredAt at taken in
+        OnOk result (Spreads position company takes
+        marks.old.marks marks.old.waiting.items marks.new.marks marks.new.waiting.items) }
 {
-    let links = network.links(hex);
-    let mut added = false;
+    let links = network.links(at.hex);
     for link in links.as_slice() {
-        added |= follow_both(network, company, *link, marks);
+        follow_both(network, company, *link, at, marks)?;
     }
-    added
+    Ok(())
 }
 
-/// Follows the links of each hex, in order, and says whether that marks anything new.
-fn follow_all<N: Network>(network: &N, company: Company, marks: &mut Marks) -> bool
-    requires { IsLawful (N.position network.now) }
+/// Looks at a stop at which a walk has arrived: where the walk may pass it, follows the links that
+/// end there.
+fn look_from_stop<N: Network>(
+    network: &N,
+    company: Company,
+    stop: Stop,
+    marks: &mut Marks,
+) -> Result<(), AllocError>
+    requires lawful { IsLawful (N.position network.now) }
+    requires arrived { IsMarkedStop marks.old.marks stop }
     ensures { let position = N.position network.now in
-        Follows position company (IsTrack position) marks.old.marks marks.new.marks result }
+        let takes = λ (taken : Step). IsTrack position taken
+        × GoesOnAt position company stop (entered_at taken) in
+        OnOk result (Spreads position company takes
+        marks.old.marks marks.old.waiting.items marks.new.marks marks.new.waiting.items) }
 {
-    let mut added = false;
-    for index in 0..HEXES {
-        added |= follow_hex(network, company, hex_at(index), marks);
+    if network.full(stop, company) {
+        return Ok(());
     }
-    added
+    let end = End::Stop(stop.number);
+    follow_from(network, company, Spot { hex: stop.hex, end }, marks)?;
+    if let Some(hex) = twin(stop.hex) {
+        follow_from(network, company, Spot { hex, end }, marks)?;
+        return Ok(());
+    }
+    Ok(())
 }
 
-/// The marks of the stops with a token of the company, where its walks begin.
-fn mark_tokens<N: Network>(network: &N, company: Company) -> Marks
-    ensures arrive { AllArrive (N.position network.now) company result.marks }
-    ensures tokens { HasAllTokens (N.position network.now) company result.marks }
+/// Looks at a spot at which a walk has arrived: marks each end to which the walk comes by one link
+/// more.
+fn look<N: Network>(
+    network: &N,
+    company: Company,
+    from: Spot,
+    marks: &mut Marks,
+) -> Result<(), AllocError>
+    requires lawful { IsLawful (N.position network.now) }
+    requires arrived { IsMarked marks.old.marks from }
+    ensures { let position = N.position network.now in
+        let takes = λ (taken : Step). IsTrack position taken
+        × LeadsTo position company from (entered_at taken) in
+        OnOk result (Spreads position company takes
+        marks.old.marks marks.old.waiting.items marks.new.marks marks.new.waiting.items) }
 {
-    let mut marks = Marks::none();
+    if let Some(stop) = from.stop() {
+        look_from_stop(network, company, stop, marks)?;
+        return Ok(());
+    }
+    if let Some(at) = from.across() {
+        follow_from(network, company, at, marks)?;
+        return Ok(());
+    }
+    Ok(())
+}
+
+/// The marks of the stops with a token of the company, where its walks begin. All of them are still
+/// to be looked at.
+fn mark_tokens<N: Network>(
+    alloc: Global,
+    network: &N,
+    company: Company,
+) -> Result<Marks, AllocError>
+    ensures arrive { IfOk result (λ marks.
+        AllArrive (N.position network.now) company marks.marks) }
+    ensures tokens { IfOk result (λ marks.
+        HasAllTokens (N.position network.now) company marks.marks) }
+    ensures wait { IfOk result (λ marks. AllWait marks.marks marks.waiting.items) }
+{
+    let mut marks = Marks::none(alloc);
     for place in 0..2 * HEXES {
         let stop = stop_at(place);
         if network.token(joined_stop(stop), company) {
             marks.mark(Spot {
                 hex: stop.hex,
                 end: End::Stop(stop.number),
-            });
+            })?;
         }
     }
-    marks
+    Ok(marks)
 }
 
-/// Finds all spots at which walks of the company arrive: from its tokens on, the links of the map
-/// are followed until nothing is added.
-pub(crate) fn search<N: Network>(network: &N, company: Company) -> Marks
+/// Finds all spots at which walks of the company arrive: its tokens, and from each spot that is
+/// found the ends of the links that go on from there. Each spot is looked at once.
+pub(crate) fn search<N: Network>(
+    alloc: Global,
+    network: &N,
+    company: Company,
+) -> Result<Marks, AllocError>
     requires { IsLawful (N.position network.now) }
-    ensures arrive { AllArrive (N.position network.now) company result.marks }
-    ensures tokens { HasAllTokens (N.position network.now) company result.marks }
+    ensures arrive { IfOk result (λ marks.
+        AllArrive (N.position network.now) company marks.marks) }
+    ensures tokens { IfOk result (λ marks.
+        HasAllTokens (N.position network.now) company marks.marks) }
     ensures closed { let position = N.position network.now in
-        IsClosed position company (IsTrack position) result.marks }
+        IfOk result (λ marks. IsClosed position company (IsTrack position) marks.marks) }
 {
-    let mut marks = mark_tokens(network, company);
-    while follow_all(network, company, &mut marks) {}
-    marks
+    let mut marks = mark_tokens(alloc, network, company)?;
+    while let Some(spot) = marks.waiting.pop() {
+        look(network, company, spot, &mut marks)?;
+    }
+    Ok(marks)
 }
 
 /// The stops that are marked, in the order of the map.

@@ -7,10 +7,10 @@ returns g c =
     let position = g.N.Network.position c.args.network.now in
     let company = c.args.company in
     let lawful = c.keeps_laws.ensures in
-    let marks = c.search-marks.result.marks in
-    let arrive = c.search-marks.ensures.arrive in
-    let tokens = c.search-marks.ensures.tokens in
-    let closed = c.search-marks.ensures.closed in
+    let marks = c.in_ok-marks.marks.marks in
+    let arrive = c.in_ok-marks.ensures.arrive in
+    let tokens = c.in_ok-marks.ensures.tokens in
+    let closed = c.in_ok-marks.ensures.closed in
     record {
       stops = λ stop. (
         λ among. stop_reached position company lawful marks arrive tokens closed stop ((c.in_ok-reached_stops.ensures.marked stop).0 among),

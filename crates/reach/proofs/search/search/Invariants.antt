@@ -1,14 +1,16 @@
--- Walks arrive at all that is marked, and all tokens are marked; each time there are fewer left to mark.
-use Rattle.std.proofs.Common.{◌-◌, length}
-use Rattle.reach.specs.Search.{AllArrive, HasAllTokens, marked}
+-- Walks arrive at all that is marked, all tokens are marked, and each spot that is marked waits or was looked at. Each
+-- time one fewer waits, but for those that are marked for it.
+use Rattle.std.proofs.Common.{◌+◌, ◌-◌, ◌*◌, length}
+use Rattle.reach.specs.Search.{AllArrive, HasAllTokens, AreLookedAt, marked}
 use Rattle.reach.proofs.search.search.Given as goal
 
-abbrev pub invariant-loop-company : goal.invariant-loop-company
-invariant-loop-company g l =
+abbrev pub invariant-loop-spot : goal.invariant-loop-spot
+invariant-loop-spot g l =
     record {
       arrive : AllArrive (g.N.Network.position l.network) l.company l.marks.marks;
       tokens : HasAllTokens (g.N.Network.position l.network) l.company l.marks.marks;
+      looked : AreLookedAt (g.N.Network.position l.network) l.company l.marks.marks l.marks.waiting.items;
     }
 
-abbrev pub decreases-loop-company : goal.decreases-loop-company
-decreases-loop-company g l = length l.marks.marks - marked l.marks.marks
+abbrev pub decreases-loop-spot : goal.decreases-loop-spot
+decreases-loop-spot g l = 2 * (length l.marks.marks - marked l.marks.marks) + length l.marks.waiting.items
