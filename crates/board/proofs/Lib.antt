@@ -2,6 +2,7 @@ pub mod Same
 pub mod Positions
 pub mod Tokens
 pub mod Tiles
+pub mod Indexed
 pub mod Lawfulness
 pub mod Searches
 pub mod Connected

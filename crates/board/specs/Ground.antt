@@ -16,6 +16,7 @@ use Rattle.map_tables.specs.declared.print.HexKind.{HexKind}
 use Rattle.map_tables.specs.declared.print.HexKind.TheVariants.{Open, Grey, Red}
 use Rattle.map_tables.specs.declared.print.PrintedValue.{PrintedValue}
 use Rattle.map_tables.specs.declared.track.Link.{Link}
+use Rattle.reach.specs.Lawful.{IsLawful}
 use Rattle.reach.specs.Position.{AtStop, InHex, Position}
 use Rattle.tables.specs.Train.{place_of_kind}
 use Rattle.tables.specs.declared.roster.Company.{Company}
@@ -87,3 +88,7 @@ lying_in laid hex = record { links = track_in laid.lays hex; stops = stops_in la
 -- the position
 unfoldable pub position_of : Ground → Position
 position_of laid = record { hexes = map (lying_in laid) hexes }
+
+-- each position keeps the laws
+abbrev pub GroundsAreLawful : Type 0
+GroundsAreLawful = (laid : Ground) → IsLawful (position_of laid)

@@ -1,4 +1,5 @@
 pub mod Ground
+pub mod Index
 pub mod Fit
 pub mod Turn
 pub mod Powers

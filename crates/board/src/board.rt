@@ -1,29 +1,37 @@
-ghost use Rattle.std.specs.Prelude.{◌≡◌, None, IfErr, IfOk, IsOk, OnErr, OnOk, unwrap_or};
+ghost use Rattle.std.specs.Prelude.{◌≡◌, [], None, IfErr, IfOk, IsOk, OnErr, OnOk, unwrap_or};
 ghost use Rattle.board.specs.Fit.{board_fault_of};
 ghost use Rattle.board.specs.Ground.{ground_of, with_lay, with_token};
 
 use crate::fault::BoardFault;
 use crate::fit::fault_of;
-use map_tables::{Lay, Place};
+use crate::index::Index;
+use crate::lying::Lying;
+use map_tables::{Hex, Lay, Place, Stop};
 use std::alloc::{AllocError, Global};
 use std::marker::Model;
 use tables::{Company, Kind};
 
 /// The tiles and tokens that lie on the map, in a phase. To a contract it is those that were laid,
-/// oldest first: what is replaced is remembered.
+/// oldest first: what is replaced is remembered. Beside the lists it keeps an index, so that it
+/// takes no longer to find what lies where more was laid.
 #[derive(Drop)]
 pub struct Board {
     pub(crate) lays: Vec<Lay>,
     pub(crate) tokens: Vec<(Place, Company)>,
-    pub(crate) phase: Kind,
+    phase: Kind,
+    index: Index,
 }
 
 impl Model for Board {
     ghost use Rattle.board.specs.Ground.{Ground};
+    ghost use Rattle.board.specs.Index.{IsIndex};
 
     ghost Value = { Ground };
 
     ghost view = { λ b. record { lays = b.lays.items; tokens = b.tokens.items; phase = b.phase } };
+
+    ghost invariant = { λ b. IsIndex b.lays.items b.tokens.items
+        b.index.tiles b.index.counts b.index.holders };
 }
 
 impl Board {
@@ -44,11 +52,39 @@ impl Board {
         if let Some(fault) = fault_of(lays, tokens) {
             return Err(fault);
         }
-        Ok(Board {
-            lays: Vec::from_slice(alloc, lays)?,
-            tokens: Vec::from_slice(alloc, tokens)?,
+        let board = Board::with(alloc, lays, tokens, phase)?;
+        Ok(board)
+    }
+
+    /// The board after these lays and tokens, whether or not they fit.
+    fn with(
+        alloc: Global,
+        lays: &[Lay],
+        tokens: &[(Place, Company)],
+        phase: Kind,
+    ) -> Result<Board, AllocError>
+        ensures { IfOk result (λ board. board ≡ ground_of lays.now tokens.now phase) }
+    {
+        let mut board = Board::empty(alloc, phase);
+        for lay in lays {
+            board.put_lay(*lay)?;
+        }
+        for token in tokens {
+            board.put_token(token.0, token.1)?;
+        }
+        Ok(board)
+    }
+
+    /// A board on which nothing lies.
+    fn empty(alloc: Global, phase: Kind) -> Board
+        ensures { result ≡ ground_of [] [] phase }
+    {
+        Board {
+            lays: Vec::new(alloc),
+            tokens: Vec::new(alloc),
             phase,
-        })
+            index: Index::none(),
+        }
     }
 
     /// Lays a tile. An `Err` leaves the board as it was.
@@ -57,6 +93,7 @@ impl Board {
         ensures err { OnErr result (self.new ≡ self.old) }
     {
         self.lays.push(lay)?;
+        self.index.add_lay(lay);
         Ok(())
     }
 
@@ -66,18 +103,27 @@ impl Board {
         ensures err { OnErr result (self.new ≡ self.old) }
     {
         self.tokens.push((place, company))?;
+        self.index.add_token(place, company);
         Ok(())
     }
+}
 
-    /// An equal board.
-    pub(crate) fn duplicate(&self) -> Result<Board, AllocError>
-        ensures { IfOk result (λ board. board ≡ self.now) }
-    {
-        let alloc = *self.lays.allocator();
-        Ok(Board {
-            lays: Vec::from_slice(alloc, &self.lays)?,
-            tokens: Vec::from_slice(alloc, &self.tokens)?,
-            phase: self.phase,
-        })
+impl Lying for Board {
+    ghost ground = { λ board. board };
+
+    fn tile_on(&self, hex: Hex) -> Option<Lay> {
+        self.index.tile_on(hex)
+    }
+
+    fn count_at(&self, stop: Stop) -> usize {
+        self.index.count_at(stop)
+    }
+
+    fn holds(&self, stop: Stop, company: Company) -> bool {
+        self.index.holds(stop, company)
+    }
+
+    fn phase(&self) -> Kind {
+        self.phase
     }
 }

@@ -1,7 +1,7 @@
 ghost use Rattle.std.specs.Prelude.{◌≡◌, ◌⊎◌, ◌↔◌, ◌≤◌, ◌<◌, Err, None, IfOk, IsTrue, count_by};
 ghost use Rattle.std.specs.List.{list_any};
 ghost use Rattle.board.specs.Ground.{position_of, with_lay};
-ghost use Rattle.map_tables.specs.Lying.{tile_on};
+ghost use Rattle.map_tables.specs.Lying.{colour_on, tile_on};
 ghost use Rattle.board.specs.LayRules.{HaveStopIn, IsConnected, IsLayAnswer, ShareLink, ground_rules, is_blocked, is_colour_closed, is_kept, is_lay_used, is_none_left, is_tile, is_wrong_colour, lay_answer_of, lay_cost_of, loses_track, lying_of, needs_no_track, place_of_colour};
 ghost use Rattle.map_tables.specs.Hex.{same_hex};
 ghost use Rattle.map_tables.specs.Laws.{link_order};
@@ -10,18 +10,20 @@ ghost use Rattle.map_tables.specs.declared.hex.Hex.{Hex};
 ghost use Rattle.reach.specs.Reached.{IsReach};
 ghost use Rattle.tables.specs.Rules.{first_broken};
 
+use crate::after::After;
 use crate::asker::{Asker, TurnStep};
 use crate::board::Board;
 use crate::fault::LayFault;
 use crate::fit::{has_bad_side, is_open, is_wrong_kind};
+use crate::lying::{Lying, links_on};
 use crate::powers::is_dh_lay;
 use crate::shown::same_hex;
 use map_tables::{
     Colour, End, Hex, Lay, Link, Stop, TileNo, hex_kind, hexes_stand_once, laid_links,
-    private_hexes, terrain_cost, tile,
+    printed_colour, private_hexes, terrain_cost, tile,
 };
 use reach::{Reach, reached};
-use std::alloc::AllocError;
+use std::alloc::{AllocError, Global};
 use tables::{Amount, Company, Kind, Money, Private};
 
 impl Board {
@@ -71,7 +73,7 @@ impl Board {
         if self.is_none_left(lay.tile) {
             return Some(LayFault::NoneLeft);
         }
-        if is_colour_closed(self.phase, entry.colour) {
+        if is_colour_closed(self.phase(), entry.colour) {
             return Some(LayFault::ColourClosed);
         }
         if self.is_wrong_colour(lay) || is_wrong_kind(lay) {
@@ -94,8 +96,8 @@ impl Board {
         ensures { let after = position_of (with_lay self.now lay) in
             IfOk result (λ reached. IsTrue reached ↔ IsConnected after company lay) }
     {
-        let after = self.after(lay)?;
-        let reach = after.reach(company)?;
+        let after = After { board: self, lay };
+        let reach = reached(self.allocator(), &after, company)?;
         let links = laid_links(lay);
         if share_link(links.as_slice(), &reach) {
             return Ok(true);
@@ -103,20 +105,16 @@ impl Board {
         Ok(have_stop_in(reach.stops(), lay.hex))
     }
 
-    /// The board after a lay.
-    fn after(&self, lay: Lay) -> Result<Board, AllocError>
-        ensures { IfOk result (λ board. board ≡ with_lay self.now lay) }
-    {
-        let mut after = self.duplicate()?;
-        after.put_lay(lay)?;
-        Ok(after)
-    }
-
     /// What a company reaches.
     pub(crate) fn reach(&self, company: Company) -> Result<Reach, AllocError>
         ensures { IfOk result (IsReach (position_of self.now) company) }
     {
-        reached(*self.lays.allocator(), self, company)
+        reached(self.allocator(), self, company)
+    }
+
+    /// The source of the board's memory.
+    fn allocator(&self) -> Global {
+        *self.lays.allocator()
     }
 
     /// What a lay on a hex costs: its terrain, with the first tile.
@@ -182,6 +180,16 @@ impl Board {
         }
     }
 
+    /// The colour of a hex.
+    fn colour_on(&self, hex: Hex) -> Colour
+        ensures { result ≡ colour_on self.now.lays hex }
+    {
+        match self.tile_on(hex) {
+            Some(lay) => tile(lay.tile).colour,
+            None => printed_colour(hex),
+        }
+    }
+
     /// Whether a tile has not the colour that comes next on its hex.
     #[tactic(auto, unfolding(crate::specs::LayRules::is_wrong_colour))]
     fn is_wrong_colour(&self, lay: Lay) -> bool
@@ -196,7 +204,7 @@ impl Board {
         ensures { result ≡ loses_track self.now.lays lay }
     {
         let links = laid_links(lay);
-        self.links_on(lay.hex)
+        links_on(self, lay.hex)
             .as_slice()
             .iter()
             .any(|old| !is_kept(links.as_slice(), *old))

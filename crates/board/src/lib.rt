@@ -12,17 +12,25 @@
 //! (what the rules keep: a slot for each home token, and no more tiles than there are), and two
 //! small examples, `Example`.
 //!
-//! Reading order: `board`, `fault`, `fit` (what may lie at all), `shown` (what shows at a hex or a
-//! stop), `network` (the position that is kept), `asker`, `powers` (of CS and DH), `lay`, `token`, `laws`.
+//! A `Board` keeps an index beside its lists, by which what lies is found at once. A `PlainBoard` has
+//! the lists alone: it is the same to a contract, and shorter to read.
+//!
+//! Reading order: `fault`, `shown` (what shows at a hex or a stop), `fit` (what may lie at all), `lying` (what
+//! follows from what lies), `plain`, `index`, `board`, `after` (a board with one tile more), `network` (the position
+//! that is kept), `asker`, `powers` (of CS and DH), `lay`, `token`, `laws`.
 #![tactic(auto)]
 
+mod after;
 mod asker;
 mod board;
 mod fault;
 mod fit;
+mod index;
 mod laws;
 mod lay;
+mod lying;
 mod network;
+mod plain;
 mod powers;
 mod shown;
 mod token;
@@ -34,4 +42,5 @@ pub use laws::{
     faultless_are_fit, fits_without_homes, home_keeps_fit, lay_keeps_fit, lay_keeps_stock,
     token_keeps_fit, worked_examples,
 };
+pub use plain::PlainBoard;
 pub use powers::is_dh_lay;

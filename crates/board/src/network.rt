@@ -1,44 +1,107 @@
-ghost use Rattle.board.specs.Ground.{position_of};
+//! The position that a board keeps.
+ghost use Rattle.board.specs.Ground.{GroundsAreLawful, position_of, with_lay};
 
+use crate::after::After;
 use crate::board::Board;
-use crate::shown::{is_red, is_stop};
+use crate::lying::{full_shown, links_shown, red_shown, token_shown, value_shown};
+use crate::plain::PlainBoard;
 use map_tables::{
-    Hex, Links, Stop, hex_kind, joined_stop, laid_links_are_in_order, neighbours_pair,
-    printed_links_are_in_order, values_are_at_most_80,
+    Hex, Links, Stop, laid_links_are_in_order, neighbours_pair, printed_links_are_in_order,
+    values_are_at_most_80,
 };
 use reach::Network;
 use tables::{Amount, Company};
+
+/// The position of each ground keeps the laws. It does nothing.
+fn grounds_are_lawful()
+    ensures { GroundsAreLawful }
+{
+    neighbours_pair();
+    printed_links_are_in_order();
+    laid_links_are_in_order();
+    values_are_at_most_80();
+}
 
 impl Network for Board {
     ghost position = { position_of };
 
     fn links(&self, hex: Hex) -> Links {
-        self.track_in(hex)
+        links_shown(self, hex)
     }
 
     fn value(&self, stop: Stop) -> Amount {
-        self.value_at(stop)
+        value_shown(self, stop)
     }
 
     fn red(&self, stop: Stop) -> bool {
-        let stop = joined_stop(stop);
-        is_stop(stop) && is_red(hex_kind(stop.hex))
+        red_shown(self, stop)
     }
 
     fn full(&self, stop: Stop, company: Company) -> bool {
-        let slots = self.slots(stop);
-        0 < slots && slots <= self.taken(stop) && !self.token(stop, company)
+        full_shown(self, stop, company)
     }
 
     fn token(&self, stop: Stop, company: Company) -> bool {
-        let stop = joined_stop(stop);
-        is_stop(stop) && self.has_token(stop, company)
+        token_shown(self, stop, company)
     }
 
     fn keeps_laws(&self) {
-        neighbours_pair();
-        printed_links_are_in_order();
-        laid_links_are_in_order();
-        values_are_at_most_80();
+        grounds_are_lawful();
+    }
+}
+
+impl Network for PlainBoard {
+    ghost position = { position_of };
+
+    fn links(&self, hex: Hex) -> Links {
+        links_shown(self, hex)
+    }
+
+    fn value(&self, stop: Stop) -> Amount {
+        value_shown(self, stop)
+    }
+
+    fn red(&self, stop: Stop) -> bool {
+        red_shown(self, stop)
+    }
+
+    fn full(&self, stop: Stop, company: Company) -> bool {
+        full_shown(self, stop, company)
+    }
+
+    fn token(&self, stop: Stop, company: Company) -> bool {
+        token_shown(self, stop, company)
+    }
+
+    fn keeps_laws(&self) {
+        grounds_are_lawful();
+    }
+}
+
+impl Network for After<'_> {
+    ghost position = { λ after. position_of (with_lay after.board.now after.lay) };
+
+    fn links(&self, hex: Hex) -> Links {
+        links_shown(self, hex)
+    }
+
+    fn value(&self, stop: Stop) -> Amount {
+        value_shown(self, stop)
+    }
+
+    fn red(&self, stop: Stop) -> bool {
+        red_shown(self, stop)
+    }
+
+    fn full(&self, stop: Stop, company: Company) -> bool {
+        full_shown(self, stop, company)
+    }
+
+    fn token(&self, stop: Stop, company: Company) -> bool {
+        token_shown(self, stop, company)
+    }
+
+    fn keeps_laws(&self) {
+        grounds_are_lawful();
     }
 }

@@ -4,6 +4,7 @@ ghost use Rattle.board.specs.Powers.{has_no_tile, is_cs_lay as is_lay_of_cs, is_
 
 use crate::asker::Asker;
 use crate::board::Board;
+use crate::lying::Lying;
 use crate::shown::same_hex;
 use map_tables::{Hex, Lay, TileNo};
 use tables::Private;

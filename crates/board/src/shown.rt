@@ -1,17 +1,14 @@
-ghost use Rattle.std.specs.Prelude.{◌≡◌, length};
+ghost use Rattle.std.specs.Prelude.{◌≡◌};
 ghost use Rattle.std.specs.List.{count_by};
 ghost use Rattle.map_tables.specs.declared.place.Place.{Place};
 ghost use Rattle.tables.specs.declared.roster.Company.{Company};
-ghost use Rattle.board.specs.Ground.{is_red_kind, position_of, track_in, value_in, value_on};
-ghost use Rattle.map_tables.specs.Lying.{colour_on, links_on, has_token, is_stop, names, same_stop, slots_at, slots_on, taken_at, tile_on};
+ghost use Rattle.board.specs.Ground.{is_red_kind, value_in};
+ghost use Rattle.map_tables.specs.Lying.{has_token, is_stop, names, same_stop, slots_at, slots_on, taken_at, tile_on};
 ghost use Rattle.map_tables.specs.Hex.{same_hex};
-ghost use Rattle.reach.specs.Position.{at_stop};
 ghost use Rattle.tables.specs.Roster.{same_company};
 
-use crate::board::Board;
 use map_tables::{
-    Colour, Hex, HexKind, Lay, Links, Place, PrintedValue, Stop, StopNumber, joined_stop,
-    laid_links, printed_colour, printed_links, printed_slots, printed_stops, printed_value, tile,
+    Hex, HexKind, Lay, Place, PrintedValue, Stop, joined_stop, printed_slots, printed_stops, tile,
 };
 use tables::{Amount, Company, Kind};
 
@@ -37,7 +34,7 @@ pub(crate) fn same_company(a: Company, b: Company) -> bool
 }
 
 /// Whether a place names a stop, or a part of it.
-fn names(stop: Stop, place: Place) -> bool
+pub(crate) fn names(stop: Stop, place: Place) -> bool
     ensures { result ≡ names stop place }
 {
     match place.stop() {
@@ -47,7 +44,7 @@ fn names(stop: Stop, place: Place) -> bool
 }
 
 /// A printed value in a phase.
-fn value_in(phase: Kind, value: PrintedValue) -> Amount
+pub(crate) fn value_in(phase: Kind, value: PrintedValue) -> Amount
     ensures { result ≡ value_in phase value }
 {
     if phase.place() < Kind::Five.place() {
@@ -76,7 +73,7 @@ pub(crate) fn is_stop(stop: Stop) -> bool
 
 /// The last of some lays on a hex.
 #[tactic(auto, unfolding(map_tables::specs::Lying::tile_on))]
-fn last_on(lays: &[Lay], hex: Hex) -> Option<Lay>
+pub(crate) fn last_on(lays: &[Lay], hex: Hex) -> Option<Lay>
     ensures { result ≡ tile_on lays.now hex }
 {
     for lay in lays.iter().rev() {
@@ -88,7 +85,7 @@ fn last_on(lays: &[Lay], hex: Hex) -> Option<Lay>
 }
 
 /// How many of some tokens name a stop.
-fn count_naming(tokens: &[(Place, Company)], stop: Stop) -> usize
+pub(crate) fn count_naming(tokens: &[(Place, Company)], stop: Stop) -> usize
     ensures { result ≡ count_by (λ (token : Place × Company). names stop token.0) tokens.now }
 {
     tokens.iter().filter(|token| names(stop, token.0)).count()
@@ -123,102 +120,9 @@ pub(crate) fn taken_at(tokens: &[(Place, Company)], stop: Stop) -> usize
     count_naming(tokens, joined_stop(stop))
 }
 
-impl Board {
-    /// The tile that lies on a hex: the last that was laid there.
-    pub(crate) fn tile_on(&self, hex: Hex) -> Option<Lay>
-        ensures { result ≡ tile_on self.now.lays hex }
-    {
-        last_on(&self.lays, hex)
-    }
-
-    /// The links of a hex.
-    pub(crate) fn links_on(&self, hex: Hex) -> Links
-        ensures { result.items ≡ links_on self.now.lays hex }
-    {
-        match self.tile_on(hex) {
-            Some(lay) => laid_links(lay),
-            None => printed_links(hex),
-        }
-    }
-
-    /// The track in a hex. One that is a part of another's stop keeps its print: no tile is laid
-    /// there.
-    pub(crate) fn track_in(&self, hex: Hex) -> Links
-        ensures { result.items ≡ track_in self.now.lays hex }
-    {
-        let named = joined_stop(Stop {
-            hex,
-            number: StopNumber::First,
-        });
-        if same_hex(named.hex, hex) {
-            self.links_on(hex)
-        } else {
-            printed_links(hex)
-        }
-    }
-
-    /// The colour of a hex.
-    pub(crate) fn colour_on(&self, hex: Hex) -> Colour
-        ensures { result ≡ colour_on self.now.lays hex }
-    {
-        match self.tile_on(hex) {
-            Some(lay) => tile(lay.tile).colour,
-            None => printed_colour(hex),
-        }
-    }
-
-    /// What each stop of a hex is worth.
-    fn value_on(&self, hex: Hex) -> Amount
-        ensures { result ≡ value_on self.now.phase self.now.lays hex }
-    {
-        match self.tile_on(hex) {
-            Some(lay) => tile(lay.tile).value,
-            None => value_in(self.phase, printed_value(hex)),
-        }
-    }
-
-    /// How many tokens a stop takes; 0 where there is no such stop.
-    pub(crate) fn slots(&self, stop: Stop) -> usize
-        ensures slots { result ≡ slots_at self.now.lays stop }
-        ensures shown { result ≡ (at_stop (position_of self.now) stop).slots }
-    {
-        slots_at(&self.lays, stop)
-    }
-
-    /// What a stop is worth; 0 where there is no such stop.
-    pub(crate) fn value_at(&self, stop: Stop) -> Amount
-        ensures { result ≡ (at_stop (position_of self.now) stop).value }
-    {
-        let stop = joined_stop(stop);
-        if is_stop(stop) {
-            self.value_on(stop.hex)
-        } else {
-            0
-        }
-    }
-
-    /// How many tokens name a stop.
-    pub(crate) fn named(&self, stop: Stop) -> usize
-        ensures { result ≡ taken_at self.now.tokens stop }
-    {
-        taken_at(&self.tokens, stop)
-    }
-
-    /// How many tokens lie at a stop; none where there is no such stop.
-    pub(crate) fn taken(&self, stop: Stop) -> usize
-        ensures { result ≡ length (at_stop (position_of self.now) stop).tokens }
-    {
-        let stop = joined_stop(stop);
-        if !is_stop(stop) {
-            return 0;
-        }
-        count_naming(&self.tokens, stop)
-    }
-
-    /// Whether a token of a company names a stop.
-    pub(crate) fn has_token(&self, stop: Stop, company: Company) -> bool
-        ensures { result ≡ has_token self.now.tokens stop company }
-    {
-        self.tokens.iter().any(|token| names(stop, token.0) && same_company(token.1, company))
-    }
+/// Whether one of some tokens is a company's and names a stop.
+pub(crate) fn has_token(tokens: &[(Place, Company)], stop: Stop, company: Company) -> bool
+    ensures { result ≡ has_token tokens.now stop company }
+{
+    tokens.iter().any(|token| names(stop, token.0) && same_company(token.1, company))
 }

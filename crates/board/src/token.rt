@@ -7,6 +7,7 @@ ghost use Rattle.tables.specs.Rules.{first_broken};
 use crate::asker::{Asker, TurnStep};
 use crate::board::Board;
 use crate::fault::TokenFault;
+use crate::lying::{Lying, slots};
 use crate::powers::is_dh_token;
 use crate::shown::{same_company, same_hex, same_stop};
 use map_tables::{Hex, Place, Stop, home, joined_stop};
@@ -121,8 +122,8 @@ impl Board {
     fn is_taken_up(&self, stop: Stop) -> bool
         ensures { result ≡ is_full_at self.now (Some stop) }
     {
-        let taken = self.named(stop);
-        let slots = self.slots(stop);
+        let taken = self.count_at(joined_stop(stop));
+        let slots = slots(self, stop);
         slots <= taken || slots - taken <= self.kept_at(joined_stop(stop))
     }
 
@@ -141,7 +142,7 @@ impl Board {
     fn is_kept_for(&self, stop: Stop, company: Company) -> bool
         ensures { result ≡ is_kept_for self.now.tokens stop company }
     {
-        same_stop(home(company), stop) && !self.has_token(stop, company)
+        same_stop(home(company), stop) && !self.holds(stop, company)
     }
 
     /// Whether a company has a token in a hex.

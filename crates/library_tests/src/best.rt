@@ -1,9 +1,11 @@
 //! The best of a company's trains: worked examples, found by hand on the printed map.
 
-use crate::boards::{PRR, laid, of_prr};
+use crate::boards::{PRR, first, laid, of_prr};
 use crate::claims::claimed;
 use best_run::best;
-use map_tables::{Hex, Run, TileNo};
+use board::PlainBoard;
+use map_tables::{Hex, Lay, Run, TileNo};
+use reach::reached;
 use tables::{Company, Kind};
 
 /// Two 2s, of which one alone can run; no train; and a company without a token.
@@ -29,15 +31,19 @@ fn runs_between(run: &Run, one: Hex, other: Hex) -> bool {
     }
 }
 
-/// A 2 runs west from PRR's home and a 3 east, which is more than the 3 earns alone, going through.
-#[test]
-fn runs_two_trains(rt: HostRuntime) {
-    let lays = [
+/// A line of three cities, with PRR's home in the middle.
+fn line() -> [Lay; 3] {
+    [
         laid(Hex::H10, TileNo::T57),
         laid(Hex::H14, TileNo::T9),
         laid(Hex::H16, TileNo::T57),
-    ];
-    let Ok(board) = of_prr(rt.alloc(), &lays) else {
+    ]
+}
+
+/// A 2 runs west from PRR's home and a 3 east, which is more than the 3 earns alone, going through.
+#[test]
+fn runs_two_trains(rt: HostRuntime) {
+    let Ok(board) = of_prr(rt.alloc(), &line()) else {
         panic!(rt; "refused")
     };
     let trains = [Kind::Three, Kind::Two];
@@ -52,4 +58,30 @@ fn runs_two_trains(rt: HostRuntime) {
         let mut runs = answer.claim.runs.as_slice().iter();
         assert!(rt; runs.any(|claimed| runs_between(&claimed.run, Hex::H12, far)));
     }
+}
+
+/// A board and a plain board of one line tell the same: PRR reaches its three cities, and a 3 and a
+/// 2 earn 60 there.
+#[test]
+fn plain_board_is_a_board(rt: HostRuntime) {
+    let tokens = [(first(Hex::H12).place(), PRR)];
+    let Ok(board) = of_prr(rt.alloc(), &line()) else {
+        panic!(rt; "refused")
+    };
+    let Ok(plain) = PlainBoard::of(rt.alloc(), &line(), &tokens, Kind::Two) else {
+        panic!(rt; "refused")
+    };
+    let stops = [Hex::H10, Hex::H12, Hex::H16].map(first);
+    let (Ok(reach), Ok(same)) = (
+        reached(rt.alloc(), &board, PRR),
+        reached(rt.alloc(), &plain, PRR),
+    ) else {
+        panic!(rt; "memory")
+    };
+    assert_eq!(rt; reach.stops(), stops.as_slice());
+    assert_eq!(rt; same.stops(), stops.as_slice());
+    let trains = [Kind::Three, Kind::Two];
+    let earned = Ok(Some((2, 60)));
+    assert_eq!(rt; claimed(rt.alloc(), &board, PRR, &trains), earned);
+    assert_eq!(rt; claimed(rt.alloc(), &plain, PRR, &trains), earned);
 }

@@ -32,7 +32,7 @@ pub(crate) fn laid(hex: Hex, tile: TileNo) -> Lay {
 }
 
 /// The first stop of a hex.
-fn first(hex: Hex) -> Stop {
+pub(crate) fn first(hex: Hex) -> Stop {
     Stop {
         hex,
         number: StopNumber::First,

@@ -2,7 +2,7 @@
 use Rattle.std.proofs.Common.{◌∙◌, ap, sym}
 use Rattle.board.proofs.Positions.{in_hex_is}
 use Rattle.reach.specs.Position.{InHex}
-use Rattle.board.proofs.network.BoardNetwork.links.Goals as goal
+use Rattle.board.proofs.lying.links_shown.Goals as goal
 
 pub returns : goal.returns
-returns c = c.track_in.ensures ∙ sym (ap (λ (h : InHex). h.links) (in_hex_is c.args.self.now c.args.hex))
+returns g c = c.track_in.ensures ∙ sym (ap (λ (h : InHex). h.links) (in_hex_is (g.L.Lying.ground c.args.board.now) c.args.hex))

@@ -4,14 +4,14 @@ use Rattle.map_tables.specs.Lying.{is_stop}
 use Rattle.board.proofs.Positions.{shown, not_shown}
 use Rattle.map_tables.specs.Place.{joined_stop_of}
 use Rattle.reach.specs.Position.{AtStop}
-use Rattle.board.proofs.board.Board.value_at.Goals as goal
+use Rattle.board.proofs.lying.value_shown.Goals as goal
 
 pub returns-then-is_stop : goal.returns-then-is_stop
-returns-then-is_stop c =
+returns-then-is_stop g c =
     let is : is_stop (joined_stop_of c.args.stop) ≡ true = cc in
-    let here = ap (λ (s : AtStop). s.value) (shown c.args.self.now c.args.stop is) in cc
+    let here = ap (λ (s : AtStop). s.value) (shown (g.L.Lying.ground c.args.board.now) c.args.stop is) in cc
 
 pub returns-else-is_stop : goal.returns-else-is_stop
-returns-else-is_stop c =
+returns-else-is_stop g c =
     let is : is_stop (joined_stop_of c.args.stop) ≡ false = cc in
-    sym (ap (λ (s : AtStop). s.value) (not_shown c.args.self.now c.args.stop is))
+    sym (ap (λ (s : AtStop). s.value) (not_shown (g.L.Lying.ground c.args.board.now) c.args.stop is))

@@ -1,0 +1,37 @@
+ghost use Rattle.board.specs.Ground.{with_lay};
+
+use crate::board::Board;
+use crate::lying::Lying;
+use crate::shown::same_hex;
+use map_tables::{Hex, Lay, Stop};
+use tables::{Company, Kind};
+
+/// A board with one tile more, which is not laid yet: to ask what a company would reach.
+#[derive(Drop)]
+pub(crate) struct After<'a> {
+    pub(crate) board: &'a Board,
+    pub(crate) lay: Lay,
+}
+
+impl Lying for After<'_> {
+    ghost ground = { λ after. with_lay after.board.now after.lay };
+
+    fn tile_on(&self, hex: Hex) -> Option<Lay> {
+        if same_hex(self.lay.hex, hex) {
+            return Some(self.lay);
+        }
+        self.board.tile_on(hex)
+    }
+
+    fn count_at(&self, stop: Stop) -> usize {
+        self.board.count_at(stop)
+    }
+
+    fn holds(&self, stop: Stop, company: Company) -> bool {
+        self.board.holds(stop, company)
+    }
+
+    fn phase(&self) -> Kind {
+        self.board.phase()
+    }
+}

@@ -1,0 +1,98 @@
+ghost use Rattle.std.specs.Prelude.{◌≡◌, ◌+◌, ◌^◌, ◌<◌, [], Some, None, false, slice_index_or, slice_set};
+ghost use Rattle.board.specs.Index.{IsIndex, counting, holding, holder_order};
+ghost use Rattle.map_tables.specs.Hex.{index_of};
+ghost use Rattle.map_tables.specs.Place.{stop_of};
+ghost use Rattle.reach.specs.Reached.{stop_order};
+ghost use Rattle.map_tables.specs.declared.place.Stop.{Stop};
+
+use map_tables::{HEXES, Hex, Lay, Place, Stop, joined_stop};
+use tables::Company;
+
+/// How many places there are for stops on the map: two in each hex.
+const STOPS: usize = 2 * HEXES;
+
+/// And how many for tokens: one of each company at each stop.
+const HOLDERS: usize = 8 * STOPS;
+
+/// What lies, so that it is found at once: the tile on each hex, how many tokens name each stop, and
+/// whose.
+#[derive(Clone, Copy)]
+pub(crate) struct Index {
+    tiles: [Option<Lay>; HEXES],
+    counts: [usize; STOPS],
+    holders: [bool; HOLDERS],
+}
+
+/// The place of a stop in the order of the map.
+fn order_of(stop: Stop) -> usize
+    ensures order { result ≡ stop_order stop }
+    ensures low { result < 186 }
+{
+    2 * stop.hex.index() + stop.number.index()
+}
+
+/// The place of a company at a stop.
+fn holder_of(stop: Stop, company: Company) -> usize
+    ensures order { result ≡ holder_order stop company }
+    ensures low { result < 1488 }
+{
+    8 * order_of(stop) + company.place()
+}
+
+impl Index {
+    /// Nothing lies.
+    pub(crate) fn none() -> Index
+        ensures { IsIndex [] [] result.tiles result.counts result.holders }
+    {
+        Index {
+            tiles: [None; HEXES],
+            counts: [0; STOPS],
+            holders: [false; HOLDERS],
+        }
+    }
+
+    /// The tile on a hex.
+    pub(crate) fn tile_on(&self, hex: Hex) -> Option<Lay>
+        ensures { result ≡ slice_index_or self.now.tiles (index_of hex) None }
+    {
+        self.tiles[hex.index()]
+    }
+
+    /// How many tokens name a stop.
+    pub(crate) fn count_at(&self, stop: Stop) -> usize
+        ensures { result ≡ slice_index_or self.now.counts (stop_order stop) 0 }
+    {
+        self.counts[order_of(stop)]
+    }
+
+    /// Whether a token of a company names a stop.
+    pub(crate) fn holds(&self, stop: Stop, company: Company) -> bool
+        ensures { result ≡ slice_index_or self.now.holders (holder_order stop company) false }
+    {
+        self.holders[holder_of(stop, company)]
+    }
+
+    /// A tile is laid.
+    pub(crate) fn add_lay(&mut self, lay: Lay)
+        ensures tiles { self.new.tiles ≡ slice_set self.old.tiles (index_of lay.hex) (Some lay) }
+        ensures counts { self.new.counts ≡ self.old.counts }
+        ensures holders { self.new.holders ≡ self.old.holders }
+    {
+        self.tiles[lay.hex.index()] = Some(lay);
+    }
+
+    /// A token is placed.
+    pub(crate) fn add_token(&mut self, place: Place, company: Company)
+        requires { (stop : Stop) → slice_index_or self.old.counts (stop_order stop) 0 + 1 < 2 ^ 64 }
+        ensures tiles { self.new.tiles ≡ self.old.tiles }
+        ensures counts { self.new.counts ≡ counting (stop_of place) self.old.counts }
+        ensures holders { self.new.holders ≡ holding (stop_of place) company self.old.holders }
+    {
+        let Some(part) = place.stop() else {
+            return;
+        };
+        let stop = joined_stop(part);
+        self.counts[order_of(stop)] += 1;
+        self.holders[holder_of(stop, company)] = true;
+    }
+}
