@@ -2,9 +2,11 @@
 //! runs that are claimed earn it.
 
 use crate::claims::claimed;
+use crate::four_stops::FourStops;
 use crate::slow_search::slow_revenues;
 use board::Board;
 use map_tables::{Hex, Lay, Place, Rotation, StopNumber, TileNo};
+use reach::Network;
 use std::alloc::{AllocError, Global};
 use tables::{Amount, Company, Kind};
 
@@ -291,14 +293,31 @@ const BOARDS: [Laid; 12] = [
 ];
 
 /// What the best runs of a company's trains earn; `None` where what is claimed does not hold.
-fn revenue_of(
+fn revenue_of<N: Network>(
     alloc: Global,
-    board: &Board,
+    network: &N,
     company: Company,
     trains: &[Kind],
 ) -> Result<Option<Amount>, AllocError> {
-    let claim = claimed(alloc, board, company, trains)?;
+    let claim = claimed(alloc, network, company, trains)?;
     Ok(claim.map(|(_, revenue)| revenue))
+}
+
+/// The first of the lists of trains with which a company earns something else than the slow search
+/// finds, by its place, with both revenues.
+fn disagreement<N: Network>(
+    alloc: Global,
+    network: &N,
+    company: Company,
+) -> Result<Option<(usize, Option<Amount>, Amount)>, AllocError> {
+    let slow = slow_revenues(alloc, network, company, &LISTS)?;
+    for (place, (trains, revenue)) in LISTS.iter().zip(slow.iter()).enumerate() {
+        let best = revenue_of(alloc, network, company, trains)?;
+        if best != Some(*revenue) {
+            return Ok(Some((place, best, *revenue)));
+        }
+    }
+    Ok(None)
 }
 
 /// Each company that is named on each board earns with each list of trains what the slow search finds.
@@ -312,22 +331,37 @@ fn agrees_with_a_slow_search(rt: HostRuntime) -> Result<(), AllocError> {
             panic!(rt; "refused: {name}")
         };
         for company in laid.companies {
-            let slow = slow_revenues(rt.alloc(), &board, *company, &LISTS)?;
-            for (trains, revenue) in LISTS.iter().zip(slow.iter()) {
-                let best = revenue_of(rt.alloc(), &board, *company, trains)?;
-                let count = trains.len();
-                assert_eq!(rt;
-                    best,
-                    Some(*revenue),
-                    "{name}: {company:?} with {count} trains"
-                );
-            }
+            let other = disagreement(rt.alloc(), &board, *company)?;
+            assert_eq!(rt; other, None, "{name}: {company:?}");
         }
         if let Some(company) = laid.companies.first() {
             let twos = [Kind::Two; 3];
             let best = revenue_of(rt.alloc(), &board, *company, &twos)?;
             assert_eq!(rt; best, Some(laid.by_three_twos), "{name}");
         }
+    }
+    Ok(())
+}
+
+/// The same on a network that is no board, with what trains earn there, found by hand: H12 to G13 is worth
+/// 80, H12 to G11 70, and H10 to G11 60; one train comes by all four, from G11 over H10 and H12 to G13; and
+/// NYC, whose token lies in G11 alone, comes to G13 and no further, since it is red.
+#[test]
+fn agrees_on_four_stops(rt: HostRuntime) -> Result<(), AllocError> {
+    for company in [PRR, NYC, BM] {
+        let other = disagreement(rt.alloc(), &FourStops, company)?;
+        assert_eq!(rt; other, None, "{company:?}");
+    }
+    let earned = [
+        (PRR, &[Kind::Two, Kind::Two, Kind::Two][..], 210),
+        (PRR, &[Kind::Three], 120),
+        (PRR, &[Kind::Diesel], 140),
+        (NYC, &[Kind::Two], 90),
+        (BM, &[Kind::Diesel], 0),
+    ];
+    for (company, trains, revenue) in earned {
+        let best = revenue_of(rt.alloc(), &FourStops, company, trains)?;
+        assert_eq!(rt; best, Some(revenue), "{company:?}");
     }
     Ok(())
 }

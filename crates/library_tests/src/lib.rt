@@ -15,6 +15,7 @@ mod best_agrees;
 mod boards;
 #[cfg(test)]
 mod books;
+mod four_stops;
 #[cfg(test)]
 mod claims;
 #[cfg(test)]
