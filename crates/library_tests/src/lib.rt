@@ -15,9 +15,9 @@ mod best_agrees;
 mod boards;
 #[cfg(test)]
 mod books;
-mod four_stops;
 #[cfg(test)]
 mod claims;
+mod four_stops;
 #[cfg(test)]
 mod lines;
 #[cfg(test)]
