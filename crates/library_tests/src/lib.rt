@@ -3,8 +3,9 @@
 //! path. What a report shows is a game of `games/`, which `./check` plays.
 //!
 //! Reading order: `lines` (lines read and printed), `boards` (tiles and tokens), `best` (the greatest
-//! revenue), `best_agrees` (the same beside a slow search, on small boards), `slow_search` (that
-//! search), `claims` (the runs of a claim, checked one after the other), `books` (money, tenths, events).
+//! revenue), `best_agrees` (the same beside a slow search, on small boards and on four stops),
+//! `four_stops` (a network that is no board), `slow_search` (that search), `claims` (the runs of a
+//! claim, checked one after the other), `books` (money, tenths, events).
 #![tactic(auto)]
 
 #[cfg(test)]
