@@ -1,4 +1,4 @@
--- The home token of a company: whether it lies is read event by event; after the company's turn it lies, and stays.
+-- The home token of a company: after the company's turn it lies, and stays.
 use Rattle.std.proofs.Common.{◌≡◌, Bool, true, false, ◌&&◌, ◌||◌, if◌then◌else◌, List, [], ◌∷◌, ◌++◌, refl, sym, ap, ◌∙◌}
 use Rattle.std.proofs.lemmas.List.{append_assoc}
 use Rattle.std.proofs.lemmas.List.Elements.{filter_map-append}
@@ -34,23 +34,6 @@ by_either : (stop : Stop) (company : Company) (before after : List Event) →
 by_either stop company before after =
     ap (λ (tokens : List (Place × Company)). has_token tokens stop company) (filter_map-append token_placed before after)
     ∙ list_any-append (λ (token : Place × Company). names stop token.0 && same_company token.1 company) (tokens_of before) (tokens_of after)
-
--- so it lies by one of the events
-by_one : (stop : Stop) (company : Company) (events : List Event) →
-    list_any (λ (its : Event). has_token (tokens_of (its ∷ [])) stop company) events ≡ has_token (tokens_of events) stop company
-by_one stop company [] = refl
-by_one stop company (its ∷ events) =
-    ap (λ (b : Bool). has_token (tokens_of (its ∷ [])) stop company || b) (by_one stop company events)
-    ∙ sym (by_either stop company (its ∷ []) events)
-
--- and to look for one that places it at the home of the company tells whether it lies there
-pub lies_by_one : (company : Company) (events own : List Event) (stop : Stop) (found : Bool) → events ≡ own → stop ≡ home_of company →
-    found ≡ list_any (λ (its : Event). has_token (tokens_of (its ∷ [])) stop company) events → found ≡ has_home_token own company
-lies_by_one company events own stop found same home is =
-    is
-    ∙ by_one stop company events
-    ∙ ap (λ (events : List Event). has_token (tokens_of events) stop company) same
-    ∙ ap (λ (stop : Stop). has_token (tokens_of own) stop company) home
 
 -- HOME places it at the company's home
 lies_by_home : (company : Company) → has_home_token (event.Home company (place_of (home_of company)) ∷ []) company ≡ true

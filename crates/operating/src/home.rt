@@ -1,9 +1,6 @@
-ghost use Rattle.std.specs.Prelude.{◌≡◌, ◌∷◌, [], OnOk};
-ghost use Rattle.std.specs.List.{list_any};
+ghost use Rattle.std.specs.Prelude.{◌≡◌, OnOk};
 ghost use Rattle.operating.specs.Act.{has_home_token, with_home};
-ghost use Rattle.history.specs.Operating.{tokens_of};
 ghost use Rattle.history.specs.Sound.{IsSound};
-ghost use Rattle.history.specs.declared.event.Event.{Event};
 ghost use Rattle.map_tables.specs.Lying.{has_token, names, same_stop};
 
 use history::{Event, History};
@@ -33,27 +30,14 @@ pub(crate) fn place_home(history: &mut History, company: Company) -> Result<(), 
 fn has_home_token(history: &History, company: Company) -> bool
     ensures { result ≡ has_home_token history.now.events company }
 {
-    is_placed_by(history.events(), home(company), company)
+    has_token(history.tokens(), home(company), company)
 }
 
-/// Whether one of some events places a token of a company at a stop.
-fn is_placed_by(events: &[Event], stop: Stop, company: Company) -> bool
-    ensures { result ≡ list_any (λ (event : Event). has_token (tokens_of (event ∷ [])) stop company)
-        events.now }
+/// Whether one of some tokens is a company's and lies at a stop.
+fn has_token(tokens: &[(Place, Company)], stop: Stop, company: Company) -> bool
+    ensures { result ≡ has_token tokens.now stop company }
 {
-    events
-        .iter()
-        .any(|event| is_placed_at(event, stop, company))
-}
-
-/// Whether an event places a token of a company at a stop.
-fn is_placed_at(event: &Event, stop: Stop, company: Company) -> bool
-    ensures { result ≡ has_token (tokens_of (event.now ∷ [])) stop company }
-{
-    match event.token() {
-        Some((place, of)) => names(stop, place) && of.place() == company.place(),
-        None => false,
-    }
+    tokens.iter().any(|token| names(stop, token.0) && token.1.place() == company.place())
 }
 
 /// Whether a place names a stop, or a part of it.
