@@ -68,7 +68,8 @@ flag_noted says events event old new noted before =
 -- a flag is down where a round begins; else it is up where the event speaks or where it was before
 flag_or :
     {A : Type 0} (begins : Bool) (said : Option A) (before : Option (Option A)) →
-    (if begins then false else (is_some (option_flatten before) || is_some said)) ≡ is_some (option_flatten (option_or (if begins then Some None else option_map Some said) before))
+    (if begins then false else (is_some (option_flatten before) || is_some said))
+    ≡ is_some (option_flatten (option_or (if begins then Some None else option_map Some said) before))
 flag_or true said before = refl
 flag_or false None before = or_false (is_some (option_flatten before))
 flag_or false (Some word) before = or_true (is_some (option_flatten before))

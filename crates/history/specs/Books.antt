@@ -163,7 +163,8 @@ pub record AreBooksOf (books : Books) (events : List Event) : Type 0 where
       IsNet (λ e. brought_to company place (transfer_of e)) (λ e. taken_from company place (transfer_of e)) events (tenths_net books.tenths company place)
   pub trains :
       (place : TrainPlace) (kind : Kind) →
-      IsNet (λ e. one_if (train_comes place kind (train_moved e))) (λ e. one_if (train_goes place kind (train_moved e))) events (train_net books.trains place kind)
+      IsNet (λ e. one_if (train_comes place kind (train_moved e))) (λ e. one_if (train_goes place kind (train_moved e))) events
+      (train_net books.trains place kind)
   pub stables :
       (owner : Option Company) →
       IsNet (λ e. one_if (any_comes owner (train_moved e))) (λ e. one_if (any_goes owner (train_moved e))) events (stable_net books.stables owner)

@@ -10,7 +10,8 @@ pub overflow_cast-result : goal.overflow_cast-result
 overflow_cast-result c =
     let comes = λ (e : Event). any_comes c.args.owner (train_moved e) in
     let goes = λ (e : Event). any_goes c.args.owner (train_moved e) in
-    let net_of = λ (entry : ℕ). IsNet (λ e. one_if (comes e)) (λ e. one_if (goes e)) c.args.self.now.events.now (net_at c.args.self.now.books.now.stables entry) in
+    let net_of = λ (entry : ℕ).
+    IsNet (λ e. one_if (comes e)) (λ e. one_if (goes e)) c.args.self.now.events.now (net_at c.args.self.now.books.now.stables entry) in
     let kept = subst net_of (sym (c.row_of_trains.ensures.row ∙ ap train_row c.of_owner.ensures)) (c.args.self.now.kept.stables c.args.owner) in
     train_count_fits comes goes c.args.self.now.events.now _ c.args.self.now.short kept
 
@@ -18,6 +19,7 @@ pub returns-clause-sum : goal.returns-clause-sum
 returns-clause-sum c =
     let comes = λ (e : Event). any_comes c.args.owner (train_moved e) in
     let goes = λ (e : Event). any_goes c.args.owner (train_moved e) in
-    let net_of = λ (entry : ℕ). IsNet (λ e. one_if (comes e)) (λ e. one_if (goes e)) c.args.self.now.events.now (net_at c.args.self.now.books.now.stables entry) in
+    let net_of = λ (entry : ℕ).
+    IsNet (λ e. one_if (comes e)) (λ e. one_if (goes e)) c.args.self.now.events.now (net_at c.args.self.now.books.now.stables entry) in
     let kept = subst net_of (sym (c.row_of_trains.ensures.row ∙ ap train_row c.of_owner.ensures)) (c.args.self.now.kept.stables c.args.owner) in
     train_count_kept comes goes c.args.self.now.events.now _ c.args.self.now.short kept ∙ size_is c.args.self.now.events.now c.args.owner
