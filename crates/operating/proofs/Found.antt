@@ -20,7 +20,7 @@ use Rattle.map_tables.specs.declared.track.Link.{Link}
 use Rattle.reach.proofs.Collected.{all_tokens, none_marked, own_hex, spot_of, token_arrives}
 use Rattle.reach.proofs.Hexes.{hexes_at, index_low, same_index, side_low, stop_index_low}
 use Rattle.reach.proofs.Lists.{among_found, found_among}
-use Rattle.reach.proofs.Marking.{follows_step}
+use Rattle.reach.proofs.Marking.{spreads_new}
 use Rattle.reach.specs.Lawful.{IsLawful}
 use Rattle.reach.specs.Position.{HasToken, IsAmong, IsFull, Position, at_stop, links_of}
 use Rattle.reach.specs.Reached.{stop_order}
@@ -257,8 +257,8 @@ module _ (position : Position) (company : Company) (lawful : IsLawful position) 
       let number : ℕ = spot_number (left_at step) in
       let low : number < length old = omega (arith, long, number_low (left_at step).hex (left_at step).end) in
       let off = unmarked (get_or old number false) is.1 in
-      let follows = follows_step position company lawful step track old (set old number true) true low is.0 refl (sym (ap not off)) in
-      record { new = set old number true; long = follows.length_kept ∙ long; arrive = follows.arrive arrive; more = follows.more refl }
+      let spreads = spreads_new position company lawful step track old [] low is.0 off in
+      record { new = set old number true; long = spreads.length_kept ∙ long; arrive = spreads.arrive arrive; more = one_more old number low off }
 
   by_link : (old : List Bool) → length old ≡ 744 → AllArrive position company old → (link : Link) → IsAmong link (links_of position link.hex) →
       IsNewLink old link → Further position company old

@@ -120,7 +120,7 @@ module _ (position : Position) (company : Company) where
       }
 
   -- a step that may be taken, and leads to what is not marked
-  spreads_new : IsLawful position → (step : Step) → IsTrack position step → (old : List Bool) (waited : List Spot) → spot_number (left_at step) < length old → CanEnter position company old (entered_at step) → get_or old (spot_number (left_at step)) false ≡ false → Spreads position company (λ taken. taken ≡ step) old waited (set old (spot_number (left_at step)) true) (waited ++ left_at step ∷ [])
+  pub spreads_new : IsLawful position → (step : Step) → IsTrack position step → (old : List Bool) (waited : List Spot) → spot_number (left_at step) < length old → CanEnter position company old (entered_at step) → get_or old (spot_number (left_at step)) false ≡ false → Spreads position company (λ taken. taken ≡ step) old waited (set old (spot_number (left_at step)) true) (waited ++ left_at step ∷ [])
   spreads_new lawful step track old waited low can was =
       let n : ℕ = spot_number (left_at step) in
       let more : marked (set old n true) ≡ marked old + 1 = one_more old n low was in
