@@ -14,7 +14,7 @@ pub(crate) struct After<'a> {
 }
 
 impl Lying for After<'_> {
-    ghost ground = { λ after. with_lay after.board.now after.lay };
+    ghost laid = { λ after. with_lay after.board.now after.lay };
 
     fn tile_on(&self, hex: Hex) -> Option<Lay> {
         if same_hex(self.lay.hex, hex) {

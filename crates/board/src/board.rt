@@ -109,7 +109,7 @@ impl Board {
 }
 
 impl Lying for Board {
-    ghost ground = { λ board. board };
+    ghost laid = { λ board. board };
 
     fn tile_on(&self, hex: Hex) -> Option<Lay> {
         self.index.tile_on(hex)

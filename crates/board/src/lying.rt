@@ -15,32 +15,32 @@ use map_tables::{
 };
 use tables::{Amount, Company, Kind};
 
-/// What tells what lies on the map. All that a contract says of it, it says of the ground.
+/// What tells what lies on the map. All that a contract says of it, it says of what was laid.
 pub(crate) trait Lying {
     /// What lies.
-    ghost ground: { Self → Ground };
+    ghost laid: { Self → Ground };
 
     /// The tile that lies on a hex: the last that was laid there.
     fn tile_on(&self, hex: Hex) -> Option<Lay>
-        ensures { result ≡ tile_on (ground self.now).lays hex };
+        ensures { result ≡ tile_on (laid self.now).lays hex };
 
     /// How many tokens name a stop, by the name that stands for it.
     fn count_at(&self, stop: Stop) -> usize
         ensures { result ≡ count_by (λ (token : Place × Company). names stop token.0)
-            (ground self.now).tokens };
+            (laid self.now).tokens };
 
     /// Whether a token of a company names a stop, by the name that stands for it.
     fn holds(&self, stop: Stop, company: Company) -> bool
-        ensures { result ≡ has_token (ground self.now).tokens stop company };
+        ensures { result ≡ has_token (laid self.now).tokens stop company };
 
     /// The phase.
     fn phase(&self) -> Kind
-        ensures { result ≡ (ground self.now).phase };
+        ensures { result ≡ (laid self.now).phase };
 }
 
 /// The links of a hex.
 pub(crate) fn links_on<L: Lying>(board: &L, hex: Hex) -> Links
-    ensures { result.items ≡ links_on (L.ground board.now).lays hex }
+    ensures { result.items ≡ links_on (L.laid board.now).lays hex }
 {
     match board.tile_on(hex) {
         Some(lay) => laid_links(lay),
@@ -50,7 +50,7 @@ pub(crate) fn links_on<L: Lying>(board: &L, hex: Hex) -> Links
 
 /// The track in a hex. One that is a part of another's stop keeps its print: no tile is laid there.
 fn track_in<L: Lying>(board: &L, hex: Hex) -> Links
-    ensures { result.items ≡ track_in (L.ground board.now).lays hex }
+    ensures { result.items ≡ track_in (L.laid board.now).lays hex }
 {
     let named = joined_stop(Stop {
         hex,
@@ -65,14 +65,14 @@ fn track_in<L: Lying>(board: &L, hex: Hex) -> Links
 
 /// The links that the position has in a hex.
 pub(crate) fn links_shown<L: Lying>(board: &L, hex: Hex) -> Links
-    ensures { result.items ≡ links_of (position_of (L.ground board.now)) hex }
+    ensures { result.items ≡ links_of (position_of (L.laid board.now)) hex }
 {
     track_in(board, hex)
 }
 
 /// What each stop of a hex is worth.
 fn value_on<L: Lying>(board: &L, hex: Hex) -> Amount
-    ensures { result ≡ value_on (L.ground board.now).phase (L.ground board.now).lays hex }
+    ensures { result ≡ value_on (L.laid board.now).phase (L.laid board.now).lays hex }
 {
     match board.tile_on(hex) {
         Some(lay) => tile(lay.tile).value,
@@ -82,7 +82,7 @@ fn value_on<L: Lying>(board: &L, hex: Hex) -> Amount
 
 /// What a stop is worth in the position; 0 where there is no such stop.
 pub(crate) fn value_shown<L: Lying>(board: &L, stop: Stop) -> Amount
-    ensures { result ≡ value_of (position_of (L.ground board.now)) stop }
+    ensures { result ≡ value_of (position_of (L.laid board.now)) stop }
 {
     let stop = joined_stop(stop);
     if is_stop(stop) {
@@ -94,7 +94,7 @@ pub(crate) fn value_shown<L: Lying>(board: &L, stop: Stop) -> Amount
 
 /// How many tokens each stop of a hex takes.
 fn slots_on<L: Lying>(board: &L, hex: Hex) -> u8
-    ensures { result ≡ slots_on (L.ground board.now).lays hex }
+    ensures { result ≡ slots_on (L.laid board.now).lays hex }
 {
     match board.tile_on(hex) {
         Some(lay) => tile(lay.tile).slots,
@@ -104,7 +104,7 @@ fn slots_on<L: Lying>(board: &L, hex: Hex) -> u8
 
 /// How many tokens a stop takes; 0 where there is no such stop.
 fn slots_there<L: Lying>(board: &L, stop: Stop) -> usize
-    ensures { result ≡ slots_at (L.ground board.now).lays stop }
+    ensures { result ≡ slots_at (L.laid board.now).lays stop }
 {
     let stop = joined_stop(stop);
     if is_stop(stop) {
@@ -116,15 +116,15 @@ fn slots_there<L: Lying>(board: &L, stop: Stop) -> usize
 
 /// How many tokens a stop takes, by what lies and in the position.
 pub(crate) fn slots<L: Lying>(board: &L, stop: Stop) -> usize
-    ensures slots { result ≡ slots_at (L.ground board.now).lays stop }
-    ensures shown { result ≡ (at_stop (position_of (L.ground board.now)) stop).slots }
+    ensures slots { result ≡ slots_at (L.laid board.now).lays stop }
+    ensures shown { result ≡ (at_stop (position_of (L.laid board.now)) stop).slots }
 {
     slots_there(board, stop)
 }
 
 /// How many tokens lie at a stop; none where there is no such stop.
 fn taken<L: Lying>(board: &L, stop: Stop) -> usize
-    ensures { result ≡ length (at_stop (position_of (L.ground board.now)) stop).tokens }
+    ensures { result ≡ length (at_stop (position_of (L.laid board.now)) stop).tokens }
 {
     let stop = joined_stop(stop);
     if !is_stop(stop) {
@@ -135,7 +135,7 @@ fn taken<L: Lying>(board: &L, stop: Stop) -> usize
 
 /// Whether a stop is red in the position.
 pub(crate) fn red_shown<L: Lying>(_board: &L, stop: Stop) -> bool
-    ensures { result ≡ is_red (position_of (L.ground _board.now)) stop }
+    ensures { result ≡ is_red (position_of (L.laid _board.now)) stop }
 {
     let stop = joined_stop(stop);
     is_stop(stop) && is_red(hex_kind(stop.hex))
@@ -143,7 +143,7 @@ pub(crate) fn red_shown<L: Lying>(_board: &L, stop: Stop) -> bool
 
 /// Whether a stop is a city that is full for a company in the position.
 pub(crate) fn full_shown<L: Lying>(board: &L, stop: Stop, company: Company) -> bool
-    ensures { IsTrue result ↔ IsFull (position_of (L.ground board.now)) stop company }
+    ensures { IsTrue result ↔ IsFull (position_of (L.laid board.now)) stop company }
 {
     let slots = slots(board, stop);
     0 < slots && slots <= taken(board, stop) && !token_shown(board, stop, company)
@@ -151,7 +151,7 @@ pub(crate) fn full_shown<L: Lying>(board: &L, stop: Stop, company: Company) -> b
 
 /// Whether a company has a token at a stop in the position.
 pub(crate) fn token_shown<L: Lying>(board: &L, stop: Stop, company: Company) -> bool
-    ensures { IsTrue result ↔ HasToken (position_of (L.ground board.now)) stop company }
+    ensures { IsTrue result ↔ HasToken (position_of (L.laid board.now)) stop company }
 {
     let stop = joined_stop(stop);
     is_stop(stop) && board.holds(stop, company)

@@ -55,7 +55,7 @@ impl PlainBoard {
 }
 
 impl Lying for PlainBoard {
-    ghost ground = { λ board. board };
+    ghost laid = { λ board. board };
 
     fn tile_on(&self, hex: Hex) -> Option<Lay> {
         last_on(&self.lays, hex)

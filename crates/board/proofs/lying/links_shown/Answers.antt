@@ -5,4 +5,4 @@ use Rattle.reach.specs.Position.{InHex}
 use Rattle.board.proofs.lying.links_shown.Goals as goal
 
 pub returns : goal.returns
-returns g c = c.track_in.ensures ∙ sym (ap (λ (h : InHex). h.links) (in_hex_is (g.L.Lying.ground c.args.board.now) c.args.hex))
+returns g c = c.track_in.ensures ∙ sym (ap (λ (h : InHex). h.links) (in_hex_is (g.L.Lying.laid c.args.board.now) c.args.hex))

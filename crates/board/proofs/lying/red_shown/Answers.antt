@@ -9,9 +9,9 @@ use Rattle.board.proofs.lying.red_shown.Goals as goal
 pub returns-then-is_stop : goal.returns-then-is_stop
 returns-then-is_stop g c =
     let is : is_stop (joined_stop_of c.args.stop) ≡ true = cc in
-    let here = ap (λ (s : AtStop). s.red) (shown (g.L.Lying.ground c.args._board.now) c.args.stop is) in cc
+    let here = ap (λ (s : AtStop). s.red) (shown (g.L.Lying.laid c.args._board.now) c.args.stop is) in cc
 
 pub returns-else-is_stop : goal.returns-else-is_stop
 returns-else-is_stop g c =
     let is : is_stop (joined_stop_of c.args.stop) ≡ false = cc in
-    let here = ap (λ (s : AtStop). s.red) (not_shown (g.L.Lying.ground c.args._board.now) c.args.stop is) in cc
+    let here = ap (λ (s : AtStop). s.red) (not_shown (g.L.Lying.laid c.args._board.now) c.args.stop is) in cc

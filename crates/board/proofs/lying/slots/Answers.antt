@@ -5,4 +5,4 @@ use Rattle.board.proofs.lying.slots.Goals as goal
 
 pub returns-clause-shown : goal.returns-clause-shown
 returns-clause-shown g c =
-    c.slots_there.ensures ∙ sym (slots_shown (g.L.Lying.ground c.args.board.now) c.args.stop)
+    c.slots_there.ensures ∙ sym (slots_shown (g.L.Lying.laid c.args.board.now) c.args.stop)

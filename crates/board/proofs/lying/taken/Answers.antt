@@ -14,11 +14,11 @@ use Rattle.board.proofs.lying.taken.Goals as goal
 pub returns-then-not-is_stop : goal.returns-then-not-is_stop
 returns-then-not-is_stop g c =
     let is : is_stop (joined_stop_of c.args.stop) ≡ false = cc in
-    sym (ap (λ (s : AtStop). length s.tokens) (not_shown (g.L.Lying.ground c.args.board.now) c.args.stop is))
+    sym (ap (λ (s : AtStop). length s.tokens) (not_shown (g.L.Lying.laid c.args.board.now) c.args.stop is))
 
 pub returns : goal.returns
 returns g c =
-    let laid = g.L.Lying.ground c.args.board.now in
+    let laid = g.L.Lying.laid c.args.board.now in
     let is : is_stop (joined_stop_of c.args.stop) ≡ true = cc in
     c.count_at.ensures
     ∙ ap (λ (stop : Stop). count_by (λ (token : Place × Company). names stop token.0) laid.tokens) c.joined_stop-stop.ensures

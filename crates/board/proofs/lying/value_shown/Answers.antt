@@ -9,9 +9,9 @@ use Rattle.board.proofs.lying.value_shown.Goals as goal
 pub returns-then-is_stop : goal.returns-then-is_stop
 returns-then-is_stop g c =
     let is : is_stop (joined_stop_of c.args.stop) ≡ true = cc in
-    let here = ap (λ (s : AtStop). s.value) (shown (g.L.Lying.ground c.args.board.now) c.args.stop is) in cc
+    let here = ap (λ (s : AtStop). s.value) (shown (g.L.Lying.laid c.args.board.now) c.args.stop is) in cc
 
 pub returns-else-is_stop : goal.returns-else-is_stop
 returns-else-is_stop g c =
     let is : is_stop (joined_stop_of c.args.stop) ≡ false = cc in
-    sym (ap (λ (s : AtStop). s.value) (not_shown (g.L.Lying.ground c.args.board.now) c.args.stop is))
+    sym (ap (λ (s : AtStop). s.value) (not_shown (g.L.Lying.laid c.args.board.now) c.args.stop is))
