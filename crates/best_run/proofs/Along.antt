@@ -176,7 +176,10 @@ module _ (task : Task) (fit : IsFit task) (stop : ℕ) (stops : stop_in (node_at
         | inr same ↦ inr (let one : Some way ≡ Some other = sym at ∙ (ap (λ (i : ℕ). slice_get ways i) (sym same) ∙ stands.2) in cc)
       ]
 
-  pub ways_more : (from : State) (settled : Settled) (runs : Way → Standing) (Q : Way → Type 0) (place : ℕ) (way : Way) (old middle new : Found) → slice_get ways place ≡ Some way → TriesWays task from settled runs (λ w. StandsBefore ways place w × Q w) old middle → TakesFrom task from settled (runs way) way middle new → TriesWays task from settled runs (λ w. StandsBefore ways (place + 1) w × Q w) old new
+  pub ways_more :
+      (from : State) (settled : Settled) (runs : Way → Standing) (Q : Way → Type 0) (place : ℕ) (way : Way) (old middle new : Found) →
+      slice_get ways place ≡ Some way → TriesWays task from settled runs (λ w. StandsBefore ways place w × Q w) old middle →
+      TakesFrom task from settled (runs way) way middle new → TriesWays task from settled runs (λ w. StandsBefore ways (place + 1) w × Q w) old new
   ways_more from settled runs Q place way old middle new at before takes =
       record {
         grows = le_trans before.grows takes.grows;
@@ -214,7 +217,10 @@ IsLater run way = run.first ≤ way.first
 
 module _ (task : Task) (fit : IsFit task) (settled : Settled) (whole : length settled.used ≡ 279) where
   -- on from where a run stands
-  pub leads_go : (run : Standing) → (stops : stop_in (node_at task run.head) ≡ true) → ends_in (node_at task run.head) ≡ false → (ways : List Way) → (are : AreWaysOf task run.head ways) → (place : ℕ) (way : Way) → slice_get ways place ≡ Some way → can_take task run settled.used way.piece ≡ true → Leads task (standing settled run) (standing (using settled way.piece) (along task run way.piece)) (go_along way.steps.items)
+  pub leads_go :
+      (run : Standing) → (stops : stop_in (node_at task run.head) ≡ true) → ends_in (node_at task run.head) ≡ false → (ways : List Way) →
+      (are : AreWaysOf task run.head ways) → (place : ℕ) (way : Way) → slice_get ways place ≡ Some way → can_take task run settled.used way.piece ≡ true →
+      Leads task (standing settled run) (standing (using settled way.piece) (along task run way.piece)) (go_along way.steps.items)
   leads_go run stops passes ways are place way at can later completes =
       let by : ByPieces task fit run.head stops ways are settled run way later = by_pieces task fit run.head stops ways are settled run way (among_at task fit run.head stops ways are place way at) can later completes in
       record {
@@ -240,7 +246,11 @@ module _ (task : Task) (fit : IsFit task) (settled : Settled) (whole : length se
       by_move known settle moves is completes = absurd is
 
   -- back from where it began
-  pub leads_turn : (run : Standing) → (stops : stop_in (node_at task run.home) ≡ true) → run.turned ≡ false → stop_in (node_at task run.head) ≡ true → ends_in (node_at task run.home) ≡ false → (ways : List Way) → (are : AreWaysOf task run.home ways) → (place : ℕ) (way : Way) → slice_get ways place ≡ Some way → IsLater run way → can_take task (turned_back run) settled.used way.piece ≡ true → Leads task (standing settled run) (standing (using settled way.piece) (along task (turned_back run) way.piece)) (Turn ∷ go_along way.steps.items)
+  pub leads_turn :
+      (run : Standing) → (stops : stop_in (node_at task run.home) ≡ true) → run.turned ≡ false → stop_in (node_at task run.head) ≡ true →
+      ends_in (node_at task run.home) ≡ false → (ways : List Way) → (are : AreWaysOf task run.home ways) → (place : ℕ) (way : Way) →
+      slice_get ways place ≡ Some way → IsLater run way → can_take task (turned_back run) settled.used way.piece ≡ true → Leads task (standing settled run)
+      (standing (using settled way.piece) (along task (turned_back run) way.piece)) (Turn ∷ go_along way.steps.items)
   leads_turn run stops once stands passes ways are place way at after can later completes =
       let by : ByPieces task fit run.home stops ways are settled (turned_back run) way later = by_pieces task fit run.home stops ways are settled (turned_back run) way (among_at task fit run.home stops ways are place way at) can later completes in
       record {
@@ -266,7 +276,11 @@ module _ (task : Task) (fit : IsFit task) (settled : Settled) (whole : length se
       by_move known settle moves is completes = absurd is
 
   -- from a token
-  pub leads_begin : (there : ℕ) → (stops : stop_in (node_at task there) ≡ true) → own_in (node_at task there) ≡ true → settled.next < length task.trains.items → (ways : List Way) → (are : AreWaysOf task there ways) → (place : ℕ) (way : Way) → slice_get ways place ≡ Some way → can_take task (begun task settled there way.first) settled.used way.piece ≡ true → Leads task (between settled) (standing (using settled way.piece) (along task (begun task settled there way.first) way.piece)) (go_along way.steps.items)
+  pub leads_begin :
+      (there : ℕ) → (stops : stop_in (node_at task there) ≡ true) → own_in (node_at task there) ≡ true → settled.next < length task.trains.items →
+      (ways : List Way) → (are : AreWaysOf task there ways) → (place : ℕ) (way : Way) → slice_get ways place ≡ Some way →
+      can_take task (begun task settled there way.first) settled.used way.piece ≡ true → Leads task (between settled) (standing (using settled way.piece)
+      (along task (begun task settled there way.first) way.piece)) (go_along way.steps.items)
   leads_begin there stops token train ways are place way at can later completes =
       let run = begun task settled there way.first in
       let by : ByPieces task fit there stops ways are settled run way later = by_pieces task fit there stops ways are settled run way (among_at task fit there stops ways are place way at) can later completes in

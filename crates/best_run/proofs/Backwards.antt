@@ -233,7 +233,9 @@ module _ (position : Position) (lawful : IsLawful position) where
     pub crosses : crossed (last ∷ rest) ≡ onto (crossed (step ∷ before)) []
     pub holds : Holds position company most others (last ∷ rest)
 
-  pub walk_turned : (company : Company) (most : ℕ) (others : List ℕ) (step : Step) (before : List Step) → Holds position company most others (step ∷ before) → EndsAtStop (step ∷ before) → Turned company most others step before
+  pub walk_turned :
+      (company : Company) (most : ℕ) (others : List ℕ) (step : Step) (before : List Step) → Holds position company most others (step ∷ before) →
+      EndsAtStop (step ∷ before) → Turned company most others step before
   walk_turned company most others step before holds ends =
       let all = step ∷ before in
       let end : Ends (onto (returning all) []) (begins_at step before) = ends_back step before [] in

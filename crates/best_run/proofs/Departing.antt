@@ -39,7 +39,9 @@ free_first used piece [] free = free
 free_first used piece (hop ∷ hops) free = free.0
 
 -- a piece whose border is used adds none
-pub adds_none : (task : Task) (used : List Bool) (path : List ℕ) (walked : List Step) (place : ℕ) (piece : Piece) (ways : List Way) → misses used piece.borders.items ≡ false → AddsWays task used path walked place piece ways ways
+pub adds_none :
+    (task : Task) (used : List Bool) (path : List ℕ) (walked : List Step) (place : ℕ) (piece : Piece) (ways : List Way) →
+    misses used piece.borders.items ≡ false → AddsWays task used path walked place piece ways ways
 adds_none task used path walked place piece ways fails =
     record {
       kept = λ way among. among;
@@ -48,7 +50,11 @@ adds_none task used path walked place piece ways fails =
     }
 
 -- a piece to a stop is a way
-pub adds_stop : (task : Task) (used : List Bool) (path : List ℕ) (walked : List Step) (place : ℕ) (piece : Piece) (ways : List Way) (way : Way) → misses used piece.borders.items ≡ true → stop_in (node_at task piece.to) ≡ true → way.first ≡ place → way.piece.to ≡ piece.to → way.piece.borders.items ≡ path ++ piece.borders.items → way.steps.items ≡ walked ++ piece.step ∷ [] → AddsWays task used path walked place piece ways (ways ++ way ∷ [])
+pub adds_stop :
+    (task : Task) (used : List Bool) (path : List ℕ) (walked : List Step) (place : ℕ) (piece : Piece) (ways : List Way) (way : Way) →
+    misses used piece.borders.items ≡ true → stop_in (node_at task piece.to) ≡ true → way.first ≡ place → way.piece.to ≡ piece.to →
+    way.piece.borders.items ≡ path ++ piece.borders.items → way.steps.items ≡ walked ++ piece.step ∷ [] →
+    AddsWays task used path walked place piece ways (ways ++ way ∷ [])
 adds_stop task used path walked place piece ways way free stops place_is to_is borders steps =
     record {
       kept = λ other among. among_before ways other way among;
@@ -62,7 +68,9 @@ adds_stop task used path walked place piece ways way free stops place_is to_is b
     made : IsMadeOf task used path walked place piece [] way
     made = record { leads = (stops, sym to_is); free = free; place_is = place_is; borders = borders; steps = steps }
 
-    by_hops : (hops : List Hop) (to : ℕ) → LeadsTo task piece hops to → AreFree used piece hops → HasWay task used path walked place piece hops to (ways ++ way ∷ [])
+    by_hops :
+        (hops : List Hop) (to : ℕ) → LeadsTo task piece hops to → AreFree used piece hops →
+        HasWay task used path walked place piece hops to (ways ++ way ∷ [])
     by_hops [] to leads are_free =
         record {
           way = way;
@@ -73,7 +81,9 @@ adds_stop task used path walked place piece ways way free stops place_is to_is b
     by_hops (hop ∷ hops) to leads are_free = absurd (let wrong : true ≡ false = sym stops ∙ leads.0.0 in cc)
 
 -- nor does one to a side that ends
-pub adds_end : (task : Task) (used : List Bool) (path : List ℕ) (walked : List Step) (place : ℕ) (piece : Piece) (ways : List Way) → stop_in (node_at task piece.to) ≡ false → ends_in (node_at task piece.to) ≡ true → AddsWays task used path walked place piece ways ways
+pub adds_end :
+    (task : Task) (used : List Bool) (path : List ℕ) (walked : List Step) (place : ℕ) (piece : Piece) (ways : List Way) →
+    stop_in (node_at task piece.to) ≡ false → ends_in (node_at task piece.to) ≡ true → AddsWays task used path walked place piece ways ways
 adds_end task used path walked place piece ways side ends =
     record { kept = λ way among. among; sound = λ way among. inl among; complete = by_hops }
   where
@@ -82,7 +92,9 @@ adds_end task used path walked place piece ways side ends =
     by_hops (hop ∷ hops) to leads free = absurd (let wrong : true ≡ false = sym ends ∙ leads.0.1 in cc)
 
 -- the pieces from a side, one by one
-pub below_none : (task : Task) (used : List Bool) (path : List ℕ) (walked : List Step) (place spot : ℕ) (ways : List Way) → AddsBelow task used path walked place spot 0 ways ways
+pub below_none :
+    (task : Task) (used : List Bool) (path : List ℕ) (walked : List Step) (place spot : ℕ) (ways : List Way) →
+    AddsBelow task used path walked place spot 0 ways ways
 below_none task used path walked place spot ways =
     record {
       kept = λ way among. among;
@@ -90,7 +102,10 @@ below_none task used path walked place spot ways =
       complete = λ hop hops to low leads there free. absurd (omega (arith, low));
     }
 
-has_kept : (task : Task) (used : List Bool) (path : List ℕ) (walked : List Step) (place : ℕ) (piece : Piece) (hops : List Hop) (to : ℕ) (old new : List Way) → ((way : Way) → IsAmong way old → IsAmong way new) → HasWay task used path walked place piece hops to old → HasWay task used path walked place piece hops to new
+has_kept :
+    (task : Task) (used : List Bool) (path : List ℕ) (walked : List Step) (place : ℕ) (piece : Piece) (hops : List Hop) (to : ℕ) (old new : List Way) →
+    ((way : Way) → IsAmong way old → IsAmong way new) → HasWay task used path walked place piece hops to old →
+    HasWay task used path walked place piece hops to new
 has_kept task used path walked place piece hops to old new kept has =
     record { way = has.way; among = kept has.way has.among; made = has.made; to_is = has.to_is }
 
@@ -98,7 +113,10 @@ one_piece : (task : Task) (spot place other : ℕ) (piece found : Piece) → Lea
 one_piece task spot place other piece found leads finds same =
     let e : Some piece ≡ Some found = sym leads ∙ (ap (λ i. slice_get (pieces_in (node_at task spot)) i) (sym same) ∙ finds) in cc
 
-pub below_more : (task : Task) (used : List Bool) (path : List ℕ) (walked : List Step) (place spot index : ℕ) (piece : Piece) (old middle new : List Way) → LeadsFrom task spot index piece → AddsBelow task used path walked place spot index old middle → AddsWays task used path walked place piece middle new → AddsBelow task used path walked place spot (index + 1) old new
+pub below_more :
+    (task : Task) (used : List Bool) (path : List ℕ) (walked : List Step) (place spot index : ℕ) (piece : Piece) (old middle new : List Way) →
+    LeadsFrom task spot index piece → AddsBelow task used path walked place spot index old middle → AddsWays task used path walked place piece middle new →
+    AddsBelow task used path walked place spot (index + 1) old new
 below_more task used path walked place spot index piece old middle new here before by =
     record {
       kept = λ way among. by.kept way (before.kept way among);
@@ -115,7 +133,12 @@ below_more task used path walked place spot index piece old middle new here befo
     }
 
 -- a piece to a side that may be passed
-made_more : (task : Task) (used : List Bool) (path : List ℕ) (walked : List Step) (place : ℕ) (piece : Piece) (hop : Hop) (hops : List Hop) (way : Way) → misses used piece.borders.items ≡ true → stop_in (node_at task piece.to) ≡ false → ends_in (node_at task piece.to) ≡ false → LeadsFrom task piece.to hop.place hop.piece → IsMadeOf task (marked_all used piece.borders.items) (path ++ piece.borders.items) (walked ++ piece.step ∷ []) place hop.piece hops way → IsMadeOf task used path walked place piece (hop ∷ hops) way
+made_more :
+    (task : Task) (used : List Bool) (path : List ℕ) (walked : List Step) (place : ℕ) (piece : Piece) (hop : Hop) (hops : List Hop) (way : Way) →
+    misses used piece.borders.items ≡ true → stop_in (node_at task piece.to) ≡ false → ends_in (node_at task piece.to) ≡ false →
+    LeadsFrom task piece.to hop.place hop.piece →
+    IsMadeOf task (marked_all used piece.borders.items) (path ++ piece.borders.items) (walked ++ piece.step ∷ []) place hop.piece hops way →
+    IsMadeOf task used path walked place piece (hop ∷ hops) way
 made_more task used path walked place piece hop hops way free side passes leads made =
     record {
       leads = ((side, passes), leads, made.leads);
@@ -125,7 +148,12 @@ made_more task used path walked place piece hop hops way free side passes leads 
       steps = made.steps ∙ append_together walked (piece.step ∷ []) (steps_by hop.piece hops);
     }
 
-pub adds_side : (task : Task) (used : List Bool) (path : List ℕ) (walked : List Step) (place : ℕ) (piece : Piece) (node : Node) (index : ℕ) (old new : List Way) → misses used piece.borders.items ≡ true → stop_in (node_at task piece.to) ≡ false → ends_in (node_at task piece.to) ≡ false → node_at task piece.to ≡ Some node → length node.pieces.items ≤ index → AddsBelow task (marked_all used piece.borders.items) (path ++ piece.borders.items) (walked ++ piece.step ∷ []) place piece.to index old new → AddsWays task used path walked place piece old new
+pub adds_side :
+    (task : Task) (used : List Bool) (path : List ℕ) (walked : List Step) (place : ℕ) (piece : Piece) (node : Node) (index : ℕ) (old new : List Way) →
+    misses used piece.borders.items ≡ true → stop_in (node_at task piece.to) ≡ false → ends_in (node_at task piece.to) ≡ false →
+    node_at task piece.to ≡ Some node → length node.pieces.items ≤ index →
+    AddsBelow task (marked_all used piece.borders.items) (path ++ piece.borders.items) (walked ++ piece.step ∷ []) place piece.to index old new →
+    AddsWays task used path walked place piece old new
 adds_side task used path walked place piece node index old new free side passes there all below =
     record {
       kept = below.kept;
@@ -153,7 +181,9 @@ pub from_none : (task : Task) (stop : ℕ) → AreWaysFrom task stop 0 []
 from_none task stop =
     record { sound = λ way none. absurd none; complete = λ place piece hops to low leads there free. absurd (omega (arith, low)) }
 
-pub from_more : (task : Task) (stop index : ℕ) (piece : Piece) (old new : List Way) → LeadsFrom task stop index piece → AreWaysFrom task stop index old → AddsWays task none_used [] [] index piece old new → AreWaysFrom task stop (index + 1) new
+pub from_more :
+    (task : Task) (stop index : ℕ) (piece : Piece) (old new : List Way) → LeadsFrom task stop index piece → AreWaysFrom task stop index old →
+    AddsWays task none_used [] [] index piece old new → AreWaysFrom task stop (index + 1) new
 from_more task stop index piece old new here before by =
     record {
       sound = λ way among. elim (by.sound way among) [
@@ -224,7 +254,10 @@ to_same a b same (hop ∷ hops) piece to leads =
     let node = node_same a b same piece.to in
     ((sym (ap stop_in node) ∙ leads.0.0, sym (ap ends_in node) ∙ leads.0.1), leads_same a b same piece.to hop.place hop.piece leads.1, to_same a b same hops hop.piece to leads.2)
 
-made_same : (a b : Task) → a.spots.items ≡ b.spots.items → (used : List Bool) (path : List ℕ) (walked : List Step) (place : ℕ) (piece : Piece) (hops : List Hop) (way : Way) → IsMadeOf a used path walked place piece hops way → IsMadeOf b used path walked place piece hops way
+made_same :
+    (a b : Task) → a.spots.items ≡ b.spots.items →
+    (used : List Bool) (path : List ℕ) (walked : List Step) (place : ℕ) (piece : Piece) (hops : List Hop) (way : Way) →
+    IsMadeOf a used path walked place piece hops way → IsMadeOf b used path walked place piece hops way
 made_same a b same used path walked place piece hops way made =
     record { leads = to_same a b same hops piece way.piece.to made.leads; free = made.free; place_is = made.place_is; borders = made.borders; steps = made.steps }
 

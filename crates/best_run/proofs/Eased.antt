@@ -167,7 +167,10 @@ solved_none task found nothing empty known =
     no_such (suc count) bound is = cc
 
 -- what is found is earned from a state on, if what was found before is
-still_earned : (task : Task) (state : State) (old new : Found) → IsTraced task state old new → (old.trail.refused ≡ None → Earns task state (marks_in old.trail) old.amount) → new.trail.refused ≡ None → Earns task state (marks_in new.trail) new.amount
+still_earned :
+    (task : Task) (state : State) (old new : Found) → IsTraced task state old new →
+    (old.trail.refused ≡ None → Earns task state (marks_in old.trail) old.amount) → new.trail.refused ≡ None →
+    Earns task state (marks_in new.trail) new.amount
 still_earned task state old new traced earns none =
     elim (traced.told none) [
       | inl same ↦
@@ -177,7 +180,10 @@ still_earned task state old new traced earns none =
     ]
 
 -- one train more is solved for; with those before it, it may pass
-pub solved_more : (task : Task) (count : ℕ) (bounds : List ℕ) (old new : Found) (trail : Trail) → count < length task.trains.items → IsSolved task count bounds old → Explores task (between (nothing_before (length task.trains.items - count))) old new → IsWritten (Pass ∷ []) new.trail trail → IsSolved task (count + 1) (bounds ++ new.amount ∷ []) (record new { trail = trail })
+pub solved_more :
+    (task : Task) (count : ℕ) (bounds : List ℕ) (old new : Found) (trail : Trail) → count < length task.trains.items → IsSolved task count bounds old →
+    Explores task (between (nothing_before (length task.trains.items - count))) old new → IsWritten (Pass ∷ []) new.trail trail →
+    IsSolved task (count + 1) (bounds ++ new.amount ∷ []) (record new { trail = trail })
 solved_more task count bounds old new trail low before explores written =
     record {
       all = length_push bounds ∙ (ap suc before.all ∙ sym (add-one count));
@@ -209,7 +215,10 @@ solved_more task count bounds old new trail low before explores written =
         (earns_by task (between (nothing_before next)) (between (passed (nothing_before next))) (Pass ∷ []) (marks_in new.trail) new.amount (leads_pass task (nothing_before next) (omega (arith, low))) later)
 
 -- all trains are solved for
-pub solved_all : (task : Task) (count : ℕ) (bounds : List ℕ) (old new : Found) → count ≡ length task.trains.items → IsSolved task (length task.trains.items) bounds old → Explores task (between (nothing_before (length task.trains.items - count))) old new → IsTop task new
+pub solved_all :
+    (task : Task) (count : ℕ) (bounds : List ℕ) (old new : Found) → count ≡ length task.trains.items →
+    IsSolved task (length task.trains.items) bounds old → Explores task (between (nothing_before (length task.trains.items - count))) old new →
+    IsTop task new
 solved_all task count bounds old new all before explores =
     record {
       earns = still_earned task start old new from_start.traced (subst (λ (n : ℕ). old.trail.refused ≡ None → Earns task (between (nothing_before n)) (marks_in old.trail) old.amount) none before.earns);

@@ -176,7 +176,9 @@ module _ (position : Position) (company : Company) (lawful : IsLawful position) 
     pub are : told ≡ record { kind = kind; steps = steps } ∷ runs
 
   -- the borders of a piece change nothing in what the others earn
-  keep_settled : (others : List ℕ) (kind : Kind) (left : List Kind) (settled : Settled) (piece : Piece) (total : ℕ) (runs : List TrainRun) → RunTold others kind left (using settled piece) total runs → RunTold others kind left settled total runs
+  keep_settled :
+      (others : List ℕ) (kind : Kind) (left : List Kind) (settled : Settled) (piece : Piece) (total : ℕ) (runs : List TrainRun) →
+      RunTold others kind left (using settled piece) total runs → RunTold others kind left settled total runs
   keep_settled others kind left settled piece total runs told =
       record { steps = told.steps; legal = told.legal; avoids = told.avoids; runs = told.runs; set = told.set; earns = told.earns; are = told.are }
 
@@ -199,7 +201,9 @@ module _ (position : Position) (company : Company) (lawful : IsLawful position) 
       absurd (omega (arith, (drop_first task.trains.items settled.next (most_of (stops_of kind)) (most_of_all left) trains).0))
 
   -- the next train does not run
-  has_passed : (settled : Settled) (total : ℕ) (marks : List Mark) → settled.next < length task.trains.items → SoundFrom (between (passed settled)) total marks → SoundFrom (between settled) total (Pass ∷ marks)
+  has_passed :
+      (settled : Settled) (total : ℕ) (marks : List Mark) → settled.next < length task.trains.items → SoundFrom (between (passed settled)) total marks →
+      SoundFrom (between settled) total (Pass ∷ marks)
   has_passed settled total marks before rest others [] used trains = absurd (omega (arith, drop_none task.trains.items settled.next trains))
   has_passed settled total marks before rest others (kind ∷ left) used trains =
       let next = drop_first task.trains.items settled.next (most_of (stops_of kind)) (most_of_all left) trains in
@@ -210,11 +214,15 @@ module _ (position : Position) (company : Company) (lawful : IsLawful position) 
       }
 
   -- a run is settled
-  has_settled : (settled : Settled) (run : Standing) (total : ℕ) (marks : List Mark) → stop_in (node_at task run.head) ≡ true → SoundFrom (between (settling settled run)) total marks → SoundFrom (standing settled run) total (Settle ∷ marks)
+  has_settled :
+      (settled : Settled) (run : Standing) (total : ℕ) (marks : List Mark) → stop_in (node_at task run.head) ≡ true →
+      SoundFrom (between (settling settled run)) total marks → SoundFrom (standing settled run) total (Settle ∷ marks)
   has_settled settled run total marks may rest others kind left step before tells holds own home trains =
       ends_by (stop_of (left_at step)) refl
     where
-      ends_by : (found : Option Stop) → stop_of (left_at step) ≡ found → RunTold others kind left settled total (runs_told (kind ∷ left) (step ∷ before) (Settle ∷ marks))
+      ends_by :
+          (found : Option Stop) → stop_of (left_at step) ≡ found →
+          RunTold others kind left settled total (runs_told (kind ∷ left) (step ∷ before) (Settle ∷ marks))
       ends_by None side =
           let node : IsSideNode (node_at task (spot_number (left_at step))) = node_left position company kinds task describes (left_at step) None side in
           let stops : stop_in (node_at task (spot_number (left_at step))) ≡ true = subst (λ (n : ℕ). stop_in (node_at task n) ≡ true) tells.head may in
@@ -253,7 +261,10 @@ module _ (position : Position) (company : Company) (lawful : IsLawful position) 
           }
 
   -- a run goes on
-  has_gone : (settled : Settled) (run : Standing) (index : ℕ) (piece : Piece) (total : ℕ) (marks : List Mark) → Allows task (standing settled run) (go index piece) → SoundFrom (standing (using settled piece) (along task run piece)) total marks → SoundFrom (standing settled run) total (Go piece.step ∷ marks)
+  has_gone :
+      (settled : Settled) (run : Standing) (index : ℕ) (piece : Piece) (total : ℕ) (marks : List Mark) →
+      Allows task (standing settled run) (go index piece) → SoundFrom (standing (using settled piece) (along task run piece)) total marks →
+      SoundFrom (standing settled run) total (Go piece.step ∷ marks)
   has_gone settled run index piece total marks may rest others kind left step before tells holds own home trains =
       let from : IsStepFrom position run.head piece = describes.sound run.head index piece may.leads in
       let next = from.step in
@@ -286,7 +297,10 @@ module _ (position : Position) (company : Company) (lawful : IsLawful position) 
   ends_there step before number is stops (Some stop) there = (stop, there)
 
   -- a run turns back: its walk is turned about, and goes on where it began
-  has_turned : (settled : Settled) (run : Standing) (index : ℕ) (piece : Piece) (total : ℕ) (marks : List Mark) → Allows task (standing settled run) (turn index piece) → SoundFrom (standing (using settled piece) (along task (turned_back run) piece)) total marks → SoundFrom (standing settled run) total (Turn ∷ Go piece.step ∷ marks)
+  has_turned :
+      (settled : Settled) (run : Standing) (index : ℕ) (piece : Piece) (total : ℕ) (marks : List Mark) →
+      Allows task (standing settled run) (turn index piece) → SoundFrom (standing (using settled piece) (along task (turned_back run) piece)) total marks →
+      SoundFrom (standing settled run) total (Turn ∷ Go piece.step ∷ marks)
   has_turned settled run index piece total marks may rest others kind left step before tells holds own home trains =
       let most = most_of (stops_of kind) in
       let ends : EndsAtStop (step ∷ before) = ends_there step before run.head tells.head may.stands (stop_of (left_at step)) refl in
@@ -326,7 +340,9 @@ module _ (position : Position) (company : Company) (lawful : IsLawful position) 
       }
 
   -- a run of the first train before those of the others is a set
-  set_more : (others : List ℕ) (kind : Kind) (left : List Kind) (settled : Settled) (total : ℕ) (runs : List TrainRun) → RunTold others kind left settled total runs → RunsTold others (kind ∷ left) settled total runs
+  set_more :
+      (others : List ℕ) (kind : Kind) (left : List Kind) (settled : Settled) (total : ℕ) (runs : List TrainRun) →
+      RunTold others kind left settled total runs → RunsTold others (kind ∷ left) settled total runs
   set_more others kind left settled total runs told =
       subst (RunsTold others (kind ∷ left) settled total) (sym told.are)
       (record {
@@ -348,7 +364,10 @@ module _ (position : Position) (company : Company) (lawful : IsLawful position) 
       avoid_by (run ∷ runs) avoid = ((λ border here there. avoid.0 border here ((among_both border (crossed told.steps) others).1 (inr there))), avoid_by runs avoid.1)
 
   -- a run begins
-  has_begun : (settled : Settled) (number index : ℕ) (piece : Piece) (total : ℕ) (marks : List Mark) → Allows task (between settled) (begin number index piece) → SoundFrom (standing (using settled piece) (along task (begun task settled number index) piece)) total marks → SoundFrom (between settled) total (Go piece.step ∷ marks)
+  has_begun :
+      (settled : Settled) (number index : ℕ) (piece : Piece) (total : ℕ) (marks : List Mark) → Allows task (between settled) (begin number index piece) →
+      SoundFrom (standing (using settled piece) (along task (begun task settled number index) piece)) total marks →
+      SoundFrom (between settled) total (Go piece.step ∷ marks)
   has_begun settled number index piece total marks may rest others [] used trains = absurd (omega (arith, may.train, drop_none task.trains.items settled.next trains))
   has_begun settled number index piece total marks may rest others (kind ∷ left) used trains =
       let most = most_of (stops_of kind) in

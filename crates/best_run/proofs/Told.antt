@@ -47,7 +47,7 @@ pub last_read : (all rest : List Mark) (mark : Mark) → all ≡ rest ++ mark �
 last_read all rest mark is = ap reverse is ∙ reverse-append rest (mark ∷ [])
 
 -- the runs of some trains begin with that of the first one, if it runs
-pub next_told :
+next_told :
     (kinds : List Kind) (i : ℕ) (d : Kind) (old new : List Mark) (walk : Option (Vec Step Global)) → i < length kinds → IsWalkRead old new walk →
     runs_told (drop i kinds) [] (reverse old) ≡ with_run (get_or kinds i d) (steps_of walk)
     (runs_told (drop (i + 1) kinds) [] (reverse new))

@@ -33,7 +33,8 @@ traced_both task state old middle new grows more first second =
               (subst (λ (n : ℕ). Earns task state (marks_in middle.trail) n) (sym same.amount) better.earns);
         })
 
-    by_second : middle.trail.refused ≡ None → IsAsBefore middle new ⊎ IsBetter task state middle new → IsAsBefore old new ⊎ IsBetter task state old new
+    by_second :
+        middle.trail.refused ≡ None → IsAsBefore middle new ⊎ IsBetter task state middle new → IsAsBefore old new ⊎ IsBetter task state old new
     by_second none (inl same) = by_first same (first.told none)
     by_second none (inr better) = inr (record { more = omega (arith, grows, better.more); earns = better.earns })
 

@@ -81,7 +81,9 @@ over_most task settled new over low (go i found ∷ moves) completes = absurd co
 over_most task settled new over low (turn i found ∷ moves) completes = absurd completes.0
 over_most task settled new over low (settle ∷ moves) completes = absurd completes.0
 
-pub over_better : (task : Task) (settled : Settled) (old : Found) (trail : Trail) → length task.trains.items ≤ settled.next → old.amount < settled.total → marks_in trail ≡ [] → trail.refused ≡ old.trail.refused → Explores task (between settled) old (record old { amount = settled.total; trail = trail })
+pub over_better :
+    (task : Task) (settled : Settled) (old : Found) (trail : Trail) → length task.trains.items ≤ settled.next → old.amount < settled.total →
+    marks_in trail ≡ [] → trail.refused ≡ old.trail.refused → Explores task (between settled) old (record old { amount = settled.total; trail = trail })
 over_better task settled old trail over low empty same =
     record {
       grows = omega (arith, low);
@@ -103,16 +105,21 @@ over_no_better task settled old over low =
     }
 
 -- a train passes, and a run is settled
-pub leads_pass : (task : Task) (settled : Settled) → settled.next < length task.trains.items → Leads task (between settled) (between (passed settled)) (Pass ∷ [])
+pub leads_pass :
+    (task : Task) (settled : Settled) → settled.next < length task.trains.items → Leads task (between settled) (between (passed settled)) (Pass ∷ [])
 leads_pass task settled before later completes =
     record { moves = pass ∷ later; completes = (before, completes); total = refl; marks_are = refl }
 
-pub leads_settle : (task : Task) (settled : Settled) (run : Standing) → may_settle task settled run ≡ true → Leads task (standing settled run) (between (settling settled run)) (Settle ∷ [])
+pub leads_settle :
+    (task : Task) (settled : Settled) (run : Standing) → may_settle task settled run ≡ true →
+    Leads task (standing settled run) (between (settling settled run)) (Settle ∷ [])
 leads_settle task settled run may later completes =
     record { moves = settle ∷ later; completes = (may, completes); total = refl; marks_are = refl }
 
 -- the next train has passed, and has begun all its runs
-pub explores_between : (task : Task) (settled : Settled) (old middle new : Found) → ExploresFrom task (between settled) (between (passed settled)) old middle → Tries task (between settled) (IsBegin Any) middle new → settled.next < length task.trains.items → Explores task (between settled) old new
+pub explores_between :
+    (task : Task) (settled : Settled) (old middle new : Found) → ExploresFrom task (between settled) (between (passed settled)) old middle →
+    Tries task (between settled) (IsBegin Any) middle new → settled.next < length task.trains.items → Explores task (between settled) old new
 explores_between task settled old middle new first second before =
     record {
       grows = le_trans first.grows second.grows;
@@ -142,7 +149,10 @@ tries_on task settled run old middle new first second =
     either settle is may = absurd is
 
 -- the run has been settled, if it may be, and has gone on
-pub explores_standing : (task : Task) (settled : Settled) (run : Standing) (old middle new : Found) → ExploresFrom task (standing settled run) (between (settling settled run)) old middle → Tries task (standing settled run) IsOn middle new → Explores task (standing settled run) old new
+pub explores_standing :
+    (task : Task) (settled : Settled) (run : Standing) (old middle new : Found) →
+    ExploresFrom task (standing settled run) (between (settling settled run)) old middle → Tries task (standing settled run) IsOn middle new →
+    Explores task (standing settled run) old new
 explores_standing task settled run old middle new first second =
     record {
       grows = le_trans first.grows second.grows;

@@ -19,7 +19,7 @@ pub(crate) enum Mark {
     Settle,
 }
 
-/// The marks of moves.
+/// The marks of the moves that earn what has been found.
 #[derive(Drop)]
 pub(crate) struct Trail {
     /// The marks, from the last one to the first.
@@ -48,7 +48,7 @@ impl Trail {
         self.marks.clear();
     }
 
-    /// Writes a mark in front of the others.
+    /// Writes a mark in front of the others. Where memory is refused, the error is kept.
     pub(crate) fn write(&mut self, mark: Mark)
         ensures { IsWritten (mark ∷ []) self.old self.new }
     {
@@ -57,7 +57,8 @@ impl Trail {
         }
     }
 
-    /// Writes the marks of some steps, one after another, in front of the others.
+    /// Writes the marks of some steps, one after another, in front of the others. Where memory is
+    /// refused, the error is kept.
     pub(crate) fn write_steps(&mut self, steps: &[Step])
         ensures { IsWritten (go_along steps.now) self.old self.new }
     {

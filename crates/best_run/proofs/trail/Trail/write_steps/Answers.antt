@@ -10,7 +10,8 @@ use Rattle.best_run.specs.Trail.{IsWritten, go_along, marks_in}
 use Rattle.best_run.proofs.trail.Trail.write_steps.Goals as goal
 
 -- the mark of the last step stands behind those of the others
-go_last : (left rest : List Step) (step : Step) (marks : List Mark) → left ≡ rest ++ (step ∷ []) → go_along rest ++ (Go step ∷ marks) ≡ go_along left ++ marks
+go_last :
+    (left rest : List Step) (step : Step) (marks : List Mark) → left ≡ rest ++ (step ∷ []) → go_along rest ++ (Go step ∷ marks) ≡ go_along left ++ marks
 go_last left rest step marks is = by_rest rest ∙ ap (λ (steps : List Step). go_along steps ++ marks) (sym is)
   where
     by_rest : (steps : List Step) → go_along steps ++ (Go step ∷ marks) ≡ go_along (steps ++ (step ∷ [])) ++ marks
