@@ -10,7 +10,8 @@ use Rattle.best_run.specs.declared.state.Standing.{Standing}
 use Rattle.best_run.specs.Moves.{AreExplored, CanEarn, Completes, Explores, IsOpen, Move, State, along, begin, begun, between, can_take, go, marked_all, may_come, may_earn, misses, node_at, pass, passed, settle, settling, standing, start, stop_in, total_after, total_of, turn, turned_back, using}
 use Rattle.best_run.specs.Kept.{Freer}
 use Rattle.best_run.specs.Suffix.{AreBounds, EarnAtMost, FallShort, IsSolved, IsTop, nothing_before}
-use Rattle.best_run.proofs.Advance.{IsMarked, free_misses, misses_free}
+use Rattle.best_run.specs.Marks.{IsMarked}
+use Rattle.best_run.proofs.Advance.{free_misses, misses_free}
 
 pub freer_none : (used : List Bool) → Freer used (replicate (length used) false)
 freer_none [] = tt

@@ -17,7 +17,8 @@ use Rattle.best_run.specs.Fit.{BordersFit, IsFit, PieceFits}
 use Rattle.best_run.specs.Kept.{Freer}
 use Rattle.best_run.specs.Moves.{Completes, EarnsAtMost, LeadsFrom, Move, State, along, begin, begun, between, can_take, ends_in, go, marked_all, may_come, misses, node_at, own_in, pass, passed, settle, settling, standing, stop_in, total_after, turn, turned_back, using}
 use Rattle.best_run.specs.Ways.{AreReady, AreWaysOf, IsStop, ways_at, ways_in}
-use Rattle.best_run.proofs.Advance.{IsMarked, free_misses, marks_more, misses_free}
+use Rattle.best_run.specs.Marks.{IsMarked}
+use Rattle.best_run.proofs.Advance.{free_misses, marks_more, misses_free}
 use Rattle.best_run.proofs.Ahead.{falsely}
 use Rattle.best_run.proofs.Along.{ByPieces, ByWay, by_pieces, by_way, way_fits}
 use Rattle.best_run.proofs.Departing.{none_at}
@@ -106,11 +107,11 @@ unset_fewer (mark ∷ marks) zero (suc m) is = is
 unset_fewer (mark ∷ marks) (suc n) zero is = is
 unset_fewer (mark ∷ marks) (suc n) (suc m) is = unset_fewer marks n m is
 
-cleared_fewer : (borders : List ℕ) (marks : List Bool) (m : ℕ) → IsMarked (cleared_all marks borders) m → IsMarked marks m
+pub cleared_fewer : (borders : List ℕ) (marks : List Bool) (m : ℕ) → IsMarked (cleared_all marks borders) m → IsMarked marks m
 cleared_fewer [] marks m is = is
 cleared_fewer (border ∷ borders) marks m is = unset_fewer marks border m (cleared_fewer borders (set marks border false) m is)
 
-cleared_here : (borders : List ℕ) (marks : List Bool) (border : ℕ) → IsAmong border borders → IsMarked (cleared_all marks borders) border → ⊥
+pub cleared_here : (borders : List ℕ) (marks : List Bool) (border : ℕ) → IsAmong border borders → IsMarked (cleared_all marks borders) border → ⊥
 cleared_here [] marks border among is = absurd among
 cleared_here (first ∷ borders) marks border among is =
     elim among [

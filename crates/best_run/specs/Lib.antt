@@ -1,3 +1,5 @@
+pub mod Marks
+pub mod Crossed
 pub mod Moves
 pub mod Fit
 pub mod Described

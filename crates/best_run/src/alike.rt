@@ -2,24 +2,15 @@
 //! run to come can cross.
 ghost use Rattle.std.specs.Prelude.{◌≡◌, ◌<◌, true};
 ghost use Rattle.best_run.specs.Ahead.{beyond};
-ghost use Rattle.best_run.specs.Alike.{AreOpen, IsAlike, IsInReach, IsShutBelow, Opens, WidensTo, anywhere, cleared_all, sets_out};
-ghost use Rattle.best_run.specs.Fit.{BordersFit, IsFit};
+ghost use Rattle.best_run.specs.Alike.{AreOpen, IsAlike, IsInReach, IsShutBelow, Opens, WidensTo, anywhere, sets_out};
+ghost use Rattle.best_run.specs.Fit.{IsFit};
 ghost use Rattle.best_run.specs.Moves.{node_at, stop_in};
 ghost use Rattle.best_run.specs.Ways.{AreReady};
 
-use crate::state::{BORDERS, SPOTS, Settled, Standing, misses};
+use crate::bits::{Borders, SPOTS, Spots};
+use crate::state::{Settled, Standing};
 use crate::task::Task;
 use tables::Amount;
-
-/// Takes away the marks of some borders.
-fn clear_all(marks: &mut [bool; BORDERS], borders: &[usize])
-    requires { BordersFit borders.now }
-    ensures { marks.new ≡ cleared_all marks.old borders.now }
-{
-    for border in borders {
-        marks[*border] = false;
-    }
-}
 
 /// A run that has visited nothing, and may come to any stop.
 fn anywhere() -> Standing
@@ -33,19 +24,13 @@ fn anywhere() -> Standing
         most: 0,
         left: 1,
         value: 0,
-        visited: [false; SPOTS],
+        visited: Spots::none(),
     }
 }
 
 impl Task {
     /// Adds to what lies in reach of the trains that are left what a run may come to from a token.
-    fn reach_from(
-        &self,
-        settled: &Settled,
-        stop: usize,
-        reach: &mut [bool; SPOTS],
-        worth: &mut Amount,
-    )
+    fn reach_from(&self, settled: &Settled, stop: usize, reach: &mut Spots, worth: &mut Amount)
         requires fit { IsFit self.now }
         requires ready { AreReady self.now }
         requires spot { stop < 744 }
@@ -63,12 +48,12 @@ impl Task {
     }
 
     /// The stops to which a run of the trains that are left may come.
-    fn reach(&self, settled: &Settled) -> [bool; SPOTS]
+    fn reach(&self, settled: &Settled) -> Spots
         requires fit { IsFit self.now }
         requires ready { AreReady self.now }
         ensures { IsInReach self.now settled.now.used result }
     {
-        let mut reach = [false; SPOTS];
+        let mut reach = Spots::none();
         let mut worth = 0;
         for stop in 0..SPOTS {
             let node = &self.spots[stop];
@@ -80,7 +65,7 @@ impl Task {
     }
 
     /// Opens the ways from a stop that cross no used border.
-    fn open_from(&self, settled: &Settled, stop: usize, shut: &mut [bool; BORDERS])
+    fn open_from(&self, settled: &Settled, stop: usize, shut: &mut Borders)
         requires fit { IsFit self.now }
         requires ready { AreReady self.now }
         requires spot { stop < 744 }
@@ -91,31 +76,31 @@ impl Task {
         let from = &self.departures[stop];
         for index in 0..from.ways.len() {
             let way = &from.ways[index];
-            if misses(&settled.used, &way.piece.borders) {
-                clear_all(shut, &way.piece.borders);
+            if way.piece.borders.misses(&settled.used) {
+                way.piece.borders.clear_in(shut);
             }
         }
     }
 
     /// Whether a run may set out from a stop: the company has a token there, or it lies in reach and may be
     /// passed.
-    fn sets_out(&self, stop: usize, reach: &[bool; SPOTS]) -> bool
+    fn sets_out(&self, stop: usize, reach: &Spots) -> bool
         requires fit { IsFit self.now }
         requires spot { stop < 744 }
         ensures { result ≡ sets_out self.now reach.now stop }
     {
         let node = &self.spots[stop];
-        node.stop && (node.own || (reach[stop] && !node.ends))
+        node.stop && (node.own || (reach.has(stop) && !node.ends))
     }
 
     /// All borders but those that a run of the trains that are left may cross.
-    fn shut(&self, settled: &Settled, reach: &[bool; SPOTS]) -> [bool; BORDERS]
+    fn shut(&self, settled: &Settled, reach: &Spots) -> Borders
         requires fit { IsFit self.now }
         requires ready { AreReady self.now }
         ensures { IsShutBelow self.now settled.now.used reach.now 744 result }
     {
         settled.marks_all_borders();
-        let mut shut = [true; BORDERS];
+        let mut shut = Borders::all();
         for stop in 0..SPOTS {
             if self.sets_out(stop, reach) {
                 self.open_from(settled, stop, &mut shut);

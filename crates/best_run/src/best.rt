@@ -5,8 +5,9 @@ ghost use Rattle.best_run.specs.Ways.{AreReady};
 ghost use Rattle.best_run.specs.Suffix.{AreBounds, IsSolved, IsTop, nothing_before};
 ghost use Rattle.certificate.specs.Set.{IsGreatest};
 
+use crate::bits::Borders;
 use crate::explored::Found;
-use crate::state::{BORDERS, Settled};
+use crate::state::Settled;
 use crate::task::Task;
 use crate::trains::greatest_first;
 use reach::Network;
@@ -31,7 +32,7 @@ impl Task {
             total: 0,
             kind: 0,
             cap: 0,
-            used: [false; BORDERS],
+            used: Borders::none(),
         };
         self.settle_next(&nothing, bounds, best);
     }

@@ -17,6 +17,8 @@
 
 mod alike;
 mod best;
+mod bits;
+mod crossing;
 mod explored;
 mod outlook;
 mod runner;

@@ -1,11 +1,12 @@
 ghost use Rattle.std.specs.Prelude.{◌≡◌, ◌+◌, ◌*◌, ◌<◌, ◌≤◌, IsTrue, true, length, ℕ};
 ghost use Rattle.best_run.specs.Ahead.{EndsAtMost, IsOutlook, WidensBy, WidensFrom, beyond};
-ghost use Rattle.best_run.specs.Fit.{HasRoom, IsFit, BordersFit};
+ghost use Rattle.best_run.specs.Fit.{HasRoom, IsFit};
 ghost use Rattle.best_run.specs.Moves.{node_at, stop_in};
 ghost use Rattle.best_run.specs.Suffix.{AreBounds};
 ghost use Rattle.best_run.specs.Ways.{AreReady, IsStop};
 
-use crate::state::{SPOTS, Settled, Standing};
+use crate::bits::{SPOTS, Spots};
+use crate::state::{Settled, Standing};
 use crate::task::{Piece, Task};
 use tables::Amount;
 
@@ -25,10 +26,10 @@ const FIRST_STOP: usize = 6;
 const STOPS: usize = 186;
 
 /// What lies ahead of a run.
-#[derive(Clone, Copy)]
+#[derive(Drop)]
 struct Outlook {
     /// The spots that it may come to.
-    ahead: [bool; SPOTS],
+    ahead: Spots,
     /// What they are worth, in dollars.
     worth: Amount,
 }
@@ -42,7 +43,7 @@ impl Task {
         settled: &Settled,
         run: &Standing,
         spot: usize,
-        ahead: &mut [bool; SPOTS],
+        ahead: &mut Spots,
         worth: &mut Amount,
     )
         requires fit { IsFit self.now }
@@ -71,23 +72,23 @@ impl Task {
         settled: &Settled,
         run: &Standing,
         piece: &Piece,
-        ahead: &mut [bool; SPOTS],
+        ahead: &mut Spots,
         worth: &mut Amount,
     )
         requires fit { IsFit self.now }
         requires ready { AreReady self.now }
         requires to { piece.now.to < 744 }
         requires stop { stop_in (node_at self.now piece.now.to) ≡ true }
-        requires borders { BordersFit piece.now.borders.items }
         requires sum { worth.old ≡ beyond 0 self.now.spots.items ahead.old }
         ensures widens { WidensBy self.now settled.now run.now piece.now ahead.old ahead.new }
         ensures sum { worth.new ≡ beyond 0 self.now.spots.items ahead.new }
     {
-        if ahead[piece.to] {
+        ahead.is_whole();
+        if ahead.has(piece.to) {
             return;
         }
         if self.can_take(run, settled, piece) {
-            ahead[piece.to] = true;
+            ahead.mark(piece.to);
             *worth += self.spots[piece.to].value;
             self.look_from(settled, run, piece.to, ahead, worth);
         }
@@ -106,7 +107,9 @@ impl Task {
         ensures borders { length settled.now.used ≡ 279 }
         ensures spots { length run.now.visited ≡ 744 }
     {
-        let mut ahead = [false; SPOTS];
+        settled.marks_all_borders();
+        run.visited.is_whole();
+        let mut ahead = Spots::none();
         let mut worth = 0;
         self.look_from(settled, run, run.head, &mut ahead, &mut worth);
         if !run.turned {
@@ -116,14 +119,14 @@ impl Task {
     }
 
     /// How many stops ahead are worth so many tens of dollars, for each number of tens.
-    fn tally(&self, ahead: &[bool; SPOTS]) -> [usize; TENS + 1]
+    fn tally(&self, ahead: &Spots) -> [usize; TENS + 1]
         requires { IsFit self.now }
     {
         let mut counts: [usize; TENS + 1] = [0; TENS + 1];
         for hex in 0..HEXES {
             for end in FIRST_STOP..ENDS {
                 let spot = ENDS * hex + end;
-                if ahead[spot] {
+                if ahead.has(spot) {
                     let tens = (self.spots[spot].value / 10) as usize;
                     counts[tens] = counts[tens].saturating_add(1);
                 }
@@ -134,7 +137,7 @@ impl Task {
 
     /// The level at which a run can be seen to earn least: what the least of the greatest stops ahead
     /// is worth, of as many as are left. Any level would do.
-    fn level(&self, run: &Standing, ahead: &[bool; SPOTS]) -> Amount
+    fn level(&self, run: &Standing, ahead: &Spots) -> Amount
         requires { IsFit self.now }
         ensures { result ≤ 80 }
     {
@@ -154,7 +157,7 @@ impl Task {
     }
 
     /// What the spots ahead are worth beyond a level, in dollars; it is known what they are worth.
-    fn beyond(&self, level: Amount, ahead: &[bool; SPOTS], worth: Amount) -> Amount
+    fn beyond(&self, level: Amount, ahead: &Spots, worth: Amount) -> Amount
         requires fit { IsFit self.now }
         requires known { worth ≡ beyond 0 self.now.spots.items ahead.now }
         ensures sum { result ≡ beyond level self.now.spots.items ahead.now }
@@ -163,9 +166,10 @@ impl Task {
         if level == 0 {
             return worth;
         }
+        ahead.is_whole();
         let mut sum = 0;
         for spot in 0..SPOTS {
-            if ahead[spot] {
+            if ahead.has(spot) {
                 sum += self.spots[spot].value.saturating_sub(level);
             }
         }
@@ -178,7 +182,7 @@ impl Task {
         &self,
         settled: &Settled,
         run: &Standing,
-        ahead: &[bool; SPOTS],
+        ahead: &Spots,
         worth: Amount,
         bounds: &[Amount],
         best: Amount,

@@ -12,6 +12,7 @@ ghost use Rattle.reach.specs.Position.{IsAmong, links_of};
 ghost use Rattle.reach.specs.Search.{spot_number};
 ghost use Rattle.tables.specs.Train.{stops_of};
 
+use crate::crossing::Crossing;
 use crate::task::{Node, Piece, Task};
 use map_tables::{End, HEXES, Hex, Link, Side, Stop, StopNumber, joined_stop, neighbour};
 use reach::{Network, Spot, Step};
@@ -81,7 +82,7 @@ fn piece_of(alloc: Global, step: Step) -> Result<Piece, AllocError>
     }
     Ok(Piece {
         to: number_of(step.left()),
-        borders,
+        borders: Crossing::of(borders),
     })
 }
 

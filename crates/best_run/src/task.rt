@@ -1,5 +1,6 @@
 ghost use Rattle.std.specs.Prelude.{◌≡◌};
 
+use crate::crossing::Crossing;
 use tables::Amount;
 
 /// A piece of track that leads from a spot to the next one.
@@ -8,7 +9,7 @@ pub(crate) struct Piece {
     /// The spot to which it leads, by its number.
     pub(crate) to: usize,
     /// The borders that it crosses, by their numbers.
-    pub(crate) borders: Vec<usize>,
+    pub(crate) borders: Crossing,
 }
 
 /// A spot, to a company: an end of a hex.

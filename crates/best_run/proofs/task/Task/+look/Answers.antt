@@ -1,6 +1,7 @@
 -- Each way adds what it leads to, and together they are all ways of the stop.
-use Rattle.std.proofs.Common.{◌≡◌, ◌<◌, Some, length, slice_get, refl, ap, ◌∙◌, arith}
+use Rattle.std.proofs.Common.{◌≡◌, ◌<◌, Bool, Some, List, length, slice_get, refl, sym, ap, subst, ◌∙◌, arith}
 use Rattle.std.proofs.lemmas.Option.{slice_get_read}
+use Rattle.best_run.specs.Ahead.{WidensFrom}
 use Rattle.best_run.specs.Ways.{AreWaysOf, ways_at, ways_in}
 use Rattle.best_run.proofs.Ahead.{along_more, below_more, below_none, from_all}
 use Rattle.best_run.proofs.Along.{way_fits}
@@ -14,12 +15,12 @@ use Rattle.best_run.proofs.task.Task.+look.Goals as goal
 pub look_along-look_from-requires : goal.look_along-look_from-requires
 look_along-look_from-requires t c =
     let piece = c.args.piece.now in
-    let low : piece.to < length c.args.ahead.now = omega (arith, c.told-ahead, c.requires.to) in
-    let fewer = set_fewer c.args.ahead.now piece.to low c.if-ahead-piece.false in
+    let low : piece.to < length c.args.ahead.now = omega (arith, c.is_whole.ensures, c.requires.to) in
+    let fewer = set_fewer c.args.ahead.now piece.to low (sym c.has.ensures ∙ c.if-has.false) in
     let node = c.index.result.now in
     let at : slice_get c.args.self.now.spots.items piece.to ≡ Some node = node_is c.args.self.now c.requires.fit piece.to node c.requires.to c.index.ensures in
-    let more = beyond_more c.args.self.now.spots.items c.args.ahead.now piece.to node at c.if-ahead-piece.false low in
-    (omega arith, (c.requires.fit, (c.requires.ready, (c.requires.to, (c.requires.stop, omega (arith, more, c.requires.sum))))))
+    let more = beyond_more c.args.self.now.spots.items c.args.ahead.now piece.to node at (sym c.has.ensures ∙ c.if-has.false) low in
+    rw c.mark.ensures (omega arith, (c.requires.fit, (c.requires.ready, (c.requires.to, (c.requires.stop, omega (arith, more, c.requires.sum))))))
 
 pub look_along-overflow_add-worth : goal.look_along-overflow_add-worth
 look_along-overflow_add-worth t c =
@@ -28,8 +29,8 @@ look_along-overflow_add-worth t c =
 pub look_along-returns-then-can_take-clause-widens : goal.look_along-returns-then-can_take-clause-widens
 look_along-returns-then-can_take-clause-widens t c =
     let piece = c.args.piece.now in
-    along_more c.args.self.now c.args.settled.now c.args.run.now piece c.args.ahead.now _ c.if-ahead-piece.false
-    (omega (arith, c.told-ahead, c.requires.to)) c.look_from.ensures.widens
+    along_more c.args.self.now c.args.settled.now c.args.run.now piece c.args.ahead.now _ (sym c.has.ensures ∙ c.if-has.false)
+    (omega (arith, c.is_whole.ensures, c.requires.to)) (subst (λ (ms : List Bool). WidensFrom c.args.self.now c.args.settled.now c.args.run.now piece.to ms c.look_from.new.ahead) c.mark.ensures c.look_from.ensures.widens)
 
 pub look_from-loop-index-init : goal.look_from-loop-index-init
 look_from-loop-index-init t c =
@@ -45,7 +46,7 @@ look_from-look_along-requires t c =
     let at : slice_get ways c.loop-index.index ≡ Some way = slice_get_read ways (length ways) c.loop-index.index way refl (omega arith) c.index-way.ensures in
     let fits = way_fits task c.requires.fit c.args.spot ways are c.requires.stop way (among_place ways c.loop-index.index way at) in
     let fewer = c.loop-index.invariant.0.widens.fewer in
-    (omega arith, (c.requires.fit, (c.requires.ready, (fits.0.to, (fits.1, (fits.0.borders, c.loop-index.invariant.1))))))
+    (omega arith, (c.requires.fit, (c.requires.ready, (fits.0.to, (fits.1, c.loop-index.invariant.1)))))
 
 pub look_from-loop-index-preserved : goal.look_from-loop-index-preserved
 look_from-loop-index-preserved t c =

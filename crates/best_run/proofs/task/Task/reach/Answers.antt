@@ -10,7 +10,8 @@ use Rattle.best_run.proofs.task.Task.reach.Goals as goal
 use Rattle.best_run.proofs.task.Task.reach.Goals.{then-node+then-node-2, else-node, else-node-via-then-node+else-node-2, else-node-via-else-node}
 
 pub loop-stop-init : goal.loop-stop-init
-loop-stop-init c = (reach_none c.args.self.now c.args.settled.now.used, sym (beyond_nothing c.args.self.now.spots.items 744))
+loop-stop-init c =
+    rw c.none-reach.ensures (reach_none c.args.self.now c.args.settled.now.used, sym (beyond_nothing c.args.self.now.spots.items 744))
 
 pub reach_from-requires-clause-stops : goal.reach_from-requires-clause-stops
 reach_from-requires-clause-stops c =

@@ -6,7 +6,7 @@ use Rattle.best_run.proofs.task.Task.shut.Goals as goal
 use Rattle.best_run.proofs.task.Task.shut.Goals.{then-sets_out, else-sets_out}
 
 pub loop-stop-init : goal.loop-stop-init
-loop-stop-init c = shut_none c.args.self.now c.args.settled.now.used c.args.reach.now c.marks_all_borders.ensures
+loop-stop-init c = rw c.all-shut.ensures (shut_none c.args.self.now c.args.settled.now.used c.args.reach.now c.marks_all_borders.ensures)
 
 pub open_from-requires-clause-stops : goal.open_from-requires-clause-stops
 open_from-requires-clause-stops c =
