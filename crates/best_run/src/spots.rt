@@ -314,10 +314,13 @@ impl Task {
         let mut task = Task {
             spots,
             departures: Vec::new(alloc),
+            stops: Vec::new(alloc),
             trains,
         };
         let departures = task.all_departures(alloc)?;
         task.departures = departures;
+        let stops = task.all_stops(alloc)?;
+        task.stops = stops;
         Ok(task)
     }
 }

@@ -50,6 +50,8 @@ pub(crate) struct Task {
     pub(crate) spots: Vec<Node>,
     /// For each spot that is a stop, by its number, the ways from there.
     pub(crate) departures: Vec<Departures>,
+    /// The stops from which ways lead, by their numbers.
+    pub(crate) stops: Vec<usize>,
     /// For each train, the most stops of a run.
     pub(crate) trains: Vec<usize>,
 }

@@ -1,25 +1,19 @@
 -- Nothing lay ahead at first.
-use Rattle.std.proofs.Common.{Bool, List, replicate, false, sym, subst}
-use Rattle.best_run.specs.Ahead.{IsOutlook, WidensFrom}
-use Rattle.best_run.proofs.Beyond.{beyond_nothing}
+use Rattle.std.proofs.Common.{Bool, List, replicate, false, subst}
+use Rattle.best_run.specs.Ahead.{WidensFrom}
 use Rattle.best_run.proofs.Ahead.{outlook_both, outlook_from}
 use Rattle.best_run.proofs.task.Task.outlook.Goals as goal
-use Rattle.best_run.proofs.task.Task.outlook.Goals.{then-not-run, else-not-run}
 
-pub look_from-requires-clause-sum : goal.look_from-requires-clause-sum
-look_from-requires-clause-sum c = rw c.none-ahead.ensures (sym (beyond_nothing c.args.self.now.spots.items 744))
+pub look_from-requires-clause-known : goal.look_from-requires-clause-known
+look_from-requires-clause-known c =
+    rw c.nothing-outlook.ensures.ahead (c.nothing-outlook.ensures.known c.args.self.now.spots.items)
 
-pub returns-clause-outlook : goal.returns-clause-outlook
-returns-clause-outlook c =
-    let task = c.args.self.now in
-    let settled = c.args.settled.now in
-    let run = c.args.run.now in
-    let first : WidensFrom task settled run run.head (replicate 744 false) c.look_from.new.ahead = subst (λ (ms : List Bool). WidensFrom task settled run run.head ms c.look_from.new.ahead) c.none-ahead.ensures c.look_from.ensures.widens in
-    elim c.if-not-run.branch [
-      | then-not-run w ↦
-          subst (λ (ms : List Bool). IsOutlook task settled run ms) (sym w.ahead-is)
-          (outlook_both task settled run _ _ first w.look_from-then-not-run.ensures.widens)
-      | else-not-run w ↦
-          subst (λ (ms : List Bool). IsOutlook task settled run ms) (sym w.ahead-is)
-          (outlook_from task settled run _ w.if-not-run.false first)
-    ]
+pub returns-then-not-run-clause-outlook : goal.returns-then-not-run-clause-outlook
+returns-then-not-run-clause-outlook c =
+    let first : WidensFrom c.args.self.now c.args.settled.now c.args.run.now c.args.run.now.head (replicate 744 false) c.look_from.new.outlook.ahead = subst (λ (ms : List Bool). WidensFrom c.args.self.now c.args.settled.now c.args.run.now c.args.run.now.head ms c.look_from.new.outlook.ahead) c.nothing-outlook.ensures.ahead c.look_from.ensures.widens in
+    outlook_both c.args.self.now c.args.settled.now c.args.run.now _ _ first c.look_from-then-not-run.ensures.widens
+
+pub returns-else-not-run-clause-outlook : goal.returns-else-not-run-clause-outlook
+returns-else-not-run-clause-outlook c =
+    let first : WidensFrom c.args.self.now c.args.settled.now c.args.run.now c.args.run.now.head (replicate 744 false) c.look_from.new.outlook.ahead = subst (λ (ms : List Bool). WidensFrom c.args.self.now c.args.settled.now c.args.run.now c.args.run.now.head ms c.look_from.new.outlook.ahead) c.nothing-outlook.ensures.ahead c.look_from.ensures.widens in
+    outlook_from c.args.self.now c.args.settled.now c.args.run.now _ c.if-not-run.false first
