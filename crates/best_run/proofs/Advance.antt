@@ -25,13 +25,10 @@ use Rattle.best_run.specs.declared.state.Settled.{Settled}
 use Rattle.best_run.specs.declared.state.Standing.{Standing}
 use Rattle.best_run.specs.Described.{Describes, IsNodeAt, IsPieceOf, IsSideNode, IsStopNode}
 use Rattle.best_run.specs.Fit.{BordersFit}
+use Rattle.best_run.specs.Marks.{IsMarked}
 use Rattle.best_run.specs.Moves.{along, left_after, marked_all, marked_if, misses, node_at, own_before, stop_in, turned_back, using}
 use Rattle.best_run.proofs.Backwards.{AreAlike}
 use Rattle.best_run.proofs.Marks.{length_marked}
-
--- a border is marked
-abbrev pub IsMarked : List Bool → ℕ → Type 0
-IsMarked marks number = get_or marks number false ≡ true
 
 -- what a state tells of a run: where it stands, its stops and its borders, beside those of other runs
 pub record Tells (task : Task) (position : Position) (company : Company) (most : ℕ) (others : List ℕ) (at : Spot) (stops : List Stop) (borders : List ℕ) (settled : Settled) (run : Standing) : Type 0 where

@@ -21,7 +21,8 @@ use Rattle.best_run.specs.declared.state.Settled.{Settled}
 use Rattle.best_run.specs.declared.state.Standing.{Standing}
 use Rattle.best_run.specs.Described.{Describes, GoesFrom, HasPieceOf, IsPieceOf, IsStopNode}
 use Rattle.best_run.specs.Moves.{LeadsFrom, along, begin, begun, between, ends_in, may_earn, node_at, own_before, settling, standing, stop_in, turn, turned_back, using}
-use Rattle.best_run.proofs.Advance.{IsMarked, Tells, mark_more, node_left, one_number, same_spot, spot_low, to_home}
+use Rattle.best_run.specs.Marks.{IsMarked}
+use Rattle.best_run.proofs.Advance.{Tells, mark_more, node_left, one_number, same_spot, spot_low, to_home}
 use Rattle.best_run.proofs.Backwards.{AreAlike, Starts, Turned, alike_back, alike_onto, onto_append, walk_turned, worth_back}
 use Rattle.best_run.proofs.Complete.{AreAhead, CanFinish, CanGo, Stands, can_go, next_stop, passes_by, settle_here, stands_at_stop, visited_first, walk_on}
 use Rattle.best_run.proofs.Prefix.{Holds, holds_first, onto}

@@ -13,7 +13,8 @@ use Rattle.best_run.specs.Trail.{go_along}
 use Rattle.best_run.specs.Fit.{BordersFit, IsFit}
 use Rattle.best_run.specs.Moves.{Completes, LeadsFrom, Move, along, begin, can_take, ends_in, go, left_after, marked_all, marked_if, marks_of, may_come, may_earn, misses, node_at, pass, settle, standing, stop_in, total_after, turn, using, value_in}
 use Rattle.best_run.specs.Ways.{AreFree, Hop, LeadsTo, borders_by, none_used, steps_by}
-use Rattle.best_run.proofs.Advance.{IsMarked, free_misses, misses_free}
+use Rattle.best_run.specs.Marks.{IsMarked}
+use Rattle.best_run.proofs.Advance.{free_misses, misses_free}
 use Rattle.best_run.proofs.Eased.{freer_all, freer_marked}
 use Rattle.best_run.specs.Kept.{Freer}
 use Rattle.best_run.proofs.Few.{length_replicate}

@@ -20,7 +20,8 @@ use Rattle.best_run.specs.declared.state.Settled.{Settled}
 use Rattle.best_run.specs.declared.state.Standing.{Standing}
 use Rattle.best_run.specs.Described.{Describes, GoesFrom, HasPieceOf, IsPieceOf, IsSideNode, IsStopNode}
 use Rattle.best_run.specs.Moves.{Completes, Move, State, along, between, can_take, ends_in, go, may_come, may_earn, misses, node_at, own_before, settle, settling, standing, stop_in, total_after, using}
-use Rattle.best_run.proofs.Advance.{IsMarked, Tells, free_misses, node_left, to_side, to_stop}
+use Rattle.best_run.specs.Marks.{IsMarked}
+use Rattle.best_run.proofs.Advance.{Tells, free_misses, node_left, to_side, to_stop}
 use Rattle.best_run.proofs.Prefix.{Holds, distinct_apart, holds_first, onto}
 
 -- some moves lead from a state to the end, and earn so much

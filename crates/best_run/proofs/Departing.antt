@@ -12,7 +12,7 @@ use Rattle.best_run.specs.declared.task.Task.{Task}
 use Rattle.best_run.specs.declared.task.Way.{Way}
 use Rattle.best_run.specs.Fit.{BordersFit, unused}
 use Rattle.best_run.specs.Moves.{LeadsFrom, ends_in, marked_all, misses, node_at, pieces_in, stop_in}
-use Rattle.best_run.specs.Ways.{AddsBelow, AddsWays, AreDepartures, AreFree, AreReady, AreWaysFrom, AreWaysOf, HasWay, Hop, IsMadeOf, LeadsTo, borders_by, none_used, steps_by}
+use Rattle.best_run.specs.Ways.{AddsBelow, AddsWays, AreDepartures, AreFree, AreReady, AreStops, AreWaysFrom, AreWaysOf, HasWay, Hop, IsMadeOf, IsStop, LeadsTo, borders_by, none_used, steps_by, ways_at, ways_in}
 use Rattle.best_run.proofs.Marks.{marked_fewer}
 use Rattle.best_run.proofs.Places.{below_next, place_low}
 use Rattle.best_run.proofs.Split.{append_together}
@@ -278,3 +278,69 @@ departs_same a b same count all are =
       long = are.long;
       each = λ stop from at stops. ways_same a b same stop from.ways.items (are.each stop from at (ap stop_in (node_same a b same stop) ∙ stops));
     }
+
+-- no stop is listed, one more is, one need not be, and the lists are for what lies there alone
+pub listed_none : (task : Task) → AreStops task 0 []
+listed_none task =
+    record { each = λ stop low. absurd (omega (arith, low)); only = λ place stop at. absurd (never place stop at) }
+  where
+    never : (place stop : ℕ) → slice_get [] place ≡ Some stop → ⊥
+    never zero stop at = cc
+    never (suc place) stop at = cc
+
+pushed : (stops : List ℕ) (last place stop : ℕ) → slice_get (stops ++ last ∷ []) place ≡ Some stop → (slice_get stops place ≡ Some stop) ⊎ (last ≡ stop)
+pushed [] last zero stop at = inr (let e : Some last ≡ Some stop = at in cc)
+pushed [] last (suc place) stop at = inl at
+pushed (first ∷ stops) last zero stop at = inl at
+pushed (first ∷ stops) last (suc place) stop at = pushed stops last place stop at
+
+push_keeps : (stops : List ℕ) (last place stop : ℕ) → slice_get stops place ≡ Some stop → slice_get (stops ++ last ∷ []) place ≡ Some stop
+push_keeps [] last zero stop at = absurd cc
+push_keeps [] last (suc place) stop at = absurd cc
+push_keeps (first ∷ stops) last zero stop at = at
+push_keeps (first ∷ stops) last (suc place) stop at = push_keeps stops last place stop at
+
+push_at : (stops : List ℕ) (last : ℕ) → slice_get (stops ++ last ∷ []) (length stops) ≡ Some last
+push_at [] last = refl
+push_at (first ∷ stops) last = push_at stops last
+
+length_pushed : (stops : List ℕ) (last : ℕ) → length (stops ++ last ∷ []) ≡ suc (length stops)
+length_pushed [] last = refl
+length_pushed (first ∷ stops) last = ap suc (length_pushed stops last)
+
+pub listed_more : (task : Task) (count : ℕ) (stops : List ℕ) → IsStop task count → AreStops task count stops → AreStops task (count + 1) (stops ++ count ∷ [])
+listed_more task count stops is before =
+    record {
+      each = λ stop low stands. elim (below_next stop count low) [
+        | inl less ↦ elim (before.each stop less stands) [
+          | inl none ↦ inl none
+          | inr listed ↦ inr (listed.0, (let under = listed.1 in omega (arith, length_pushed stops count)), push_keeps stops count listed.0 stop listed.2)
+        ]
+        | inr same ↦ inr (length stops, omega (arith, length_pushed stops count), subst (λ (n : ℕ). slice_get (stops ++ count ∷ []) (length stops) ≡ Some n) (sym same) (push_at stops count))
+      ];
+      only = λ place stop at. elim (pushed stops count place stop at) [
+        | inl old ↦ before.only place stop old
+        | inr same ↦ subst (IsStop task) same is
+      ];
+    }
+
+pub listed_same : (task : Task) (count : ℕ) (stops : List ℕ) → ((stop_in (node_at task count) ≡ false) ⊎ (ways_at task count ≡ [])) → AreStops task count stops → AreStops task (count + 1) stops
+listed_same task count stops why before =
+    record {
+      each = λ stop low stands. elim (below_next stop count low) [
+        | inl less ↦ before.each stop less stands
+        | inr same ↦ elim why [
+          | inl side ↦ absurd (let wrong : true ≡ false = sym stands ∙ (ap (λ (n : ℕ). stop_in (node_at task n)) same ∙ side) in cc)
+          | inr none ↦ inl (ap (λ (n : ℕ). ways_at task n) same ∙ none)
+        ]
+      ];
+      only = before.only;
+    }
+
+-- a stop from which no way leads
+pub no_ways : (task : Task) (stop : ℕ) (from : Departures) → slice_get task.departures.items stop ≡ Some from → length from.ways.items ≡ 0 → ways_at task stop ≡ []
+no_ways task stop from at none = ap ways_in at ∙ empty from.ways.items none
+  where
+    empty : (ways : List Way) → length ways ≡ 0 → ways ≡ []
+    empty [] none = refl
+    empty (way ∷ ways) none = absurd (omega (arith, none))

@@ -10,7 +10,8 @@ use Rattle.best_run.specs.declared.state.Standing.{Standing}
 use Rattle.best_run.specs.Moves.{AreExplored, Completes, Earns, Explores, IsTraced, Move, State, along, begin, begun, between, can_take, go, marked_all, may_come, may_earn, misses, node_at, pass, passed, settle, settling, standing, start, stop_in, total_after, total_of, turn, turned_back, using}
 use Rattle.best_run.specs.Kept.{Freer}
 use Rattle.best_run.specs.Suffix.{AreBounds, EarnAtMost, FallShort, IsSolved, IsTop, nothing_before}
-use Rattle.best_run.proofs.Advance.{IsMarked, free_misses, misses_free}
+use Rattle.best_run.specs.Marks.{IsMarked}
+use Rattle.best_run.proofs.Advance.{free_misses, misses_free}
 use Rattle.best_run.specs.Trail.{IsWritten, marks_in}
 use Rattle.best_run.specs.declared.trail.Mark.{Mark}
 use Rattle.best_run.specs.declared.trail.Mark.TheVariants.{Pass}

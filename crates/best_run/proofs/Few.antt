@@ -12,7 +12,8 @@ use Rattle.certificate.proofs.Earning.{few_visited}
 use Rattle.certificate.proofs.Kept.{crossed_low}
 use Rattle.best_run.specs.Described.{most_of}
 use Rattle.best_run.specs.Fit.{BordersFit, unused}
-use Rattle.best_run.proofs.Advance.{IsMarked, mark_more}
+use Rattle.best_run.specs.Marks.{IsMarked}
+use Rattle.best_run.proofs.Advance.{mark_more}
 use Rattle.best_run.proofs.Marks.{set_fewer}
 
 -- distinct borders leave so many fewer

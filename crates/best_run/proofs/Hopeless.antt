@@ -1,5 +1,5 @@
 -- A run earns at most what it has, the level for each stop that is left, what the stops ahead are worth beyond the
--- level, and what the later trains earn by themselves.
+-- level, of those at which it ends as many as it may come to, and what the later trains earn by themselves.
 use Rattle.std.proofs.Common.{◌≡◌, ℕ, zero, suc, ◌+◌, ◌-◌, ◌*◌, ◌<◌, ◌≤◌, Bool, true, false, not, ◌&&◌, nat_lt, Option, Some, None, inr, List, [], ◌∷◌, length, get_or, set, slice_get, refl, sym, ap, subst, ◌∙◌, arith, length-set, suc-mul}
 use Rattle.std.proofs.lemmas.Bool.{lt-ltb}
 use Rattle.reach.proofs.Marking.{set_keeps}
@@ -11,78 +11,69 @@ use Rattle.best_run.specs.declared.task.Way.{Way}
 use Rattle.best_run.specs.declared.explored.Found.{Found}
 use Rattle.best_run.specs.declared.state.Settled.{Settled}
 use Rattle.best_run.specs.declared.state.Standing.{Standing}
-use Rattle.best_run.specs.Ahead.{EndsAtMost, IsGoneOver, IsOutlook, LiesAhead, beyond}
+use Rattle.best_run.specs.Ahead.{EndsAtMost, IsGoneOver, IsOutlook, LiesAhead, beyond, ends_by, goes_back, goes_on, if_ending, if_passed, most_ahead, one_end, two_ends}
 use Rattle.best_run.specs.Fit.{IsFit, PieceFits}
 use Rattle.best_run.specs.Moves.{Completes, Explores, LeadsFrom, Move, along, begin, between, can_take, ends_in, go, left_after, marked_all, marked_if, may_come, misses, node_at, pass, settle, settling, standing, stop_in, total_after, turn, turned_back, using, value_in}
 use Rattle.best_run.specs.Ways.{AreReady, AreWaysOf, IsStop, ways_at, ways_in}
 use Rattle.best_run.specs.Suffix.{AreCapped, AreEqual, EarnAtMost}
 use Rattle.best_run.proofs.Advance.{free_misses, marks_more, misses_free}
 use Rattle.best_run.proofs.Ahead.{falsely}
+use Rattle.best_run.proofs.Beyond.{Within, beyond_less, beyond_spent, ends_less, one_less, one_spent, one_two, two_less, two_spent, unset_within}
 use Rattle.best_run.proofs.Along.{ByWay, by_way, way_fits}
 use Rattle.best_run.proofs.Departing.{none_at}
 use Rattle.best_run.proofs.Described.{among_place}
 use Rattle.best_run.proofs.Eased.{rest_low}
 use Rattle.best_run.proofs.Equal.{low_settled}
 use Rattle.best_run.proofs.Marks.{length_marked}
-use Rattle.best_run.proofs.Places.{side_value}
 use Rattle.best_run.proofs.Traced.{traced_none}
 
-gain : Bool → ℕ → ℕ
-gain true more = more
-gain false more = 0
-
--- what spots ahead that are not visited are worth beyond a level
-gains : ℕ → List Node → List Bool → List Bool → ℕ
-gains level [] ahead visited = 0
-gains level (node ∷ nodes) [] visited = 0
-gains level (node ∷ nodes) (lies ∷ ahead) [] = 0
-gains level (node ∷ nodes) (lies ∷ ahead) (was ∷ visited) = gain (lies && not was) (node.value - level) + gains level nodes ahead visited
-
-gain_low : (lies was : Bool) (level : ℕ) (node : Node) (nodes : List Node) (ahead : List Bool) → gain (lies && not was) (node.value - level) + beyond level nodes ahead ≤ beyond level (node ∷ nodes) (lies ∷ ahead)
-unfolding gain
-gain_low true true level node nodes ahead = omega arith
-gain_low true false level node nodes ahead = omega arith
-gain_low false was level node nodes ahead = omega arith
-
-gains_low : (level : ℕ) (nodes : List Node) (ahead visited : List Bool) → gains level nodes ahead visited ≤ beyond level nodes ahead
-unfolding gains
-gains_low level [] ahead visited = omega arith
-gains_low level (node ∷ nodes) [] visited = omega arith
-gains_low level (node ∷ nodes) (lies ∷ ahead) [] = omega arith
-gains_low level (node ∷ nodes) (lies ∷ ahead) (was ∷ visited) =
-    omega (arith, gain_low lies was level node nodes ahead, gains_low level nodes ahead visited)
+-- the stops ahead that are not visited
+but : List Bool → List Bool → List Bool
+but [] visited = []
+but (lies ∷ ahead) [] = []
+but (lies ∷ ahead) (was ∷ visited) = (lies && not was) ∷ but ahead visited
 
 and_false : (b : Bool) → (b && false) ≡ false
 and_false true = refl
 and_false false = refl
 
-no_gain : (more : ℕ) → gain false more ≡ 0
-unfolding gain
-no_gain more = refl
+and_first : (a b : Bool) → (a && b) ≡ true → a ≡ true
+and_first true b is = refl
+and_first false b is = absurd cc
 
-gain_gone : (lies : Bool) (more : ℕ) → gain (lies && false) more ≡ 0
-gain_gone lies more = ap (λ b. gain b more) (and_false lies) ∙ no_gain more
+but_within : (ahead visited : List Bool) → Within (but ahead visited) ahead
+unfolding but
+but_within [] visited = tt
+but_within (lies ∷ ahead) [] = tt
+but_within (lies ∷ ahead) (was ∷ visited) = (and_first lies (not was), but_within ahead visited)
 
-gain_all : (lies was : Bool) (more : ℕ) → lies ≡ true → was ≡ false → gain (lies && not was) more ≡ more
-unfolding gain
-gain_all true true more lies was = let wrong : true ≡ false = was in absurd cc
-gain_all true false more lies was = refl
-gain_all false was more lies free = let wrong : false ≡ true = lies in absurd cc
+-- one more is visited
+but_set : (ahead visited : List Bool) (n : ℕ) → n < length visited → but ahead (set visited n true) ≡ set (but ahead visited) n false
+unfolding but
+but_set [] visited n low = refl
+but_set (lies ∷ ahead) [] n low = absurd (omega arith)
+but_set (lies ∷ ahead) (was ∷ visited) zero low = ap (λ (b : Bool). b ∷ but ahead visited) (and_false lies)
+but_set (lies ∷ ahead) (was ∷ visited) (suc n) low =
+    ap (λ (bs : List Bool). (lies && not was) ∷ bs) (but_set ahead visited n (omega arith))
 
--- a stop ahead is visited
-gains_spent : (level : ℕ) (nodes : List Node) (ahead visited : List Bool) (n : ℕ) → n < length visited → get_or ahead n false ≡ true → get_or visited n false ≡ false → (value_in (slice_get nodes n) - level) + gains level nodes ahead (set visited n true) ≤ gains level nodes ahead visited
-unfolding gains
-gains_spent level [] ahead visited n low lies free = omega (arith, nothing n)
+but_at : (ahead visited : List Bool) (n : ℕ) → n < length visited → get_or ahead n false ≡ true → get_or visited n false ≡ false → get_or (but ahead visited) n false ≡ true
+unfolding but
+but_at [] visited n low lies free = absurd (falsely false lies refl)
+but_at (lies ∷ ahead) [] n low is free = absurd (omega arith)
+but_at (lies ∷ ahead) (was ∷ visited) zero low is free = both_here lies was is free
   where
-    nothing : (n : ℕ) → value_in (slice_get {X = Node} [] n) ≡ 0
-    nothing zero = refl
-    nothing (suc n) = refl
-gains_spent level (node ∷ nodes) [] visited n low lies free = let wrong : false ≡ true = lies in absurd cc
-gains_spent level (node ∷ nodes) (lies ∷ ahead) [] n low is free = absurd (omega arith)
-gains_spent level (node ∷ nodes) (lies ∷ ahead) (was ∷ visited) zero low is free =
-    omega (arith, gain_gone lies (node.value - level), gain_all lies was (node.value - level) is free)
-gains_spent level (node ∷ nodes) (lies ∷ ahead) (was ∷ visited) (suc n) low is free =
-    omega (arith, gains_spent level nodes ahead visited n (omega arith) is free)
+    both_here : (lies was : Bool) → lies ≡ true → was ≡ false → (lies && not was) ≡ true
+    both_here lies true is free = absurd (falsely true refl free)
+    both_here true false is free = refl
+    both_here false false is free = absurd (falsely false is refl)
+but_at (lies ∷ ahead) (was ∷ visited) (suc n) low is free = but_at ahead visited n (omega arith) is free
+
+-- a stop is visited: what was left for it, and what it was worth beyond the level, is spent
+spend : (ending back : Bool) (value level here later passed after one first two second : ℕ) → later + level ≡ here → if_passed ending (value - level) + after ≤ passed → if_ending ending (value - level) ≤ one → if_ending ending (value - level) + first ≤ two → first ≤ one → second ≤ two → value + ((later + after) + ends_by (not ending) back first second) ≤ (here + passed) + ends_by true back one two
+spend true true value level here later passed after one first two second left less ends both fewer all = omega arith
+spend true false value level here later passed after one first two second left less ends both fewer all = omega arith
+spend false true value level here later passed after one first two second left less ends both fewer all = omega arith
+spend false false value level here later passed after one first two second left less ends both fewer all = omega arith
 
 both_first : (a b : Bool) → (a && b) ≡ true → a ≡ true
 both_first true b is = refl
@@ -219,26 +210,64 @@ module _ (task : Task) (fit : IsFit task) (ready : AreReady task) (first : Settl
 
   -- what a run may still earn, at a level
   still : ℕ → Standing → ℕ
-  still level run = run.left * level + gains level task.spots.items ahead run.visited
+  still level run = most_ahead level task run (but ahead run.visited)
 
   -- a way leaves no more to be earned
-  still_by : (level : ℕ) (run : Standing) (piece : Piece) → length run.visited ≡ 744 → piece.to < 744 → LiesAhead ahead piece.to → (stop : Bool) → stop_in (node_at task piece.to) ≡ stop → may_come stop run piece.to ≡ true → value_in (node_at task piece.to) + (left_after stop run.left * level + gains level task.spots.items ahead (marked_if stop run.visited piece.to)) ≤ run.left * level + gains level task.spots.items ahead run.visited
-  still_by level run piece spots low lies true is may =
-      let free : get_or run.visited piece.to false ≡ false = not_is (get_or run.visited piece.to false) (both_second (nat_lt 0 run.left) (not (get_or run.visited piece.to false)) may) in
-      let spent = gains_spent level task.spots.items ahead run.visited piece.to (omega (arith, spots, low)) lies free in
-      omega (arith, one_fewer run.left level (both_first (nat_lt 0 run.left) (not (get_or run.visited piece.to false)) may))
-  still_by level run piece spots low lies false is may =
-      omega (arith, side_value task fit piece.to is)
-
-  still_go : (level : ℕ) (settled : Settled) (run : Standing) → Follows settled run → (way : Way) → Leads settled run way → can_take task run settled.used way.piece ≡ true → value_in (node_at task way.piece.to) + still level (along task run way.piece) ≤ still level run
+  still_go : (level : ℕ) (settled : Settled) (run : Standing) → Follows settled run → ends_in (node_at task run.head) ≡ false → (way : Way) → Leads settled run way → can_take task run settled.used way.piece ≡ true → value_in (node_at task way.piece.to) + still level (along task run way.piece) ≤ still level run
   unfolding still
-  still_go level settled run follows way leads taken =
-      still_by level run way.piece follows.spots leads.fits.to leads.lies (stop_in (node_at task way.piece.to)) refl
-      (both_first (may_come (stop_in (node_at task way.piece.to)) run way.piece.to) (misses settled.used way.piece.borders.items) taken)
+  still_go level settled run follows passes way leads taken =
+      let to : ℕ = way.piece.to in
+      let nodes : List Node = task.spots.items in
+      let came : may_come true run way.piece.to ≡ true = subst (λ (b : Bool). may_come b run way.piece.to ≡ true) leads.stop.1 (both_first (may_come (stop_in (node_at task way.piece.to)) run way.piece.to) (misses settled.used way.piece.borders.items) taken) in
+      let low : way.piece.to < length run.visited = omega (arith, follows.spots, leads.fits.to) in
+      let free : get_or run.visited way.piece.to false ≡ false = not_is (get_or run.visited way.piece.to false) (both_second (nat_lt 0 run.left) (not (get_or run.visited way.piece.to false)) came) in
+      let open_here : get_or (but ahead run.visited) way.piece.to false ≡ true = but_at ahead run.visited way.piece.to low leads.lies free in
+      still_by level run way.piece.to leads.stop.1 passes low open_here (both_first (nat_lt 0 run.left) (not (get_or run.visited way.piece.to false)) came)
+    where
+      Still : ℕ → Standing → ℕ → Bool → Bool → Type 0
+      Still level run to stop head =
+          value_in (node_at task to) + ((left_after stop run.left * level + beyond level task.spots.items (but ahead (marked_if stop run.visited to))) + ends_by (not (ends_in (node_at task to))) (goes_back task run) (one_end level task.spots.items (but ahead (marked_if stop run.visited to))) (two_ends level task.spots.items (but ahead (marked_if stop run.visited to)))) ≤ (run.left * level + beyond level task.spots.items (but ahead run.visited)) + ends_by (not head) (goes_back task run) (one_end level task.spots.items (but ahead run.visited)) (two_ends level task.spots.items (but ahead run.visited))
 
-  still_back : (level : ℕ) (run : Standing) → still level (turned_back run) ≡ still level run
+      still_by : (level : ℕ) (run : Standing) (to : ℕ) → stop_in (node_at task to) ≡ true → ends_in (node_at task run.head) ≡ false → to < length run.visited → get_or (but ahead run.visited) to false ≡ true → nat_lt 0 run.left ≡ true → Still level run to (stop_in (node_at task to)) (ends_in (node_at task run.head))
+      still_by level run to stops passes low open_here some =
+          let nodes : List Node = task.spots.items in
+          subst (λ (b : Bool). Still level run to b (ends_in (node_at task run.head))) (sym stops)
+          (subst (λ (b : Bool). Still level run to true b) (sym passes)
+          (subst (λ (bs : List Bool). value_in (node_at task to) + (((run.left - 1) * level + beyond level task.spots.items bs) + ends_by (not (ends_in (node_at task to))) (goes_back task run) (one_end level task.spots.items bs) (two_ends level task.spots.items bs)) ≤ (run.left * level + beyond level task.spots.items (but ahead run.visited)) + ends_by true (goes_back task run) (one_end level task.spots.items (but ahead run.visited)) (two_ends level task.spots.items (but ahead run.visited))) (sym (but_set ahead run.visited to low))
+          (spend (ends_in (node_at task to)) (goes_back task run) (value_in (node_at task to)) level (run.left * level) ((run.left - 1) * level)
+          (beyond level task.spots.items (but ahead run.visited)) (beyond level task.spots.items (set (but ahead run.visited) to false))
+          (one_end level task.spots.items (but ahead run.visited)) (one_end level task.spots.items (set (but ahead run.visited) to false))
+          (two_ends level task.spots.items (but ahead run.visited)) (two_ends level task.spots.items (set (but ahead run.visited) to false))
+          (one_fewer run.left level some)
+          (beyond_spent level task.spots.items (but ahead run.visited) to open_here)
+          (one_spent level task.spots.items (but ahead run.visited) to open_here)
+          (two_spent level task.spots.items (but ahead run.visited) to open_here)
+          (one_less level task.spots.items (set (but ahead run.visited) to false) (but ahead run.visited) (unset_within (but ahead run.visited) to))
+          (two_less level task.spots.items (set (but ahead run.visited) to false) (but ahead run.visited) (unset_within (but ahead run.visited) to)))))
+
+  -- a run that turns back has one end less
+  back_by : (on once passes : Bool) (one two : ℕ) → one ≤ two → once ≡ false → passes ≡ false → ends_by (not passes) (not true && not passes) one two ≤ ends_by on (not once && not passes) one two
+  back_by true false false one two less once passes = less
+  back_by false false false one two less once passes = omega arith
+  back_by on true passes one two less once is = absurd (falsely true refl once)
+  back_by on false true one two less once is = absurd (falsely true refl is)
+
+  still_back : (level : ℕ) (run : Standing) → run.turned ≡ false → ends_in (node_at task run.home) ≡ false → still level (turned_back run) ≤ still level run
   unfolding still
-  still_back level run = refl
+  still_back level run once passes =
+      omega (arith, back_by (goes_on task run) run.turned (ends_in (node_at task run.home)) (one_end level task.spots.items (but ahead run.visited)) (two_ends level task.spots.items (but ahead run.visited)) (one_two level task.spots.items (but ahead run.visited)) once passes)
+
+  -- at first it may earn no more than by all that lies ahead
+  still_first : (level : ℕ) → still level begun ≤ most_ahead level task begun ahead
+  unfolding still
+  still_first level =
+      let within : Within (but ahead begun.visited) ahead = but_within ahead begun.visited in
+      omega (
+        arith,
+        beyond_less level task.spots.items (but ahead begun.visited) ahead within,
+        ends_less (goes_on task begun) (goes_back task begun) (one_end level task.spots.items (but ahead begun.visited)) (two_ends level task.spots.items (but ahead begun.visited)) (one_end level task.spots.items ahead) (two_ends level task.spots.items ahead)
+            (one_less level task.spots.items (but ahead begun.visited) ahead within) (two_less level task.spots.items (but ahead begun.visited) ahead within),
+      )
 
   -- the way with which what comes after a piece begins
   abbrev Way_of : (settled : Settled) (run : Standing) → Follows settled run → ℕ → Piece → List Move → Type 0
@@ -260,7 +289,7 @@ module _ (task : Task) (fit : IsFit task) (ready : AreReady task) (first : Settl
       let by : Way_of settled run follows index piece moves = way_of settled run follows index piece moves may.leads may.taken completes.1 in
       let leads : Leads settled run by.way = leads_by settled run follows may.passes by.place_of by.way by.stands by.can in
       let rest : total_after task (standing (using settled by.way.piece) (along task run by.way.piece)) by.later ≤ settled.total + (run.value + value_in (node_at task by.way.piece.to)) + still level (along task run by.way.piece) + later = low_by level later bound fuel by.later (omega (arith, by.shorter, enough)) (using settled by.way.piece) (along task run by.way.piece) (follows_go settled run follows by.way leads) by.completes in
-      omega (arith, rest, by.total, still_go level settled run follows by.way leads by.can)
+      omega (arith, rest, by.total, still_go level settled run follows may.passes by.way leads by.can)
   low_by level later bound zero (turn index piece ∷ moves) enough settled run follows completes = absurd (omega (arith, enough))
   low_by level later bound (suc fuel) (turn index piece ∷ moves) enough settled run follows completes =
       let may = completes.0 in
@@ -268,7 +297,7 @@ module _ (task : Task) (fit : IsFit task) (ready : AreReady task) (first : Settl
       let by : Way_of settled (turned_back run) back index piece moves = way_of settled (turned_back run) back index piece moves may.leads may.taken completes.1 in
       let leads : Leads settled (turned_back run) by.way = leads_by settled (turned_back run) back may.passes by.place_of by.way by.stands by.can in
       let rest : total_after task (standing (using settled by.way.piece) (along task (turned_back run) by.way.piece)) by.later ≤ settled.total + (run.value + value_in (node_at task by.way.piece.to)) + still level (along task (turned_back run) by.way.piece) + later = low_by level later bound fuel by.later (omega (arith, by.shorter, enough)) (using settled by.way.piece) (along task (turned_back run) by.way.piece) (follows_go settled (turned_back run) back by.way leads) by.completes in
-      omega (arith, rest, by.total, still_go level settled (turned_back run) back by.way leads by.can, still_back level run)
+      omega (arith, rest, by.total, still_go level settled (turned_back run) back may.passes by.way leads by.can, still_back level run may.once may.passes)
   low_by level later bound fuel (settle ∷ moves) enough settled run follows completes =
       let here : EarnAtMost task (settling settled run).next later = subst (λ (n : ℕ). EarnAtMost task (n + 1) later) (sym follows.next) bound in
       let rest : total_after task (between (settling settled run)) moves ≤ settled.total + run.value + later = rest_low task (settling settled run) later here follows.whole moves completes.1 in
@@ -285,7 +314,7 @@ module _ (task : Task) (fit : IsFit task) (ready : AreReady task) (first : Settl
       let by : Way_of settled run follows index piece moves = way_of settled run follows index piece moves may.leads may.taken completes.1 in
       let leads : Leads settled run by.way = leads_by settled run follows may.passes by.place_of by.way by.stands by.can in
       let rest = low_alike level most some equal later alike bound fuel by.later (omega (arith, by.shorter, enough)) (using settled by.way.piece) (along task run by.way.piece) (follows_go settled run follows by.way leads)
-      (omega (arith, low, still_go level settled run follows by.way leads by.can)) by.completes in
+      (omega (arith, low, still_go level settled run follows may.passes by.way leads by.can)) by.completes in
       omega (arith, rest, by.total)
   low_alike level most some equal later alike bound zero (turn index piece ∷ moves) enough settled run follows low completes = absurd (omega (arith, enough))
   low_alike level most some equal later alike bound (suc fuel) (turn index piece ∷ moves) enough settled run follows low completes =
@@ -294,7 +323,7 @@ module _ (task : Task) (fit : IsFit task) (ready : AreReady task) (first : Settl
       let by : Way_of settled (turned_back run) back index piece moves = way_of settled (turned_back run) back index piece moves may.leads may.taken completes.1 in
       let leads : Leads settled (turned_back run) by.way = leads_by settled (turned_back run) back may.passes by.place_of by.way by.stands by.can in
       let rest = low_alike level most some equal later alike bound fuel by.later (omega (arith, by.shorter, enough)) (using settled by.way.piece) (along task (turned_back run) by.way.piece) (follows_go settled (turned_back run) back by.way leads)
-      (omega (arith, low, still_go level settled (turned_back run) back by.way leads by.can, still_back level run)) by.completes in
+      (omega (arith, low, still_go level settled (turned_back run) back may.passes by.way leads by.can, still_back level run may.once may.passes)) by.completes in
       omega (arith, rest, by.total)
   low_alike level most some equal later alike bound fuel (settle ∷ moves) enough settled run follows low completes =
       let here : AreEqual task (settled.next + 1) equal begun.most = subst (λ (n : ℕ). AreEqual task (n + 1) equal begun.most) (sym follows.next) alike in
@@ -307,16 +336,14 @@ module _ (task : Task) (fit : IsFit task) (ready : AreReady task) (first : Settl
       record { takes = λ piece taken. taken; head = look.head; home = look.home; stands = stands; begins = begins; next = refl; most = refl; whole = whole; spots = spots }
 
   -- a run that earns too little
-  pub ends_low : IsStop task begun.head → IsStop task begun.home → (level later best : ℕ) → EarnAtMost task (first.next + 1) later → length first.used ≡ 279 → length begun.visited ≡ 744 → first.total + begun.value + (begun.left * level + beyond level task.spots.items ahead) + later ≤ best → EndsAtMost task first begun best
-  unfolding still
+  pub ends_low : IsStop task begun.head → IsStop task begun.home → (level later best : ℕ) → EarnAtMost task (first.next + 1) later → length first.used ≡ 279 → length begun.visited ≡ 744 → first.total + begun.value + most_ahead level task begun ahead + later ≤ best → EndsAtMost task first begun best
   ends_low stands begins level later best bound whole spots low moves completes =
-      omega (arith, low_by level later bound (length moves) moves (omega arith) first begun (first_follows stands begins whole spots) completes, gains_low level task.spots.items ahead begun.visited)
+      omega (arith, low_by level later bound (length moves) moves (omega arith) first begun (first_follows stands begins whole spots) completes, still_first level)
 
   -- a run that earns too little with those of its kind
-  pub ends_alike : IsStop task begun.head → IsStop task begun.home → (level most best : ℕ) → AreCapped task (first.next + 1) begun.most most (first.total + most) best → length first.used ≡ 279 → length begun.visited ≡ 744 → begun.value + (begun.left * level + beyond level task.spots.items ahead) ≤ most → EndsAtMost task first begun best
-  unfolding still
+  pub ends_alike : IsStop task begun.head → IsStop task begun.home → (level most best : ℕ) → AreCapped task (first.next + 1) begun.most most (first.total + most) best → length first.used ≡ 279 → length begun.visited ≡ 744 → begun.value + most_ahead level task begun ahead ≤ most → EndsAtMost task first begun best
   ends_alike stands begins level most best capped whole spots low moves completes =
-      omega (arith, capped.short, low_alike level most capped.some capped.equal capped.bound capped.are_equal capped.rest (length moves) moves (omega arith) first begun (first_follows stands begins whole spots) (omega (arith, low, gains_low level task.spots.items ahead begun.visited)) completes)
+      omega (arith, capped.short, low_alike level most capped.some capped.equal capped.bound capped.are_equal capped.rest (length moves) moves (omega arith) first begun (first_follows stands begins whole spots) (omega (arith, low, still_first level)) completes)
 
 -- what cannot earn more need not be tried
 pub explores_hopeless : (task : Task) (settled : Settled) (run : Standing) (best : Found) → EndsAtMost task settled run best.amount → Explores task (standing settled run) best best

@@ -68,8 +68,3 @@ push_only same [] only (suc place) entry is = only place entry is
 push_only same (one ∷ entries) only zero entry is = only zero entry is
 push_only same (one ∷ entries) only (suc place) entry is =
     push_only same entries (λ n other at. only (suc n) other at) place entry is
-
--- marks are compared one by one
-pub freer_next : (marks others : List Bool) (n : ℕ) → n < length marks → n < length others → (get_or others n false ≡ true → get_or marks n false ≡ true) → Freer (drop (n + 1) marks) (drop (n + 1) others) → Freer (drop n marks) (drop n others)
-freer_next marks others n low less here rest =
-    rw (drop-cons marks n false, drop-cons others n false) (here, subst (λ (m : ℕ). Freer (drop m marks) (drop m others)) (add-one n) rest)

@@ -2,6 +2,8 @@ pub mod Marks
 pub mod Traced
 pub mod Tried
 pub mod Places
+pub mod Words
+pub mod Crossings
 pub mod Ahead
 pub mod Eased
 pub mod Kept

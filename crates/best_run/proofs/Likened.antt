@@ -12,12 +12,13 @@ use Rattle.best_run.specs.declared.task.Piece.{Piece}
 use Rattle.best_run.specs.declared.task.Task.{Task}
 use Rattle.best_run.specs.declared.task.Way.{Way}
 use Rattle.best_run.specs.Ahead.{LiesAhead, WidensBelow}
-use Rattle.best_run.specs.Alike.{AllLead, AreOpen, AreOpenBelow, IsAlike, IsInReach, IsShutBelow, Opens, ReachesBelow, SetsOut, WidensTo, anywhere, cleared_all, sets_out}
+use Rattle.best_run.specs.Alike.{AllLead, AreOpen, AreOpenBelow, IsAlike, IsInReach, IsShut, IsShutBelow, Opens, ReachesBelow, SetsOut, WidensTo, anywhere, cleared_all, sets_out}
 use Rattle.best_run.specs.Fit.{BordersFit, IsFit, PieceFits}
 use Rattle.best_run.specs.Kept.{Freer}
 use Rattle.best_run.specs.Moves.{Completes, EarnsAtMost, LeadsFrom, Move, State, along, begin, begun, between, can_take, ends_in, go, marked_all, may_come, misses, node_at, own_in, pass, passed, settle, settling, standing, stop_in, total_after, turn, turned_back, using}
-use Rattle.best_run.specs.Ways.{AreReady, AreWaysOf, IsStop, ways_at, ways_in}
-use Rattle.best_run.proofs.Advance.{IsMarked, free_misses, marks_more, misses_free}
+use Rattle.best_run.specs.Ways.{AreReady, AreWaysOf, IsListed, IsStop, ways_at, ways_in}
+use Rattle.best_run.specs.Marks.{IsMarked}
+use Rattle.best_run.proofs.Advance.{free_misses, marks_more, misses_free}
 use Rattle.best_run.proofs.Ahead.{falsely}
 use Rattle.best_run.proofs.Along.{ByPieces, ByWay, by_pieces, by_way, way_fits}
 use Rattle.best_run.proofs.Departing.{none_at}
@@ -46,11 +47,40 @@ takes_free task used piece = ap (λ b. b && misses used piece.borders.items) (by
     by_stop true = ap not (none_marked 744 piece.to)
     by_stop false = refl
 
+-- no way leads from a stop that has none
+none_lead : (task : Task) (used reach : List Bool) (spot : ℕ) → ways_at task spot ≡ [] → AllLead task used reach spot
+none_lead task used reach spot none place way at free =
+    absurd (no_way place (ap (λ (ways : List Way). slice_get ways place) (sym none) ∙ at))
+  where
+    no_way : (place : ℕ) → slice_get [] place ≡ Some way → ⊥
+    no_way zero at = cc
+    no_way (suc place) at = cc
+
+none_open : (task : Task) (used : List Bool) (spot : ℕ) (shut : List Bool) → ways_at task spot ≡ [] → AreOpen task used spot shut
+none_open task used spot shut none place way at missed =
+    absurd (no_way place (ap (λ (ways : List Way). slice_get ways place) (sym none) ∙ at))
+  where
+    no_way : (place : ℕ) → slice_get [] place ≡ Some way → ⊥
+    no_way zero at = cc
+    no_way (suc place) at = cc
+
+-- a listed stop is the next one, or one before it
+same_stop : (stops : List ℕ) (place other : ℕ) (stop found : ℕ) → slice_get stops place ≡ Some stop → slice_get stops other ≡ Some found → other ≡ place → stop ≡ found
+same_stop stops place other stop found at finds same =
+    let e : Some stop ≡ Some found = sym at ∙ (ap (λ i. slice_get stops i) (sym same) ∙ finds) in cc
+
+next_listed : (stops : List ℕ) (place stop spot : ℕ) → slice_get stops place ≡ Some stop → IsListed stops (place + 1) spot → IsListed stops place spot ⊎ (stop ≡ spot)
+next_listed stops place stop spot at listed =
+    elim (below_next listed.0 place listed.1) [
+      | inl less ↦ inl (listed.0, less, listed.2)
+      | inr same ↦ inr (same_stop stops place listed.0 stop spot at listed.2 same)
+    ]
+
 -- what lies in reach: nothing, what more tokens lead to, and what no token leads to
 pub reach_none : (task : Task) (used : List Bool) → ReachesBelow task used 0 (replicate 744 false)
 reach_none task used =
     record {
-      own = λ spot low. absurd (omega (arith, low));
+      own = λ spot listed. absurd (let low = listed.1 in omega arith);
       all = λ spot lies. absurd (falsely (get_or (replicate 744 false) spot false) lies (none_marked 744 spot));
     }
 
@@ -63,35 +93,38 @@ widens_all task settled spot ways count old new there all below =
           below.leads place way (omega (arith, low, all)) at (takes_free task settled.used way.piece ∙ free);
     }
 
-pub reach_more : (task : Task) (settled : Settled) (stop : ℕ) (old new : List Bool) → ReachesBelow task settled.used stop old → WidensTo task settled stop old new → ReachesBelow task settled.used (stop + 1) new
-reach_more task settled stop old new before more =
+pub reach_more : (task : Task) (settled : Settled) (place stop : ℕ) (old new : List Bool) → slice_get task.stops.items place ≡ Some stop → ReachesBelow task settled.used place old → WidensTo task settled stop old new → ReachesBelow task settled.used (place + 1) new
+reach_more task settled place stop old new at before more =
     record {
-      own = λ spot low is own. elim (below_next spot stop low) [
-        | inl less ↦ λ place way at free. more.widens.kept way.piece.to (before.own spot less is own place way at free)
-        | inr same ↦ subst (AllLead task settled.used new) (sym same) more.here
+      own = λ spot listed own. elim (next_listed task.stops.items place stop spot at listed) [
+        | inl less ↦ λ index way stands free. more.widens.kept way.piece.to (before.own spot less own index way stands free)
+        | inr same ↦ subst (AllLead task settled.used new) same more.here
       ];
-      all = λ spot lies passes place way at free. elim (more.widens.over spot lies) [
-        | inl known ↦ more.widens.kept way.piece.to (before.all spot known passes place way at free)
-        | inr over ↦ over passes place way at (takes_free task settled.used way.piece ∙ free)
+      all = λ spot lies passes index way stands free. elim (more.widens.over spot lies) [
+        | inl known ↦ more.widens.kept way.piece.to (before.all spot known passes index way stands free)
+        | inr over ↦ over passes index way stands (takes_free task settled.used way.piece ∙ free)
       ];
     }
 
-pub reach_same : (task : Task) (used : List Bool) (stop : ℕ) (reach : List Bool) → ((stop_in (node_at task stop) ≡ false) ⊎ (own_in (node_at task stop) ≡ false)) → ReachesBelow task used stop reach → ReachesBelow task used (stop + 1) reach
-reach_same task used stop reach why before =
+pub reach_same : (task : Task) (used : List Bool) (place stop : ℕ) (reach : List Bool) → slice_get task.stops.items place ≡ Some stop → own_in (node_at task stop) ≡ false → ReachesBelow task used place reach → ReachesBelow task used (place + 1) reach
+reach_same task used place stop reach at other before =
     record {
-      own = λ spot low is own. elim (below_next spot stop low) [
-        | inl less ↦ before.own spot less is own
-        | inr same ↦ absurd (elim why [
-          | inl side ↦ falsely (stop_in (node_at task spot)) is.1 (ap (λ (n : ℕ). stop_in (node_at task n)) same ∙ side)
-          | inr other ↦ falsely (own_in (node_at task spot)) own (ap (λ (n : ℕ). own_in (node_at task n)) same ∙ other)
-        ])
+      own = λ spot listed own. elim (next_listed task.stops.items place stop spot at listed) [
+        | inl less ↦ before.own spot less own
+        | inr same ↦ absurd (falsely (own_in (node_at task spot)) own (ap (λ (n : ℕ). own_in (node_at task n)) (sym same) ∙ other))
       ];
       all = before.all;
     }
 
-pub reach_all : (task : Task) (used : List Bool) (most : ℕ) (reach : List Bool) → 744 ≤ most → ReachesBelow task used most reach → IsInReach task used reach
-reach_all task used most reach all below spot is out =
-    elim out [ inl own ↦ below.own spot (omega (arith, is.0, all)) is own | inr on ↦ below.all spot on.0 on.1 ]
+pub reach_all : (task : Task) → AreReady task → (used : List Bool) (most : ℕ) (reach : List Bool) → length task.stops.items ≤ most → ReachesBelow task used most reach → IsInReach task used reach
+reach_all task ready used most reach all below spot is out =
+    elim out [
+      | inl own ↦ elim (ready.stops.each spot is.0 is.1) [
+        | inl none ↦ none_lead task used reach spot none
+        | inr listed ↦ below.own spot (listed.0, (let low = listed.1 in omega arith), listed.2) own
+      ]
+      | inr on ↦ below.all spot on.0 on.1
+    ]
 
 -- a mark that is taken away
 unset_here : (marks : List Bool) (n : ℕ) → get_or (set marks n false) n false ≡ false
@@ -106,11 +139,11 @@ unset_fewer (mark ∷ marks) zero (suc m) is = is
 unset_fewer (mark ∷ marks) (suc n) zero is = is
 unset_fewer (mark ∷ marks) (suc n) (suc m) is = unset_fewer marks n m is
 
-cleared_fewer : (borders : List ℕ) (marks : List Bool) (m : ℕ) → IsMarked (cleared_all marks borders) m → IsMarked marks m
+pub cleared_fewer : (borders : List ℕ) (marks : List Bool) (m : ℕ) → IsMarked (cleared_all marks borders) m → IsMarked marks m
 cleared_fewer [] marks m is = is
 cleared_fewer (border ∷ borders) marks m is = unset_fewer marks border m (cleared_fewer borders (set marks border false) m is)
 
-cleared_here : (borders : List ℕ) (marks : List Bool) (border : ℕ) → IsAmong border borders → IsMarked (cleared_all marks borders) border → ⊥
+pub cleared_here : (borders : List ℕ) (marks : List Bool) (border : ℕ) → IsAmong border borders → IsMarked (cleared_all marks borders) border → ⊥
 cleared_here [] marks border among is = absurd among
 cleared_here (first ∷ borders) marks border among is =
     elim among [
@@ -181,21 +214,31 @@ open_all task used spot ways count shut there all below place way at missed =
     let low : place < length ways = slice_get_within ways place way (ap (λ ws. slice_get ws place) (sym there) ∙ at) in
     below place way (omega (arith, low, all)) at missed
 
--- the ways from no stop are open, those from one more are, and those from one need not be
+-- the ways from no stop are open, those from one more are, those from one need not be, and all are
 pub shut_none : (task : Task) (used reach : List Bool) → length used ≡ 279 → IsShutBelow task used reach 0 (replicate 279 true)
 shut_none task used reach whole =
     record {
       kept = subst (λ (n : ℕ). Freer (replicate n true) used) whole (freer_full used);
-      open_ways = λ spot low. absurd (omega (arith, low));
+      open_ways = λ spot listed. absurd (let low = listed.1 in omega arith);
     }
 
-pub shut_more : (task : Task) (used reach : List Bool) (stop : ℕ) (old new : List Bool) → IsShutBelow task used reach stop old → Opens used old new → AreOpen task used stop new → IsShutBelow task used reach (stop + 1) new
-shut_more task used reach stop old new before opens here =
+pub shut_more : (task : Task) (used reach : List Bool) (place stop : ℕ) (old new : List Bool) → slice_get task.stops.items place ≡ Some stop → IsShutBelow task used reach place old → Opens used old new → AreOpen task used stop new → IsShutBelow task used reach (place + 1) new
+shut_more task used reach place stop old new at before opens here =
     record {
       kept = opens.kept before.kept;
-      open_ways = λ spot low is out. elim (below_next spot stop low) [
-        | inl less ↦ λ place way at free. opens.fewer way.piece.borders.items (before.open_ways spot less is out place way at free)
-        | inr same ↦ subst (λ (n : ℕ). AreOpen task used n new) (sym same) here
+      open_ways = λ spot listed out. elim (next_listed task.stops.items place stop spot at listed) [
+        | inl less ↦ λ index way stands free. opens.fewer way.piece.borders.items (before.open_ways spot less out index way stands free)
+        | inr same ↦ subst (λ (n : ℕ). AreOpen task used n new) same here
+      ];
+    }
+
+pub shut_all : (task : Task) → AreReady task → (used reach : List Bool) (most : ℕ) (shut : List Bool) → length task.stops.items ≤ most → IsShutBelow task used reach most shut → IsShut task used reach shut
+shut_all task ready used reach most shut all below =
+    record {
+      kept = below.kept;
+      open_ways = λ spot is out. elim (ready.stops.each spot is.0 is.1) [
+        | inl none ↦ none_open task used spot shut none
+        | inr listed ↦ below.open_ways spot (listed.0, (let low = listed.1 in omega arith), listed.2) out
       ];
     }
 
@@ -209,19 +252,15 @@ does_set_out task reach spot stops out =
     by_out false lies ends (inl own) = let wrong : false ≡ true = own in absurd cc
     by_out false lies ends (inr on) = both_are lies (not ends) on.0 (ap not on.1)
 
-pub shut_same : (task : Task) (used reach : List Bool) (stop : ℕ) (shut : List Bool) → sets_out task reach stop ≡ false → IsShutBelow task used reach stop shut → IsShutBelow task used reach (stop + 1) shut
-shut_same task used reach stop shut none before =
+pub shut_same : (task : Task) (used reach : List Bool) (place stop : ℕ) (shut : List Bool) → IsStop task stop → slice_get task.stops.items place ≡ Some stop → sets_out task reach stop ≡ false → IsShutBelow task used reach place shut → IsShutBelow task used reach (place + 1) shut
+shut_same task used reach place stop shut is at none before =
     record {
       kept = before.kept;
-      open_ways = λ spot low is out. elim (below_next spot stop low) [
-        | inl less ↦ before.open_ways spot less is out
-        | inr same ↦ absurd (falsely (sets_out task reach spot) (does_set_out task reach spot is.1 out) (ap (sets_out task reach) same ∙ none))
+      open_ways = λ spot listed out. elim (next_listed task.stops.items place stop spot at listed) [
+        | inl less ↦ before.open_ways spot less out
+        | inr same ↦ absurd (falsely (sets_out task reach stop) (does_set_out task reach stop is.1 (subst (SetsOut task reach) (sym same) out)) none)
       ];
     }
-
-pub stop_of_one : (task : Task) (reach : List Bool) (spot : ℕ) → sets_out task reach spot ≡ true → stop_in (node_at task spot) ≡ true
-stop_of_one task reach spot is =
-    both_first (stop_in (node_at task spot)) (own_in (node_at task spot) || (get_or reach spot false && not (ends_in (node_at task spot)))) is
 
 -- the same state with other borders used
 abbrev with_used : Settled → List Bool → Settled
@@ -231,7 +270,7 @@ abbrev state_with : State → List Bool → State
 state_with (between settled) used = between (with_used settled used)
 state_with (standing settled run) used = standing (with_used settled used) run
 
-module _ (task : Task) (fit : IsFit task) (ready : AreReady task) (first reach shut : List Bool) (reaches : IsInReach task first reach) (shuts : IsShutBelow task first reach 744 shut) where
+module _ (task : Task) (fit : IsFit task) (ready : AreReady task) (first reach shut : List Bool) (reaches : IsInReach task first reach) (shuts : IsShut task first reach shut) where
   -- borders that are used since then are used in both
   record Shares (used others : List Bool) : Type 0 where
     pub still : (border : ℕ) → IsMarked first border → IsMarked used border
@@ -293,7 +332,7 @@ module _ (task : Task) (fit : IsFit task) (ready : AreReady task) (first reach s
       let come = both_first (may_come (stop_in (node_at task way.piece.to)) run way.piece.to) (misses used borders) can in
       let free : misses used borders ≡ true = both_second (may_come (stop_in (node_at task way.piece.to)) run way.piece.to) (misses used borders) can in
       let before : misses first borders ≡ true = free_misses first borders (λ border among marked. misses_free used borders free border among (shares.still border marked)) in
-      let open_way : misses shut borders ≡ true = shuts.open_ways spot is.0 is out place way at before in
+      let open_way : misses shut borders ≡ true = shuts.open_ways spot is out place way at before in
       let fits = way_fits task fit spot (ways_at task spot) (ways_of spot is) is.1 way (among_place (ways_at task spot) place way at) in
       record {
         can = both_are (may_come (stop_in (node_at task way.piece.to)) run way.piece.to) (misses others borders) come

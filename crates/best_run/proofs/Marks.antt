@@ -10,40 +10,6 @@ fits_at [] fit i d low = absurd (omega arith)
 fits_at (border ∷ borders) fit zero d low = fit.0
 fits_at (border ∷ borders) fit (suc i) d low = fits_at borders fit.1 i d (omega arith)
 
--- the next border is marked, and then the others
-pub marked_step : (used : List Bool) (borders : List ℕ) (i d : ℕ) → i < length borders → marked_all used (drop i borders) ≡ marked_all (set used (get_or borders i d) true) (drop (i + 1) borders)
-marked_step used borders i d low = rw (add-one, drop-cons borders i d)
-
-pub marked_end : (used : List Bool) (borders : List ℕ) (i : ℕ) → length borders ≤ i → marked_all used (drop i borders) ≡ used
-marked_end used [] zero past = refl
-marked_end used [] (suc i) past = refl
-marked_end used (border ∷ borders) zero past = absurd (omega arith)
-marked_end used (border ∷ borders) (suc i) past = marked_end used borders i (omega arith)
-
-or_false : (a b : Bool) → a ≡ false → (a || b) ≡ b
-or_false true b is = absurd cc
-or_false false b is = refl
-
-or_true : (a b : Bool) → a ≡ true → (a || b) ≡ true
-or_true true b is = refl
-or_true false b is = absurd cc
-
--- the next border is not used, so the others tell
-pub misses_step : (used : List Bool) (borders : List ℕ) (i d : ℕ) → i < length borders → get_or used (get_or borders i d) false ≡ false → misses used (drop i borders) ≡ misses used (drop (i + 1) borders)
-misses_step used borders i d low free =
-    rw (add-one, drop-cons borders i d) (ap not (or_false (get_or used (get_or borders i d) false) (list_any (λ border. get_or used border false) (drop (suc i) borders)) free))
-
--- the next border is used
-pub misses_used : (used : List Bool) (borders : List ℕ) (i d : ℕ) → i < length borders → get_or used (get_or borders i d) false ≡ true → misses used (drop i borders) ≡ false
-misses_used used borders i d low taken =
-    rw (drop-cons borders i d) (ap not (or_true (get_or used (get_or borders i d) false) (list_any (λ border. get_or used border false) (drop (suc i) borders)) taken))
-
-pub misses_end : (used : List Bool) (borders : List ℕ) (i : ℕ) → length borders ≤ i → misses used (drop i borders) ≡ true
-misses_end used [] zero past = refl
-misses_end used [] (suc i) past = refl
-misses_end used (border ∷ borders) zero past = absurd (omega arith)
-misses_end used (border ∷ borders) (suc i) past = misses_end used borders i (omega arith)
-
 -- a mark leaves no more unset
 set_most : (marks : List Bool) (border : ℕ) → unused (set marks border true) ≤ unused marks
 set_most [] border = omega arith

@@ -31,7 +31,8 @@ use Rattle.best_run.specs.declared.trail.Mark.TheVariants.{Pass, Go, Turn, Settl
 use Rattle.best_run.specs.Trail.{runs_told, turned_about, turned_step}
 use Rattle.best_run.specs.Described.{Describes, IsPieceOf, IsSideNode, IsStepFrom, IsStopNode, most_of, most_of_all}
 use Rattle.best_run.specs.Moves.{Allows, Completes, Move, State, along, begin, begun, between, can_take, ends_in, go, marks_of, may_come, may_earn, misses, node_at, pass, passed, settle, settling, standing, stop_in, total_after, turn, turned_back, using}
-use Rattle.best_run.proofs.Advance.{IsMarked, Tells, misses_free, node_left, one_number, to_home, to_side, to_stop}
+use Rattle.best_run.specs.Marks.{IsMarked}
+use Rattle.best_run.proofs.Advance.{Tells, misses_free, node_left, one_number, to_home, to_side, to_stop}
 use Rattle.best_run.proofs.Complete.{next_stop}
 use Rattle.best_run.proofs.Prefix.{Holds, onto}
 use Rattle.best_run.proofs.Arms.{AreOne, Used, begun_tells, one_turned}

@@ -19,7 +19,8 @@ use Rattle.certificate.proofs.RunReached.{among_listed}
 use Rattle.best_run.specs.declared.task.Task.{Task}
 use Rattle.best_run.specs.Described.{Describes, IsStopNode}
 use Rattle.best_run.specs.Moves.{marked_if, node_at, own_before, own_in}
-use Rattle.best_run.proofs.Advance.{IsMarked, mark_more, node_left, spot_low}
+use Rattle.best_run.specs.Marks.{IsMarked}
+use Rattle.best_run.proofs.Advance.{mark_more, node_left, spot_low}
 use Rattle.best_run.proofs.Backwards.{AreAlike}
 use Rattle.best_run.proofs.Complete.{AreAhead}
 use Rattle.best_run.proofs.Few.{length_replicate}

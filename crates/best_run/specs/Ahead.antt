@@ -1,14 +1,16 @@
 -- What may lie ahead of a run that has begun: the stops that it may still come to, if it may take each way that it may take
 -- now. With a level, so many dollars, each stop to come is worth at most the level and what it is
--- worth beyond: so the run earns at most the level for each stop that is left, and what the spots ahead are worth
--- beyond it.
-use Rattle.std.specs.Prelude.{◌≡◌, ℕ, ◌+◌, ◌-◌, ◌*◌, ◌<◌, ◌≤◌, Bool, true, false, ◌⊎◌, Some, List, [], ◌∷◌, get_or, slice_get}
+-- worth beyond: so the run earns at most the level for each stop that is left, and what the stops ahead are worth
+-- beyond it. Of the stops at which runs end, red or full, it may come to one from where it stands and to one from where it
+-- began, so only those count that are worth most.
+use Rattle.std.specs.Prelude.{◌≡◌, ℕ, ◌+◌, ◌-◌, ◌*◌, ◌<◌, ◌≤◌, max, Bool, true, false, not, ◌&&◌, ◌⊎◌, Some, List, [], ◌∷◌, get_or, slice_get}
 use Rattle.best_run.specs.declared.task.Node.{Node}
 use Rattle.best_run.specs.declared.task.Piece.{Piece}
 use Rattle.best_run.specs.declared.task.Task.{Task}
 use Rattle.best_run.specs.declared.task.Way.{Way}
 use Rattle.best_run.specs.declared.state.Settled.{Settled}
 use Rattle.best_run.specs.declared.state.Standing.{Standing}
+use Rattle.best_run.specs.declared.worth.Worth.{Worth}
 use Rattle.best_run.specs.Fit.{unused}
 use Rattle.best_run.specs.Ways.{ways_at}
 use Rattle.best_run.specs.Moves.{Completes, Move, can_take, ends_in, node_at, standing, total_after}
@@ -49,16 +51,90 @@ pub record IsOutlook (task : Task) (settled : Settled) (run : Standing) (ahead :
   pub home : run.turned ≡ false → IsGoneOver task settled run ahead run.home
   pub all : (spot : ℕ) → LiesAhead ahead spot → IsGoneOver task settled run ahead spot
 
--- what spots ahead are worth beyond a level, in dollars
+-- what counts of a stop that may be passed, and of one at which runs end
+abbrev pub if_passed : Bool → ℕ → ℕ
+if_passed true more = 0
+if_passed false more = more
+
+abbrev pub if_ending : Bool → ℕ → ℕ
+if_ending true more = more
+if_ending false more = 0
+
+-- what the stops ahead that may be passed are worth beyond a level, in dollars
 abbrev pub beyond : ℕ → List Node → List Bool → ℕ
 beyond level [] ahead = 0
 beyond level (node ∷ nodes) [] = 0
-beyond level (node ∷ nodes) (true ∷ ahead) = (node.value - level) + beyond level nodes ahead
+beyond level (node ∷ nodes) (true ∷ ahead) = if_passed node.ends (node.value - level) + beyond level nodes ahead
 beyond level (node ∷ nodes) (false ∷ ahead) = beyond level nodes ahead
+
+-- what one stop ahead at which runs end is worth beyond a level at most, and two of them
+abbrev pub one_end : ℕ → List Node → List Bool → ℕ
+one_end level [] ahead = 0
+one_end level (node ∷ nodes) [] = 0
+one_end level (node ∷ nodes) (true ∷ ahead) = max (one_end level nodes ahead) (if_ending node.ends (node.value - level))
+one_end level (node ∷ nodes) (false ∷ ahead) = one_end level nodes ahead
+
+abbrev pub two_ends : ℕ → List Node → List Bool → ℕ
+two_ends level [] ahead = 0
+two_ends level (node ∷ nodes) [] = 0
+two_ends level (node ∷ nodes) (true ∷ ahead) = max (two_ends level nodes ahead) (if_ending node.ends (node.value - level) + one_end level nodes ahead)
+two_ends level (node ∷ nodes) (false ∷ ahead) = two_ends level nodes ahead
+
+-- what counts of these, if a run may go on from where it stands, and from where it began: at a stop at which it ends it goes
+-- on from neither
+abbrev pub ends_by : Bool → Bool → ℕ → ℕ → ℕ
+ends_by true true one two = two
+ends_by true false one two = one
+ends_by false true one two = one
+ends_by false false one two = 0
+
+abbrev pub goes_on : Task → Standing → Bool
+goes_on task run = not (ends_in (node_at task run.head))
+
+abbrev pub goes_back : Task → Standing → Bool
+goes_back task run = not run.turned && not (ends_in (node_at task run.home))
 
 -- what a run may still earn at most, at a level
 abbrev pub most_ahead : ℕ → Task → Standing → List Bool → ℕ
-most_ahead level task run ahead = run.left * level + beyond level task.spots.items ahead
+most_ahead level task run ahead =
+    (run.left * level + beyond level task.spots.items ahead)
+    + ends_by (goes_on task run) (goes_back task run) (one_end level task.spots.items ahead) (two_ends level task.spots.items ahead)
+
+-- a run may earn no more ahead, by some level
+abbrev pub EarnsAhead : Task → Standing → List Bool → ℕ → Type 0
+EarnsAhead task run ahead most = (level : ℕ) × (most_ahead level task run ahead ≤ most)
+
+-- it is known what the stops ahead are worth
+pub record IsWorth (nodes : List Node) (ahead : List Bool) (worth : Worth) : Type 0 where
+  pub passed : (place : ℕ) → place < 9 → get_or worth.beyond place 0 ≡ beyond (10 * place) nodes ahead
+  pub one : (level : ℕ) → one_end level nodes ahead ≤ worth.first - level
+  pub two : (level : ℕ) → two_ends level nodes ahead ≤ (worth.first - level) + (worth.second - level)
+  pub order : worth.second ≤ worth.first
+  pub low : worth.first ≤ 80
+
+-- a stop that may be passed is added
+pub record HasPassed (value : ℕ) (old new : Worth) : Type 0 where
+  pub each : (place : ℕ) → place < 9 → get_or new.beyond place 0 ≡ get_or old.beyond place 0 + (value - 10 * place)
+  pub first : new.first ≡ old.first
+  pub second : new.second ≡ old.second
+
+-- a stop at which runs end is added
+pub record HasRanked (value : ℕ) (old new : Worth) : Type 0 where
+  pub same : new.beyond ≡ old.beyond
+  pub one : (level : ℕ) → (old.first - level ≤ new.first - level) × (value - level ≤ new.first - level)
+  pub two : (level : ℕ) → ((old.first - level) + (old.second - level) ≤ (new.first - level) + (new.second - level)) × ((value - level) + (old.first - level) ≤ (new.first - level) + (new.second - level))
+  pub order : new.second ≤ new.first
+  pub low : (most : ℕ) → old.first ≤ most → value ≤ most → new.first ≤ most
+
+-- what a run may earn at most by the level at a place
+abbrev pub at_level : Worth → ℕ → ℕ → Bool → Bool → ℕ
+at_level worth place left on back =
+    (left * (10 * place) + get_or worth.beyond place 0)
+    + ends_by on back (worth.first - 10 * place) ((worth.first - 10 * place) + (worth.second - 10 * place))
+
+-- so much is no less than what it may earn by some level
+abbrev pub IsLeast : Worth → ℕ → Bool → Bool → ℕ → Type 0
+IsLeast worth left on back least = (place : ℕ) × (place < 9) × (at_level worth place left on back ≤ least)
 
 -- all ways on from a run earn at most so much
 abbrev pub EndsAtMost : Task → Settled → Standing → ℕ → Type 0

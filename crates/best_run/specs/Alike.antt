@@ -8,7 +8,7 @@ use Rattle.best_run.specs.declared.task.Way.{Way}
 use Rattle.best_run.specs.Ahead.{LiesAhead, Widens}
 use Rattle.best_run.specs.Kept.{Freer}
 use Rattle.best_run.specs.Moves.{ends_in, misses, node_at, own_in, stop_in}
-use Rattle.best_run.specs.Ways.{IsStop, ways_at}
+use Rattle.best_run.specs.Ways.{IsListed, IsStop, ways_at}
 
 -- each way from a stop that crosses no used border leads to a stop in reach
 abbrev pub AllLead : Task → List Bool → List Bool → ℕ → Type 0
@@ -27,9 +27,9 @@ sets_out task reach spot =
 abbrev pub IsInReach : Task → List Bool → List Bool → Type 0
 IsInReach task used reach = (spot : ℕ) → IsStop task spot → SetsOut task reach spot → AllLead task used reach spot
 
--- the same for tokens before one, and for the stops that lie in reach so far
+-- the same for tokens at listed stops before one, and for the stops that lie in reach so far
 pub record ReachesBelow (task : Task) (used : List Bool) (most : ℕ) (reach : List Bool) : Type 0 where
-  pub own : (spot : ℕ) → spot < most → IsStop task spot → own_in (node_at task spot) ≡ true → AllLead task used reach spot
+  pub own : (spot : ℕ) → IsListed task.stops.items most spot → own_in (node_at task spot) ≡ true → AllLead task used reach spot
   pub all : (spot : ℕ) → LiesAhead reach spot → ends_in (node_at task spot) ≡ false → AllLead task used reach spot
 
 -- a run that has visited nothing
@@ -61,14 +61,19 @@ pub record Opens (used old new : List Bool) : Type 0 where
   pub fewer : (borders : List ℕ) → misses old borders ≡ true → misses new borders ≡ true
   pub kept : Freer old used → Freer new used
 
--- each way from the stops before one from which a run may go on is open, and the used borders are shut
+-- each way from the listed stops before one from which a run may go on is open, and the used borders are shut
 pub record IsShutBelow (task : Task) (used reach : List Bool) (most : ℕ) (shut : List Bool) : Type 0 where
   pub kept : Freer shut used
-  pub open_ways : (spot : ℕ) → spot < most → IsStop task spot → SetsOut task reach spot → AreOpen task used spot shut
+  pub open_ways : (spot : ℕ) → IsListed task.stops.items most spot → SetsOut task reach spot → AreOpen task used spot shut
+
+-- the same for all stops
+pub record IsShut (task : Task) (used reach shut : List Bool) : Type 0 where
+  pub kept : Freer shut used
+  pub open_ways : (spot : ℕ) → IsStop task spot → SetsOut task reach spot → AreOpen task used spot shut
 
 -- a state differs from another only in borders that no run to come can cross
 pub record IsAlike (task : Task) (settled like : Settled) : Type 0 where
   pub same : like ≡ record settled { used = like.used }
   pub reach : List Bool
   pub reaches : IsInReach task settled.used reach
-  pub shut : IsShutBelow task settled.used reach 744 like.used
+  pub shut : IsShut task settled.used reach like.used

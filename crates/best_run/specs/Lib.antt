@@ -1,4 +1,6 @@
 pub mod Trail
+pub mod Marks
+pub mod Crossed
 pub mod Moves
 pub mod Fit
 pub mod Described

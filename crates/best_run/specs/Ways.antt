@@ -101,10 +101,6 @@ pub record AreDepartures (task : Task) (count : ℕ) (all : List Departures) : T
   pub long : length all ≡ count
   pub each : (stop : ℕ) (from : Departures) → slice_get all stop ≡ Some from → stop_in (node_at task stop) ≡ true → AreWaysOf task stop from.ways.items
 
--- the ways from each stop are known
-abbrev pub AreReady : Task → Type 0
-AreReady task = AreDepartures task 744 task.departures.items
-
 -- a number is that of a stop
 abbrev pub IsStop : Task → ℕ → Type 0
 IsStop task spot = (spot < 744) × (stop_in (node_at task spot) ≡ true)
@@ -116,6 +112,21 @@ ways_in None = []
 
 abbrev pub ways_at : Task → ℕ → List Way
 ways_at task stop = ways_in (slice_get task.departures.items stop)
+
+-- a stop is among some, at a place before one
+abbrev pub IsListed : List ℕ → ℕ → ℕ → Type 0
+IsListed stops most stop = (place : ℕ) × (place < most) × (slice_get stops place ≡ Some stop)
+
+-- the stops before one from which ways lead are listed, and all that are listed are stops
+pub record AreStops (task : Task) (count : ℕ) (stops : List ℕ) : Type 0 where
+  pub each : (stop : ℕ) → stop < count → stop_in (node_at task stop) ≡ true → (ways_at task stop ≡ []) ⊎ IsListed stops (length stops) stop
+  pub only : (place stop : ℕ) → slice_get stops place ≡ Some stop → IsStop task stop
+
+-- the ways from each stop are known, and the stops from which they lead
+pub record AreReady (task : Task) : Type 0 where
+  pub long : length task.departures.items ≡ 744
+  pub each : (stop : ℕ) (from : Departures) → slice_get task.departures.items stop ≡ Some from → stop_in (node_at task stop) ≡ true → AreWaysOf task stop from.ways.items
+  pub stops : AreStops task 744 task.stops.items
 
 -- a way stands among some before a place
 abbrev pub StandsBefore : List Way → ℕ → Way → Type 0

@@ -1,25 +1,16 @@
 //! States between runs that are alike to the trains that are left: they differ only in borders that no
 //! run to come can cross.
 ghost use Rattle.std.specs.Prelude.{◌≡◌, ◌<◌, true};
-ghost use Rattle.best_run.specs.Ahead.{beyond};
-ghost use Rattle.best_run.specs.Alike.{AreOpen, IsAlike, IsInReach, IsShutBelow, Opens, WidensTo, anywhere, cleared_all, sets_out};
-ghost use Rattle.best_run.specs.Fit.{BordersFit, IsFit};
+ghost use Rattle.best_run.specs.Ahead.{IsWorth};
+ghost use Rattle.best_run.specs.Alike.{AreOpen, IsAlike, IsInReach, IsShut, Opens, WidensTo, anywhere, sets_out};
+ghost use Rattle.best_run.specs.Fit.{IsFit};
 ghost use Rattle.best_run.specs.Moves.{node_at, stop_in};
 ghost use Rattle.best_run.specs.Ways.{AreReady};
 
-use crate::state::{BORDERS, SPOTS, Settled, Standing, misses};
+use crate::bits::{Borders, Spots};
+use crate::outlook::Outlook;
+use crate::state::{Settled, Standing};
 use crate::task::Task;
-use tables::Amount;
-
-/// Takes away the marks of some borders.
-fn clear_all(marks: &mut [bool; BORDERS], borders: &[usize])
-    requires { BordersFit borders.now }
-    ensures { marks.new ≡ cleared_all marks.old borders.now }
-{
-    for border in borders {
-        marks[*border] = false;
-    }
-}
 
 /// A run that has visited nothing, and may come to any stop.
 fn anywhere() -> Standing
@@ -33,54 +24,47 @@ fn anywhere() -> Standing
         most: 0,
         left: 1,
         value: 0,
-        visited: [false; SPOTS],
+        visited: Spots::none(),
     }
 }
 
 impl Task {
     /// Adds to what lies in reach of the trains that are left what a run may come to from a token.
-    fn reach_from(
-        &self,
-        settled: &Settled,
-        stop: usize,
-        reach: &mut [bool; SPOTS],
-        worth: &mut Amount,
-    )
+    fn reach_from(&self, settled: &Settled, stop: usize, reach: &mut Outlook)
         requires fit { IsFit self.now }
         requires ready { AreReady self.now }
         requires spot { stop < 744 }
         requires stops { stop_in (node_at self.now stop) ≡ true }
-        requires sum { worth.old ≡ beyond 0 self.now.spots.items reach.old }
-        ensures reaches { WidensTo self.now settled.now stop reach.old reach.new }
-        ensures sum { worth.new ≡ beyond 0 self.now.spots.items reach.new }
+        requires known { IsWorth self.now.spots.items reach.old.ahead reach.old.worth }
+        ensures reaches { WidensTo self.now settled.now stop reach.old.ahead reach.new.ahead }
+        ensures known { IsWorth self.now.spots.items reach.new.ahead reach.new.worth }
     {
         let run = anywhere();
         let from = &self.departures[stop];
         for index in 0..from.ways.len() {
             let way = &from.ways[index];
-            self.look_along(settled, &run, &way.piece, reach, worth);
+            self.look_along(settled, &run, &way.piece, reach);
         }
     }
 
     /// The stops to which a run of the trains that are left may come.
-    fn reach(&self, settled: &Settled) -> [bool; SPOTS]
+    fn reach(&self, settled: &Settled) -> Spots
         requires fit { IsFit self.now }
         requires ready { AreReady self.now }
         ensures { IsInReach self.now settled.now.used result }
     {
-        let mut reach = [false; SPOTS];
-        let mut worth = 0;
-        for stop in 0..SPOTS {
-            let node = &self.spots[stop];
-            if node.stop && node.own {
-                self.reach_from(settled, stop, &mut reach, &mut worth);
+        let mut reach = Outlook::nothing();
+        for place in 0..self.stops.len() {
+            let stop = self.stops[place];
+            if self.spots[stop].own {
+                self.reach_from(settled, stop, &mut reach);
             }
         }
-        reach
+        reach.ahead
     }
 
     /// Opens the ways from a stop that cross no used border.
-    fn open_from(&self, settled: &Settled, stop: usize, shut: &mut [bool; BORDERS])
+    fn open_from(&self, settled: &Settled, stop: usize, shut: &mut Borders)
         requires fit { IsFit self.now }
         requires ready { AreReady self.now }
         requires spot { stop < 744 }
@@ -91,32 +75,33 @@ impl Task {
         let from = &self.departures[stop];
         for index in 0..from.ways.len() {
             let way = &from.ways[index];
-            if misses(&settled.used, &way.piece.borders) {
-                clear_all(shut, &way.piece.borders);
+            if way.piece.borders.misses(&settled.used) {
+                way.piece.borders.clear_in(shut);
             }
         }
     }
 
     /// Whether a run may set out from a stop: the company has a token there, or it lies in reach and may be
     /// passed.
-    fn sets_out(&self, stop: usize, reach: &[bool; SPOTS]) -> bool
+    fn sets_out(&self, stop: usize, reach: &Spots) -> bool
         requires fit { IsFit self.now }
         requires spot { stop < 744 }
         ensures { result ≡ sets_out self.now reach.now stop }
     {
         let node = &self.spots[stop];
-        node.stop && (node.own || (reach[stop] && !node.ends))
+        node.stop && (node.own || (reach.has(stop) && !node.ends))
     }
 
     /// All borders but those that a run of the trains that are left may cross.
-    fn shut(&self, settled: &Settled, reach: &[bool; SPOTS]) -> [bool; BORDERS]
+    fn shut(&self, settled: &Settled, reach: &Spots) -> Borders
         requires fit { IsFit self.now }
         requires ready { AreReady self.now }
-        ensures { IsShutBelow self.now settled.now.used reach.now 744 result }
+        ensures { IsShut self.now settled.now.used reach.now result }
     {
         settled.marks_all_borders();
-        let mut shut = [true; BORDERS];
-        for stop in 0..SPOTS {
+        let mut shut = Borders::all();
+        for place in 0..self.stops.len() {
+            let stop = self.stops[place];
             if self.sets_out(stop, reach) {
                 self.open_from(settled, stop, &mut shut);
             }

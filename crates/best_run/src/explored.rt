@@ -5,7 +5,8 @@ ghost use Rattle.best_run.specs.Kept.{IsCovered, IsKept, IsNothing};
 ghost use Rattle.best_run.specs.Moves.{Traces};
 ghost use Rattle.best_run.specs.Trail.{go_along};
 
-use crate::state::{BORDERS, Settled};
+use crate::bits::Borders;
+use crate::state::Settled;
 use crate::trail::{Mark, Trail};
 use reach::Step;
 use std::alloc::{AllocError, Global};
@@ -25,12 +26,7 @@ pub(crate) struct Found {
 
 /// The place at which a state is kept. Any place would do: states that use the same borders share one.
 fn place_of(settled: &Settled) -> usize {
-    let mut sum = settled.next as u64;
-    for border in 0..BORDERS {
-        if settled.used[border] {
-            sum = (sum ^ border as u64).wrapping_mul(0x9E37_79B9_7F4A_7C15);
-        }
-    }
+    let sum = settled.used.mixed().wrapping_add(settled.next as u64);
     (sum >> 40) as usize
 }
 
@@ -45,11 +41,11 @@ impl Found {
             total: 0,
             kind: 0,
             cap: 0,
-            used: [false; BORDERS],
+            used: Borders::none(),
         };
         let mut explored = Vec::new(alloc);
         for _ in 0..places {
-            explored.push(over)?;
+            explored.push(over.copy())?;
         }
         Ok(Found {
             amount: 0,
@@ -94,7 +90,7 @@ impl Found {
     {
         let places = self.explored.len();
         if places > 0 {
-            self.explored[place_of(settled) % places] = *settled;
+            self.explored[place_of(settled) % places] = settled.copy();
         }
     }
 }

@@ -8,18 +8,23 @@
 //! stop to stop, `Fit` what keeps its numbers within their bounds, `Suffix` what the last trains earn
 //! by themselves, and equal trains one after another, which bounds what they earn behind others,
 //! `Ahead` what may lie ahead of a run, which bounds what it may still earn, `Kept` which states between
-//! runs need not be explored since another one was, `Alike` which of them are alike to the trains left.
+//! runs need not be explored since another one was, `Alike` which of them are alike to the trains left,
+//! `Marks` how bits in words are marks, `Crossed` what borders a piece crosses.
 //!
 //! Reading order: `revenue` (the public call), `answer`, `trains` (their order), `spots` (the spots of a position
-//! with the pieces of track between them), `ways` (from stop to stop), `task`, `state` (the trains
-//! settled so far, and the run begun), `outlook` (what lies ahead of that run), `trail` (the moves that earn
-//! what has been found), `explored` (what has been found, and what need not be explored again), `alike`
-//! (states between runs that are alike), `search`, `claimed` (the runs that a trail tells), `runner`.
+//! with the pieces of track between them), `ways` (from stop to stop), `task`, `bits` (marks of borders and
+//! spots, a bit each), `crossing` (the borders of a piece, and the set of them), `state` (the trains settled
+//! so far, and the run begun), `outlook` (what lies ahead of that run) with `worth` (what that is worth), `trail`
+//! (the moves that earn what has been found), `explored` (what has been found, and what need not be explored
+//! again), `alike` (states between runs that are alike), `search`, `claimed` (the runs that a trail tells),
+//! `runner`.
 #![tactic(auto)]
 
 mod alike;
 mod answer;
+mod bits;
 mod claimed;
+mod crossing;
 mod explored;
 mod outlook;
 mod revenue;
@@ -31,6 +36,7 @@ mod task;
 mod trail;
 mod trains;
 mod ways;
+mod worth;
 
 pub use answer::Best;
 pub use revenue::best;

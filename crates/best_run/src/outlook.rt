@@ -1,57 +1,69 @@
-ghost use Rattle.std.specs.Prelude.{◌≡◌, ◌+◌, ◌*◌, ◌<◌, ◌≤◌, IsTrue, true, length, ℕ};
-ghost use Rattle.best_run.specs.Ahead.{EndsAtMost, IsOutlook, WidensBy, WidensFrom, beyond};
-ghost use Rattle.best_run.specs.Fit.{HasRoom, IsFit, BordersFit};
+ghost use Rattle.std.specs.Prelude.{◌≡◌, ◌+◌, ◌<◌, ◌≤◌, IsTrue, List, true, false, get_or, length, replicate, set, ℕ};
+ghost use Rattle.best_run.specs.declared.task.Node.{Node};
+ghost use Rattle.best_run.specs.Ahead.{EarnsAhead, EndsAtMost, IsOutlook, IsWorth, WidensBy, WidensFrom, goes_back, goes_on};
+ghost use Rattle.best_run.specs.Fit.{IsFit};
 ghost use Rattle.best_run.specs.Moves.{node_at, stop_in};
 ghost use Rattle.best_run.specs.Suffix.{AreBounds};
 ghost use Rattle.best_run.specs.Ways.{AreReady, IsStop};
 
-use crate::state::{SPOTS, Settled, Standing};
+use crate::bits::{SPOTS, Spots};
+use crate::state::{Settled, Standing};
 use crate::task::{Piece, Task};
+use crate::worth::Worth;
 use tables::Amount;
 
-/// How many tens of dollars a stop is worth at most.
-const TENS: usize = 8;
-
-/// How many hexes the map has.
-const HEXES: usize = 93;
-
-/// How many ends a hex has: six sides, and two stops behind them.
-const ENDS: usize = 8;
-
-/// The number of the first stop among the ends of its hex.
-const FIRST_STOP: usize = 6;
-
-/// How many stops the map may have: two in each hex.
-const STOPS: usize = 186;
-
 /// What lies ahead of a run.
-#[derive(Clone, Copy)]
-struct Outlook {
-    /// The spots that it may come to.
-    ahead: [bool; SPOTS],
-    /// What they are worth, in dollars.
-    worth: Amount,
+#[derive(Drop)]
+pub(crate) struct Outlook {
+    /// The stops that it may come to.
+    pub(crate) ahead: Spots,
+    /// What they are worth.
+    pub(crate) worth: Worth,
+}
+
+impl Outlook {
+    /// Nothing lies ahead.
+    pub(crate) fn nothing() -> Outlook
+        ensures ahead { result.ahead ≡ replicate 744 false }
+        ensures known { (nodes : List Node) → IsWorth nodes (replicate 744 false) result.worth }
+    {
+        Outlook {
+            ahead: Spots::none(),
+            worth: Worth::nothing(),
+        }
+    }
 }
 
 impl Task {
-    /// Adds to what lies ahead of a run what it may come to from a spot, and to what that is worth, in
-    /// dollars.
+    /// One stop more lies ahead.
+    fn add(&self, spot: usize, outlook: &mut Outlook)
+        requires fit { IsFit self.now }
+        requires spot { spot < 744 }
+        requires free { get_or outlook.old.ahead spot false ≡ false }
+        requires known { IsWorth self.now.spots.items outlook.old.ahead outlook.old.worth }
+        ensures marked { outlook.new.ahead ≡ set outlook.old.ahead spot true }
+        ensures known { IsWorth self.now.spots.items outlook.new.ahead outlook.new.worth }
+    {
+        let node = &self.spots[spot];
+        outlook.ahead.is_whole();
+        outlook.ahead.mark(spot);
+        if node.ends {
+            outlook.worth.end(node.value);
+        } else {
+            outlook.worth.pass(node.value);
+        }
+    }
+
+    /// Adds to what lies ahead of a run what it may come to from a stop.
     #[cycle(look)]
-    fn look_from(
-        &self,
-        settled: &Settled,
-        run: &Standing,
-        spot: usize,
-        ahead: &mut [bool; SPOTS],
-        worth: &mut Amount,
-    )
+    fn look_from(&self, settled: &Settled, run: &Standing, spot: usize, outlook: &mut Outlook)
         requires fit { IsFit self.now }
         requires ready { AreReady self.now }
         requires spot { spot < 744 }
         requires stop { stop_in (node_at self.now spot) ≡ true }
-        requires sum { worth.old ≡ beyond 0 self.now.spots.items ahead.old }
-        ensures widens { WidensFrom self.now settled.now run.now spot ahead.old ahead.new }
-        ensures sum { worth.new ≡ beyond 0 self.now.spots.items ahead.new }
+        requires known { IsWorth self.now.spots.items outlook.old.ahead outlook.old.worth }
+        ensures widens { WidensFrom self.now settled.now run.now spot outlook.old.ahead outlook.new.ahead }
+        ensures known { IsWorth self.now.spots.items outlook.new.ahead outlook.new.worth }
     {
         if self.spots[spot].ends {
             return;
@@ -59,37 +71,34 @@ impl Task {
         let from = &self.departures[spot];
         for index in 0..from.ways.len() {
             let way = &from.ways[index];
-            self.look_along(settled, run, &way.piece, ahead, worth);
+            self.look_along(settled, run, &way.piece, outlook);
         }
     }
 
-    /// Adds to what lies ahead of a run what it may come to by a piece, and to what that is worth, in
-    /// dollars.
+    /// Adds to what lies ahead of a run what it may come to by a piece.
     #[cycle(look)]
     pub(crate) fn look_along(
         &self,
         settled: &Settled,
         run: &Standing,
         piece: &Piece,
-        ahead: &mut [bool; SPOTS],
-        worth: &mut Amount,
+        outlook: &mut Outlook,
     )
         requires fit { IsFit self.now }
         requires ready { AreReady self.now }
         requires to { piece.now.to < 744 }
         requires stop { stop_in (node_at self.now piece.now.to) ≡ true }
-        requires borders { BordersFit piece.now.borders.items }
-        requires sum { worth.old ≡ beyond 0 self.now.spots.items ahead.old }
-        ensures widens { WidensBy self.now settled.now run.now piece.now ahead.old ahead.new }
-        ensures sum { worth.new ≡ beyond 0 self.now.spots.items ahead.new }
+        requires known { IsWorth self.now.spots.items outlook.old.ahead outlook.old.worth }
+        ensures widens { WidensBy self.now settled.now run.now piece.now outlook.old.ahead outlook.new.ahead }
+        ensures known { IsWorth self.now.spots.items outlook.new.ahead outlook.new.worth }
     {
-        if ahead[piece.to] {
+        outlook.ahead.is_whole();
+        if outlook.ahead.has(piece.to) {
             return;
         }
         if self.can_take(run, settled, piece) {
-            ahead[piece.to] = true;
-            *worth += self.spots[piece.to].value;
-            self.look_from(settled, run, piece.to, ahead, worth);
+            self.add(piece.to, outlook);
+            self.look_from(settled, run, piece.to, outlook);
         }
     }
 
@@ -102,74 +111,53 @@ impl Task {
         requires home { run.now.home < 744 }
         requires begun { stop_in (node_at self.now run.now.home) ≡ true }
         ensures outlook { IsOutlook self.now settled.now run.now result.ahead }
-        ensures sum { result.worth ≡ beyond 0 self.now.spots.items result.ahead }
+        ensures known { IsWorth self.now.spots.items result.ahead result.worth }
         ensures borders { length settled.now.used ≡ 279 }
         ensures spots { length run.now.visited ≡ 744 }
     {
-        let mut ahead = [false; SPOTS];
-        let mut worth = 0;
-        self.look_from(settled, run, run.head, &mut ahead, &mut worth);
+        settled.marks_all_borders();
+        run.visited.is_whole();
+        let mut outlook = Outlook::nothing();
+        self.look_from(settled, run, run.head, &mut outlook);
         if !run.turned {
-            self.look_from(settled, run, run.home, &mut ahead, &mut worth);
+            self.look_from(settled, run, run.home, &mut outlook);
         }
-        Outlook { ahead, worth }
+        outlook
     }
 
-    /// How many stops ahead are worth so many tens of dollars, for each number of tens.
-    fn tally(&self, ahead: &[bool; SPOTS]) -> [usize; TENS + 1]
-        requires { IsFit self.now }
-    {
-        let mut counts: [usize; TENS + 1] = [0; TENS + 1];
-        for hex in 0..HEXES {
-            for end in FIRST_STOP..ENDS {
-                let spot = ENDS * hex + end;
-                if ahead[spot] {
-                    let tens = (self.spots[spot].value / 10) as usize;
-                    counts[tens] = counts[tens].saturating_add(1);
-                }
-            }
-        }
-        counts
-    }
-
-    /// The level at which a run can be seen to earn least: what the least of the greatest stops ahead
-    /// is worth, of as many as are left. Any level would do.
-    fn level(&self, run: &Standing, ahead: &[bool; SPOTS]) -> Amount
-        requires { IsFit self.now }
-        ensures { result ≤ 80 }
-    {
-        if run.left >= STOPS {
-            return 0;
-        }
-        let counts = self.tally(ahead);
-        let mut more: usize = 0;
-        for below in 0..TENS {
-            let tens = TENS - below;
-            more = more.saturating_add(counts[tens]);
-            if more > run.left {
-                return 10 * tens as Amount;
-            }
-        }
-        0
-    }
-
-    /// What the spots ahead are worth beyond a level, in dollars; it is known what they are worth.
-    fn beyond(&self, level: Amount, ahead: &[bool; SPOTS], worth: Amount) -> Amount
+    /// Whether a run may go on from where it stands.
+    fn goes_on(&self, run: &Standing) -> bool
         requires fit { IsFit self.now }
-        requires known { worth ≡ beyond 0 self.now.spots.items ahead.now }
-        ensures sum { result ≡ beyond level self.now.spots.items ahead.now }
-        ensures bound { result ≤ 59520 }
+        requires head { run.now.head < 744 }
+        ensures { result ≡ goes_on self.now run.now }
     {
-        if level == 0 {
-            return worth;
-        }
-        let mut sum = 0;
-        for spot in 0..SPOTS {
-            if ahead[spot] {
-                sum += self.spots[spot].value.saturating_sub(level);
-            }
-        }
-        sum
+        let node = &self.spots[run.head];
+        !node.ends
+    }
+
+    /// Whether a run may still go on from where it began.
+    fn goes_back(&self, run: &Standing) -> bool
+        requires fit { IsFit self.now }
+        requires home { run.now.home < 744 }
+        ensures { result ≡ goes_back self.now run.now }
+    {
+        let node = &self.spots[run.home];
+        !run.turned && !node.ends
+    }
+
+    /// The most that a run may still earn, in dollars, by what lies ahead.
+    fn most_ahead(&self, run: &Standing, outlook: &Outlook) -> Amount
+        requires fit { IsFit self.now }
+        requires head { run.now.head < 744 }
+        requires home { run.now.home < 744 }
+        requires left { run.now.left ≤ 744 }
+        requires known { IsWorth self.now.spots.items outlook.now.ahead outlook.now.worth }
+        ensures most { EarnsAhead self.now run.now outlook.now.ahead result }
+        ensures bound { result ≤ 119200 }
+    {
+        let on = self.goes_on(run);
+        let back = self.goes_back(run);
+        outlook.worth.least(run.left as Amount, on, back)
     }
 
     /// Whether a run and the trains after it can earn no more than what has been found, by what lies
@@ -178,8 +166,7 @@ impl Task {
         &self,
         settled: &Settled,
         run: &Standing,
-        ahead: &[bool; SPOTS],
-        worth: Amount,
+        outlook: &Outlook,
         bounds: &[Amount],
         best: Amount,
     ) -> bool
@@ -189,8 +176,8 @@ impl Task {
         requires begun { IsStop self.now run.now.home }
         requires bounds { AreBounds self.now bounds.now }
         requires next { settled.now.next < length self.now.trains.items }
-        requires ahead { IsOutlook self.now settled.now run.now ahead.now }
-        requires known { worth ≡ beyond 0 self.now.spots.items ahead.now }
+        requires ahead { IsOutlook self.now settled.now run.now outlook.now.ahead }
+        requires known { IsWorth self.now.spots.items outlook.now.ahead outlook.now.worth }
         requires borders { length settled.now.used ≡ 279 }
         requires spots { length run.now.visited ≡ 744 }
         requires room { settled.now.total + run.now.value ≤ 44720 }
@@ -200,9 +187,7 @@ impl Task {
         if run.left > SPOTS || later >= bounds.len() {
             return false;
         }
-        let level = self.level(run, ahead);
-        let ahead = run.left as Amount * level + self.beyond(level, ahead, worth);
-        let most = run.value + ahead;
+        let most = run.value + self.most_ahead(run, outlook);
         let total = settled.total + most;
         if total > best {
             return false;
@@ -247,6 +232,6 @@ impl Task {
             return true;
         }
         let outlook = self.outlook(settled, run);
-        self.earns_too_little(settled, run, &outlook.ahead, outlook.worth, bounds, best)
+        self.earns_too_little(settled, run, &outlook, bounds, best)
     }
 }

@@ -8,9 +8,10 @@ ghost use Rattle.certificate.specs.Claim.{ClaimHolds};
 ghost use Rattle.certificate.specs.Set.{IsGreatest};
 
 use crate::answer::Best;
+use crate::bits::Borders;
 use crate::claimed::claimed_runs;
 use crate::explored::Found;
-use crate::state::{BORDERS, Settled};
+use crate::state::Settled;
 use crate::task::Task;
 use crate::trail::Mark;
 use crate::trains::greatest_first;
@@ -37,7 +38,7 @@ impl Task {
             total: 0,
             kind: 0,
             cap: 0,
-            used: [false; BORDERS],
+            used: Borders::none(),
         };
         self.settle_next(&nothing, bounds, best);
     }

@@ -18,6 +18,7 @@ impl Task {
         ensures short { IsTrue result → FallShort self.now bounds.now settled.now best }
         ensures whole { length settled.now.used ≡ 279 }
     {
+        settled.marks_all_borders();
         let left = self.trains.len() - settled.next;
         left < bounds.len() && settled.total <= best && bounds[left] <= best - settled.total
     }

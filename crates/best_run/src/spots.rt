@@ -12,6 +12,7 @@ ghost use Rattle.reach.specs.Position.{IsAmong, links_of};
 ghost use Rattle.reach.specs.Search.{spot_number};
 ghost use Rattle.tables.specs.Train.{stops_of};
 
+use crate::crossing::Crossing;
 use crate::task::{Node, Piece, Task};
 use map_tables::{End, HEXES, Hex, Link, Side, Stop, StopNumber, joined_stop, neighbour};
 use reach::{Network, Spot, Step};
@@ -82,7 +83,7 @@ fn piece_of(alloc: Global, step: Step) -> Result<Piece, AllocError>
     Ok(Piece {
         to: number_of(step.left()),
         step,
-        borders,
+        borders: Crossing::of(borders),
     })
 }
 
@@ -314,10 +315,13 @@ impl Task {
         let mut task = Task {
             spots,
             departures: Vec::new(alloc),
+            stops: Vec::new(alloc),
             trains,
         };
         let departures = task.all_departures(alloc)?;
         task.departures = departures;
+        let stops = task.all_stops(alloc)?;
+        task.stops = stops;
         Ok(task)
     }
 }

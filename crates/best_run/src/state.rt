@@ -3,17 +3,12 @@ ghost use Rattle.best_run.specs.Fit.{BordersFit, IsFit};
 ghost use Rattle.best_run.specs.Kept.{Covers, Freer};
 ghost use Rattle.best_run.specs.Moves.{along, begun, begun_by, can_take, left_after, marked_all, may_come, may_earn, may_settle, misses, own_before, passed, settling, turned_back, using};
 
+use crate::bits::{Borders, Spots};
 use crate::task::{Piece, Task};
 use tables::Amount;
 
-/// How many ends the hexes of the map have: six sides and two stops each.
-pub(crate) const SPOTS: usize = 744;
-
-/// How many borders the hexes of the map have.
-pub(crate) const BORDERS: usize = 279;
-
 /// The trains settled so far.
-#[derive(Clone, Copy)]
+#[derive(Drop)]
 pub(crate) struct Settled {
     /// The first train that is not settled.
     pub(crate) next: usize,
@@ -24,11 +19,11 @@ pub(crate) struct Settled {
     /// What the last run earned, in dollars: no later run of a train of this kind may earn more.
     pub(crate) cap: Amount,
     /// The borders that runs cross, that of the run begun too.
-    pub(crate) used: [bool; BORDERS],
+    pub(crate) used: Borders,
 }
 
 /// A run that has begun.
-#[derive(Clone, Copy)]
+#[derive(Drop)]
 pub(crate) struct Standing {
     /// Where it began: at a token of the company.
     pub(crate) home: usize,
@@ -45,7 +40,7 @@ pub(crate) struct Standing {
     /// What its stops are worth, in dollars.
     pub(crate) value: Amount,
     /// The stops that it visits, and the company's tokens that are passed over.
-    pub(crate) visited: [bool; SPOTS],
+    pub(crate) visited: Spots,
 }
 
 impl Settled {
@@ -53,7 +48,20 @@ impl Settled {
     pub(crate) fn marks_all_borders(&self)
         ensures { length self.now.used ≡ 279 }
     {
-        let _ = self.next;
+        self.used.is_whole();
+    }
+
+    /// The same state.
+    pub(crate) fn copy(&self) -> Settled
+        ensures { result ≡ self.now }
+    {
+        Settled {
+            next: self.next,
+            total: self.total,
+            kind: self.kind,
+            cap: self.cap,
+            used: self.used.copy(),
+        }
     }
 
     /// Whether each run that may come after another state may come after this one as well, and as much
@@ -65,7 +73,7 @@ impl Settled {
             && self.kind == other.kind
             && self.cap >= other.cap
             && self.total >= other.total
-            && are_within(&self.used, &other.used)
+            && self.used.is_within(&other.used)
     }
 
     /// The next train does not run.
@@ -78,7 +86,7 @@ impl Settled {
             total: self.total,
             kind: self.kind,
             cap: self.cap,
-            used: self.used,
+            used: self.used.copy(),
         }
     }
 
@@ -100,62 +108,24 @@ impl Settled {
             total: self.total + run.value,
             kind: run.most,
             cap: run.value,
-            used: self.used,
+            used: self.used.copy(),
         }
     }
 
     /// The borders of a piece are used.
     pub(crate) fn using(&self, piece: &Piece) -> Settled
-        requires { BordersFit piece.now.borders.items }
         ensures using { result ≡ using self.now piece.now }
         ensures whole { length self.now.used ≡ 279 }
     {
-        let mut used = self.used;
-        mark_all(&mut used, &piece.borders);
+        self.used.is_whole();
         Settled {
             next: self.next,
             total: self.total,
             kind: self.kind,
             cap: self.cap,
-            used,
+            used: piece.borders.marked_in(&self.used),
         }
     }
-}
-
-/// Whether all borders that are marked in one are marked in another.
-fn are_within(used: &[bool; BORDERS], other: &[bool; BORDERS]) -> bool
-    ensures { IsTrue result → Freer other.now used.now }
-{
-    for border in 0..BORDERS {
-        if used[border] && !other[border] {
-            return false;
-        }
-    }
-    true
-}
-
-/// Marks some borders.
-pub(crate) fn mark_all(used: &mut [bool; BORDERS], borders: &[usize])
-    requires { BordersFit borders.now }
-    ensures marked { used.new ≡ marked_all used.old borders.now }
-    ensures whole { length used.old ≡ 279 }
-{
-    for border in borders {
-        used[*border] = true;
-    }
-}
-
-/// Whether no border of some is used.
-pub(crate) fn misses(used: &[bool; BORDERS], borders: &[usize]) -> bool
-    requires { BordersFit borders.now }
-    ensures { result ≡ misses used.now borders.now }
-{
-    for border in borders {
-        if used[*border] {
-            return false;
-        }
-    }
-    true
 }
 
 impl Standing {
@@ -171,7 +141,7 @@ impl Standing {
             most: self.most,
             left: self.left,
             value: self.value,
-            visited: self.visited,
+            visited: self.visited.copy(),
         }
     }
 
@@ -187,7 +157,7 @@ impl Standing {
             most: self.most,
             left: self.left,
             value: self.value,
-            visited: self.visited,
+            visited: self.visited.copy(),
         }
     }
 
@@ -197,7 +167,7 @@ impl Standing {
         ensures { result ≡ may_come stop self.now spot }
     {
         if stop {
-            self.left > 0 && !self.visited[spot]
+            self.left > 0 && !self.visited.has(spot)
         } else {
             true
         }
@@ -216,22 +186,21 @@ impl Task {
     pub(crate) fn can_take(&self, run: &Standing, settled: &Settled, piece: &Piece) -> bool
         requires fit { IsFit self.now }
         requires to { piece.now.to < 744 }
-        requires borders { BordersFit piece.now.borders.items }
         ensures { result ≡ can_take self.now run.now settled.now.used piece.now }
     {
-        run.may_come(self.spots[piece.to].stop, piece.to) && misses(&settled.used, &piece.borders)
+        run.may_come(self.spots[piece.to].stop, piece.to) && piece.borders.misses(&settled.used)
     }
 
     /// Marks the company's tokens before a number.
-    fn own_before(&self, number: usize) -> [bool; SPOTS]
+    fn own_before(&self, number: usize) -> Spots
         requires fit { IsFit self.now }
         requires number { number ≤ 744 }
         ensures { result ≡ own_before self.now number }
     {
-        let mut marks = [false; SPOTS];
+        let mut marks = Spots::none();
         for other in 0..number {
             if self.spots[other].own {
-                marks[other] = true;
+                marks.mark(other);
             }
         }
         marks
@@ -245,7 +214,7 @@ impl Task {
         ensures { result ≡ begun self.now settled.now stop first }
     {
         let mut visited = self.own_before(stop);
-        visited[stop] = true;
+        visited.mark(stop);
         Standing {
             home: stop,
             first,
@@ -275,9 +244,9 @@ impl Task {
         ensures { result ≡ along self.now run.now piece.now }
     {
         let node = &self.spots[piece.to];
-        let mut visited = run.visited;
+        let mut visited = run.visited.copy();
         if node.stop {
-            visited[piece.to] = true;
+            visited.mark(piece.to);
         }
         Standing {
             home: run.home,

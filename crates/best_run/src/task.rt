@@ -1,5 +1,6 @@
 ghost use Rattle.std.specs.Prelude.{◌≡◌};
 
+use crate::crossing::Crossing;
 use reach::Step;
 use tables::Amount;
 
@@ -11,7 +12,7 @@ pub(crate) struct Piece {
     /// The step that it is; of the last piece, where it stands for a way.
     pub(crate) step: Step,
     /// The borders that it crosses, by their numbers.
-    pub(crate) borders: Vec<usize>,
+    pub(crate) borders: Crossing,
 }
 
 /// A spot, to a company: an end of a hex.
@@ -54,6 +55,8 @@ pub(crate) struct Task {
     pub(crate) spots: Vec<Node>,
     /// For each spot that is a stop, by its number, the ways from there.
     pub(crate) departures: Vec<Departures>,
+    /// The stops from which ways lead, by their numbers.
+    pub(crate) stops: Vec<usize>,
     /// For each train, the most stops of a run.
     pub(crate) trains: Vec<usize>,
 }

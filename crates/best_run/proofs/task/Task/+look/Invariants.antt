@@ -1,15 +1,15 @@
 -- With each call that goes on from a spot, one more spot lies ahead.
-use Rattle.std.proofs.Common.{◌≡◌, ◌+◌, ◌*◌}
-use Rattle.best_run.specs.Ahead.{WidensBelow, beyond}
+use Rattle.std.proofs.Common.{◌+◌, ◌*◌}
+use Rattle.best_run.specs.Ahead.{IsWorth, WidensBelow}
 use Rattle.best_run.specs.Fit.{unused}
 use Rattle.best_run.proofs.task.Task.+look.Given as goal
 
 abbrev pub decreases-look_along : goal.decreases-look_along
-decreases-look_along l = 2 * unused l.ahead.now
+decreases-look_along l = 2 * unused l.outlook.now.ahead
 
 abbrev pub decreases-look_from : goal.decreases-look_from
-decreases-look_from l = 2 * unused l.ahead.now + 1
+decreases-look_from l = 2 * unused l.outlook.now.ahead + 1
 
 abbrev pub invariant-look_from-loop-index : goal.invariant-look_from-loop-index
 invariant-look_from-loop-index l =
-    WidensBelow l.self l.settled l.run l.spot l.index l.initial.ahead l.ahead × (l.worth ≡ beyond 0 l.self.spots.items l.ahead)
+    WidensBelow l.self l.settled l.run l.spot l.index l.initial.outlook.ahead l.outlook.ahead × IsWorth l.self.spots.items l.outlook.ahead l.outlook.worth

@@ -1,6 +1,7 @@
 -- What has been laid out is the position.
 use Rattle.std.proofs.Common.{refl, sym, subst}
 use Rattle.best_run.specs.Described.{AreSteps}
+use Rattle.best_run.specs.Ways.{AreDepartures, AreStops}
 use Rattle.best_run.specs.declared.task.Task.{Task}
 use Rattle.best_run.proofs.Departing.{departs_same}
 use Rattle.best_run.proofs.Described.{describes_it, fits_it}
@@ -9,18 +10,26 @@ use Rattle.best_run.proofs.task.Task.of.Goals as goal
 pub all_departures-requires : goal.all_departures-requires
 all_departures-requires g c =
     let position = g.N.Network.position c.args.network.now in
-    let bare : Task = record { spots = c.in_ok-spots.spots; departures = c.new.result; trains = c.in_ok-trains.trains } in
     let steps : AreSteps position c.deref.result.now = subst (AreSteps position) (sym c.deref.ensures.value) c.in_ok-steps.ensures in
-    fits_it position c.args.company c.requires c.args.kinds.now c.deref.result.now steps bare c.in_ok-spots.ensures
+    fits_it position c.args.company c.requires c.args.kinds.now c.deref.result.now steps _ c.in_ok-spots.ensures
+
+pub all_stops-requires-clause-fit : goal.all_stops-requires-clause-fit
+all_stops-requires-clause-fit g c =
+    let position = g.N.Network.position c.args.network.now in
+    let steps : AreSteps position c.deref.result.now = subst (AreSteps position) (sym c.deref.ensures.value) c.in_ok-steps.ensures in
+    fits_it position c.args.company c.requires c.args.kinds.now c.deref.result.now steps _ c.in_ok-spots.ensures
+
+pub all_stops-requires-clause-ways : goal.all_stops-requires-clause-ways
+all_stops-requires-clause-ways g c = departs_same _ _ refl 744 c.in_ok-departures.departures.items c.in_ok-departures.ensures
 
 pub returns : goal.returns
 returns g c =
     let position = g.N.Network.position c.args.network.now in
-    let bare : Task = record { spots = c.in_ok-spots.spots; departures = c.new.result; trains = c.in_ok-trains.trains } in
-    let task : Task = record { spots = c.in_ok-spots.spots; departures = c.in_ok-departures.departures; trains = c.in_ok-trains.trains } in
+    let task : Task = record { spots = c.in_ok-spots.spots; departures = c.in_ok-departures.departures; stops = c.in_ok-stops.stops; trains = c.in_ok-trains.trains } in
     let steps : AreSteps position c.deref.result.now = subst (AreSteps position) (sym c.deref.ensures.value) c.in_ok-steps.ensures in
+    let ways : AreDepartures task 744 c.in_ok-departures.departures.items = departs_same _ task refl 744 c.in_ok-departures.departures.items c.in_ok-departures.ensures in
     record {
       described = describes_it position c.args.company c.requires c.args.kinds.now c.deref.result.now steps task c.in_ok-spots.ensures c.in_ok-trains.ensures;
       fit = fits_it position c.args.company c.requires c.args.kinds.now c.deref.result.now steps task c.in_ok-spots.ensures;
-      ways = departs_same bare task refl 744 c.in_ok-departures.departures.items c.in_ok-departures.ensures;
+      ways = record { long = ways.long; each = ways.each; stops = record { each = c.in_ok-stops.ensures.each; only = c.in_ok-stops.ensures.only } };
     }

@@ -12,28 +12,6 @@ use Rattle.best_run.proofs.Described.{among_place}
 use Rattle.best_run.proofs.task.Task.open_from.Goals as goal
 use Rattle.best_run.proofs.task.Task.open_from.Goals.{then-misses, else-misses}
 
-pub misses-requires : goal.misses-requires
-misses-requires c =
-    let task = c.args.self.now in
-    let from = c.index-from.result.now in
-    let ways = from.ways.items in
-    let way = c.index-way.result.now in
-    let are : AreWaysOf task c.args.stop ways = departs_from task c.requires.ready c.args.stop from c.requires.spot c.index-from.ensures c.requires.stops in
-    let at : slice_get ways c.loop-index.index ≡ Some way = slice_get_read ways (length ways) c.loop-index.index way refl (omega arith) c.index-way.ensures in
-    let fits = way_fits task c.requires.fit c.args.stop ways are c.requires.stops way (among_place ways c.loop-index.index way at) in
-    subst BordersFit (sym c.deref.ensures.value) fits.0.borders
-
-pub clear_all-requires : goal.clear_all-requires
-clear_all-requires c =
-    let task = c.args.self.now in
-    let from = c.index-from.result.now in
-    let ways = from.ways.items in
-    let way = c.index-way.result.now in
-    let are : AreWaysOf task c.args.stop ways = departs_from task c.requires.ready c.args.stop from c.requires.spot c.index-from.ensures c.requires.stops in
-    let at : slice_get ways c.loop-index.index ≡ Some way = slice_get_read ways (length ways) c.loop-index.index way refl (omega arith) c.index-way.ensures in
-    let fits = way_fits task c.requires.fit c.args.stop ways are c.requires.stops way (among_place ways c.loop-index.index way at) in
-    subst BordersFit (sym c.deref-then-misses.ensures.value) fits.0.borders
-
 pub loop-index-preserved : goal.loop-index-preserved
 loop-index-preserved c =
     let task = c.args.self.now in
@@ -45,11 +23,11 @@ loop-index-preserved c =
     let here : slice_get (ways_at task c.args.stop) c.loop-index.index ≡ Some way = ap (λ ws. slice_get ws c.loop-index.index) there ∙ at in
     let used = c.args.settled.now.used in
     let borders = way.piece.borders.items in
-    let tested : c.misses.result ≡ misses used borders = c.misses.ensures ∙ ap (misses used) c.deref.ensures.value in
+    let tested : c.misses.result ≡ misses used borders = c.misses.ensures in
     let Open : List Bool → Type 0 = λ s. Opens used c.args.shut.now s × AreOpenBelow task used c.args.stop (c.loop-index.index + 1) s in
     elim c.if-misses.branch [
       | then-misses w ↦
-          let cleared : c.if-misses.shut ≡ cleared_all c.loop-index.shut borders = w.shut-is ∙ (w.clear_all.ensures ∙ ap (cleared_all c.loop-index.shut) w.deref-then-misses.ensures.value) in
+          let cleared : c.if-misses.shut ≡ cleared_all c.loop-index.shut borders = w.shut-is ∙ w.clear_in.ensures in
           subst Open (sym cleared) (open_more task used c.args.stop c.loop-index.index way c.args.shut.now c.loop-index.shut here (sym tested ∙ w.if-misses.true) c.loop-index.invariant)
       | else-misses w ↦
           subst Open (sym w.shut-is)

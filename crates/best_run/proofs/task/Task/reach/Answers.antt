@@ -1,42 +1,55 @@
 -- Each token adds what it leads to.
-use Rattle.std.proofs.Common.{◌+◌, Bool, inl, inr, List, sym, ap, subst, ◌∙◌, arith}
-use Rattle.best_run.specs.Ahead.{beyond}
+use Rattle.std.proofs.Common.{◌≡◌, ◌+◌, Some, length, slice_get, refl, sym, ap, subst, ◌∙◌, arith}
+use Rattle.std.proofs.lemmas.Option.{slice_get_read}
+use Rattle.best_run.specs.declared.outlook.Outlook.{Outlook}
+use Rattle.best_run.specs.Ahead.{IsWorth}
 use Rattle.best_run.specs.Alike.{ReachesBelow}
-use Rattle.best_run.specs.Moves.{own_in, stop_in}
+use Rattle.best_run.specs.Moves.{own_in}
+use Rattle.best_run.specs.Ways.{IsStop}
 use Rattle.best_run.proofs.Likened.{reach_all, reach_more, reach_none, reach_same}
-use Rattle.best_run.proofs.Beyond.{beyond_nothing}
 use Rattle.best_run.proofs.Places.{node_is}
 use Rattle.best_run.proofs.task.Task.reach.Goals as goal
-use Rattle.best_run.proofs.task.Task.reach.Goals.{then-node+then-node-2, else-node, else-node-via-then-node+else-node-2, else-node-via-else-node}
+use Rattle.best_run.proofs.task.Task.reach.Goals.{then-index, else-index}
 
-pub loop-stop-init : goal.loop-stop-init
-loop-stop-init c = (reach_none c.args.self.now c.args.settled.now.used, sym (beyond_nothing c.args.self.now.spots.items 744))
+pub loop-place-init : goal.loop-place-init
+loop-place-init c =
+    rw c.nothing-reach.ensures.ahead (reach_none c.args.self.now c.args.settled.now.used, c.nothing-reach.ensures.known c.args.self.now.spots.items)
+
+pub index-requires : goal.index-requires
+index-requires c =
+    let stops = c.args.self.now.stops.items in
+    let is = c.requires.ready.stops.only c.loop-place.place c.index-stop.result.now (slice_get_read stops (length stops) c.loop-place.place c.index-stop.result.now refl (omega arith) c.index-stop.ensures) in
+    omega (arith, is.0, c.requires.fit.all)
+
+pub reach_from-requires-clause-spot : goal.reach_from-requires-clause-spot
+reach_from-requires-clause-spot c =
+    let stops = c.args.self.now.stops.items in
+    (c.requires.ready.stops.only c.loop-place.place c.index-stop.result.now (slice_get_read stops (length stops) c.loop-place.place c.index-stop.result.now refl (omega arith) c.index-stop.ensures)).0
 
 pub reach_from-requires-clause-stops : goal.reach_from-requires-clause-stops
 reach_from-requires-clause-stops c =
-    ap stop_in (node_is c.args.self.now c.requires.fit c.loop-stop.stop c.index-node.result.now c.loop-stop-test.true c.index-node.ensures) ∙ c.if-node.true
+    let stops = c.args.self.now.stops.items in
+    (c.requires.ready.stops.only c.loop-place.place c.index-stop.result.now (slice_get_read stops (length stops) c.loop-place.place c.index-stop.result.now refl (omega arith) c.index-stop.ensures)).1
 
-pub loop-stop-preserved : goal.loop-stop-preserved
-loop-stop-preserved c =
+pub loop-place-preserved : goal.loop-place-preserved
+loop-place-preserved c =
     let task = c.args.self.now in
     let settled = c.args.settled.now in
-    let stop = c.loop-stop.stop in
+    let place = c.loop-place.place in
+    let stop = c.index-stop.result.now in
     let nodes = task.spots.items in
-    let there = node_is task c.requires.fit stop c.index-node.result.now c.loop-stop-test.true c.index-node.ensures in
-    elim c.if-node.branch [
-      | then-node+then-node-2 w ↦ (
-        subst (λ (r : List Bool). ReachesBelow task settled.used (stop + 1) r) (sym w.reach-is) (reach_more task settled stop _ _ c.loop-stop.invariant.0 w.reach_from.ensures.reaches),
-        w.worth-is ∙ (w.reach_from.ensures.sum ∙ ap (λ (r : List Bool). beyond 0 nodes r) (sym w.reach-is)),
-      )
-      | else-node w ↦ (
-        subst (λ (r : List Bool). ReachesBelow task settled.used (stop + 1) r) (sym w.reach-is) (reach_same task settled.used stop c.loop-stop.reach (elim w.else-node.branch [
-          | else-node-via-then-node+else-node-2 v ↦ inr (ap own_in there ∙ v.if-node-2.false)
-          | else-node-via-else-node v ↦ inl (ap stop_in there ∙ v.if-node.false)
-        ]) c.loop-stop.invariant.0),
-        w.worth-is ∙ (c.loop-stop.invariant.1 ∙ ap (λ (r : List Bool). beyond 0 nodes r) (sym w.reach-is)),
-      )
+    let stops = task.stops.items in
+    let at : slice_get stops place ≡ Some stop = slice_get_read stops (length stops) place stop refl (omega arith) c.index-stop.ensures in
+    let is : IsStop task stop = c.requires.ready.stops.only place stop at in
+    let there = node_is task c.requires.fit stop c.index.result.now is.0 c.index.ensures in
+    let Known : Outlook → Type 0 = λ r. ReachesBelow task settled.used (place + 1) r.ahead × IsWorth nodes r.ahead r.worth in
+    elim c.if-index.branch [
+      | then-index w ↦
+          subst Known (sym w.reach-is) (reach_more task settled place stop _ _ at c.loop-place.invariant.0 w.reach_from.ensures.reaches, w.reach_from.ensures.known)
+      | else-index w ↦
+          subst Known (sym w.reach-is) (reach_same task settled.used place stop c.loop-place.reach.ahead at (ap own_in there ∙ w.if-index.false) c.loop-place.invariant.0, c.loop-place.invariant.1)
     ]
 
 pub returns : goal.returns
 returns c =
-    reach_all c.args.self.now c.args.settled.now.used c.loop-stop.stop c.loop-stop.reach (omega arith) c.loop-stop.invariant.0
+    reach_all c.args.self.now c.requires.ready c.args.settled.now.used c.loop-place.place c.loop-place.reach.ahead (omega arith) c.loop-place.invariant.0

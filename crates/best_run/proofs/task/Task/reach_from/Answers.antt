@@ -34,17 +34,6 @@ look_along-requires-clause-stop c =
     let fits = way_fits task c.requires.fit c.args.stop ways are c.requires.stops way (among_place ways c.loop-index.index way at) in
     fits.1
 
-pub look_along-requires-clause-borders : goal.look_along-requires-clause-borders
-look_along-requires-clause-borders c =
-    let task = c.args.self.now in
-    let from = c.index-from.result.now in
-    let ways = from.ways.items in
-    let way = c.index-way.result.now in
-    let are : AreWaysOf task c.args.stop ways = departs_from task c.requires.ready c.args.stop from c.requires.spot c.index-from.ensures c.requires.stops in
-    let at : slice_get ways c.loop-index.index ≡ Some way = slice_get_read ways (length ways) c.loop-index.index way refl (omega arith) c.index-way.ensures in
-    let fits = way_fits task c.requires.fit c.args.stop ways are c.requires.stops way (among_place ways c.loop-index.index way at) in
-    fits.0.borders
-
 pub loop-index-preserved : goal.loop-index-preserved
 loop-index-preserved c =
     let task = c.args.self.now in
@@ -54,8 +43,8 @@ loop-index-preserved c =
     let at : slice_get ways c.loop-index.index ≡ Some way = slice_get_read ways (length ways) c.loop-index.index way refl (omega arith) c.index-way.ensures in
     let there : ways_at task c.args.stop ≡ ways = ap ways_in (departs_at task c.requires.ready c.args.stop from c.requires.spot c.index-from.ensures) in
     let here : slice_get (ways_at task c.args.stop) c.loop-index.index ≡ Some way = ap (λ ws. slice_get ws c.loop-index.index) there ∙ at in
-    let by : WidensBy task c.args.settled.now anywhere way.piece c.loop-index.reach c.look_along.new.ahead = subst (λ (r : Standing). WidensBy task c.args.settled.now r way.piece c.loop-index.reach c.look_along.new.ahead) c.anywhere-run.ensures c.look_along.ensures.widens in
-    (below_more task c.args.settled.now anywhere c.args.stop c.loop-index.index way _ _ _ here c.loop-index.invariant.0 by, c.look_along.ensures.sum)
+    let by : WidensBy task c.args.settled.now anywhere way.piece c.loop-index.reach.ahead c.look_along.new.outlook.ahead = subst (λ (r : Standing). WidensBy task c.args.settled.now r way.piece c.loop-index.reach.ahead c.look_along.new.outlook.ahead) c.anywhere-run.ensures c.look_along.ensures.widens in
+    (below_more task c.args.settled.now anywhere c.args.stop c.loop-index.index way _ _ _ here c.loop-index.invariant.0 by, c.look_along.ensures.known)
 
 pub returns-clause-reaches : goal.returns-clause-reaches
 returns-clause-reaches c =

@@ -1,14 +1,15 @@
 -- Nothing is used at first.
-use Rattle.std.proofs.Common.{◌≡◌, ℕ, ◌-◌, length, subst, arith}
+use Rattle.std.proofs.Common.{◌≡◌, ℕ, ◌-◌, Bool, List, length, subst, arith}
 use Rattle.best_run.specs.Moves.{Explores, between}
 use Rattle.best_run.specs.Suffix.{nothing_before}
 use Rattle.best_run.proofs.Few.{unused_none}
 use Rattle.best_run.proofs.task.Task.settle_last.Goals as goal
 
 pub settle_next-requires-clause-room : goal.settle_next-requires-clause-room
-settle_next-requires-clause-room c = omega (arith, unused_none 279)
+settle_next-requires-clause-room c = rw c.none.ensures (omega (arith, unused_none 279))
 
 pub returns : goal.returns
 returns c =
     let same : c.len.result - c.args.count ≡ length c.args.self.now.trains.items - c.args.count = omega arith in
-    subst (λ (n : ℕ). Explores c.args.self.now (between (nothing_before n)) c.args.best.now c.settle_next.new.best) same c.settle_next.ensures
+    subst (λ (n : ℕ). Explores c.args.self.now (between (nothing_before n)) c.args.best.now c.settle_next.new.best) same
+    (subst (λ (used : List Bool). Explores c.args.self.now (between (record { next = c.len.result - c.args.count; total = 0; kind = 0; cap = 0; used = used })) c.args.best.now c.settle_next.new.best) c.none.ensures c.settle_next.ensures)

@@ -1,6 +1,6 @@
--- The ways from the stops before the next one are open.
+-- The ways from the listed stops before the next one are open.
 use Rattle.best_run.specs.Alike.{IsShutBelow}
 use Rattle.best_run.proofs.task.Task.shut.Given as goal
 
-abbrev pub invariant-loop-stop : goal.invariant-loop-stop
-invariant-loop-stop l = IsShutBelow l.self l.settled.used l.reach l.stop l.shut
+abbrev pub invariant-loop-place : goal.invariant-loop-place
+invariant-loop-place l = IsShutBelow l.self l.settled.used l.reach l.place l.shut

@@ -1,0 +1,111 @@
+//! What the stops ahead of a run are worth: those that it may pass, and those at which it ends.
+ghost use Rattle.std.specs.Prelude.{◌≡◌, ℕ, ◌+◌, ◌-◌, ◌<◌, ◌≤◌, get_or};
+ghost use Rattle.best_run.specs.Ahead.{HasPassed, HasRanked, at_level, ends_by, IsLeast};
+
+use tables::Amount;
+
+/// How many levels there are: no dollars, ten, twenty, .., eighty, which is what a stop is worth at most.
+pub(crate) const LEVELS: usize = 9;
+
+/// From one level to the next, in dollars.
+const STEP: Amount = 10;
+
+/// What some stops are worth, in dollars.
+#[derive(Clone, Copy)]
+pub(crate) struct Worth {
+    /// For each level, what those that may be passed are worth beyond it.
+    pub(crate) beyond: [Amount; LEVELS],
+    /// What the one is worth that is worth most of those at which runs end; 0 where there is none.
+    pub(crate) first: Amount,
+    /// What the next one of these is worth.
+    pub(crate) second: Amount,
+}
+
+impl Worth {
+    /// That of no stop.
+    pub(crate) fn nothing() -> Worth
+        ensures beyond { (place : ℕ) → get_or result.beyond place 0 ≡ 0 }
+        ensures first { result.first ≡ 0 }
+        ensures second { result.second ≡ 0 }
+    {
+        Worth {
+            beyond: [0; LEVELS],
+            first: 0,
+            second: 0,
+        }
+    }
+
+    /// Adds a stop that may be passed.
+    pub(crate) fn pass(&mut self, value: Amount)
+        requires value { value ≤ 80 }
+        requires room { (place : ℕ) → place < 9 → get_or self.old.beyond place 0 ≤ 59520 }
+        ensures { HasPassed value self.old self.new }
+    {
+        for place in 0..LEVELS {
+            self.beyond[place] += value.saturating_sub(STEP * place as Amount);
+        }
+    }
+
+    /// Adds a stop at which runs end.
+    pub(crate) fn end(&mut self, value: Amount)
+        requires { self.old.second ≤ self.old.first }
+        ensures { HasRanked value self.old self.new }
+    {
+        if value > self.first {
+            self.second = self.first;
+            self.first = value;
+        } else if value > self.second {
+            self.second = value;
+        }
+    }
+
+    /// What the stops at which runs end are worth at most beyond a level, in dollars, to a run that may go on from
+    /// where it stands, and from where it began.
+    fn ends(&self, level: Amount, on: bool, back: bool) -> Amount
+        requires first { self.now.first ≤ 80 }
+        requires second { self.now.second ≤ self.now.first }
+        ensures value { let first = self.now.first - level in
+            result ≡ ends_by on back first (first + (self.now.second - level)) }
+        ensures bound { result ≤ 160 }
+    {
+        let first = self.first.saturating_sub(level);
+        if on && back {
+            return first + self.second.saturating_sub(level);
+        }
+        if on || back { first } else { 0 }
+    }
+
+    /// What a run may earn at most by the level at a place, in dollars: with so many stops left, if it may go on from
+    /// where it stands, and from where it began.
+    fn at_level(&self, place: usize, left: Amount, on: bool, back: bool) -> Amount
+        requires place { place < 9 }
+        requires left { left ≤ 744 }
+        requires room { (each : ℕ) → each < 9 → get_or self.now.beyond each 0 ≤ 59520 }
+        requires first { self.now.first ≤ 80 }
+        requires second { self.now.second ≤ self.now.first }
+        ensures value { result ≡ at_level self.now place left on back }
+        ensures bound { result ≤ 119200 }
+    {
+        let level = STEP * place as Amount;
+        left * level + self.beyond[place] + self.ends(level, on, back)
+    }
+
+    /// The least of these.
+    pub(crate) fn least(&self, left: Amount, on: bool, back: bool) -> Amount
+        requires left { left ≤ 744 }
+        requires room { (each : ℕ) → each < 9 → get_or self.now.beyond each 0 ≤ 59520 }
+        requires first { self.now.first ≤ 80 }
+        requires second { self.now.second ≤ self.now.first }
+        ensures least { IsLeast self.now left on back result }
+        ensures bound { result ≤ 119200 }
+    {
+        let mut least = self.at_level(0, left, on, back);
+        for place in 1..LEVELS {
+            let here = self.at_level(place, left, on, back);
+            if here < least {
+                least = here;
+            }
+        }
+        least
+    }
+}
