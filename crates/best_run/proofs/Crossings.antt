@@ -1,5 +1,5 @@
 -- What is done with the set of some borders is done with each of them.
-use Rattle.std.proofs.Common.{◌≡◌, ◌↔◌, ℕ, zero, suc, Bool, true, false, ◌⊎◌, inl, inr, List, [], ◌∷◌, length, get_or, set, replicate, refl, sym, ap, subst, ◌∙◌, IsTrue, length-set}
+use Rattle.std.proofs.Common.{◌≡◌, ◌↔◌, ℕ, zero, suc, Bool, true, false, ◌⊎◌, inl, inr, List, [], ◌∷◌, length, get_or, set, replicate, refl, sym, ap, subst, ◌∙◌, length-set}
 use Rattle.reach.proofs.Collected.{none_marked}
 use Rattle.reach.specs.Position.{IsAmong}
 use Rattle.best_run.specs.Alike.{cleared_all}

@@ -1,5 +1,5 @@
 -- Marks of borders: marking some, and what is left unmarked.
-use Rattle.std.proofs.Common.{◌≡◌, ℕ, zero, suc, ◌+◌, ◌<◌, ◌≤◌, Bool, true, false, not, ◌||◌, List, [], ◌∷◌, length, get_or, set, drop, refl, ap, ◌∙◌, arith, add-one, drop-cons, length-set}
+use Rattle.std.proofs.Common.{◌≡◌, ℕ, zero, suc, ◌+◌, ◌<◌, ◌≤◌, Bool, true, false, not, ◌||◌, List, [], ◌∷◌, length, get_or, set, refl, ap, ◌∙◌, arith, length-set}
 use Rattle.std.specs.List.{list_any}
 use Rattle.best_run.specs.Fit.{BordersFit, if_unset, unused}
 use Rattle.best_run.specs.Moves.{marked_all, misses}

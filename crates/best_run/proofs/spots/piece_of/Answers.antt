@@ -1,7 +1,5 @@
 -- The border is one of the map, or there is none.
-use Rattle.std.proofs.Common.{◌≡◌, ◌<◌, ℕ, List, [], ◌∷◌, sym, ap, subst, ◌∙◌}
 use Rattle.certificate.proofs.Kept.{border_low}
-use Rattle.best_run.specs.Fit.{BordersFit}
 use Rattle.best_run.proofs.spots.piece_of.Goals as goal
 use Rattle.best_run.proofs.spots.piece_of.Goals.{in-Side+in_ok-push, in_default}
 

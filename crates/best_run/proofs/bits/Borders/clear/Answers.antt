@@ -1,5 +1,5 @@
 -- All words are taken away from.
-use Rattle.std.proofs.Common.{ℕ, refl, length-set, get_or-set_other, ◌∙◌, arith}
+use Rattle.std.proofs.Common.{refl, length-set, get_or-set_other, ◌∙◌, arith}
 use Rattle.best_run.proofs.Words.{taken_away, taken_none, without_more}
 use Rattle.best_run.proofs.bits.Borders.clear.Goals as goal
 

@@ -1,7 +1,7 @@
 -- What has been laid out is the position.
 use Rattle.std.proofs.Common.{refl, sym, subst}
 use Rattle.best_run.specs.Described.{AreSteps}
-use Rattle.best_run.specs.Ways.{AreDepartures, AreStops}
+use Rattle.best_run.specs.Ways.{AreDepartures}
 use Rattle.best_run.specs.declared.task.Task.{Task}
 use Rattle.best_run.proofs.Departing.{departs_same}
 use Rattle.best_run.proofs.Described.{describes_it, fits_it}

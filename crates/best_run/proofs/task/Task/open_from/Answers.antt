@@ -2,13 +2,10 @@
 use Rattle.std.proofs.Common.{◌≡◌, ◌+◌, Bool, List, Some, length, slice_get, refl, sym, ap, subst, ◌∙◌, arith}
 use Rattle.std.proofs.lemmas.Option.{slice_get_read}
 use Rattle.best_run.specs.Alike.{AreOpenBelow, Opens, cleared_all}
-use Rattle.best_run.specs.Fit.{BordersFit}
 use Rattle.best_run.specs.Moves.{misses}
-use Rattle.best_run.specs.Ways.{AreWaysOf, ways_at, ways_in}
+use Rattle.best_run.specs.Ways.{ways_at, ways_in}
 use Rattle.best_run.proofs.Likened.{open_all, open_more, open_same}
-use Rattle.best_run.proofs.Along.{way_fits}
-use Rattle.best_run.proofs.Departing.{departs_at, departs_from}
-use Rattle.best_run.proofs.Described.{among_place}
+use Rattle.best_run.proofs.Departing.{departs_at}
 use Rattle.best_run.proofs.task.Task.open_from.Goals as goal
 use Rattle.best_run.proofs.task.Task.open_from.Goals.{then-misses, else-misses}
 
