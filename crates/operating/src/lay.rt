@@ -6,7 +6,7 @@ ghost use Rattle.operating.specs.Turn.{LayLeads};
 
 use crate::asker::asker;
 use crate::cost::amount_of;
-use crate::ground::board;
+use crate::ground::TurnMap;
 use crate::operator::Operator;
 use crate::progress::Progress;
 use crate::ruling::tell_ruling;
@@ -14,12 +14,12 @@ use board::LayFault;
 use history::{Event, History, KeptRuling, LayRule, Refusal};
 use map_tables::Lay;
 use order_grammar::Order;
-use std::alloc::{AllocError, Global};
+use std::alloc::AllocError;
 
 /// Rules a LAY of a line with this number, and lays the tile if it is obeyed. Answers how far the
 /// turn has come then.
 pub(crate) fn rule_lay(
-    alloc: Global,
+    map: &mut TurnMap,
     history: &mut History,
     by: Operator,
     line: u32,
@@ -31,7 +31,7 @@ pub(crate) fn rule_lay(
         (in_turn history.new now)) }
     ensures sound { OnOk result (IsSound history.new) }
 {
-    let board = board(alloc, history)?;
+    let mut board = map.take_board(history)?;
     let order = history.keep(&Order::Lay(lay))?;
     let asker = asker(history, by.company, progress);
     match board.try_lay(&asker, lay) {
@@ -40,7 +40,10 @@ pub(crate) fn rule_lay(
             let company = by.company;
             let cost = amount_of(cost);
             history.append(Event::Laid { company, lay, cost })?;
-            Ok(progress.with_lay(&board, &asker, lay))
+            let progress = progress.with_lay(&board, &asker, lay);
+            board.put_lay(lay)?;
+            map.keep(board);
+            Ok(progress)
         }
         Err(fault) => {
             let refusal = Refusal::Lay(lay_rule(fault)?);
@@ -50,6 +53,7 @@ pub(crate) fn rule_lay(
                 line,
                 KeptRuling::refused(refusal, order),
             )?;
+            map.keep(board);
             Ok(progress)
         }
     }
