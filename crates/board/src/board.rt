@@ -87,27 +87,6 @@ impl Board {
         }
     }
 
-    /// The tiles that were laid, oldest first, those that were replaced among them.
-    pub fn lays(&self) -> &[Lay]
-        ensures { result.now ≡ self.now.lays }
-    {
-        self.lays.as_slice()
-    }
-
-    /// The tokens that were placed, oldest first.
-    pub fn tokens(&self) -> &[(Place, Company)]
-        ensures { result.now ≡ self.now.tokens }
-    {
-        self.tokens.as_slice()
-    }
-
-    /// The phase.
-    pub fn phase(&self) -> Kind
-        ensures { result ≡ self.now.phase }
-    {
-        self.phase
-    }
-
     /// Lays a tile. An `Err` leaves the board as it was.
     pub fn put_lay(&mut self, lay: Lay) -> Result<(), AllocError>
         ensures ok { OnOk result (self.new ≡ with_lay self.old lay) }

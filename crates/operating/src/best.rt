@@ -16,7 +16,7 @@ ghost use Rattle.operating.specs.TurnCalls.{Asks, BestCalls, led_to};
 ghost use Rattle.order_grammar.specs.declared.order.Order.TheVariants as order;
 
 use crate::forced::has_trains;
-use crate::ground::TurnMap;
+use crate::ground::board;
 use crate::operator::Operator;
 use crate::progress::Progress;
 use crate::ruling::tell_ruling;
@@ -32,7 +32,7 @@ use tables::{Amount, Company, Kind, Money, Round};
 /// company is credited the greatest revenue, which the runner tells. Answers how far the turn has
 /// come then. The errors are the runner's, and want of memory.
 pub(crate) fn rule_best<R: Runner>(
-    map: &mut TurnMap,
+    alloc: Global,
     history: &mut History,
     by: Operator,
     round: Round,
@@ -53,7 +53,7 @@ pub(crate) fn rule_best<R: Runner>(
         refuse_best(history, by, line, rule)?;
         return Ok(progress);
     }
-    let revenue = best_revenue(map, history, by.company, round, runner)?;
+    let revenue = best_revenue(alloc, history, by.company, round, runner)?;
     obey_best(history, by, line, revenue)?;
     Ok(progress.with_best(revenue))
 }
@@ -117,7 +117,7 @@ fn obey_best(
 /// The greatest revenue of a company's trains by what lies, in dollars: at most 50,000. The errors
 /// are the runner's, and want of memory.
 fn best_revenue<R: Runner>(
-    map: &mut TurnMap,
+    alloc: Global,
     history: &History,
     company: Company,
     round: Round,
@@ -134,11 +134,10 @@ fn best_revenue<R: Runner>(
     // Laws, which do nothing when they run: by them the greatest revenue is small.
     a_greatest_exists();
     one_greatest();
-    let board = map.take_board(history)?;
+    let board = board(alloc, history)?;
     board.keeps_laws();
-    let trains = trains_of(map.alloc, &history.now(), company)?;
+    let trains = trains_of(alloc, &history.now(), company)?;
     let money = runner.earn(&board, round, company, trains.as_slice())?;
-    map.keep(board);
     Ok(amount(money))
 }
 

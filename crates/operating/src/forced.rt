@@ -6,7 +6,7 @@ ghost use Rattle.operating.specs.Forced.{EndLeads, IsDue, after_forced, after_ra
 ghost use Rattle.operating.specs.Trains.{IsSmallPurchase};
 ghost use Rattle.sheets.specs.Part.{line_read};
 
-use crate::ground::TurnMap;
+use crate::ground::board;
 use crate::operator::Operator;
 use crate::phases::buy_train;
 use crate::purchase::{NUMBERED, Purchase, sells};
@@ -22,7 +22,7 @@ use tables::{Amount, Company, Kind, Money};
 /// Ends the turn of a company that has paid or withheld: it buys a train if it must, and the RAISE
 /// lines of its block are ruled. An `Err` comes from want of memory alone.
 pub(crate) fn end_turn(
-    map: &mut TurnMap,
+    alloc: Global,
     history: &mut History,
     by: Operator,
     block: &mut PartsLeft,
@@ -33,9 +33,9 @@ pub(crate) fn end_turn(
     ensures turn { OnOk result (EndLeads by block.old.before history.old history.new) }
     ensures sound { OnOk result (IsSound history.new) }
 {
-    let due = is_due(map, history, by.company)?;
+    let due = is_due(alloc, history, by.company)?;
     if due {
-        buy_by_force(map.alloc, history, by, block)?;
+        buy_by_force(alloc, history, by, block)?;
         return Ok(());
     }
     rule_raises(history, by, block, false)?;
@@ -43,14 +43,14 @@ pub(crate) fn end_turn(
 }
 
 /// Whether a company must buy a train: it has none, and could run one of kind 2.
-fn is_due(map: &mut TurnMap, history: &History, company: Company) -> Result<bool, AllocError>
+fn is_due(alloc: Global, history: &History, company: Company) -> Result<bool, AllocError>
     requires { IsSound history.now }
     ensures { IfOk result (λ due. IsTrue due ↔ IsDue history.now company) }
 {
     if has_trains(&history.now(), company) {
         return Ok(false);
     }
-    let board = map.take_board(history)?;
+    let board = board(alloc, history)?;
     Ok(can_run(&board, company))
 }
 

@@ -1,61 +1,23 @@
-//! What lies on the map, in a company's turn.
-ghost use Rattle.std.specs.Prelude.{◌≡◌, IfOk, IsTrue};
+ghost use Rattle.std.specs.Prelude.{◌≡◌, ◌++◌, ◌∷◌, [], IfOk, OnOk};
 ghost use Rattle.board.specs.declared.fault.BoardFault.TheVariants.{Memory};
+ghost use Rattle.history.specs.Operating.{lays_of, tokens_of};
 ghost use Rattle.history.specs.Sound.{IsSound};
 ghost use Rattle.operating.specs.Ground.{ground_now};
 
 use board::{Board, BoardFault};
-use history::History;
+use history::{Event, History};
+use map_tables::{Lay, Place};
 use std::alloc::{AllocError, Global};
-
-/// What a turn knows of the map: the board that it used last, kept so that not every line makes one.
-#[derive(Drop)]
-pub(crate) struct TurnMap {
-    pub(crate) alloc: Global,
-    board: Option<Board>,
-}
-
-impl TurnMap {
-    /// Nothing is known yet. Boards take their memory from this allocator.
-    pub(crate) fn unknown(alloc: Global) -> TurnMap {
-        TurnMap { alloc, board: None }
-    }
-
-    /// What lies on the map, which fits there: the board that was kept, if it is that, and else a new
-    /// one. The only error is want of memory.
-    pub(crate) fn take_board(&mut self, history: &History) -> Result<Board, AllocError>
-        requires { IsSound history.now }
-        ensures { IfOk result (λ board. board ≡ ground_now history.now.events) }
-    {
-        if let Some(board) = self.board.take() {
-            if lies(&board, history) {
-                return Ok(board);
-            }
-        }
-        board(self.alloc, history)
-    }
-
-    /// Keeps a board for the lines to come.
-    pub(crate) fn keep(&mut self, board: Board) {
-        self.board = Some(board);
-    }
-}
-
-/// Whether a board has what lies on the map.
-fn lies(board: &Board, history: &History) -> bool
-    ensures { IsTrue result → board.now ≡ ground_now history.now.events }
-{
-    board.phase() == history.phase()
-        && board.lays() == history.lays()
-        && board.tokens() == history.tokens()
-}
+use tables::Company;
 
 /// What lies on the map, which fits there. The only error is want of memory.
-fn board(alloc: Global, history: &History) -> Result<Board, AllocError>
+pub(crate) fn board(alloc: Global, history: &History) -> Result<Board, AllocError>
     requires { IsSound history.now }
     ensures { IfOk result (λ board. board ≡ ground_now history.now.events) }
 {
-    match Board::of(alloc, history.lays(), history.tokens(), history.phase()) {
+    let lays = lays(alloc, history)?;
+    let tokens = tokens(alloc, history)?;
+    match Board::of(alloc, lays.as_slice(), tokens.as_slice(), history.phase()) {
         Ok(board) => Ok(board),
         Err(fault) => Err(want_of_memory(fault)),
     }
@@ -66,4 +28,48 @@ fn want_of_memory(_fault: BoardFault) -> AllocError
     requires { _fault ≡ Memory }
 {
     AllocError
+}
+
+/// The tiles that were laid, oldest first.
+fn lays(alloc: Global, history: &History) -> Result<Vec<Lay>, AllocError>
+    ensures { IfOk result (λ lays. lays.items ≡ lays_of history.now.events) }
+{
+    let mut lays = Vec::new(alloc);
+    let events = history.events();
+    for event in events {
+        push_lay(&mut lays, event)?;
+    }
+    Ok(lays)
+}
+
+/// Adds the tile that an event lays, if it lays one.
+fn push_lay(lays: &mut Vec<Lay>, event: &Event) -> Result<(), AllocError>
+    ensures { OnOk result (lays.new.items ≡ lays.old.items ++ lays_of (event.now ∷ [])) }
+{
+    if let Some(lay) = event.lay() {
+        lays.push(lay)?;
+    }
+    Ok(())
+}
+
+/// The tokens that were placed, oldest first, those of homes among them.
+fn tokens(alloc: Global, history: &History) -> Result<Vec<(Place, Company)>, AllocError>
+    ensures { IfOk result (λ tokens. tokens.items ≡ tokens_of history.now.events) }
+{
+    let mut tokens = Vec::new(alloc);
+    let events = history.events();
+    for event in events {
+        push_token(&mut tokens, event)?;
+    }
+    Ok(tokens)
+}
+
+/// Adds the token that an event places, if it places one.
+fn push_token(tokens: &mut Vec<(Place, Company)>, event: &Event) -> Result<(), AllocError>
+    ensures { OnOk result (tokens.new.items ≡ tokens.old.items ++ tokens_of (event.now ∷ [])) }
+{
+    if let Some(token) = event.token() {
+        tokens.push(token)?;
+    }
+    Ok(())
 }

@@ -6,7 +6,7 @@ ghost use Rattle.operating.specs.Turn.{LayLeads};
 
 use crate::asker::asker;
 use crate::cost::amount_of;
-use crate::ground::TurnMap;
+use crate::ground::board;
 use crate::operator::Operator;
 use crate::progress::Progress;
 use crate::ruling::tell_ruling;
@@ -14,12 +14,12 @@ use board::LayFault;
 use history::{Event, History, KeptRuling, LayRule, Refusal};
 use map_tables::Lay;
 use order_grammar::Order;
-use std::alloc::AllocError;
+use std::alloc::{AllocError, Global};
 
 /// Rules a LAY of a line with this number, and lays the tile if it is obeyed. Answers how far the
 /// turn has come then.
 pub(crate) fn rule_lay(
-    map: &mut TurnMap,
+    alloc: Global,
     history: &mut History,
     by: Operator,
     line: u32,
@@ -31,7 +31,7 @@ pub(crate) fn rule_lay(
         (in_turn history.new now)) }
     ensures sound { OnOk result (IsSound history.new) }
 {
-    let mut board = map.take_board(history)?;
+    let board = board(alloc, history)?;
     let order = history.keep(&Order::Lay(lay))?;
     let asker = asker(history, by.company, progress);
     match board.try_lay(&asker, lay) {
@@ -40,10 +40,7 @@ pub(crate) fn rule_lay(
             let company = by.company;
             let cost = amount_of(cost);
             history.append(Event::Laid { company, lay, cost })?;
-            let progress = progress.with_lay(&board, &asker, lay);
-            board.put_lay(lay)?;
-            map.keep(board);
-            Ok(progress)
+            Ok(progress.with_lay(&board, &asker, lay))
         }
         Err(fault) => {
             let refusal = Refusal::Lay(lay_rule(fault)?);
@@ -53,7 +50,6 @@ pub(crate) fn rule_lay(
                 line,
                 KeptRuling::refused(refusal, order),
             )?;
-            map.keep(board);
             Ok(progress)
         }
     }

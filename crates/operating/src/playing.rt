@@ -9,7 +9,6 @@ ghost use Rattle.operating.specs.TurnCalls.{BlockCalls, TurnCalls, led_to};
 ghost use Rattle.sheets.specs.File.{players_of};
 
 use crate::forced::end_turn;
-use crate::ground::TurnMap;
 use crate::home::place_home;
 use crate::operator::Operator;
 use crate::progress::Progress;
@@ -47,9 +46,8 @@ pub fn play_company<R: Runner>(
     let president = history.president(company);
     let _few = sheets.seats();
     place_home(&mut history, company)?;
-    let mut map = TurnMap::unknown(alloc);
     let progress = rule_block(
-        &mut map,
+        alloc,
         &mut history,
         sheets,
         round,
@@ -58,14 +56,14 @@ pub fn play_company<R: Runner>(
         runner,
     )?;
     settle(&mut history, company, progress)?;
-    end_block(&mut map, &mut history, sheets, round, company, president)?;
+    end_block(alloc, &mut history, sheets, round, company, president)?;
     Ok(history)
 }
 
 /// Ends the turn of a company that has paid or withheld, by the block of its president, if it has
 /// one.
 fn end_block(
-    map: &mut TurnMap,
+    alloc: Global,
     history: &mut History,
     sheets: &Sheets,
     round: Round,
@@ -84,13 +82,13 @@ fn end_block(
     };
     let mut block = sheets.block(president, &round, company);
     let by = Operator { company, president };
-    end_turn(map, history, by, &mut block)
+    end_turn(alloc, history, by, &mut block)
 }
 
 /// Rules the block that the sheet of a company's president has for it, if it has a president.
 /// Answers how far the turn has come then.
 fn rule_block<R: Runner>(
-    map: &mut TurnMap,
+    alloc: Global,
     history: &mut History,
     sheets: &Sheets,
     round: Round,
@@ -113,5 +111,5 @@ fn rule_block<R: Runner>(
     };
     let mut block = sheets.block(president, &round, company);
     let by = Operator { company, president };
-    rule_lines(map, history, by, round, &mut block, runner)
+    rule_lines(alloc, history, by, round, &mut block, runner)
 }

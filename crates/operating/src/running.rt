@@ -10,7 +10,7 @@ ghost use Rattle.operating.specs.Runs.{rules_of_turn, run_ruled, runs_most};
 ghost use Rattle.operating.specs.InTurn.{in_turn};
 ghost use Rattle.tables.specs.Rules.{first_broken};
 
-use crate::ground::TurnMap;
+use crate::ground::board;
 use crate::operator::Operator;
 use crate::progress::Progress;
 use crate::ruling::tell_ruling;
@@ -21,13 +21,13 @@ use history::{Event, History, KeptRuling, Refusal, RunRule};
 use map_tables::Run;
 use order_grammar::Order;
 use reach::Network;
-use std::alloc::AllocError;
+use std::alloc::{AllocError, Global};
 use tables::{Amount, Company, Kind};
 
 /// What a run of a company's train does, or the first rule that it breaks. The error is want of
 /// memory.
 pub(crate) fn judge_run(
-    map: &mut TurnMap,
+    alloc: Global,
     history: &History,
     company: Company,
     kind: Kind,
@@ -42,10 +42,8 @@ pub(crate) fn judge_run(
     if let Some(rule) = rule_of_turn(history, company, kind, &progress) {
         return Ok(Err(rule));
     }
-    let board = map.take_board(history)?;
-    let judged = run_on(&board, company, kind, run, &progress.runs);
-    map.keep(board);
-    Ok(judged)
+    let board = board(alloc, history)?;
+    Ok(run_on(&board, company, kind, run, &progress.runs))
 }
 
 /// What a run does by what lies, or the first rule of runs that it breaks. Few trains of its kind

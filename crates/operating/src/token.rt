@@ -6,7 +6,7 @@ ghost use Rattle.operating.specs.Turn.{TokenLeads};
 
 use crate::asker::asker;
 use crate::cost::amount_of;
-use crate::ground::TurnMap;
+use crate::ground::board;
 use crate::operator::Operator;
 use crate::progress::Progress;
 use crate::ruling::tell_ruling;
@@ -14,12 +14,12 @@ use board::TokenFault;
 use history::{Event, History, KeptRuling, Refusal, TokenRule};
 use map_tables::Place;
 use order_grammar::Order;
-use std::alloc::AllocError;
+use std::alloc::{AllocError, Global};
 
 /// Rules a TOKEN of a line with this number, and places the token if it is obeyed. Answers how far
 /// the turn has come then.
 pub(crate) fn rule_token(
-    map: &mut TurnMap,
+    alloc: Global,
     history: &mut History,
     by: Operator,
     line: u32,
@@ -31,7 +31,7 @@ pub(crate) fn rule_token(
         (in_turn history.new now)) }
     ensures sound { OnOk result (IsSound history.new) }
 {
-    let mut board = map.take_board(history)?;
+    let board = board(alloc, history)?;
     let order = history.keep(&Order::Token(place))?;
     match board.try_token(&asker(history, by.company, progress), place) {
         Ok(cost) => {
@@ -43,8 +43,6 @@ pub(crate) fn rule_token(
                 place,
                 cost,
             })?;
-            board.put_token(place, company)?;
-            map.keep(board);
             Ok(progress.with_token())
         }
         Err(fault) => {
@@ -55,7 +53,6 @@ pub(crate) fn rule_token(
                 line,
                 KeptRuling::refused(refusal, order),
             )?;
-            map.keep(board);
             Ok(progress)
         }
     }

@@ -12,7 +12,6 @@ ghost use Rattle.turns.specs.Small.{AreSmall, IsSmallOrder, IsSmallReading};
 
 use crate::best::rule_best;
 use crate::dividend::{rule_pay, rule_withhold};
-use crate::ground::TurnMap;
 use crate::lay::rule_lay;
 use crate::operator::Operator;
 use crate::private::rule_private;
@@ -27,12 +26,12 @@ use history::{History, KeptRuling};
 use map_tables::Run;
 use order_grammar::{Fault, Order};
 use sheets::{NumberedLine, PartsLeft};
-use std::alloc::AllocError;
+use std::alloc::{AllocError, Global};
 use tables::{Kind, Round};
 
 /// Rules the lines of a company's block. Answers how far its turn has come then.
 pub(crate) fn rule_lines<R: Runner>(
-    map: &mut TurnMap,
+    alloc: Global,
     history: &mut History,
     by: Operator,
     round: Round,
@@ -52,7 +51,7 @@ pub(crate) fn rule_lines<R: Runner>(
 {
     let mut progress = Progress::start();
     while let Some(line) = block.take_line() {
-        progress = rule_line(map, history, by, round, &line, progress, runner)?;
+        progress = rule_line(alloc, history, by, round, &line, progress, runner)?;
     }
     Ok(progress)
 }
@@ -60,7 +59,7 @@ pub(crate) fn rule_lines<R: Runner>(
 /// Rules a line of a company's block, and does what it orders if it is obeyed. Answers how far the
 /// turn has come then.
 fn rule_line<R: Runner>(
-    map: &mut TurnMap,
+    alloc: Global,
     history: &mut History,
     by: Operator,
     round: Round,
@@ -81,7 +80,7 @@ fn rule_line<R: Runner>(
 {
     match line.order() {
         Ok(order) => rule_order(
-            map,
+            alloc,
             history,
             by,
             round,
@@ -105,7 +104,7 @@ fn rule_line<R: Runner>(
 /// Rules an order of a company's block, in a line with this number, and does it if it is obeyed.
 /// Answers how far the turn has come then. The runner is asked for the best runs alone.
 fn rule_order<R: Runner>(
-    map: &mut TurnMap,
+    alloc: Global,
     history: &mut History,
     by: Operator,
     round: Round,
@@ -126,15 +125,15 @@ fn rule_order<R: Runner>(
     ensures refuses { IfErr result (λ fault. fault ≡ Refused → R.may_refuse ≡ true) }
 {
     match order {
-        Order::RunBest => rule_best(map, history, by, round, line, progress, runner),
-        _ => Ok(rule_other(map, history, by, line, order, progress)?),
+        Order::RunBest => rule_best(alloc, history, by, round, line, progress, runner),
+        _ => Ok(rule_other(alloc, history, by, line, order, progress)?),
     }
 }
 
 /// Rules an order other than RUN BEST. A RAISE is ruled at the end of the turn. An order that is not
 /// named here has no place.
 fn rule_other(
-    map: &mut TurnMap,
+    alloc: Global,
     history: &mut History,
     by: Operator,
     line: u32,
@@ -150,16 +149,16 @@ fn rule_other(
     ensures sound { OnOk result (IsSound history.new) }
 {
     match order {
-        Order::Lay(lay) => rule_lay(map, history, by, line, *lay, progress),
-        Order::Token(place) => rule_token(map, history, by, line, *place, progress),
+        Order::Lay(lay) => rule_lay(alloc, history, by, line, *lay, progress),
+        Order::Token(place) => rule_token(alloc, history, by, line, *place, progress),
         Order::Run { kind, run } => {
-            rule_run_order(map, history, by, line, order, *kind, run, &progress)
+            rule_run_order(alloc, history, by, line, order, *kind, run, &progress)
         }
         Order::Pay => rule_pay(history, by, line, order, progress),
         Order::Withhold => rule_withhold(history, by, line, order, progress),
         Order::BuyTrain { kind, from } => {
             let progress = settle(history, by.company, progress)?;
-            Ok(rule_train(map.alloc, history, by, line, *kind, *from, progress)?)
+            Ok(rule_train(alloc, history, by, line, *kind, *from, progress)?)
         }
         Order::BuyOwnedPrivate { private, price } => {
             rule_private(history, by, line, *private, *price, progress)
@@ -176,7 +175,7 @@ fn rule_other(
 /// Rules an order of a line with this number that a train of a kind runs, and lets it run if it is
 /// obeyed. Answers how far the turn has come then.
 fn rule_run_order(
-    map: &mut TurnMap,
+    alloc: Global,
     history: &mut History,
     by: Operator,
     line: u32,
@@ -190,6 +189,6 @@ fn rule_run_order(
         ≡ after_run by (in_turn history.old progress.now) line order.now kind run.now) }
     ensures sound { OnOk result (IsSound history.new) }
 {
-    let judged = judge_run(map, history, by.company, kind, run, *progress)?;
+    let judged = judge_run(alloc, history, by.company, kind, run, *progress)?;
     rule_run(history, by, line, order, judged, *progress)
 }
