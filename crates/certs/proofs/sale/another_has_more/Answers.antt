@@ -14,6 +14,6 @@ returns c =
     let is = c.would_keep.ensures.kept in
     let fits : SFits w128 c.would_keep.result = record { sfits = c.would_keep.type_inv } in
     let more : to_z w128 (of_z w128 (to_z w128 (of_z w128 c.would_keep.result) +ℤ pos 1)) ≡ kept +ℤ pos 1 =
-        omega (arith, ints, is, fits, c.would_keep.ensures.not_over) in
+    omega (arith, ints, is, fits, c.would_keep.ensures.not_over) in
     c.another_has.ensures
     ∙ ap (λ (least : ℤ). another_seat_has now.seats now.events.now c.args.sale.company c.args.seat least) more
