@@ -1,10 +1,10 @@
 -- The network of four stops has what its definition says, and keeps the laws of networks.
-use Rattle.std.proofs.Common.{◌≡◌, ◌∙◌, ap, sym, subst, refl, ℕ, ◌<◌, ◌≤◌, lit<, lit≤, true, false, [], length, map, get_or}
+use Rattle.std.proofs.Common.{◌≡◌, ◌∙◌, ap, sym, subst, refl, ◌<◌, ◌≤◌, lit<, lit≤, length, get_or}
 use Rattle.std.proofs.lemmas.List.{get_or-map}
 use Rattle.library_tests.specs.FourStops.{four_stops, lying_in, standing_in}
 use Rattle.map_tables.specs.Hex.{hexes, index_of}
 use Rattle.map_tables.specs.Laws.{AreLinksOf, NeighboursPair}
-use Rattle.map_tables.specs.Place.{joined_hex, joined_stop_of, stop_at, stop_index_of}
+use Rattle.map_tables.specs.Place.{joined_hex, stop_at, stop_index_of}
 use Rattle.map_tables.specs.declared.hex.Hex.{Hex}
 use Rattle.map_tables.specs.declared.hex.Hex.TheVariants.{A9, A11, G11, G13, H10, H12, I1, J2}
 use Rattle.map_tables.specs.declared.place.Stop.{Stop}
@@ -12,8 +12,8 @@ use Rattle.map_tables.specs.declared.place.StopNumber.{StopNumber}
 use Rattle.map_tables.specs.declared.place.StopNumber.TheVariants.{First, Second}
 use Rattle.map_tables.specs.declared.track.End.TheVariants.{Stop as AtStop}
 use Rattle.map_tables.specs.declared.track.Link.{Link}
-use Rattle.reach.specs.Lawful.{IsLawful, PartsHaveOneStop}
-use Rattle.reach.specs.Position.{InHex, IsAmong, at_stop, empty_hex, in_hex, links_of, no_stop, value_of}
+use Rattle.reach.specs.Lawful.{IsLawful}
+use Rattle.reach.specs.Position.{InHex, IsAmong, at_stop, empty_hex, in_hex, no_stop}
 
 -- a hex stands at its number
 at_index : (hex : Hex) → get_or hexes (index_of hex) A9 ≡ hex
@@ -44,10 +44,10 @@ no_second hex = refl
 
 -- the links of each hex stand in order
 in_order : (hex : Hex) → AreLinksOf hex (lying_in hex).links
-in_order G11 = record { in_order = refl; here = (refl, refl, refl, tt); few = lit≤ tt }
-in_order G13 = record { in_order = refl; here = (refl, refl, tt); few = lit≤ tt }
-in_order H10 = record { in_order = refl; here = (refl, refl, tt); few = lit≤ tt }
-in_order H12 = record { in_order = refl; here = (refl, refl, refl, refl, tt); few = lit≤ tt }
+in_order G11 = record { in_order = refl; here = (refl, (refl, (refl, tt))); few = lit≤ tt }
+in_order G13 = record { in_order = refl; here = (refl, (refl, tt)); few = lit≤ tt }
+in_order H10 = record { in_order = refl; here = (refl, (refl, tt)); few = lit≤ tt }
+in_order H12 = record { in_order = refl; here = (refl, (refl, (refl, (refl, tt)))); few = lit≤ tt }
 in_order hex = record { in_order = refl; here = tt; few = lit≤ tt }
 
 -- no stop is worth more than 80

@@ -2,7 +2,7 @@
 -- NYC fills, and G13 is a red area. Track joins each two of them that lie side by side: all but H10 and G13. In H12 a piece of
 -- plain track goes by the city as well, from H10 to G11. The Gulf and the Canadian West are red, as on each network, and no
 -- track leads to them.
-use Rattle.std.specs.Prelude.{ℕ, Bool, true, false, Option, Some, None, List, [], ◌∷◌, get_or, map}
+use Rattle.std.specs.Prelude.{ℕ, true, false, Option, Some, None, List, [], ◌∷◌, get_or, map}
 use Rattle.map_tables.specs.Hex.{hexes}
 use Rattle.map_tables.specs.declared.hex.Hex.{Hex}
 use Rattle.map_tables.specs.declared.hex.Hex.TheVariants.{A11, G11, G13, H10, H12, J2}

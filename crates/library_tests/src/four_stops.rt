@@ -1,5 +1,5 @@
 //! A network of four stops, which no board is.
-ghost use Rattle.std.specs.Prelude.{◌≡◌};
+ghost use Rattle.std.specs.Prelude.{◌≡◌, false, true};
 ghost use Rattle.library_tests.specs.FourStops.{four_stops, lying_in, spoke, standing_in, told};
 ghost use Rattle.map_tables.specs.declared.place.StopNumber.TheVariants.{First};
 ghost use Rattle.reach.specs.Position.{at_stop};
@@ -91,38 +91,45 @@ fn spoke(hex: Hex, side: Side) -> Link
     }
 }
 
+/// The links of a hex.
+fn links_in(hex: Hex) -> Links
+    ensures { result.items ≡ (lying_in hex).links }
+{
+    let mut links = ArrayVec::new();
+    match hex {
+        Hex::G11 => {
+            links.push(spoke(hex, Side::SouthWest));
+            links.push(spoke(hex, Side::East));
+            links.push(spoke(hex, Side::SouthEast));
+        }
+        Hex::G13 => {
+            links.push(spoke(hex, Side::SouthWest));
+            links.push(spoke(hex, Side::West));
+        }
+        Hex::H10 => {
+            links.push(spoke(hex, Side::NorthEast));
+            links.push(spoke(hex, Side::East));
+        }
+        Hex::H12 => {
+            links.push(Link {
+                hex,
+                a: End::Side(Side::West),
+                b: End::Side(Side::NorthWest),
+            });
+            links.push(spoke(hex, Side::West));
+            links.push(spoke(hex, Side::NorthWest));
+            links.push(spoke(hex, Side::NorthEast));
+        }
+        _ => {}
+    }
+    links
+}
+
 impl Network for FourStops {
     ghost position = { λ network. four_stops };
 
     fn links(&self, hex: Hex) -> Links {
-        let mut links = ArrayVec::new();
-        match hex {
-            Hex::G11 => {
-                links.push(spoke(hex, Side::SouthWest));
-                links.push(spoke(hex, Side::East));
-                links.push(spoke(hex, Side::SouthEast));
-            }
-            Hex::G13 => {
-                links.push(spoke(hex, Side::SouthWest));
-                links.push(spoke(hex, Side::West));
-            }
-            Hex::H10 => {
-                links.push(spoke(hex, Side::NorthEast));
-                links.push(spoke(hex, Side::East));
-            }
-            Hex::H12 => {
-                links.push(Link {
-                    hex,
-                    a: End::Side(Side::West),
-                    b: End::Side(Side::NorthWest),
-                });
-                links.push(spoke(hex, Side::West));
-                links.push(spoke(hex, Side::NorthWest));
-                links.push(spoke(hex, Side::NorthEast));
-            }
-            _ => {}
-        }
-        links
+        links_in(hex)
     }
 
     fn value(&self, stop: Stop) -> Amount {
