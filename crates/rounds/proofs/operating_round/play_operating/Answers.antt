@@ -1,10 +1,11 @@
 use Rattle.std.proofs.Common.{◌≡◌, [], Result, Err, refl, sym, ap, subst, ◌∙◌}
 use Rattle.std.proofs.lemmas.Result.{err_from_is_err_and}
 use Rattle.history.specs.LookBack.{Game}
-use Rattle.operating.specs.Calls.{Makes}
+use Rattle.operating.proofs.Calls.{broken_off}
+use Rattle.operating.specs.Calls.{Makes, Unasked}
 use Rattle.rounds.proofs.Called.{turns_followed, turns_of_round}
 use Rattle.rounds.proofs.WholeOperatingRound.{round_opened, whole_round}
-use Rattle.rounds.specs.GameCalls.{OperatingCalls}
+use Rattle.rounds.specs.GameCalls.{IsFinished, OperatingCalls, TurnsCall}
 use Rattle.rounds.specs.declared.fault.PlayFault.{PlayFault}
 use Rattle.rounds.specs.declared.fault.PlayFault.TheVariants.{Memory}
 use Rattle.rounds.proofs.operating_round.play_operating.Goals as goal
@@ -22,3 +23,12 @@ returns-in_err-tell_all_left-clause-calls g c =
     subst (λ (met : Result Game PlayFault). Makes g.R.Runner.earns c.args.runner.now (OperatingCalls c.args.sheets.now c.args.round c.args.history met) c.take_turns.new.runner) (sym is_fault)
     (turns_of_round g.R.Runner.earns c.args.sheets.now c.args.round c.args.history c.tell_revenues.new.self (Err Memory) _ _ is
     (turns_followed g.R.Runner.earns c.args.sheets.now c.args.round c.tell_revenues.new.self c.in_ok-history.history (Err Memory) _ _ c.in_ok-history.ensures.calls (refl, refl)))
+
+pub returns-in_err-history-clause-calls : goal.returns-in_err-history-clause-calls
+returns-in_err-history-clause-calls g c =
+    let told = err_from_is_err_and c.from_residual-in_err-history.result c.from_residual-in_err-history.ensures.1 in
+    let is_fault : c.from_residual-in_err-history.result ≡ Err c.in_err-history.field-0.0 = told.1 ∙ ap Err told.2 in
+    let is = round_opened c.args.sheets.now c.args.round c.args.history c.begin.new.history c.rule_standing_lines.new.history c.tell_revenues.new.self c.requires.seats c.in_ok-begin.ensures.event c.in_ok-rule_standing_lines.ensures.seats c.in_ok-rule_standing_lines.ensures.events c.in_ok-tell_revenues.ensures.ok in
+    subst (λ (met : Result Game PlayFault). Makes g.R.Runner.earns c.args.runner.now (OperatingCalls c.args.sheets.now c.args.round c.args.history met) c.take_turns.new.runner) (sym is_fault)
+    (turns_of_round g.R.Runner.earns c.args.sheets.now c.args.round c.args.history c.tell_revenues.new.self (Err c.in_err-history.field-0.0) _ _ is
+    (broken_off g.R.Runner.earns (TurnsCall c.args.sheets.now c.args.round) (Unasked Memory (IsFinished c.args.sheets.now c.args.round)) c.tell_revenues.new.self c.in_err-history.field-0.0 _ _ c.in_err-history.ensures.calls))
