@@ -6,7 +6,9 @@ ghost use Rattle.operating.specs.Ground.{ground_now};
 
 use board::{Board, BoardFault};
 use history::History;
+use map_tables::{Lay, Place};
 use std::alloc::{AllocError, Global};
+use tables::Company;
 
 /// What a turn knows of the map: the board that it used last, kept so that not every line makes one.
 #[derive(Drop)]
@@ -45,9 +47,27 @@ impl TurnMap {
 fn lies(board: &Board, history: &History) -> bool
     ensures { IsTrue result → board.now ≡ ground_now history.now.events }
 {
-    board.phase() == history.phase()
-        && board.lays() == history.lays()
-        && board.tokens() == history.tokens()
+    if board.phase().place() != history.phase().place() {
+        return false;
+    }
+    if !are_same_tiles(board.lays(), history.lays()) {
+        return false;
+    }
+    are_same_tokens(board.tokens(), history.tokens())
+}
+
+/// Whether the same tiles were laid.
+fn are_same_tiles(lays: &[Lay], others: &[Lay]) -> bool
+    ensures { IsTrue result → lays.now ≡ others.now }
+{
+    lays == others
+}
+
+/// Whether the same tokens were placed.
+fn are_same_tokens(tokens: &[(Place, Company)], others: &[(Place, Company)]) -> bool
+    ensures { IsTrue result → tokens.now ≡ others.now }
+{
+    tokens == others
 }
 
 /// What lies on the map, which fits there. The only error is want of memory.
