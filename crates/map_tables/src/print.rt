@@ -1,5 +1,5 @@
 ghost use Rattle.std.specs.Prelude.{◌≡◌};
-ghost use Rattle.map_tables.specs.Print.{always, grey_of, print_of, printed_links_of, red_of, slots_of_kind, white, yellow_of};
+ghost use Rattle.map_tables.specs.Print.{print_of, printed_links_of};
 ghost use Rattle.map_tables.specs.PrintedHex.{print_seen};
 
 use crate::hex::Hex;
@@ -89,44 +89,124 @@ struct PrintedHex {
     track: &'static [Segment],
 }
 
+/// A red area, whose one stop takes no token: what the stop is worth before phase 5 and from then on,
+/// and the track.
+macro_rules! red {
+    ($before:expr, $from:expr, $track:expr) => {
+        &PrintedHex {
+            kind: HexKind::Red,
+            cost: 0,
+            colour: Colour::White,
+            stops: 1,
+            slots: 0,
+            value: PrintedValue {
+                before_phase_five: $before,
+                from_phase_five: $from,
+            },
+            track: &$track,
+        }
+    };
+}
+
+/// A grey hex: how many stops it has, how many tokens each takes and what it is worth, and the track.
+macro_rules! grey {
+    ($stops:expr, $slots:expr, $value:expr, $track:expr) => {
+        &PrintedHex {
+            kind: HexKind::Grey,
+            cost: 0,
+            colour: Colour::White,
+            stops: $stops,
+            slots: $slots,
+            value: PrintedValue {
+                before_phase_five: $value,
+                from_phase_five: $value,
+            },
+            track: &$track,
+        }
+    };
+}
+
+/// A hex whose print is a yellow tile with cities, each of which takes one token: the tiles that it
+/// takes, how many cities it has, its cost, what each is worth, and the track.
+macro_rules! yellow {
+    ($kind:expr, $stops:expr, $cost:expr, $value:expr, $track:expr) => {
+        &PrintedHex {
+            kind: HexKind::Open($kind),
+            cost: $cost,
+            colour: Colour::Yellow,
+            stops: $stops,
+            slots: 1,
+            value: PrintedValue {
+                before_phase_five: $value,
+                from_phase_five: $value,
+            },
+            track: &$track,
+        }
+    };
+}
+
+/// A hex without track, whose stops are worth nothing until a tile lies: the tiles that it takes, how
+/// many stops it has and how many tokens each takes, and its cost.
+macro_rules! white {
+    ($kind:expr, $stops:expr, $slots:expr, $cost:expr) => {
+        &PrintedHex {
+            kind: HexKind::Open($kind),
+            cost: $cost,
+            colour: Colour::White,
+            stops: $stops,
+            slots: $slots,
+            value: PrintedValue {
+                before_phase_five: 0,
+                from_phase_five: 0,
+            },
+            track: &[],
+        }
+    };
+}
+
 /// The print of a hex.
 #[tactic(auto, unfolding(crate::specs::Hex::index_of, crate::specs::Print::groups, crate::specs::Print::plain_hexes, crate::specs::Print::print_of))]
-fn print(hex: Hex) -> PrintedHex
-    ensures { print_seen result ≡ print_of hex }
+fn print(hex: Hex) -> &'static PrintedHex
+    ensures { print_seen result.now ≡ print_of hex }
 {
     match hex {
         // Red areas.
-        Hex::F2 => red(40, 70, &[NE_0, E_0, SE_0]),
-        Hex::J2 => red(30, 60, &[NE_0, E_0]),
-        Hex::I1 => red(30, 60, &[E_0]),
-        Hex::A11 => red(30, 50, &[SW_0, SE_0]),
-        Hex::A9 => red(30, 50, &[SE_0]),
-        Hex::K13 => red(30, 40, &[NW_0, NE_0]),
-        Hex::B24 => red(20, 30, &[SW_0, W_0]),
+        Hex::F2 => red!(40, 70, [NE_0, E_0, SE_0]),
+        Hex::J2 => red!(30, 60, [NE_0, E_0]),
+        Hex::I1 => red!(30, 60, [E_0]),
+        Hex::A11 => red!(30, 50, [SW_0, SE_0]),
+        Hex::A9 => red!(30, 50, [SE_0]),
+        Hex::K13 => red!(30, 40, [NW_0, NE_0]),
+        Hex::B24 => red!(20, 30, [SW_0, W_0]),
         // Grey.
-        Hex::D2 => grey_city(20, &[E_0, SE_0]),
-        Hex::F6 => grey_city(30, &[SW_0, SE_0]),
-        Hex::E9 => grey_track(&[NW_NE]),
-        Hex::H12 => grey_city(10, &[W_E, W_0, E_0]),
-        Hex::D14 => grey_city(20, &[SW_0, W_0, E_0]),
-        Hex::C15 => grey_town(10, &[W_0, NE_0]),
-        Hex::K15 => grey_city(20, &[NW_0]),
-        Hex::A17 => grey_track(&[SW_SE]),
-        Hex::A19 => grey_city(40, &[SW_0, SE_0]),
-        Hex::I19 | Hex::F24 => grey_town(10, &[W_0, NW_0]),
-        Hex::D24 => grey_track(&[SW_W]),
+        Hex::D2 => grey!(1, 1, 20, [E_0, SE_0]),
+        Hex::F6 => grey!(1, 1, 30, [SW_0, SE_0]),
+        Hex::E9 => grey!(0, 0, 0, [NW_NE]),
+        Hex::H12 => grey!(1, 1, 10, [W_E, W_0, E_0]),
+        Hex::D14 => grey!(1, 1, 20, [SW_0, W_0, E_0]),
+        Hex::C15 => grey!(1, 0, 10, [W_0, NE_0]),
+        Hex::K15 => grey!(1, 1, 20, [NW_0]),
+        Hex::A17 => grey!(0, 0, 0, [SW_SE]),
+        Hex::A19 => grey!(1, 1, 40, [SW_0, SE_0]),
+        Hex::I19 | Hex::F24 => grey!(1, 0, 10, [W_0, NW_0]),
+        Hex::D24 => grey!(0, 0, 0, [SW_W]),
         // Yellow print.
-        Hex::I15 => yellow(TileKind::CityB, 0, 30, &[SW_0, E_0]),
-        Hex::E23 => yellow(TileKind::CityB, 0, 30, &[NE_0, SE_0]),
-        Hex::G19 => yellow(TileKind::CitiesNY, 80, 40, &[SW_1, NE_0]),
-        Hex::E5 | Hex::D10 => yellow(TileKind::CitiesOO, 80, 0, &[]),
-        Hex::E11 | Hex::H18 => yellow(TileKind::CitiesOO, 0, 0, &[]),
+        Hex::I15 => yellow!(TileKind::CityB, 1, 0, 30, [SW_0, E_0]),
+        Hex::E23 => yellow!(TileKind::CityB, 1, 0, 30, [NE_0, SE_0]),
+        Hex::G19 => yellow!(TileKind::CitiesNY, 2, 80, 40, [SW_1, NE_0]),
+        Hex::E5 | Hex::D10 => yellow!(TileKind::CitiesOO, 2, 80, 0, []),
+        Hex::E11 | Hex::H18 => yellow!(TileKind::CitiesOO, 2, 0, 0, []),
         // White, without track.
-        Hex::E19 | Hex::H4 | Hex::B10 | Hex::H10 | Hex::H16 | Hex::B16 => white(TileKind::City, 0),
-        Hex::F4 | Hex::J14 | Hex::F22 => white(TileKind::City, 80),
-        Hex::F16 => white(TileKind::City, 120),
-        Hex::E7 | Hex::B20 | Hex::D4 | Hex::F10 => white(TileKind::Town, 0),
-        Hex::G7 | Hex::G17 | Hex::F20 => white(TileKind::TwoTowns, 0),
+        Hex::E19 | Hex::H4 | Hex::B10 | Hex::H10 | Hex::H16 | Hex::B16 => white!(
+            TileKind::City,
+            1,
+            1,
+            0
+        ),
+        Hex::F4 | Hex::J14 | Hex::F22 => white!(TileKind::City, 1, 1, 80),
+        Hex::F16 => white!(TileKind::City, 1, 1, 120),
+        Hex::E7 | Hex::B20 | Hex::D4 | Hex::F10 => white!(TileKind::Town, 1, 0, 0),
+        Hex::G7 | Hex::G17 | Hex::F20 => white!(TileKind::TwoTowns, 2, 0, 0),
         Hex::I13
         | Hex::D18
         | Hex::B12
@@ -162,7 +242,7 @@ fn print(hex: Hex) -> PrintedHex
         | Hex::I9
         | Hex::J4
         | Hex::J6
-        | Hex::J8 => white(TileKind::Plain, 0),
+        | Hex::J8 => white!(TileKind::Plain, 0, 0, 0),
         Hex::G15
         | Hex::C17
         | Hex::C21
@@ -172,111 +252,7 @@ fn print(hex: Hex) -> PrintedHex
         | Hex::G13
         | Hex::I11
         | Hex::J10
-        | Hex::J12 => white(TileKind::Plain, 120),
-        Hex::D6 | Hex::I17 | Hex::B18 | Hex::C19 => white(TileKind::Plain, 80),
-    }
-}
-
-/// A red area, whose one stop takes no token.
-fn red(before: Amount, from: Amount, track: &'static [Segment]) -> PrintedHex
-    ensures { print_seen result ≡ red_of before from track.now }
-{
-    PrintedHex {
-        kind: HexKind::Red,
-        cost: 0,
-        colour: Colour::White,
-        stops: 1,
-        slots: 0,
-        value: PrintedValue {
-            before_phase_five: before,
-            from_phase_five: from,
-        },
-        track,
-    }
-}
-
-/// A grey hex with a city, which takes one token.
-fn grey_city(value: Amount, track: &'static [Segment]) -> PrintedHex
-    ensures { print_seen result ≡ grey_of 1 1 value track.now }
-{
-    grey(1, 1, value, track)
-}
-
-/// A grey hex with a town.
-fn grey_town(value: Amount, track: &'static [Segment]) -> PrintedHex
-    ensures { print_seen result ≡ grey_of 1 0 value track.now }
-{
-    grey(1, 0, value, track)
-}
-
-/// A grey hex without a stop.
-fn grey_track(track: &'static [Segment]) -> PrintedHex
-    ensures { print_seen result ≡ grey_of 0 0 0 track.now }
-{
-    grey(0, 0, 0, track)
-}
-
-/// A grey hex with so many stops, and so many tokens that each takes.
-fn grey(stops: usize, slots: u8, value: Amount, track: &'static [Segment]) -> PrintedHex
-    ensures { print_seen result ≡ grey_of stops slots value track.now }
-{
-    PrintedHex {
-        kind: HexKind::Grey,
-        cost: 0,
-        colour: Colour::White,
-        stops,
-        slots,
-        value: always(value),
-        track,
-    }
-}
-
-/// A hex whose print is a yellow tile with cities.
-fn yellow(kind: TileKind, cost: Amount, value: Amount, track: &'static [Segment]) -> PrintedHex
-    ensures { print_seen result ≡ yellow_of kind cost value track.now }
-{
-    PrintedHex {
-        kind: HexKind::Open(kind),
-        cost,
-        colour: Colour::Yellow,
-        stops: kind.stops(),
-        slots: slots(kind),
-        value: always(value),
-        track,
-    }
-}
-
-/// A hex without track, whose stops are worth nothing until a tile lies.
-fn white(kind: TileKind, cost: Amount) -> PrintedHex
-    ensures { print_seen result ≡ white kind cost }
-{
-    PrintedHex {
-        kind: HexKind::Open(kind),
-        cost,
-        colour: Colour::White,
-        stops: kind.stops(),
-        slots: slots(kind),
-        value: always(0),
-        track: &[],
-    }
-}
-
-/// How many tokens each stop of a printed hex of a kind takes.
-fn slots(kind: TileKind) -> u8
-    ensures { result ≡ slots_of_kind kind }
-{
-    match kind {
-        TileKind::Plain | TileKind::Town | TileKind::TwoTowns => 0,
-        TileKind::City | TileKind::CityB | TileKind::CitiesNY | TileKind::CitiesOO => 1,
-    }
-}
-
-/// A value that is the same in all phases.
-fn always(value: Amount) -> PrintedValue
-    ensures { result ≡ always value }
-{
-    PrintedValue {
-        before_phase_five: value,
-        from_phase_five: value,
+        | Hex::J12 => white!(TileKind::Plain, 0, 0, 120),
+        Hex::D6 | Hex::I17 | Hex::B18 | Hex::C19 => white!(TileKind::Plain, 0, 0, 80),
     }
 }
