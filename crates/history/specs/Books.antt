@@ -170,5 +170,5 @@ pub record AreBooksOf (books : Books) (events : List Event) : Type 0 where
       IsNet (λ e. one_if (any_comes owner (train_moved e))) (λ e. one_if (any_goes owner (train_moved e))) events (stable_net books.stables owner)
   pub tokens : (company : Company) → IsCounted (tokens_placed events company) events (count_at books.tokens (place_of_company company))
   pub operated : (company : Company) → flag_of books.operated company ≡ has_operated events company
-  pub sales : (company : Company) (seat : Seat) → seat.0 < 256 → sale_in books.sales company seat ≡ has_sold_in_round events company seat
-  pub rulings : (seat : Seat) → seat.0 < 256 → IsCounted (rulings_in_round events seat) events (count_at books.rulings seat.0)
+  pub sales : (company : Company) (seat : Seat) → seat.0 < 6 → sale_in books.sales company seat ≡ has_sold_in_round events company seat
+  pub rulings : (seat : Seat) → seat.0 < 6 → IsCounted (rulings_in_round events seat) events (count_at books.rulings seat.0)

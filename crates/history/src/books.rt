@@ -8,9 +8,8 @@ ghost use Rattle.history.specs.declared.event.Event.{Event as TheEvent};
 use crate::event::Event;
 use crate::nets::{note_payment, note_stable, note_train, note_transfer};
 use crate::noting::{
-    SEATS_MOST, no_rulings, no_sales, note, note_arrival, note_bankrupt, note_bids, note_broken,
-    note_float, note_par, note_president, note_ruling, note_sale, note_square, note_token,
-    note_turn,
+    note, note_arrival, note_bankrupt, note_bids, note_broken, note_float, note_par,
+    note_president, note_ruling, note_sale, note_square, note_token, note_turn,
 };
 use crate::owners::Owners;
 use crate::shares::Tenths;
@@ -44,8 +43,8 @@ pub struct Books {
     pub(crate) stables: [Money; 11],
     pub(crate) tokens: [usize; 8],
     pub(crate) operated: [bool; 8],
-    pub(crate) sales: [[bool; SEATS_MOST]; 8],
-    pub(crate) rulings: [usize; SEATS_MOST],
+    pub(crate) sales: [[bool; PLAYERS_MOST]; 8],
+    pub(crate) rulings: [usize; PLAYERS_MOST],
 }
 
 impl Books {
@@ -55,7 +54,7 @@ impl Books {
     {
         Books {
             told: 0,
-            owners: Owners::unsold(),
+            owners: Owners { said: [None; 6] },
             bids: [[None; PLAYERS_MOST]; 6],
             sv_price: None,
             actor: None,
@@ -74,8 +73,8 @@ impl Books {
             stables: [0; 11],
             tokens: [0; 8],
             operated: [false; 8],
-            sales: no_sales(),
-            rulings: no_rulings(),
+            sales: [[false; PLAYERS_MOST]; 8],
+            rulings: [0; PLAYERS_MOST],
         }
     }
 

@@ -15,9 +15,6 @@ use crate::bids::note_bid_on;
 use crate::event::{Bidding, Event, Shareholder};
 use tables::{Amount, Company, PLAYERS_MOST, Private, Seat, Square};
 
-/// How many numbers of seats there are.
-pub(crate) const SEATS_MOST: usize = 256;
-
 /// Notes what an event says of a thing, if it speaks of it.
 pub(crate) fn note<T: Topic>(said: &mut Option<T::Word>, topic: &T, event: &Event)
 where
@@ -143,15 +140,15 @@ pub(crate) fn note_turn(operated: &mut [bool; 8], event: &Event)
 }
 
 /// A table in which no sale is told of.
-pub(crate) fn no_sales() -> [[bool; SEATS_MOST]; 8]
+pub(crate) fn no_sales() -> [[bool; PLAYERS_MOST]; 8]
     ensures { (company : Company) (seat : Seat) → sale_in result company seat ≡ false }
 {
-    [[false; SEATS_MOST]; 8]
+    [[false; PLAYERS_MOST]; 8]
 }
 
 /// Notes which tenths a seat sells by an event; one that begins a round empties the table.
-pub(crate) fn note_sale(sales: &mut [[bool; SEATS_MOST]; 8], event: &Event)
-    ensures { (company : Company) (seat : Seat) → seat.0 < 256 → sale_in sales.new company seat
+pub(crate) fn note_sale(sales: &mut [[bool; PLAYERS_MOST]; 8], event: &Event)
+    ensures { (company : Company) (seat : Seat) → seat.0 < 6 → sale_in sales.new company seat
         ≡ flag_then event.now (is_some (sale_said company seat (transfer_of event.now)))
         (sale_in sales.old company seat) }
 {
@@ -169,27 +166,30 @@ pub(crate) fn note_sale(sales: &mut [[bool; SEATS_MOST]; 8], event: &Event)
 }
 
 /// Notes that tenths of a company went from a seat to the bank pool, if they did.
-fn note_sale_of(sales: &mut [bool; SEATS_MOST], from: Shareholder, to: Shareholder)
-    ensures { (seat : Seat) → seat.0 < 256 → slice_index_or sales.new seat.0 false
+fn note_sale_of(sales: &mut [bool; PLAYERS_MOST], from: Shareholder, to: Shareholder)
+    ensures { (seat : Seat) → seat.0 < 6 → slice_index_or sales.new seat.0 false
         ≡ (slice_index_or sales.old seat.0 false
         || (same_shareholder from (OfSeat seat) && same_shareholder to BankPool)) }
 {
     if let (Shareholder::Seat(seat), Shareholder::BankPool) = (from, to) {
-        sales[seat.number()] = true;
+        let number = seat.number();
+        if number < PLAYERS_MOST {
+            sales[number] = true;
+        }
     }
 }
 
 /// A table in which no line was ruled.
-pub(crate) fn no_rulings() -> [usize; SEATS_MOST]
+pub(crate) fn no_rulings() -> [usize; PLAYERS_MOST]
     ensures { (entry : ℕ) → count_at result entry ≡ 0 }
 {
-    [0; SEATS_MOST]
+    [0; PLAYERS_MOST]
 }
 
 /// Notes of whose sheet an event rules a line, in a table of how many lines were ruled of each
 /// seat's; one that begins a round empties the table.
-pub(crate) fn note_ruling(rulings: &mut [usize; SEATS_MOST], event: &Event)
-    ensures { (seat : Seat) → seat.0 < 256 → count_at rulings.old seat.0 < 2 ^ 63 →
+pub(crate) fn note_ruling(rulings: &mut [usize; PLAYERS_MOST], event: &Event)
+    ensures { (seat : Seat) → seat.0 < 6 → count_at rulings.old seat.0 < 2 ^ 63 →
         count_at rulings.new seat.0 ≡ rulings_then seat (count_at rulings.old seat.0) event.now }
 {
     if event.round().is_some() {
@@ -197,7 +197,9 @@ pub(crate) fn note_ruling(rulings: &mut [usize; SEATS_MOST], event: &Event)
         return;
     }
     if let Some(seat) = event.ruled() {
-        let count = rulings[seat.number()];
-        rulings[seat.number()] = count.saturating_add(1);
+        let number = seat.number();
+        if number < PLAYERS_MOST {
+            rulings[number] = rulings[number].saturating_add(1);
+        }
     }
 }

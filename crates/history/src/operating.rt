@@ -2,8 +2,9 @@
 ghost use Rattle.std.specs.Prelude.{◌≡◌};
 ghost use Rattle.history.specs.Operating.{has_operated, rulings_in_round, tokens_placed};
 
+use crate::event::Event;
 use crate::look_back::Past;
-use tables::{Company, Seat};
+use tables::{Company, PLAYERS_MOST, Seat};
 
 impl Past<'_> {
     /// How many tokens a company has placed, that of its home among them.
@@ -24,6 +25,28 @@ impl Past<'_> {
     pub fn rulings_in_round(&self, seat: Seat) -> usize
         ensures { result ≡ rulings_in_round self.now.events.now seat }
     {
-        self.books.rulings[seat.number()]
+        let number = seat.number();
+        if number >= PLAYERS_MOST {
+            return count_rulings(self.events, seat);
+        }
+        self.books.rulings[number]
     }
+}
+
+/// How many lines of a seat's sheet were ruled since the last round began, by one look over the
+/// events.
+fn count_rulings(events: &[Event], seat: Seat) -> usize
+    ensures { result ≡ rulings_in_round events.now seat }
+{
+    let mut count = 0;
+    for event in events {
+        if event.round().is_some() {
+            count = 0;
+            continue;
+        }
+        if matches!(event.ruled(), Some(by) if by == seat) {
+            count += 1;
+        }
+    }
+    count
 }

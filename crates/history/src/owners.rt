@@ -15,13 +15,6 @@ pub struct Owners {
 }
 
 impl Owners {
-    /// No private is sold.
-    pub(crate) fn unsold() -> Owners
-        ensures { (private : Private) → word_in result private ≡ None }
-    {
-        Owners { said: [None; 6] }
-    }
-
     /// Notes what an event says of the owner of a private, if it speaks of one.
     pub(crate) fn note(&mut self, event: &Event)
         ensures { (private : Private) → word_in self.new private

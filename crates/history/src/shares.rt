@@ -3,12 +3,12 @@ ghost use Rattle.std.specs.Prelude.{◌≡◌, option_map, pos};
 ghost use Rattle.history.specs.LookBack.{IsModerate};
 ghost use Rattle.history.specs.Shares.{arrival_of, has_sold_in_round, is_floated, is_started, par_of, president_of, shares_of, square_of, start_tenths};
 
-use crate::aspect::balance;
+use crate::aspect::{InRound, balance, last_said};
 use crate::event::Shareholder;
 use crate::look_back::Past;
 use crate::nets::entry_of_tenths;
-use crate::topics::Shares;
-use tables::{Amount, Company, Money, Seat, Square};
+use crate::topics::{SaleBy, Shares};
+use tables::{Amount, Company, Money, PLAYERS_MOST, Seat, Square};
 
 /// A number of tenths of a company: what came in less what went out, from 0 to 10 in a sound game.
 pub type Tenths = i128;
@@ -52,7 +52,13 @@ impl Past<'_> {
     pub fn has_sold_in_round(&self, company: Company, seat: Seat) -> bool
         ensures { result ≡ has_sold_in_round self.now.events.now company seat }
     {
-        self.books.sales[company.place()][seat.number()]
+        let number = seat.number();
+        if number >= PLAYERS_MOST {
+            return last_said(&InRound(SaleBy(company, seat)), self.events)
+                .flatten()
+                .is_some();
+        }
+        self.books.sales[company.place()][number]
     }
 
     /// The square of a company's token.

@@ -4,7 +4,7 @@ ghost use Rattle.history.specs.Event.{bidding_of, obeyed_of, payment_of, phase_s
 ghost use Rattle.history.specs.LookBack.{actor_of, paid_by, paid_to};
 ghost use Rattle.history.specs.Offers.{offered_in};
 ghost use Rattle.history.specs.Orders.{limit_in, par_of_baltimore_in, said_by};
-ghost use Rattle.history.specs.Shares.{brought_to, taken_from};
+ghost use Rattle.history.specs.Shares.{brought_to, sale_said, taken_from};
 
 use crate::aspect::{Account, Topic};
 use crate::event::{Bidding, Event, Party, Shareholder};
@@ -158,6 +158,26 @@ impl Account for Shares {
                 Amount::from(transfer.tenths)
             }
             _ => 0,
+        }
+    }
+}
+
+/// A seat's sale of tenths of a company: how many go from the seat to the bank pool.
+#[derive(Clone, Copy)]
+pub(crate) struct SaleBy(pub Company, pub Seat);
+
+impl Topic for SaleBy {
+    type Word = u8;
+
+    ghost word = { λ a event. sale_said a.0 a.1 (transfer_of event) };
+
+    fn word(&self, event: &Event) -> Option<u8> {
+        match event.transfer() {
+            Some(transfer)
+                if transfer.company == self.0
+                    && transfer.from == Shareholder::Seat(self.1)
+                    && transfer.to == Shareholder::BankPool => { Some(transfer.tenths) }
+            _ => None,
         }
     }
 }

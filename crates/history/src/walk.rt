@@ -41,14 +41,21 @@ impl<'a> Walk<'a> {
         ensures events { self.new.events.now ≡ self.old.events.now }
         ensures passed { self.new.passed ≡ end }
     {
-        let mut walk = *self;
-        if walk.passed > end {
-            walk = Walk::along(self.events);
+        if self.passed > end {
+            self.restart();
         }
-        while walk.passed < end {
-            walk.pass();
+        while self.passed < end {
+            self.pass();
         }
-        *self = walk;
+    }
+
+    /// Goes back to the start.
+    #[inline(never)]
+    fn restart(&mut self)
+        ensures events { self.new.events.now ≡ self.old.events.now }
+        ensures passed { self.new.passed ≡ 0 }
+    {
+        *self = Walk::along(self.events);
     }
 
     /// Passes the next event.

@@ -1,5 +1,5 @@
 use Rattle.std.proofs.Common.{false, refl}
-use Rattle.history.proofs.Empty.{no_bid, no_count, no_net, none_counted, nothing_said, same_throughout}
+use Rattle.history.proofs.Empty.{no_bid, no_count, no_net, no_sale, no_word, nothing_said, same_throughout}
 use Rattle.history.specs.Books.{party_entry, tenths_entry, train_entry, train_row}
 use Rattle.history.specs.Event.{payment_of, stable_of, train_moved, transfer_of}
 use Rattle.history.specs.LookBack.{paid_by, paid_to}
@@ -11,7 +11,7 @@ use Rattle.history.proofs.books.Books.start.Goals as goal
 pub returns : goal.returns
 returns c = record {
   told = refl;
-  owners = c.unsold.ensures;
+  owners = no_word;
   bids = no_bid;
   sv_price = refl;
   actor = refl;
@@ -33,6 +33,6 @@ returns c = record {
       no_net (λ e. one_if (any_comes owner (train_moved e))) (λ e. one_if (any_goes owner (train_moved e))) 11 (train_row (stable_of owner));
   tokens = λ company. no_count 8 (place_of_company company);
   operated = λ company. same_throughout false 8 (place_of_company company);
-  sales = λ company seat low. c.no_sales.ensures company seat;
-  rulings = λ seat low. none_counted _ (c.no_rulings.ensures seat.0);
+  sales = λ company seat low. no_sale company seat;
+  rulings = λ seat low. no_count 6 seat.0;
 }
