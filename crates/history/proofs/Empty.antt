@@ -3,7 +3,7 @@ use Rattle.std.proofs.Common.{◌≡◌, ℕ, zero, suc, ◌<◌, false, List, [
 use Rattle.std.specs.Prelude.{replicate}
 use Rattle.std.proofs.lemmas.Int.{ints}
 use Rattle.history.proofs.Tied.{none_standing}
-use Rattle.history.specs.Books.{IsCounted, IsNet, at_company, bid_in, count_at, net_at, sale_in, word_in}
+use Rattle.history.specs.Books.{IsCounted, IsNet, at_company, bid_in, count_at, net_at, sale_in}
 use Rattle.history.specs.declared.event.Event.{Event}
 use Rattle.tables.specs.Roster.{place_of_company}
 use Rattle.tables.specs.declared.roster.Company.{Company}
@@ -26,15 +26,6 @@ nothing_said company.ChesapeakeOhio = refl
 nothing_said company.Erie = refl
 nothing_said company.NewHaven = refl
 nothing_said company.BostonMaine = refl
-
--- no word is said of the owner of a private
-pub no_word : (private : Private) → word_in (record { said = replicate 6 None }) private ≡ None
-no_word SchuylkillValley = refl
-no_word ChamplainStLawrence = refl
-no_word DelawareHudson = refl
-no_word MohawkHudson = refl
-no_word CamdenAmboy = refl
-no_word BaltimoreOhio = refl
 
 -- a table in which no bid stands
 pub no_bid : (private : Private) (number : ℕ) → number < 6 → bid_in (replicate 6 (replicate 6 None)) private number ≡ None

@@ -5,6 +5,7 @@ pub mod Places
 pub mod Noted
 pub mod NetTables
 pub mod Empty
+pub mod Lent
 pub mod Standing
 pub mod BidWords
 pub mod Tied

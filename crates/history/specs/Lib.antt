@@ -6,6 +6,7 @@ pub mod Event
 pub mod LookBack
 pub mod Bids
 pub mod Books
+pub mod KeptBooks
 pub mod Shares
 pub mod Operating
 pub mod Trains

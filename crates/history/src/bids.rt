@@ -23,10 +23,10 @@ impl Past<'_> {
         ensures { result ≡ bid_of self.now.events.now private seat }
     {
         let number = seat.number();
-        if number >= PLAYERS_MOST {
-            return last_said(&BidOn(private, seat), self.events).flatten();
+        match self.books() {
+            Some(books) if number < PLAYERS_MOST => books.bids[private.place()][number],
+            _ => last_said(&BidOn(private, seat), self.events).flatten(),
         }
-        self.books.bids[private.place()][number]
     }
 
     /// The standing bids on a private, in the order of the seats.
@@ -49,7 +49,10 @@ impl Past<'_> {
     fn standing_by_seat(&self, private: Private) -> [Option<Amount>; PLAYERS_MOST]
         ensures { AreStanding self.now.events.now private result }
     {
-        self.books.bids[private.place()]
+        match self.books() {
+            Some(books) => books.bids[private.place()],
+            None => [None; PLAYERS_MOST],
+        }
     }
 
     /// How far a seat goes in an auction of a private, by its last obeyed LIMIT line of this round.

@@ -54,7 +54,7 @@ impl Books {
     {
         Books {
             told: 0,
-            owners: Owners { said: [None; 6] },
+            owners: Owners::unsold(),
             bids: [[None; PLAYERS_MOST]; 6],
             sv_price: None,
             actor: None,

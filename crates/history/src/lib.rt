@@ -13,9 +13,10 @@
 //! Reading order: `event` (events and their aspects), `ruling` (what became of a line), `kept_place`,
 //! `kept_run` and `kept` (how an event keeps that), `aspect` (the ways of looking back), `topics`
 //! (what is looked for), `nets` and `noting` (how an event changes what is kept), `books` (what a
-//! list says, kept event by event), `look_back`, `owners`, `bids`, `offers`, `shares`, `operating`
-//! and `trains` (the readers of `Past`), `walk` (along a list, with its books), `list` (`History`),
-//! `tell` (events that follow from the list alone), `laws`.
+//! list says, kept event by event), `kept_books` (how a game keeps that), `look_back`, `owners`,
+//! `bids`, `offers`, `shares`, `operating` and `trains` (the readers of `Past`), `walk` (along a
+//! list, with its books), `list` (`History`), `tell` (events that follow from the list alone),
+//! `laws`.
 #![tactic(auto)]
 
 mod aspect;
@@ -23,6 +24,7 @@ mod bids;
 mod books;
 mod event;
 mod kept;
+mod kept_books;
 mod kept_place;
 mod kept_run;
 mod laws;

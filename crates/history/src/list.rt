@@ -9,9 +9,9 @@ ghost use Rattle.history.specs.Shares.{arrival_of, has_sold_in_round, is_floated
 ghost use Rattle.history.specs.Sound.{IsSound};
 ghost use Rattle.history.specs.Trains.{phase_of, trains_held, trains_sold};
 
-use crate::books::Books;
 use crate::event::{Event, Holder, Party, SUM_MOST, Shareholder};
 use crate::kept::KeptOrder;
+use crate::kept_books::KeptBooks;
 use crate::look_back::Past;
 use crate::owners::Owners;
 use crate::shares::Tenths;
@@ -24,19 +24,23 @@ use tables::{Company, Kind, Money, Private, Round, Seat, Square};
 
 /// A game: the number of its seats and the list of its events, oldest first; and beside it the
 /// books of that list, which say what it says, with the tiles and the tokens that lie on the map.
+/// It is handed on by value, so it is of few bytes.
 #[derive(Debug, Drop)]
 pub struct History {
     seats: usize,
     events: Vec<Event>,
     lays: Vec<Lay>,
     tokens: Vec<(Place, Company)>,
-    books: Books,
+    books: KeptBooks,
 }
+
+// The books, by far the most of a game, stand behind a box.
+const _: () = prove!(size_of::<History>() <= 96);
 
 impl Model for History {
     ghost use Rattle.std.specs.Prelude.{All, ◌≡◌, ◌≤◌};
-    ghost use Rattle.history.specs.Books.{AreBooksOf};
     ghost use Rattle.history.specs.Event.{sum_of};
+    ghost use Rattle.history.specs.KeptBooks.{KeepsBooksOf};
     ghost use Rattle.history.specs.LookBack.{Game};
     ghost use Rattle.history.specs.Operating.{lays_of, tokens_of};
 
@@ -45,7 +49,7 @@ impl Model for History {
     ghost view = { λ a. record { seats = a.seats; events = a.events.items } };
 
     ghost invariant = { λ a.
-        All (λ event. sum_of event ≤ 1000000) a.events.items × AreBooksOf a.books a.events.items
+        All (λ event. sum_of event ≤ 1000000) a.events.items × KeepsBooksOf a.books a.events.items
         × (a.lays.items ≡ lays_of a.events.items) × (a.tokens.items ≡ tokens_of a.events.items) };
 }
 
@@ -60,7 +64,7 @@ impl History {
             events: Vec::new(alloc),
             lays: Vec::new(alloc),
             tokens: Vec::new(alloc),
-            books: Books::start(),
+            books: KeptBooks::start(),
         }
     }
 
@@ -80,6 +84,7 @@ impl History {
         self.events.reserve(1)?;
         self.lays.reserve(1)?;
         self.tokens.reserve(1)?;
+        self.books.reserve(*self.events.allocator())?;
         self.books.note(&event);
         push_any(&mut self.lays, event.lay())?;
         push_any(&mut self.tokens, event.token())?;
@@ -107,11 +112,7 @@ impl History {
         ensures seats { result.seats ≡ self.now.seats }
         ensures events { result.events.now ≡ self.now.events }
     {
-        Past {
-            seats: self.seats,
-            events: self.events.as_slice(),
-            books: &self.books,
-        }
+        Past::with_books(self.seats, self.events.as_slice(), self.books.books())
     }
 
     /// What a party has, in dollars; the bank's cash may be under 0.

@@ -1,6 +1,8 @@
-ghost use Rattle.std.specs.Prelude.{◌≡◌, length};
+ghost use Rattle.std.specs.Prelude.{◌≡◌, MatchOption, None, Some, [], length};
+ghost use Rattle.std.specs.Borrow.{Bor};
 ghost use Rattle.history.specs.Books.{AreBooksOf};
-ghost use Rattle.history.specs.LookBack.{FitsMemory, IsModerate, bankrupt_in, broken_in, cash_of, cheapest_in, cheapest_of, is_sold, is_sold_in, owner_in, owner_of, priority_of, round_of, start_of, sv_price_of};
+ghost use Rattle.history.specs.declared.books.Books.{Books as TheBooks};
+ghost use Rattle.history.specs.LookBack.{FitsMemory, IsModerate, actor_of, bankrupt_in, broken_in, cash_of, cheapest_in, cheapest_of, is_sold, is_sold_in, last_said, owner_in, owner_of, priority_of, round_of, start_of, sv_price_of};
 
 use crate::aspect::balance;
 use crate::books::Books;
@@ -17,10 +19,11 @@ pub struct Past<'a> {
     pub seats: usize,
     /// What had happened, oldest first.
     pub events: &'a [Event],
-    /// What they say.
-    pub(crate) books: &'a Books,
+    /// What they say; `None` only where nothing has happened.
+    books: Option<&'a Books>,
     ghost short: { FitsMemory events.now },
-    ghost kept: { AreBooksOf books.now events.now },
+    ghost empty: { books ≡ None → length events.now ≡ 0 },
+    ghost kept: { (all : Bor TheBooks) → books ≡ Some all → AreBooksOf all.now events.now },
 }
 
 impl<'a> Past<'a> {
@@ -34,8 +37,35 @@ impl<'a> Past<'a> {
         Past {
             seats,
             events,
+            books: Some(books),
+        }
+    }
+
+    /// A game as it stood after these events, of which these are the books, if there are any:
+    /// where nothing has happened there may be none.
+    pub(crate) fn with_books(
+        seats: usize,
+        events: &'a [Event],
+        books: Option<&'a Books>,
+    ) -> Past<'a>
+        requires short { FitsMemory events.now }
+        requires kept { MatchOption books (events.now ≡ []) (λ all. AreBooksOf all.now events.now) }
+        ensures seats { result.seats ≡ seats }
+        ensures events { result.events.now ≡ events.now }
+    {
+        Past {
+            seats,
+            events,
             books,
         }
+    }
+
+    /// The books; there may be none where nothing has happened.
+    pub(crate) fn books(&self) -> Option<&'a Books>
+        ensures { MatchOption result (self.now.events.now ≡ [])
+            (λ books. AreBooksOf books.now self.now.events.now) }
+    {
+        self.books
     }
 }
 
@@ -48,24 +78,24 @@ impl Past<'_> {
     {
         let start = start_of(self.seats, party);
         let entry = entry_of_party(party);
-        if entry >= self.books.cash.len() {
-            return balance(&Cash(party), start, self.events);
+        match self.books() {
+            Some(books) if entry < books.cash.len() => Money::from(start) + books.cash[entry],
+            _ => balance(&Cash(party), start, self.events),
         }
-        Money::from(start) + self.books.cash[entry]
     }
 
     /// Who owns a private; `None` while it is unsold, and once it is closed.
     pub fn owner(&self, private: Private) -> Option<Holder>
         ensures { result ≡ owner_of self.now.events.now private }
     {
-        self.books.owners.owner(private)
+        self.owners().owner(private)
     }
 
     /// Whether a private has been sold.
     pub fn is_sold(&self, private: Private) -> bool
         ensures { result ≡ is_sold self.now.events.now private }
     {
-        self.books.owners.is_sold(private)
+        self.owners().is_sold(private)
     }
 
     /// The owners of all privates, as the books have them.
@@ -76,7 +106,10 @@ impl Past<'_> {
             is_sold_in result private ≡ is_sold self.now.events.now private }
         ensures cheapest { cheapest_in result ≡ cheapest_of self.now.events.now }
     {
-        self.books.owners
+        match self.books() {
+            Some(books) => books.owners,
+            None => Owners::unsold(),
+        }
     }
 
     /// The first private in roster order that is unsold.
@@ -90,30 +123,40 @@ impl Past<'_> {
     pub fn sv_price(&self) -> Amount
         ensures { result ≡ sv_price_of self.now.events.now }
     {
-        self.books
-            .sv_price
-            .unwrap_or(face(Private::SchuylkillValley))
+        match self.books() {
+            Some(books) => books.sv_price.unwrap_or(face(Private::SchuylkillValley)),
+            None => face(Private::SchuylkillValley),
+        }
     }
 
     /// Whether the bank is broken.
     pub fn broken(&self) -> bool
         ensures { result ≡ broken_in self.now.events.now }
     {
-        self.books.broken
+        match self.books() {
+            Some(books) => books.broken,
+            None => false,
+        }
     }
 
     /// Whether a president is bankrupt, so that the game is over.
     pub fn bankrupt(&self) -> bool
         ensures { result ≡ bankrupt_in self.now.events.now }
     {
-        self.books.bankrupt
+        match self.books() {
+            Some(books) => books.bankrupt,
+            None => false,
+        }
     }
 
     /// The round that began last; `None` before the first.
     pub fn round(&self) -> Option<Round>
         ensures { result ≡ round_of self.now.events.now }
     {
-        self.books.round
+        match self.books() {
+            Some(books) => books.round,
+            None => None,
+        }
     }
 
     /// The holder of priority: the seat at the left of the last seat that bought a private, bid on
@@ -121,9 +164,19 @@ impl Past<'_> {
     pub fn priority(&self) -> Seat
         ensures { result ≡ priority_of self.now.seats self.now.events.now }
     {
-        match self.books.actor {
+        match self.actor() {
             Some(actor) => actor.left(self.seats),
             None => Seat(0),
+        }
+    }
+
+    /// The last seat that bought a private, bid on one, or bought or sold tenths in its own turn.
+    fn actor(&self) -> Option<Seat>
+        ensures { result ≡ last_said actor_of self.now.events.now }
+    {
+        match self.books() {
+            Some(books) => books.actor,
+            None => None,
         }
     }
 }

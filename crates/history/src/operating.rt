@@ -11,14 +11,20 @@ impl Past<'_> {
     pub fn tokens_placed(&self, company: Company) -> usize
         ensures { result ≡ tokens_placed self.now.events.now company }
     {
-        self.books.tokens[company.place()]
+        match self.books() {
+            Some(books) => books.tokens[company.place()],
+            None => 0,
+        }
     }
 
     /// Whether a company has operated since the last round began.
     pub fn has_operated(&self, company: Company) -> bool
         ensures { result ≡ has_operated self.now.events.now company }
     {
-        self.books.operated[company.place()]
+        match self.books() {
+            Some(books) => books.operated[company.place()],
+            None => false,
+        }
     }
 
     /// How many lines of a seat's sheet were ruled since the last round began.
@@ -26,10 +32,10 @@ impl Past<'_> {
         ensures { result ≡ rulings_in_round self.now.events.now seat }
     {
         let number = seat.number();
-        if number >= PLAYERS_MOST {
-            return count_rulings(self.events, seat);
+        match self.books() {
+            Some(books) if number < PLAYERS_MOST => books.rulings[number],
+            _ => count_rulings(self.events, seat),
         }
-        self.books.rulings[number]
     }
 }
 

@@ -2,6 +2,7 @@ ghost use Rattle.std.specs.Prelude.{◌≡◌};
 ghost use Rattle.std.specs.Option.{option_or};
 ghost use Rattle.history.specs.Books.{word_in};
 ghost use Rattle.history.specs.Event.{ownership_of};
+ghost use Rattle.tables.specs.declared.roster.Private.TheVariants.{SchuylkillValley};
 ghost use Rattle.history.specs.LookBack.{cheapest_in, is_sold_in, owner_in, owner_said};
 
 use crate::event::{Event, Holder};
@@ -15,6 +16,14 @@ pub struct Owners {
 }
 
 impl Owners {
+    /// No private is sold.
+    pub(crate) fn unsold() -> Owners
+        ensures word { (private : Private) → word_in result private ≡ None }
+        ensures cheapest { cheapest_in result ≡ Some SchuylkillValley }
+    {
+        Owners { said: [None; 6] }
+    }
+
     /// Notes what an event says of the owner of a private, if it speaks of one.
     pub(crate) fn note(&mut self, event: &Event)
         ensures { (private : Private) → word_in self.new private

@@ -21,17 +21,27 @@ impl Past<'_> {
     {
         let start = start_tenths(place);
         let entry = entry_of_tenths(company, place);
-        if entry >= self.books.tenths.len() {
-            return balance(&Shares(company, place), start, self.events);
+        match self.books() {
+            Some(books) if entry < books.tenths.len() => Tenths::from(start) + books.tenths[entry],
+            _ => balance(&Shares(company, place), start, self.events),
         }
-        Tenths::from(start) + self.books.tenths[entry]
     }
 
     /// A company's par value in dollars; `None` while it has none.
     pub fn par(&self, company: Company) -> Option<Money>
         ensures { result ≡ option_map pos (par_of self.now.events.now company) }
     {
-        self.books.pars[company.place()].map(Money::from)
+        self.par_set(company).map(Money::from)
+    }
+
+    /// A company's par value as the sum that an event sets.
+    fn par_set(&self, company: Company) -> Option<Amount>
+        ensures { result ≡ par_of self.now.events.now company }
+    {
+        match self.books() {
+            Some(books) => books.pars[company.place()],
+            None => None,
+        }
     }
 
     /// Whether a company is started: its token has a square.
@@ -45,7 +55,10 @@ impl Past<'_> {
     pub fn floated(&self, company: Company) -> bool
         ensures { result ≡ is_floated self.now.events.now company }
     {
-        self.books.floats[company.place()].is_some()
+        match self.books() {
+            Some(books) => books.floats[company.place()].is_some(),
+            None => false,
+        }
     }
 
     /// Whether a seat has sold tenths of a company since the last round began.
@@ -53,19 +66,22 @@ impl Past<'_> {
         ensures { result ≡ has_sold_in_round self.now.events.now company seat }
     {
         let number = seat.number();
-        if number >= PLAYERS_MOST {
-            return last_said(&InRound(SaleBy(company, seat)), self.events)
+        match self.books() {
+            Some(books) if number < PLAYERS_MOST => books.sales[company.place()][number],
+            _ => last_said(&InRound(SaleBy(company, seat)), self.events)
                 .flatten()
-                .is_some();
+                .is_some(),
         }
-        self.books.sales[company.place()][number]
     }
 
     /// The square of a company's token.
     pub fn square(&self, company: Company) -> Option<Square>
         ensures { result ≡ square_of self.now.events.now company }
     {
-        self.books.squares[company.place()]
+        match self.books() {
+            Some(books) => books.squares[company.place()],
+            None => None,
+        }
     }
 
     /// The place in the list, from 0, of the event that set the square of a company's token: the
@@ -73,14 +89,20 @@ impl Past<'_> {
     pub fn arrival(&self, company: Company) -> usize
         ensures { result ≡ arrival_of self.now.events.now company }
     {
-        self.books.arrivals[company.place()].unwrap_or(0)
+        match self.books() {
+            Some(books) => books.arrivals[company.place()].unwrap_or(0),
+            None => 0,
+        }
     }
 
     /// A company's president.
     pub fn president(&self, company: Company) -> Option<Seat>
         ensures { result ≡ president_of self.now.events.now company }
     {
-        self.books.presidents[company.place()]
+        match self.books() {
+            Some(books) => books.presidents[company.place()],
+            None => None,
+        }
     }
 }
 

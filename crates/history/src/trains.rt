@@ -25,7 +25,10 @@ impl Past<'_> {
         ensures sum { result ≡ trains_at self.now.events.now place kind }
         ensures within { IsModerate result }
     {
-        self.books.trains[entry_of_train(place, kind)] as TrainCount
+        match self.books() {
+            Some(books) => books.trains[entry_of_train(place, kind)] as TrainCount,
+            None => 0,
+        }
     }
 
     /// How many trains a company has, or the bank pool where there is none.
@@ -33,7 +36,10 @@ impl Past<'_> {
         ensures sum { result ≡ stable_size self.now.events.now owner }
         ensures within { IsModerate result }
     {
-        self.books.stables[row_of_trains(TrainPlace::of_owner(owner))] as TrainCount
+        match self.books() {
+            Some(books) => books.stables[row_of_trains(TrainPlace::of_owner(owner))] as TrainCount,
+            None => 0,
+        }
     }
 
     /// How many trains of a kind the bank has sold: none comes to it.
@@ -47,7 +53,10 @@ impl Past<'_> {
     pub fn phase(&self) -> Kind
         ensures { result ≡ phase_of self.now.events.now }
     {
-        self.books.phase.unwrap_or(Kind::Two)
+        match self.books() {
+            Some(books) => books.phase.unwrap_or(Kind::Two),
+            None => Kind::Two,
+        }
     }
 }
 

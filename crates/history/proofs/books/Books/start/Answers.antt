@@ -1,5 +1,5 @@
 use Rattle.std.proofs.Common.{false, refl}
-use Rattle.history.proofs.Empty.{no_bid, no_count, no_net, no_sale, no_word, nothing_said, same_throughout}
+use Rattle.history.proofs.Empty.{no_bid, no_count, no_net, no_sale, nothing_said, same_throughout}
 use Rattle.history.specs.Books.{party_entry, tenths_entry, train_entry, train_row}
 use Rattle.history.specs.Event.{payment_of, stable_of, train_moved, transfer_of}
 use Rattle.history.specs.LookBack.{paid_by, paid_to}
@@ -11,7 +11,7 @@ use Rattle.history.proofs.books.Books.start.Goals as goal
 pub returns : goal.returns
 returns c = record {
   told = refl;
-  owners = no_word;
+  owners = c.unsold.ensures.word;
   bids = no_bid;
   sv_price = refl;
   actor = refl;

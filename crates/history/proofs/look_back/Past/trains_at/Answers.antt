@@ -1,6 +1,6 @@
 use Rattle.std.proofs.Common.{ℕ, sym, subst}
 use Rattle.history.proofs.Stables.{train_count_fits, train_count_kept}
-use Rattle.history.specs.Books.{IsNet, net_at}
+use Rattle.history.specs.Books.{AreBooksOf, IsNet, net_at}
 use Rattle.history.specs.Event.{train_moved}
 use Rattle.history.specs.Trains.{one_if, train_comes, train_goes}
 use Rattle.history.specs.declared.event.Event.{Event}
@@ -8,18 +8,20 @@ use Rattle.history.proofs.look_back.Past.trains_at.Goals as goal
 
 pub overflow_cast-result : goal.overflow_cast-result
 overflow_cast-result c =
+    let all : AreBooksOf c.in-Some.books.now c.args.self.now.events.now = c.in-Some.ensures in
     let comes = λ (e : Event). train_comes c.args.place c.args.kind (train_moved e) in
     let goes = λ (e : Event). train_goes c.args.place c.args.kind (train_moved e) in
     let net_of = λ (entry : ℕ).
-    IsNet (λ e. one_if (comes e)) (λ e. one_if (goes e)) c.args.self.now.events.now (net_at c.args.self.now.books.now.trains entry) in
-    let kept = subst net_of (sym c.entry_of_train.ensures.entry) (c.args.self.now.kept.trains c.args.place c.args.kind) in
+    IsNet (λ e. one_if (comes e)) (λ e. one_if (goes e)) c.args.self.now.events.now (net_at c.in-Some.books.now.trains entry) in
+    let kept = subst net_of (sym c.entry_of_train.ensures.entry) (all.trains c.args.place c.args.kind) in
     train_count_fits comes goes c.args.self.now.events.now _ c.args.self.now.short kept
 
-pub returns-clause-sum : goal.returns-clause-sum
-returns-clause-sum c =
+pub returns-in-Some-clause-sum : goal.returns-in-Some-clause-sum
+returns-in-Some-clause-sum c =
+    let all : AreBooksOf c.in-Some.books.now c.args.self.now.events.now = c.in-Some.ensures in
     let comes = λ (e : Event). train_comes c.args.place c.args.kind (train_moved e) in
     let goes = λ (e : Event). train_goes c.args.place c.args.kind (train_moved e) in
     let net_of = λ (entry : ℕ).
-    IsNet (λ e. one_if (comes e)) (λ e. one_if (goes e)) c.args.self.now.events.now (net_at c.args.self.now.books.now.trains entry) in
-    let kept = subst net_of (sym c.entry_of_train.ensures.entry) (c.args.self.now.kept.trains c.args.place c.args.kind) in
+    IsNet (λ e. one_if (comes e)) (λ e. one_if (goes e)) c.args.self.now.events.now (net_at c.in-Some.books.now.trains entry) in
+    let kept = subst net_of (sym c.entry_of_train.ensures.entry) (all.trains c.args.place c.args.kind) in
     train_count_kept comes goes c.args.self.now.events.now _ c.args.self.now.short kept

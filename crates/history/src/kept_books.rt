@@ -1,0 +1,70 @@
+//! The books of a game as the game keeps them: behind a box, so that few bytes are handed on with
+//! the game.
+ghost use Rattle.std.specs.Prelude.{◌++◌, ◌∷◌, ◌<◌, ◌^◌, [], ◌≡◌, IfOk, List, MatchOption, OnOk, length};
+ghost use Rattle.history.specs.Books.{AreBooksOf};
+ghost use Rattle.history.specs.KeptBooks.{HasBox, KeepsBooksOf};
+ghost use Rattle.history.specs.declared.event.Event.{Event as TheEvent};
+
+use crate::books::Books;
+use crate::event::Event;
+use std::alloc::{AllocError, Global};
+
+/// The books of a list of events. There is no box before the first event is to come.
+#[derive(Debug, Drop)]
+pub(crate) struct KeptBooks {
+    kept: Option<Box<Books>>,
+}
+
+impl KeptBooks {
+    /// The books of no events, which take no memory.
+    pub(crate) fn start() -> KeptBooks
+        ensures { KeepsBooksOf result [] }
+    {
+        KeptBooks { kept: None }
+    }
+
+    /// The books; none where nothing has happened.
+    pub(crate) fn books(&self) -> Option<&Books>
+        ensures { (events : List TheEvent) → KeepsBooksOf self.now events →
+            MatchOption result (events ≡ []) (λ books. AreBooksOf books.now events) }
+    {
+        match &self.kept {
+            Some(books) => Some(&**books),
+            None => None,
+        }
+    }
+
+    /// Makes the box, where there is none, so that an event can be noted. The books stay those of
+    /// the same events, also where the box gets no memory.
+    pub(crate) fn reserve(&mut self, alloc: Global) -> Result<(), AllocError>
+        ensures kept { (events : List TheEvent) →
+            KeepsBooksOf self.old events → KeepsBooksOf self.new events }
+        ensures room { OnOk result (HasBox self.new) }
+    {
+        if self.kept.is_none() {
+            self.kept = Some(boxed(alloc)?);
+        }
+        Ok(())
+    }
+
+    /// Notes one more event.
+    pub(crate) fn note(&mut self, event: &Event)
+        requires { HasBox self.old }
+        ensures { (events : List TheEvent) →
+            length events < 2 ^ 63 → KeepsBooksOf self.old events →
+            KeepsBooksOf self.new (events ++ event.now ∷ []) }
+    {
+        if let Some(books) = &mut self.kept {
+            books.note(event);
+        }
+    }
+}
+
+/// The books of no events in a box. No other function has books among its locals that a game
+/// keeps, since it would pay for them whenever it is called.
+#[inline(never)]
+fn boxed(alloc: Global) -> Result<Box<Books>, AllocError>
+    ensures { IfOk result (λ books. AreBooksOf books.value []) }
+{
+    Ok(Box::new(alloc, Books::start())?)
+}
