@@ -83,8 +83,8 @@ impl History {
     {
         self.events.reserve(1)?;
         self.lays.reserve(1)?;
-        self.tokens.reserve(1)?;
         self.books.reserve(*self.events.allocator())?;
+        self.tokens.reserve(1)?;
         self.books.note(&event);
         push_any(&mut self.lays, event.lay())?;
         push_any(&mut self.tokens, event.token())?;
