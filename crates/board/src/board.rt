@@ -1,4 +1,4 @@
-ghost use Rattle.std.specs.Prelude.{◌≡◌, [], None, IfErr, IfOk, IsOk, OnErr, OnOk, unwrap_or};
+ghost use Rattle.std.specs.Prelude.{◌≡◌, [], None, IfErr, IfOk, IsOk, OnErr, OnOk, length, unwrap_or};
 ghost use Rattle.board.specs.Fit.{board_fault_of};
 ghost use Rattle.board.specs.Ground.{ground_of, with_lay, with_token};
 
@@ -76,7 +76,7 @@ impl Board {
     }
 
     /// A board on which nothing lies.
-    fn empty(alloc: Global, phase: Kind) -> Board
+    pub fn empty(alloc: Global, phase: Kind) -> Board
         ensures { result ≡ ground_of [] [] phase }
     {
         Board {
@@ -85,6 +85,27 @@ impl Board {
             phase,
             index: Index::none(),
         }
+    }
+
+    /// How many tiles were laid, those that were replaced among them.
+    pub fn tiles_laid(&self) -> usize
+        ensures { result ≡ length self.now.lays }
+    {
+        self.lays.len()
+    }
+
+    /// How many tokens were placed.
+    pub fn tokens_placed(&self) -> usize
+        ensures { result ≡ length self.now.tokens }
+    {
+        self.tokens.len()
+    }
+
+    /// A phase begins.
+    pub fn put_phase(&mut self, phase: Kind)
+        ensures { self.new ≡ ground_of self.old.lays self.old.tokens phase }
+    {
+        self.phase = phase;
     }
 
     /// Lays a tile. An `Err` leaves the board as it was.

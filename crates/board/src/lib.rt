@@ -5,7 +5,8 @@
 //! and the phase. From these follows the position that it keeps as a `Network`: on each hex the
 //! last tile that was laid there, or its print. `Board::of` refuses what may not lie on the map.
 //! `try_lay` and `try_token` give the cost of a tile or a token, or the first rule that it breaks,
-//! and change nothing; `put_lay` and `put_token` lay it.
+//! and change nothing; `put_lay` and `put_token` lay it. A board that begins with `Board::empty` is
+//! told so what lies, tile by tile, and `put_phase` tells it the phase.
 //!
 //! The definitions, in `specs/`: `Ground` (what lies, and the position), `Fit` (what may lie at
 //! all), `LayRules` and `TokenRules` (each rule beside its code, in order), `Powers` (of CS and DH), `Homes` and `Stock`

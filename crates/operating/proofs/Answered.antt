@@ -1,14 +1,10 @@
 -- From the answer of the rules of the board to where a line leads.
-use Rattle.std.proofs.Common.{◌≡◌, ℕ, ◌⊎◌, inl, inr, List, Option, Some, None, unwrap_or, Result, Ok, Err, ℤ, pos, ◌≤ℤ◌, refl, sym, ap, subst, ◌∙◌}
+use Rattle.std.proofs.Common.{◌≡◌, ℕ, ◌⊎◌, inl, inr, Some, None, Result, Ok, Err, ℤ, pos, ◌≤ℤ◌, refl, sym, ap, subst, ◌∙◌}
 use Rattle.std.specs.Int.RustNames.{unsigned_abs}
-use Rattle.board.proofs.FitLaws.{fits_without_homes}
-use Rattle.board.specs.Fit.{board_fault_of}
 use Rattle.board.specs.Ground.{Ground}
 use Rattle.board.specs.LayRules.{IsLayAnswer, ground_rules}
 use Rattle.board.specs.TokenRules.{IsTokenAnswer, slot_rules}
 use Rattle.board.specs.declared.asker.Asker.{Asker}
-use Rattle.board.specs.declared.fault.BoardFault.{BoardFault}
-use Rattle.board.specs.declared.fault.BoardFault.TheVariants as board_fault
 use Rattle.board.specs.declared.fault.LayFault.{LayFault}
 use Rattle.board.specs.declared.fault.LayFault.TheVariants as lay_fault
 use Rattle.board.specs.declared.fault.TokenFault.{TokenFault}
@@ -17,9 +13,8 @@ use Rattle.history.proofs.EventAtEnd.{cash_of_before}
 use Rattle.history.proofs.Payments.{lay_sound, token_sound}
 use Rattle.history.specs.Event.{party_of_company}
 use Rattle.history.specs.LookBack.{Game, cash_of, with_event}
-use Rattle.history.specs.Operating.{lays_of, tokens_of}
-use Rattle.history.specs.Sound.{IsSound, LiesFit}
-use Rattle.history.specs.declared.event.Event.{Event}
+use Rattle.history.specs.Operating.{lays_of}
+use Rattle.history.specs.Sound.{IsSound}
 use Rattle.history.specs.declared.event.Event.TheVariants as event
 use Rattle.history.specs.declared.ruling.LayRule.{LayRule}
 use Rattle.history.specs.declared.ruling.Refusal.TheVariants as refusal
@@ -29,7 +24,7 @@ use Rattle.history.specs.declared.ruling.TokenRule.{TokenRule}
 use Rattle.map_tables.specs.declared.lay.Lay.{Lay}
 use Rattle.map_tables.specs.declared.place.Place.{Place}
 use Rattle.operating.proofs.Allowed.{lay_allowed, token_allowed}
-use Rattle.operating.proofs.Fitting.{fits_now, lay_fits, same_ground, token_fits}
+use Rattle.operating.proofs.Fitting.{lay_fits, same_ground, token_fits}
 use Rattle.operating.specs.Ground.{ground_now}
 use Rattle.operating.specs.Judgement.{asker_of, rule_of_lay, rule_of_token}
 use Rattle.operating.specs.InTurn.{InTurn, in_turn, lay_done, token_done}
@@ -41,14 +36,6 @@ use Rattle.order_grammar.specs.declared.order.Order.TheVariants as order
 use Rattle.tables.specs.Rules.{first_broken}
 use Rattle.tables.specs.declared.roster.Company.{Company}
 use Rattle.tables.specs.declared.seat.Seat.{Seat}
-
--- what fits is refused as a board only for want of memory
-pub want_of_memory : (events : List Event) (lays : List Lay) (tokens : List (Place × Company)) (fault : BoardFault) → lays ≡ lays_of events → tokens ≡ tokens_of events → LiesFit events → fault ≡ unwrap_or (board_fault_of lays tokens) board_fault.Memory → fault ≡ board_fault.Memory
-want_of_memory events lays tokens fault is_lays is_tokens fit is =
-    is
-    ∙ ap (λ (l : List Lay). unwrap_or (board_fault_of l tokens) board_fault.Memory) is_lays
-    ∙ ap (λ (t : List (Place × Company)). unwrap_or (board_fault_of (lays_of events) t) board_fault.Memory) is_tokens
-    ∙ ap (λ (broken : Option BoardFault). unwrap_or broken board_fault.Memory) (fits_without_homes (ground_now events) (fits_now events fit))
 
 -- the answer to a lay, by what lies and by who asks
 pub lay_by : (board laid : Ground) (asker its : Asker) (lay : Lay) (answer : Result ℤ LayFault) → board ≡ laid → asker ≡ its → ¬ (answer ≡ Err lay_fault.Memory) → (answer ≡ Err lay_fault.Memory) ⊎ IsLayAnswer board asker lay answer → IsLayAnswer laid its lay answer

@@ -58,7 +58,7 @@ same_ground events event no_tile no_token no_phase =
     ∙ ap (ground_of (lays_of events) (tokens_of events)) (same_phase events event no_phase)
 
 -- what lies by a list fits, as it lies now
-pub fits_now : (events : List Event) → LiesFit events → Fits (ground_now events)
+fits_now : (events : List Event) → LiesFit events → Fits (ground_now events)
 unfolding LiesFit
 fits_now events fit = fit
 

@@ -32,6 +32,7 @@ pub mod TurnEvents
 pub mod TurnSteps
 pub mod TurnGames
 pub mod TurnLaws
+pub mod Fronts
 pub mod HomeToken
 pub mod Tiles
 pub mod Operated

@@ -51,6 +51,19 @@ module _ {Runner : Type 0} (earns : Earns Runner) where
       subst (λ (these : List Numbered). Makes earns before (LinesCall by round these turn (Err fault)) after) (sym are)
       (broken_off earns (LineCalls by round line) (LinesCall by round lines) turn fault before after one)
 
+  -- once the home token lies, the calls of the block and of the end are those of the turn
+  of_begun :
+      (file : List ℕ) (round : Round) (company : Company) (old placed : Game) (president : Option Seat)
+      (outcome : Result Game RunnerFault) (before after : Runner) →
+      president ≡ president_of old.events company → placed ≡ with_home old company →
+      Makes earns before (BegunCalls file round company president (in_turn placed at_start) outcome) after →
+      Makes earns before (TurnCalls file round company old outcome) after
+  of_begun file round company old placed president outcome before after is_president is_placed rest =
+      let is_begun : in_turn placed at_start ≡ begun old company = λ i. in_turn (is_placed i) at_start in
+      joined earns (Unasked Memory (λ (game : Game) (turn : InTurn). turn ≡ begun game company)) (BegunCalls file round company (president_of old.events company)) old (in_turn placed at_start) outcome before before after
+      (silent earns Memory (λ (game : Game) (turn : InTurn). turn ≡ begun game company) old (in_turn placed at_start) before before is_begun refl)
+      (subst (λ (seat : Option Seat). Makes earns before (BegunCalls file round company seat (in_turn placed at_start) outcome) after) is_president rest)
+
   -- the home token, the block and the end make the calls of the turn
   pub turn_calls :
       (file : List ℕ) (round : Round) (company : Company) (old placed ruled : Game) (progress : Progress) (president : Option Seat)
@@ -60,13 +73,19 @@ module _ {Runner : Type 0} (earns : Earns Runner) where
       Makes earns after (EndCalls file round company president (in_turn ruled progress) outcome) after →
       Makes earns before (TurnCalls file round company old outcome) after
   turn_calls file round company old placed ruled progress president outcome before after is_president is_placed block end =
-      let is_begun : in_turn placed at_start ≡ begun old company = λ i. in_turn (is_placed i) at_start in
-      let rest : Makes earns before (BegunCalls file round company president (in_turn placed at_start) outcome) after =
-      joined earns (BlockCalls file round company president) (EndCalls file round company president) (in_turn placed at_start) (in_turn ruled progress) outcome before after after block end
-      in
-      joined earns (Unasked Memory (λ (game : Game) (turn : InTurn). turn ≡ begun game company)) (BegunCalls file round company (president_of old.events company)) old (in_turn placed at_start) outcome before before after
-      (silent earns Memory (λ (game : Game) (turn : InTurn). turn ≡ begun game company) old (in_turn placed at_start) before before is_begun refl)
-      (subst (λ (seat : Option Seat). Makes earns before (BegunCalls file round company seat (in_turn placed at_start) outcome) after) is_president rest)
+      of_begun file round company old placed president outcome before after is_president is_placed
+      (joined earns (BlockCalls file round company president) (EndCalls file round company president) (in_turn placed at_start) (in_turn ruled progress) outcome before after after block end)
+
+  -- where the block is broken off, its calls are those of the turn
+  pub turn_broken_off :
+      (file : List ℕ) (round : Round) (company : Company) (old placed : Game) (president : Option Seat)
+      (fault : RunnerFault) (before after : Runner) →
+      president ≡ president_of old.events company → placed ≡ with_home old company →
+      Makes earns before (BlockCalls file round company president (in_turn placed at_start) (Err fault)) after →
+      Makes earns before (TurnCalls file round company old (Err fault)) after
+  turn_broken_off file round company old placed president fault before after is_president is_placed block =
+      of_begun file round company old placed president (Err fault) before after is_president is_placed
+      (broken_off earns (BlockCalls file round company president) (EndCalls file round company president) (in_turn placed at_start) fault before after block)
 
   -- what ends a turn makes no call
   pub end_calls :

@@ -1,5 +1,6 @@
--- What lies on the map by a list of events: the tiles and tokens that were laid, in the phase that has come.
-use Rattle.std.specs.Prelude.{List}
+-- What lies on the map by a list of events: the tiles and tokens that were laid, in the phase that has come. A board that
+-- is kept through a turn has the first of them, and is told the others when it is asked for.
+use Rattle.std.specs.Prelude.{◌≡◌, List, ◌++◌}
 use Rattle.board.specs.Ground.{Ground, ground_of}
 use Rattle.history.specs.Operating.{lays_of, tokens_of}
 use Rattle.history.specs.Trains.{phase_of}
@@ -8,3 +9,13 @@ use Rattle.history.specs.declared.event.Event.{Event}
 -- what lies
 abbrev pub ground_now : List Event → Ground
 ground_now events = ground_of (lays_of events) (tokens_of events) (phase_of events)
+
+-- a list begins with another
+pub record BeginsWith {A : Type 0} (front all : List A) : Type 0 where
+  pub rest : List A
+  pub is : all ≡ front ++ rest
+
+-- a board has the first of the tiles and tokens that were laid
+pub record IsFront (laid : Ground) (events : List Event) : Type 0 where
+  pub lays : BeginsWith laid.lays (lays_of events)
+  pub tokens : BeginsWith laid.tokens (tokens_of events)

@@ -10,17 +10,19 @@ ghost use Rattle.history.specs.declared.ruling.Refusal.TheVariants as refusal;
 ghost use Rattle.history.specs.declared.ruling.Ruling.TheVariants.{Obeyed, Refused};
 ghost use Rattle.operating.specs.Best.{BestLeads, best_judgement, has_none_to_run as has_none_left, trains_now};
 ghost use Rattle.operating.specs.Calls.{Makes};
+ghost use Rattle.operating.specs.Ground.{IsFront};
 ghost use Rattle.operating.specs.InTurn.{in_turn};
 ghost use Rattle.operating.specs.Runs.{position_now};
 ghost use Rattle.operating.specs.TurnCalls.{Asks, BestCalls, led_to};
 ghost use Rattle.order_grammar.specs.declared.order.Order.TheVariants as order;
 
 use crate::forced::has_trains;
-use crate::ground::board;
+use crate::ground::catch_up;
 use crate::operator::Operator;
 use crate::progress::Progress;
 use crate::ruling::tell_ruling;
 use crate::running::tell_runs;
+use board::Board;
 use certificate::{Runner, RunnerFault, a_greatest_exists, one_greatest};
 use history::{History, KeptRuling, Past, Refusal, RunRule, TrainCount, so_many};
 use order_grammar::Order;
@@ -33,6 +35,7 @@ use tables::{Amount, Company, Kind, Money, Round};
 /// come then. The errors are the runner's, and want of memory.
 pub(crate) fn rule_best<R: Runner>(
     alloc: Global,
+    board: &mut Board,
     history: &mut History,
     by: Operator,
     round: Round,
@@ -40,12 +43,14 @@ pub(crate) fn rule_best<R: Runner>(
     progress: Progress,
     runner: &mut R,
 ) -> Result<Progress, RunnerFault>
-    requires { IsSound history.old }
+    requires sound { IsSound history.old }
+    requires front { IsFront board.old history.old.events }
     ensures turn { IfOk result (λ now. BestLeads by (in_turn history.old progress) line
         (in_turn history.new now)) }
     ensures calls { let turn = in_turn history.old progress in
         Makes R.earns runner.old (BestCalls by round line (best_judgement turn by.company) turn
         (led_to history.new result)) runner.new }
+    ensures front { OnOk result (IsFront board.new history.old.events) }
     ensures sound { OnOk result (IsSound history.new) }
     ensures refuses { IfErr result (λ fault. fault ≡ runner_refuses → R.may_refuse ≡ true) }
 {
@@ -53,7 +58,7 @@ pub(crate) fn rule_best<R: Runner>(
         refuse_best(history, by, line, rule)?;
         return Ok(progress);
     }
-    let revenue = best_revenue(alloc, history, by.company, round, runner)?;
+    let revenue = best_revenue(alloc, board, history, by.company, round, runner)?;
     obey_best(history, by, line, revenue)?;
     Ok(progress.with_best(revenue))
 }
@@ -118,15 +123,17 @@ fn obey_best(
 /// are the runner's, and want of memory.
 fn best_revenue<R: Runner>(
     alloc: Global,
+    board: &mut Board,
     history: &History,
     company: Company,
     round: Round,
     runner: &mut R,
 ) -> Result<Amount, RunnerFault>
-    requires { IsSound history.now }
+    requires { IsFront board.old history.now.events }
     ensures greatest { let events = history.now.events in
         IfOk result (IsGreatest (position_now events) company (trains_now events company)) }
     ensures small { IfOk result (λ revenue. revenue ≤ 50000) }
+    ensures front { OnOk result (IsFront board.new history.now.events) }
     ensures calls { Makes R.earns runner.old (Asks company round history.now.events result)
         runner.new }
     ensures refuses { IfErr result (λ fault. fault ≡ runner_refuses → R.may_refuse ≡ true) }
@@ -134,10 +141,10 @@ fn best_revenue<R: Runner>(
     // Laws, which do nothing when they run: by them the greatest revenue is small.
     a_greatest_exists();
     one_greatest();
-    let board = board(alloc, history)?;
+    catch_up(board, history)?;
     board.keeps_laws();
     let trains = trains_of(alloc, &history.now(), company)?;
-    let money = runner.earn(&board, round, company, trains.as_slice())?;
+    let money = runner.earn(&*board, round, company, trains.as_slice())?;
     Ok(amount(money))
 }
 

@@ -3,14 +3,16 @@ ghost use Rattle.std.specs.Prelude.{◌≡◌, ◌≤◌, ◌<◌, ◌↔◌, If
 ghost use Rattle.history.specs.Sound.{IsSound};
 ghost use Rattle.history.specs.Trains.{so_many as as_many};
 ghost use Rattle.operating.specs.Forced.{EndLeads, IsDue, after_forced, after_raise, after_raise_line, after_raises, cheapest as the_cheapest, concluded, falls_short as president_falls_short, first_on_sale as the_first_on_sale, first_to_sell as the_first_to_sell, has_trains as has_any_trains, lack_of, next_to_sell as the_next_to_sell, one_tenth, plain as plain_purchase, raise_rule as rule_of_raise, sale_rule as rule_of_sale, sold_further, sold_singly, with_aid, with_one_sold};
+ghost use Rattle.operating.specs.Ground.{IsFront};
 ghost use Rattle.operating.specs.Trains.{IsSmallPurchase};
 ghost use Rattle.sheets.specs.Part.{line_read};
 
-use crate::ground::board;
+use crate::ground::catch_up;
 use crate::operator::Operator;
 use crate::phases::buy_train;
 use crate::purchase::{NUMBERED, Purchase, sells};
 use crate::ruling::tell_ruling;
+use board::Board;
 use certificate::can_run;
 use certs::{Sale, may_sell, sell_block};
 use history::{Event, History, KeptRuling, Party, Past, Refusal, StockRule, TrainSeller, so_many};
@@ -23,6 +25,7 @@ use tables::{Amount, Company, Kind, Money};
 /// lines of its block are ruled. An `Err` comes from want of memory alone.
 pub(crate) fn end_turn(
     alloc: Global,
+    board: &mut Board,
     history: &mut History,
     by: Operator,
     block: &mut PartsLeft,
@@ -30,10 +33,11 @@ pub(crate) fn end_turn(
     requires few { history.old.seats ≤ 6 }
     requires at_table { by.president.0 < history.old.seats }
     requires sound { IsSound history.old }
+    requires front { IsFront board.old history.old.events }
     ensures turn { OnOk result (EndLeads by block.old.before history.old history.new) }
     ensures sound { OnOk result (IsSound history.new) }
 {
-    let due = is_due(alloc, history, by.company)?;
+    let due = is_due(board, history, by.company)?;
     if due {
         buy_by_force(alloc, history, by, block)?;
         return Ok(());
@@ -43,15 +47,15 @@ pub(crate) fn end_turn(
 }
 
 /// Whether a company must buy a train: it has none, and could run one of kind 2.
-fn is_due(alloc: Global, history: &History, company: Company) -> Result<bool, AllocError>
-    requires { IsSound history.now }
+fn is_due(board: &mut Board, history: &History, company: Company) -> Result<bool, AllocError>
+    requires { IsFront board.old history.now.events }
     ensures { IfOk result (λ due. IsTrue due ↔ IsDue history.now company) }
 {
     if has_trains(&history.now(), company) {
         return Ok(false);
     }
-    let board = board(alloc, history)?;
-    Ok(can_run(&board, company))
+    catch_up(board, history)?;
+    Ok(can_run(&*board, company))
 }
 
 /// Whether a company has a train.

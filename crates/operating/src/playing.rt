@@ -3,6 +3,7 @@ ghost use Rattle.certificate.specs.declared.runner.RunnerFault.TheVariants.{Refu
 ghost use Rattle.history.specs.Shares.{is_floated};
 ghost use Rattle.history.specs.Sound.{IsSound};
 ghost use Rattle.operating.specs.Calls.{Makes};
+ghost use Rattle.operating.specs.Ground.{IsFront};
 ghost use Rattle.operating.specs.InTurn.{at_start, in_turn};
 ghost use Rattle.operating.specs.Turn.{BlockEnds, BlockLeads, IsCompanyTurn};
 ghost use Rattle.operating.specs.TurnCalls.{BlockCalls, TurnCalls, led_to};
@@ -14,11 +15,12 @@ use crate::operator::Operator;
 use crate::progress::Progress;
 use crate::turn::rule_lines;
 use crate::withholding::settle;
+use board::Board;
 use certificate::{Runner, RunnerFault};
 use history::History;
 use sheets::Sheets;
 use std::alloc::{AllocError, Global};
-use tables::{Company, Round, Seat};
+use tables::{Company, Kind, Round, Seat};
 
 /// Plays the turn of a company in an operating round, with the sheets for it. The list of events
 /// must be sound, and its seats those of the sheets' players; the company has floated. It is meant
@@ -46,8 +48,10 @@ pub fn play_company<R: Runner>(
     let president = history.president(company);
     let _few = sheets.seats();
     place_home(&mut history, company)?;
+    let mut board = Board::empty(alloc, Kind::Two);
     let progress = rule_block(
         alloc,
+        &mut board,
         &mut history,
         sheets,
         round,
@@ -56,7 +60,15 @@ pub fn play_company<R: Runner>(
         runner,
     )?;
     settle(&mut history, company, progress)?;
-    end_block(alloc, &mut history, sheets, round, company, president)?;
+    end_block(
+        alloc,
+        &mut board,
+        &mut history,
+        sheets,
+        round,
+        company,
+        president,
+    )?;
     Ok(history)
 }
 
@@ -64,6 +76,7 @@ pub fn play_company<R: Runner>(
 /// one.
 fn end_block(
     alloc: Global,
+    board: &mut Board,
     history: &mut History,
     sheets: &Sheets,
     round: Round,
@@ -73,6 +86,7 @@ fn end_block(
     requires few { history.old.seats ≤ 6 }
     requires at_table { IfSome president (λ seat. seat.0 < history.old.seats) }
     requires sound { IsSound history.old }
+    requires front { IsFront board.old history.old.events }
     ensures turn { OnOk result (BlockEnds sheets.now round company
         history.old president history.new) }
     ensures sound { OnOk result (IsSound history.new) }
@@ -82,13 +96,14 @@ fn end_block(
     };
     let mut block = sheets.block(president, &round, company);
     let by = Operator { company, president };
-    end_turn(alloc, history, by, &mut block)
+    end_turn(alloc, board, history, by, &mut block)
 }
 
 /// Rules the block that the sheet of a company's president has for it, if it has a president.
 /// Answers how far the turn has come then.
 fn rule_block<R: Runner>(
     alloc: Global,
+    board: &mut Board,
     history: &mut History,
     sheets: &Sheets,
     round: Round,
@@ -98,11 +113,13 @@ fn rule_block<R: Runner>(
 ) -> Result<Progress, RunnerFault>
     requires few { history.old.seats ≤ 6 }
     requires sound { IsSound history.old }
+    requires front { IsFront board.old history.old.events }
     ensures turn { IfOk result (λ now. BlockLeads sheets.now round company
         (in_turn history.old at_start) president (in_turn history.new now)) }
     ensures calls { let begun = in_turn history.old at_start in
         Makes R.earns runner.old (BlockCalls sheets.now round company president begun
         (led_to history.new result)) runner.new }
+    ensures front { OnOk result (IsFront board.new history.new.events) }
     ensures sound { OnOk result (IsSound history.new) }
     ensures refuses { IfErr result (λ fault. fault ≡ Refused → R.may_refuse ≡ true) }
 {
@@ -111,5 +128,5 @@ fn rule_block<R: Runner>(
     };
     let mut block = sheets.block(president, &round, company);
     let by = Operator { company, president };
-    rule_lines(alloc, history, by, round, &mut block, runner)
+    rule_lines(alloc, board, history, by, round, &mut block, runner)
 }

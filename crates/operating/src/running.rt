@@ -7,10 +7,11 @@ ghost use Rattle.history.specs.declared.event.Event.TheVariants as event;
 ghost use Rattle.history.specs.Sound.{IsSound};
 ghost use Rattle.operating.specs.Runs.{IsCounted, has_run, judged_run, ran_unless_fault, rule_of_run};
 ghost use Rattle.operating.specs.Runs.{rules_of_turn, run_ruled, runs_most};
+ghost use Rattle.operating.specs.Ground.{IsFront};
 ghost use Rattle.operating.specs.InTurn.{in_turn};
 ghost use Rattle.tables.specs.Rules.{first_broken};
 
-use crate::ground::board;
+use crate::ground::catch_up;
 use crate::operator::Operator;
 use crate::progress::Progress;
 use crate::ruling::tell_ruling;
@@ -21,29 +22,30 @@ use history::{Event, History, KeptRuling, Refusal, RunRule};
 use map_tables::Run;
 use order_grammar::Order;
 use reach::Network;
-use std::alloc::{AllocError, Global};
+use std::alloc::AllocError;
 use tables::{Amount, Company, Kind};
 
 /// What a run of a company's train does, or the first rule that it breaks. The error is want of
 /// memory.
 pub(crate) fn judge_run(
-    alloc: Global,
+    board: &mut Board,
     history: &History,
     company: Company,
     kind: Kind,
     run: &Run,
     progress: Progress,
 ) -> Result<Result<Ran, RunRule>, AllocError>
-    requires { IsSound history.now }
+    requires { IsFront board.old history.now.events }
     ensures judged { let turn = in_turn history.now progress in
         IfOk result (λ judged. judged ≡ judged_run turn company kind run.now) }
     ensures counted { IfOk result (λ judged. IfOk judged (λ ran. IsCounted progress.runs ran)) }
+    ensures front { OnOk result (IsFront board.new history.now.events) }
 {
     if let Some(rule) = rule_of_turn(history, company, kind, &progress) {
         return Ok(Err(rule));
     }
-    let board = board(alloc, history)?;
-    Ok(run_on(&board, company, kind, run, &progress.runs))
+    catch_up(board, history)?;
+    Ok(run_on(board, company, kind, run, &progress.runs))
 }
 
 /// What a run does by what lies, or the first rule of runs that it breaks. Few trains of its kind

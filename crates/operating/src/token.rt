@@ -1,37 +1,40 @@
 ghost use Rattle.std.specs.Prelude.{◌≡◌, IfOk, IsErr, OnOk, Some};
 ghost use Rattle.history.specs.Sound.{IsSound};
 ghost use Rattle.operating.specs.Judgement.{rule_of_token};
+ghost use Rattle.operating.specs.Ground.{IsFront};
 ghost use Rattle.operating.specs.InTurn.{in_turn};
 ghost use Rattle.operating.specs.Turn.{TokenLeads};
 
 use crate::asker::asker;
 use crate::cost::amount_of;
-use crate::ground::board;
+use crate::ground::catch_up;
 use crate::operator::Operator;
 use crate::progress::Progress;
 use crate::ruling::tell_ruling;
-use board::TokenFault;
+use board::{Board, TokenFault};
 use history::{Event, History, KeptRuling, Refusal, TokenRule};
 use map_tables::Place;
 use order_grammar::Order;
-use std::alloc::{AllocError, Global};
+use std::alloc::AllocError;
 
 /// Rules a TOKEN of a line with this number, and places the token if it is obeyed. Answers how far
 /// the turn has come then.
 pub(crate) fn rule_token(
-    alloc: Global,
+    board: &mut Board,
     history: &mut History,
     by: Operator,
     line: u32,
     place: Place,
     progress: Progress,
 ) -> Result<Progress, AllocError>
-    requires { IsSound history.old }
+    requires sound { IsSound history.old }
+    requires front { IsFront board.old history.old.events }
     ensures turn { IfOk result (λ now. TokenLeads by (in_turn history.old progress) line place
         (in_turn history.new now)) }
+    ensures front { OnOk result (IsFront board.new history.old.events) }
     ensures sound { OnOk result (IsSound history.new) }
 {
-    let board = board(alloc, history)?;
+    catch_up(board, history)?;
     let order = history.keep(&Order::Token(place))?;
     match board.try_token(&asker(history, by.company, progress), place) {
         Ok(cost) => {

@@ -2,6 +2,7 @@ ghost use Rattle.std.specs.Prelude.{◌≡◌, ◌≢◌, ◌≤◌, IfErr, IfOk
 ghost use Rattle.certificate.specs.declared.runner.RunnerFault.TheVariants.{Refused};
 ghost use Rattle.history.specs.Sound.{IsSound};
 ghost use Rattle.operating.specs.Calls.{Makes};
+ghost use Rattle.operating.specs.Ground.{IsFront};
 ghost use Rattle.operating.specs.InTurn.{at_start, in_turn};
 ghost use Rattle.operating.specs.Runs.{after_run};
 ghost use Rattle.operating.specs.Turn.{LineLeads, LinesLead, OrderLeads};
@@ -21,6 +22,7 @@ use crate::running::{judge_run, rule_run};
 use crate::token::rule_token;
 use crate::train::rule_train;
 use crate::withholding::settle;
+use board::Board;
 use certificate::{Runner, RunnerFault};
 use history::{History, KeptRuling};
 use map_tables::Run;
@@ -32,6 +34,7 @@ use tables::{Kind, Round};
 /// Rules the lines of a company's block. Answers how far its turn has come then.
 pub(crate) fn rule_lines<R: Runner>(
     alloc: Global,
+    board: &mut Board,
     history: &mut History,
     by: Operator,
     round: Round,
@@ -41,17 +44,19 @@ pub(crate) fn rule_lines<R: Runner>(
     requires few { history.old.seats ≤ 6 }
     requires small { AreSmall block.old.before }
     requires sound { IsSound history.old }
+    requires front { IsFront board.old history.old.events }
     ensures turn { IfOk result (λ now. LinesLead by (in_turn history.old at_start)
         block.old.before (in_turn history.new now)) }
     ensures calls { let begun = in_turn history.old at_start in
         Makes R.earns runner.old (LinesCall by round block.old.before begun
         (led_to history.new result)) runner.new }
+    ensures front { OnOk result (IsFront board.new history.new.events) }
     ensures sound { OnOk result (IsSound history.new) }
     ensures refuses { IfErr result (λ fault. fault ≡ Refused → R.may_refuse ≡ true) }
 {
     let mut progress = Progress::start();
     while let Some(line) = block.take_line() {
-        progress = rule_line(alloc, history, by, round, &line, progress, runner)?;
+        progress = rule_line(alloc, board, history, by, round, &line, progress, runner)?;
     }
     Ok(progress)
 }
@@ -60,6 +65,7 @@ pub(crate) fn rule_lines<R: Runner>(
 /// turn has come then.
 fn rule_line<R: Runner>(
     alloc: Global,
+    board: &mut Board,
     history: &mut History,
     by: Operator,
     round: Round,
@@ -70,17 +76,20 @@ fn rule_line<R: Runner>(
     requires few { history.old.seats ≤ 6 }
     requires small { IsSmallReading (line_read line.now).reading }
     requires sound { IsSound history.old }
+    requires front { IsFront board.old history.old.events }
     ensures turn { IfOk result (λ now. LineLeads by (in_turn history.old progress)
         (line_read line.now) (in_turn history.new now)) }
     ensures calls { let turn = in_turn history.old progress in
         Makes R.earns runner.old (LineCalls by round (line_read line.now) turn
         (led_to history.new result)) runner.new }
+    ensures front { OnOk result (IsFront board.new history.old.events) }
     ensures sound { OnOk result (IsSound history.new) }
     ensures refuses { IfErr result (λ fault. fault ≡ Refused → R.may_refuse ≡ true) }
 {
     match line.order() {
         Ok(order) => rule_order(
             alloc,
+            board,
             history,
             by,
             round,
@@ -105,6 +114,7 @@ fn rule_line<R: Runner>(
 /// Answers how far the turn has come then. The runner is asked for the best runs alone.
 fn rule_order<R: Runner>(
     alloc: Global,
+    board: &mut Board,
     history: &mut History,
     by: Operator,
     round: Round,
@@ -116,17 +126,19 @@ fn rule_order<R: Runner>(
     requires few { history.old.seats ≤ 6 }
     requires small { IsSmallOrder order.now }
     requires sound { IsSound history.old }
+    requires front { IsFront board.old history.old.events }
     ensures turn { IfOk result (λ now. OrderLeads by (in_turn history.old progress) line
         order.now (in_turn history.new now)) }
     ensures calls { let turn = in_turn history.old progress in
         Makes R.earns runner.old (OrderCalls by round line order.now turn
         (led_to history.new result)) runner.new }
+    ensures front { OnOk result (IsFront board.new history.old.events) }
     ensures sound { OnOk result (IsSound history.new) }
     ensures refuses { IfErr result (λ fault. fault ≡ Refused → R.may_refuse ≡ true) }
 {
     match order {
-        Order::RunBest => rule_best(alloc, history, by, round, line, progress, runner),
-        _ => Ok(rule_other(alloc, history, by, line, order, progress)?),
+        Order::RunBest => rule_best(alloc, board, history, by, round, line, progress, runner),
+        _ => Ok(rule_other(alloc, board, history, by, line, order, progress)?),
     }
 }
 
@@ -134,6 +146,7 @@ fn rule_order<R: Runner>(
 /// named here has no place.
 fn rule_other(
     alloc: Global,
+    board: &mut Board,
     history: &mut History,
     by: Operator,
     line: u32,
@@ -143,16 +156,18 @@ fn rule_other(
     requires few { history.old.seats ≤ 6 }
     requires small { IsSmallOrder order.now }
     requires sound { IsSound history.old }
+    requires front { IsFront board.old history.old.events }
     requires other { order.now ≢ RunBest }
     ensures turn { IfOk result (λ now. OrderLeads by (in_turn history.old progress) line
         order.now (in_turn history.new now)) }
+    ensures front { OnOk result (IsFront board.new history.old.events) }
     ensures sound { OnOk result (IsSound history.new) }
 {
     match order {
-        Order::Lay(lay) => rule_lay(alloc, history, by, line, *lay, progress),
-        Order::Token(place) => rule_token(alloc, history, by, line, *place, progress),
+        Order::Lay(lay) => rule_lay(board, history, by, line, *lay, progress),
+        Order::Token(place) => rule_token(board, history, by, line, *place, progress),
         Order::Run { kind, run } => {
-            rule_run_order(alloc, history, by, line, order, *kind, run, &progress)
+            rule_run_order(board, history, by, line, order, *kind, run, &progress)
         }
         Order::Pay => rule_pay(history, by, line, order, progress),
         Order::Withhold => rule_withhold(history, by, line, order, progress),
@@ -175,7 +190,7 @@ fn rule_other(
 /// Rules an order of a line with this number that a train of a kind runs, and lets it run if it is
 /// obeyed. Answers how far the turn has come then.
 fn rule_run_order(
-    alloc: Global,
+    board: &mut Board,
     history: &mut History,
     by: Operator,
     line: u32,
@@ -184,11 +199,13 @@ fn rule_run_order(
     run: &Run,
     progress: &Progress,
 ) -> Result<Progress, AllocError>
-    requires { IsSound history.old }
+    requires sound { IsSound history.old }
+    requires front { IsFront board.old history.old.events }
     ensures turn { IfOk result (λ now. in_turn history.new now
         ≡ after_run by (in_turn history.old progress.now) line order.now kind run.now) }
+    ensures front { OnOk result (IsFront board.new history.old.events) }
     ensures sound { OnOk result (IsSound history.new) }
 {
-    let judged = judge_run(alloc, history, by.company, kind, run, *progress)?;
+    let judged = judge_run(board, history, by.company, kind, run, *progress)?;
     rule_run(history, by, line, order, judged, *progress)
 }

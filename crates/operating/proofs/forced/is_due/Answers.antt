@@ -16,6 +16,6 @@ returns-then-has_trains c = (
 
 pub returns : goal.returns
 returns c = (
-  λ yes. (ap (λ (events : List Event). has_trains events c.args.company) (sym c.now.ensures.events) ∙ sym c.has_trains.ensures ∙ c.if-has_trains.false, subst (λ (laid : Ground). CanRun (position_of laid) c.args.company) c.in_ok-board.ensures (c.can_run.ensures.0 yes)),
-  λ due. c.can_run.ensures.1 (subst (λ (laid : Ground). CanRun (position_of laid) c.args.company) (sym c.in_ok-board.ensures) due.1),
+  λ yes. (ap (λ (events : List Event). has_trains events c.args.company) (sym c.now.ensures.events) ∙ sym c.has_trains.ensures ∙ c.if-has_trains.false, subst (λ (laid : Ground). CanRun (position_of laid) c.args.company) c.in_ok-catch_up.ensures.ground (c.can_run.ensures.0 yes)),
+  λ due. c.can_run.ensures.1 (subst (λ (laid : Ground). CanRun (position_of laid) c.args.company) (sym c.in_ok-catch_up.ensures.ground) due.1),
 )

@@ -1,6 +1,7 @@
 use Rattle.std.proofs.Common.{◌≡◌, List, Err, Result, ap, sym, subst, ◌∙◌}
 use Rattle.std.proofs.lemmas.Result.{err_from_is_err_and}
 use Rattle.certificate.specs.declared.runner.RunnerFault.{RunnerFault}
+use Rattle.operating.proofs.Fronts.{front_on, line_adds}
 use Rattle.operating.proofs.TurnCalled.{line_calls_end, line_calls_on, no_line_calls}
 use Rattle.operating.proofs.TurnLaws.{line_seats}
 use Rattle.operating.specs.Calls.{Makes}
@@ -21,6 +22,7 @@ loop-line-preserved g c =
       calls = λ outcome after made. c.loop-line.invariant.calls outcome after (line_calls_on g.R.Runner.earns by c.args.round _ (line_read c.in-Some.line) _ turn _ outcome _ _ after (ap (λ (parts : Parts). parts.before) c.in-Some.ensures) c.in_ok-progress.ensures.calls made);
       small = (subst AreSmall (ap (λ (parts : Parts). parts.before) c.in-Some.ensures) c.loop-line.invariant.small).1;
       sound = c.in_ok-progress.ensures.sound;
+      front = front_on _ c.loop-line.history _ (line_adds by turn (line_read c.in-Some.line).number (line_read c.in-Some.line).reading _ c.in_ok-progress.ensures.turn) c.in_ok-progress.ensures.front;
     }
 
 pub rule_line-requires-clause-small : goal.rule_line-requires-clause-small
