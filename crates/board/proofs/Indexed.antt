@@ -1,5 +1,5 @@
 -- The index of a board tells what lies, and goes on to do so as tiles and tokens are laid.
-use Rattle.std.proofs.Common.{◌≡◌, ◌∙◌, ◌≢◌, ap, sym, subst, refl, ℕ, zero, suc, ◌+◌, ◌<◌, ◌≤◌, ◌&&◌, ◌||◌, Bool, true, false, cond, List, [], ◌∷◌, ◌++◌, Option, Some, None, length, get_or, set, replicate, arith, get_or-set_same, get_or-set_other}
+use Rattle.std.proofs.Common.{◌≡◌, ◌∙◌, ◌≢◌, ap, sym, subst, refl, ℕ, zero, suc, ◌+◌, ◌<◌, ◌≤◌, ◌&&◌, ◌||◌, Bool, true, false, cond, List, [], ◌∷◌, ◌++◌, Option, Some, None, length, map, get_or, set, replicate, arith, get_or-set_same, get_or-set_other}
 use Rattle.std.proofs.lemmas.Bool.{eq-eqb, eqb-true, eqb-false}
 use Rattle.std.proofs.lemmas.List.Folds.{list_any-append}
 use Rattle.std.proofs.lemmas.List.Sums.{sum_by-append, count_by-le-length}
@@ -8,12 +8,14 @@ use Rattle.board.proofs.Same.{stop_is, stop_is_same}
 use Rattle.board.proofs.Tiles.{last_lies}
 use Rattle.board.specs.Index.{IsIndex, counting, holding, holder_order}
 use Rattle.map_tables.specs.Hex.{index_of, same_hex}
-use Rattle.map_tables.specs.Lying.{names, is_part_of, same_stop, tile_on}
+use Rattle.map_tables.specs.Lay.{laid_links_of}
+use Rattle.map_tables.specs.Lying.{by_tile, names, is_part_of, same_stop, tile_on}
 use Rattle.map_tables.specs.Place.{joined_stop_of, stop_of}
 use Rattle.map_tables.specs.declared.hex.Hex.{Hex}
 use Rattle.map_tables.specs.declared.lay.Lay.{Lay}
 use Rattle.map_tables.specs.declared.place.Place.{Place}
 use Rattle.map_tables.specs.declared.place.Stop.{Stop}
+use Rattle.map_tables.specs.declared.track.Link.{Link}
 use Rattle.reach.proofs.Spots.{order_low, same_order}
 use Rattle.reach.specs.Reached.{stop_order}
 use Rattle.tables.proofs.Companies.{company_is}
@@ -27,12 +29,18 @@ all_one zero i x = refl
 all_one (suc n) zero x = refl
 all_one (suc n) (suc i) x = all_one n i x
 
+-- and so has what is told of it
+pub all_told : {A B : Type 0} (tell : A → B) (n : ℕ) (x : A) (y : B) → tell x ≡ y → map tell (replicate n x) ≡ replicate n y
+all_told tell zero x y is = refl
+all_told tell (suc n) x y is = ap (λ told. tell x ∷ told) (all_told tell n x y is) ∙ ap (λ told. told ∷ replicate n y) is
+
 -- before anything is laid
-pub index_of_none : (tiles : List (Option Lay)) (counts : List ℕ) (holders : List Bool) → tiles ≡ replicate 93 None → counts ≡ replicate 186 0 → holders ≡ replicate 1488 false → IsIndex [] [] tiles counts holders
+pub index_of_none : (tiles : List (Option Lay)) (links : List (List Link)) (counts : List ℕ) (holders : List Bool) → tiles ≡ replicate 93 None → links ≡ replicate 93 [] → counts ≡ replicate 186 0 → holders ≡ replicate 1488 false → IsIndex [] [] tiles links counts holders
 unfolding tile_on
-index_of_none tiles counts holders tiles_are counts_are holders_are =
+index_of_none tiles links counts holders tiles_are links_are counts_are holders_are =
     record {
       tile = λ hex. ap (λ ts. get_or ts (index_of hex) None) tiles_are ∙ all_one 93 (index_of hex) None;
+      link = λ hex. ap (λ ls. get_or ls (index_of hex) []) links_are ∙ all_one 93 (index_of hex) [];
       count = λ stop. ap (λ cs. get_or cs (stop_order stop) 0) counts_are ∙ all_one 186 (stop_order stop) 0;
       holder = λ stop company. ap (λ hs. get_or hs (holder_order stop company) false) holders_are ∙ all_one 1488 (holder_order stop company) false;
     }
@@ -44,11 +52,21 @@ tile_next lays lay tiles hex low so_far true is =
 tile_next lays lay tiles hex low so_far false is =
     get_or-set_other tiles (index_of lay.hex) (index_of hex) (Some lay) None (λ same. eqb-false (index_of lay.hex) (index_of hex) is (sym same)) ∙ so_far
 
+-- and so do its links
+link_next : (lays : List Lay) (lay : Lay) (links : List (List Link)) (hex : Hex) → index_of lay.hex < length links → get_or links (index_of hex) [] ≡ by_tile [] laid_links_of (tile_on lays hex) → (same : Bool) → same_hex lay.hex hex ≡ same → get_or (set links (index_of lay.hex) (laid_links_of lay)) (index_of hex) [] ≡ by_tile [] laid_links_of (cond same (Some lay) (tile_on lays hex))
+link_next lays lay links hex low so_far true is =
+    subst (λ n. get_or (set links (index_of lay.hex) (laid_links_of lay)) n [] ≡ laid_links_of lay) (eqb-true (index_of lay.hex) (index_of hex) is)
+    (get_or-set_same links (index_of lay.hex) (laid_links_of lay) [] low)
+link_next lays lay links hex low so_far false is =
+    get_or-set_other links (index_of lay.hex) (index_of hex) (laid_links_of lay) [] (λ same. eqb-false (index_of lay.hex) (index_of hex) is (sym same)) ∙ so_far
+
 -- once a tile is laid
-pub index_with_lay : (lays : List Lay) (laid : List (Place × Company)) (tiles : List (Option Lay)) (counts : List ℕ) (holders : List Bool) (lay : Lay) → IsIndex lays laid tiles counts holders → index_of lay.hex < length tiles → IsIndex (lays ++ lay ∷ []) laid (set tiles (index_of lay.hex) (Some lay)) counts holders
-index_with_lay lays laid tiles counts holders lay so_far low =
+pub index_with_lay : (lays : List Lay) (laid : List (Place × Company)) (tiles : List (Option Lay)) (links : List (List Link)) (counts : List ℕ) (holders : List Bool) (lay : Lay) → IsIndex lays laid tiles links counts holders → index_of lay.hex < length tiles → index_of lay.hex < length links → IsIndex (lays ++ lay ∷ []) laid (set tiles (index_of lay.hex) (Some lay)) (set links (index_of lay.hex) (laid_links_of lay)) counts holders
+index_with_lay lays laid tiles links counts holders lay so_far low links_low =
     record {
       tile = λ hex. tile_next lays lay tiles hex low (so_far.tile hex) (same_hex lay.hex hex) refl ∙ sym (last_lies lays lay hex);
+      link = λ hex. link_next lays lay links hex links_low (so_far.link hex) (same_hex lay.hex hex) refl
+          ∙ ap (by_tile [] laid_links_of) (sym (last_lies lays lay hex));
       count = so_far.count;
       holder = so_far.holder;
     }
@@ -115,11 +133,12 @@ holder_by_stop holders (Some part) of stop company low =
     holder_next holders part of stop company (low part) (same_stop (joined_stop_of part) stop && same_company of company) refl
 
 -- once a token is placed
-pub index_with_token : (lays : List Lay) (laid : List (Place × Company)) (tiles : List (Option Lay)) (counts : List ℕ) (holders : List Bool) (place : Place) (company : Company) → IsIndex lays laid tiles counts holders → length counts ≡ 186 → length holders ≡ 1488 → IsIndex lays (laid ++ (place, company) ∷ []) tiles (counting (stop_of place) counts) (holding (stop_of place) company holders)
-index_with_token lays laid tiles counts holders place of so_far many most =
+pub index_with_token : (lays : List Lay) (laid : List (Place × Company)) (tiles : List (Option Lay)) (links : List (List Link)) (counts : List ℕ) (holders : List Bool) (place : Place) (company : Company) → IsIndex lays laid tiles links counts holders → length counts ≡ 186 → length holders ≡ 1488 → IsIndex lays (laid ++ (place, company) ∷ []) tiles links (counting (stop_of place) counts) (holding (stop_of place) company holders)
+index_with_token lays laid tiles links counts holders place of so_far many most =
     let token : Place × Company = (place, of) in
     record {
       tile = so_far.tile;
+      link = so_far.link;
       count = λ stop.
           let p : (Place × Company) → Bool = λ t. names stop t.0 in
           count_by_stop counts (stop_of place) stop (λ part. omega (arith, order_low (joined_stop_of part)))
@@ -137,6 +156,6 @@ index_with_token lays laid tiles counts holders place of so_far many most =
     count_last p xs x = sum_by-append (λ t. cond (p t) 1 0) xs (x ∷ []) ∙ omega arith
 
 -- no more tokens name a stop than lie
-pub counts_low : (lays : List Lay) (laid : List (Place × Company)) (tiles : List (Option Lay)) (counts : List ℕ) (holders : List Bool) → IsIndex lays laid tiles counts holders → (stop : Stop) → get_or counts (stop_order stop) 0 ≤ length laid
-counts_low lays laid tiles counts holders so_far stop =
+pub counts_low : (lays : List Lay) (laid : List (Place × Company)) (tiles : List (Option Lay)) (links : List (List Link)) (counts : List ℕ) (holders : List Bool) → IsIndex lays laid tiles links counts holders → (stop : Stop) → get_or counts (stop_order stop) 0 ≤ length laid
+counts_low lays laid tiles links counts holders so_far stop =
     subst (λ n. n ≤ length laid) (sym (so_far.count stop)) (count_by-le-length (λ (token : Place × Company). names stop token.0) laid)

@@ -1,5 +1,6 @@
 pub mod Ground
 pub mod Index
+pub mod Kept
 pub mod Fit
 pub mod Turn
 pub mod Powers

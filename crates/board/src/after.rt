@@ -3,7 +3,7 @@ ghost use Rattle.board.specs.Ground.{with_lay};
 use crate::board::Board;
 use crate::lying::Lying;
 use crate::shown::same_hex;
-use map_tables::{Hex, Lay, Stop};
+use map_tables::{Hex, Lay, Links, Stop, laid_links};
 use tables::{Company, Kind};
 
 /// A board with one tile more, which is not laid yet: to ask what a company would reach.
@@ -21,6 +21,13 @@ impl Lying for After<'_> {
             return Some(self.lay);
         }
         self.board.tile_on(hex)
+    }
+
+    fn links_on(&self, hex: Hex) -> Links {
+        if same_hex(self.lay.hex, hex) {
+            return laid_links(self.lay);
+        }
+        self.board.links_on(hex)
     }
 
     fn count_at(&self, stop: Stop) -> usize {

@@ -6,7 +6,7 @@ use crate::fault::BoardFault;
 use crate::fit::fault_of;
 use crate::index::Index;
 use crate::lying::Lying;
-use map_tables::{Hex, Lay, Place, Stop};
+use map_tables::{Hex, Lay, Links, Place, Stop, printed_links};
 use std::alloc::{AllocError, Global};
 use std::marker::Model;
 use tables::{Company, Kind};
@@ -25,13 +25,15 @@ pub struct Board {
 impl Model for Board {
     ghost use Rattle.board.specs.Ground.{Ground};
     ghost use Rattle.board.specs.Index.{IsIndex};
+    ghost use Rattle.board.specs.Kept.{held};
+    ghost use Rattle.std.specs.Prelude.{map};
 
     ghost Value = { Ground };
 
     ghost view = { λ b. record { lays = b.lays.items; tokens = b.tokens.items; phase = b.phase } };
 
     ghost invariant = { λ b. IsIndex b.lays.items b.tokens.items
-        b.index.tiles b.index.counts b.index.holders };
+        b.index.tiles (map held b.index.links) b.index.counts b.index.holders };
 }
 
 impl Board {
@@ -134,6 +136,13 @@ impl Lying for Board {
 
     fn tile_on(&self, hex: Hex) -> Option<Lay> {
         self.index.tile_on(hex)
+    }
+
+    fn links_on(&self, hex: Hex) -> Links {
+        match self.tile_on(hex) {
+            Some(_) => self.index.links_of_tile(hex),
+            None => printed_links(hex),
+        }
     }
 
     fn count_at(&self, stop: Stop) -> usize {

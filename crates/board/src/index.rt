@@ -1,11 +1,14 @@
-ghost use Rattle.std.specs.Prelude.{◌≡◌, ◌+◌, ◌^◌, ◌<◌, [], Some, None, false, slice_index_or, slice_set};
+ghost use Rattle.std.specs.Prelude.{◌≡◌, ◌+◌, ◌^◌, ◌<◌, [], Some, None, false, map, slice_index_or, slice_set};
 ghost use Rattle.board.specs.Index.{IsIndex, counting, holding, holder_order};
+ghost use Rattle.board.specs.Kept.{held};
 ghost use Rattle.map_tables.specs.Hex.{index_of};
+ghost use Rattle.map_tables.specs.Lay.{laid_links_of};
 ghost use Rattle.map_tables.specs.Place.{stop_of};
 ghost use Rattle.reach.specs.Reached.{stop_order};
 ghost use Rattle.map_tables.specs.declared.place.Stop.{Stop};
 
-use map_tables::{HEXES, Hex, Lay, Place, Stop, joined_stop};
+use crate::kept::KeptLinks;
+use map_tables::{HEXES, Hex, Lay, Links, Place, Stop, joined_stop, laid_links};
 use tables::Company;
 
 /// How many places there are for stops on the map: two in each hex.
@@ -14,11 +17,12 @@ const STOPS: usize = 2 * HEXES;
 /// And how many for tokens: one of each company at each stop.
 const HOLDERS: usize = 8 * STOPS;
 
-/// What lies, so that it is found at once: the tile on each hex, how many tokens name each stop, and
-/// whose.
+/// What lies, so that it is found at once: the tile on each hex with its links, how many tokens name
+/// each stop, and whose.
 #[derive(Clone, Copy)]
 pub(crate) struct Index {
     tiles: [Option<Lay>; HEXES],
+    links: [KeptLinks; HEXES],
     counts: [usize; STOPS],
     holders: [bool; HOLDERS],
 }
@@ -42,10 +46,11 @@ fn holder_of(stop: Stop, company: Company) -> usize
 impl Index {
     /// Nothing lies.
     pub(crate) fn none() -> Index
-        ensures { IsIndex [] [] result.tiles result.counts result.holders }
+        ensures { IsIndex [] [] result.tiles (map held result.links) result.counts result.holders }
     {
         Index {
             tiles: [None; HEXES],
+            links: [KeptLinks::none(); HEXES],
             counts: [0; STOPS],
             holders: [false; HOLDERS],
         }
@@ -56,6 +61,13 @@ impl Index {
         ensures { result ≡ slice_index_or self.now.tiles (index_of hex) None }
     {
         self.tiles[hex.index()]
+    }
+
+    /// The links of the tile on a hex; none where no tile lies.
+    pub(crate) fn links_of_tile(&self, hex: Hex) -> Links
+        ensures { result.items ≡ slice_index_or (map held self.now.links) (index_of hex) [] }
+    {
+        self.links[hex.index()].links()
     }
 
     /// How many tokens name a stop.
@@ -75,16 +87,20 @@ impl Index {
     /// A tile is laid.
     pub(crate) fn add_lay(&mut self, lay: Lay)
         ensures tiles { self.new.tiles ≡ slice_set self.old.tiles (index_of lay.hex) (Some lay) }
+        ensures links { map held self.new.links
+            ≡ slice_set (map held self.old.links) (index_of lay.hex) (laid_links_of lay) }
         ensures counts { self.new.counts ≡ self.old.counts }
         ensures holders { self.new.holders ≡ self.old.holders }
     {
         self.tiles[lay.hex.index()] = Some(lay);
+        self.links[lay.hex.index()] = KeptLinks::of(&laid_links(lay));
     }
 
     /// A token is placed.
     pub(crate) fn add_token(&mut self, place: Place, company: Company)
         requires { (stop : Stop) → slice_index_or self.old.counts (stop_order stop) 0 + 1 < 2 ^ 64 }
         ensures tiles { self.new.tiles ≡ self.old.tiles }
+        ensures links { self.new.links ≡ self.old.links }
         ensures counts { self.new.counts ≡ counting (stop_of place) self.old.counts }
         ensures holders { self.new.holders ≡ holding (stop_of place) company self.old.holders }
     {

@@ -15,7 +15,7 @@ use crate::asker::{Asker, TurnStep};
 use crate::board::Board;
 use crate::fault::LayFault;
 use crate::fit::{has_bad_side, is_open, is_wrong_kind};
-use crate::lying::{Lying, links_on};
+use crate::lying::Lying;
 use crate::powers::is_dh_lay;
 use crate::shown::same_hex;
 use map_tables::{
@@ -204,7 +204,7 @@ impl Board {
         ensures { result ≡ loses_track self.now.lays lay }
     {
         let links = laid_links(lay);
-        links_on(self, lay.hex)
+        self.links_on(lay.hex)
             .as_slice()
             .iter()
             .any(|old| !is_kept(links.as_slice(), *old))

@@ -13,12 +13,14 @@
 //! (what the rules keep: a slot for each home token, and no more tiles than there are), and two
 //! small examples, `Example`.
 //!
-//! A `Board` keeps an index beside its lists, by which what lies is found at once. A `PlainBoard` has
-//! the lists alone: it is the same to a contract, and shorter to read.
+//! A `Board` keeps an index beside its lists, by which what lies is found at once, with the links of
+//! each tile that lies, turned as it was laid. A `PlainBoard` has the lists alone: it is the same to a
+//! contract, and shorter to read.
 //!
-//! Reading order: `fault`, `shown` (what shows at a hex or a stop), `fit` (what may lie at all), `lying` (what
-//! follows from what lies), `plain`, `index`, `board`, `after` (a board with one tile more), `network` (the position
-//! that is kept), `asker`, `powers` (of CS and DH), `lay`, `token`, `laws`.
+//! Reading order: `fault`, `shown` (what shows at a hex or a stop), `fit` (what may lie at all),
+//! `lying` (what follows from what lies), `plain`, `kept` (the links of a hex as a value), `index`,
+//! `board`, `after` (a board with one tile more), `network` (the position that is kept), `asker`,
+//! `powers` (of CS and DH), `lay`, `token`, `laws`.
 #![tactic(auto)]
 
 mod after;
@@ -27,6 +29,7 @@ mod board;
 mod fault;
 mod fit;
 mod index;
+mod kept;
 mod laws;
 mod lay;
 mod lying;

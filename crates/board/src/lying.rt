@@ -10,8 +10,8 @@ ghost use Rattle.reach.specs.Position.{HasToken, IsFull, at_stop, is_red, links_
 
 use crate::shown::{is_red, is_stop, same_hex, value_in};
 use map_tables::{
-    Hex, Lay, Links, Stop, StopNumber, hex_kind, joined_stop, laid_links, printed_links,
-    printed_slots, printed_value, tile,
+    Hex, Lay, Links, Stop, StopNumber, hex_kind, joined_stop, printed_links, printed_slots,
+    printed_value, tile,
 };
 use tables::{Amount, Company, Kind};
 
@@ -23,6 +23,10 @@ pub(crate) trait Lying {
     /// The tile that lies on a hex: the last that was laid there.
     fn tile_on(&self, hex: Hex) -> Option<Lay>
         ensures { result ≡ tile_on (laid self.now).lays hex };
+
+    /// The links of a hex: those of the tile that lies there, or its print.
+    fn links_on(&self, hex: Hex) -> Links
+        ensures { result.items ≡ links_on (laid self.now).lays hex };
 
     /// How many tokens name a stop, by the name that stands for it.
     fn count_at(&self, stop: Stop) -> usize
@@ -38,16 +42,6 @@ pub(crate) trait Lying {
         ensures { result ≡ (laid self.now).phase };
 }
 
-/// The links of a hex.
-pub(crate) fn links_on<L: Lying>(board: &L, hex: Hex) -> Links
-    ensures { result.items ≡ links_on (L.laid board.now).lays hex }
-{
-    match board.tile_on(hex) {
-        Some(lay) => laid_links(lay),
-        None => printed_links(hex),
-    }
-}
-
 /// The track in a hex. One that is a part of another's stop keeps its print: no tile is laid there.
 fn track_in<L: Lying>(board: &L, hex: Hex) -> Links
     ensures { result.items ≡ track_in (L.laid board.now).lays hex }
@@ -57,7 +51,7 @@ fn track_in<L: Lying>(board: &L, hex: Hex) -> Links
         number: StopNumber::First,
     });
     if same_hex(named.hex, hex) {
-        links_on(board, hex)
+        board.links_on(hex)
     } else {
         printed_links(hex)
     }

@@ -6,7 +6,7 @@ use crate::fault::BoardFault;
 use crate::fit::fault_of;
 use crate::lying::Lying;
 use crate::shown::{count_naming, has_token, last_on};
-use map_tables::{Hex, Lay, Place, Stop};
+use map_tables::{Hex, Lay, Links, Place, Stop, laid_links, printed_links};
 use std::alloc::Global;
 use std::marker::Model;
 use tables::{Company, Kind};
@@ -59,6 +59,13 @@ impl Lying for PlainBoard {
 
     fn tile_on(&self, hex: Hex) -> Option<Lay> {
         last_on(&self.lays, hex)
+    }
+
+    fn links_on(&self, hex: Hex) -> Links {
+        match self.tile_on(hex) {
+            Some(lay) => laid_links(lay),
+            None => printed_links(hex),
+        }
     }
 
     fn count_at(&self, stop: Stop) -> usize {

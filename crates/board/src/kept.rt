@@ -1,0 +1,72 @@
+//! The links of a hex, kept as a value that is copied.
+ghost use Rattle.std.specs.Prelude.{◌≡◌, ◌+◌, ◌++◌, ◌∷◌, ◌<◌, ◌≤◌, [], length};
+ghost use Rattle.board.specs.Kept.{held};
+
+use map_tables::{LINKS_MOST, Link, Links};
+
+/// Links of a hex, at most six: so many of these.
+#[derive(Clone, Copy)]
+pub(crate) struct KeptLinks {
+    links: [Link; LINKS_MOST],
+    count: usize,
+}
+
+impl KeptLinks {
+    /// No links.
+    pub(crate) fn none() -> KeptLinks
+        ensures links { held result ≡ [] }
+        ensures count { result.count ≡ 0 }
+    {
+        KeptLinks {
+            links: [Link::default(); LINKS_MOST],
+            count: 0,
+        }
+    }
+
+    /// These links.
+    pub(crate) fn of(links: &Links) -> KeptLinks
+        ensures { held result ≡ links.now.items }
+    {
+        let mut kept = KeptLinks::none();
+        let given = links.as_slice();
+        for link in given {
+            kept.add(*link);
+        }
+        kept
+    }
+
+    /// Adds a link at the end.
+    fn add(&mut self, link: Link)
+        requires { self.old.count < 6 }
+        ensures links { held self.new ≡ held self.old ++ link ∷ [] }
+        ensures count { self.new.count ≡ self.old.count + 1 }
+    {
+        self.links[self.count] = link;
+        self.count += 1;
+    }
+
+    /// The links that it keeps.
+    pub(crate) fn links(&self) -> Links
+        ensures { result.items ≡ held self.now }
+    {
+        let mut links = Links::new();
+        let kept = self.as_slice();
+        for link in kept {
+            links.push(*link);
+        }
+        links
+    }
+
+    /// They, as a slice.
+    fn as_slice(&self) -> &[Link]
+        ensures links { result.now ≡ held self.now }
+        ensures few { length result.now ≤ 6 }
+    {
+        let links = &self.links;
+        if self.count < LINKS_MOST {
+            &links[..self.count]
+        } else {
+            &links[..]
+        }
+    }
+}
