@@ -1,11 +1,11 @@
 -- A state that is covered by one that has been explored earns no more than the best found; a state that has been explored may
 -- be kept.
-use Rattle.std.proofs.Common.{◌≡◌, ℕ, zero, suc, ◌+◌, ◌<◌, ◌≤◌, Bool, true, false, ◌⊎◌, inl, inr, Some, List, [], ◌∷◌, ◌++◌, drop, get_or, length, set, slice_get, sym, ap, subst, ◌∙◌, arith, add-one, drop-cons}
+use Rattle.std.proofs.Common.{◌≡◌, ℕ, zero, suc, ◌≤◌, ◌⊎◌, inl, inr, Some, List, [], ◌∷◌, ◌++◌, length, set, slice_get, sym, ap, subst, ◌∙◌, arith}
 use Rattle.best_run.specs.declared.explored.Found.{Found}
 use Rattle.best_run.specs.declared.state.Settled.{Settled}
 use Rattle.best_run.specs.declared.task.Task.{Task}
 use Rattle.best_run.specs.declared.trail.Trail.{Trail}
-use Rattle.best_run.specs.Kept.{Covers, Freer, IsCovered, IsKept, IsNothing}
+use Rattle.best_run.specs.Kept.{Covers, IsCovered, IsKept, IsNothing}
 use Rattle.best_run.specs.Moves.{AreExplored, Completes, EarnsAtMost, Explores, between, total_after}
 use Rattle.best_run.specs.Suffix.{nothing_before}
 use Rattle.best_run.specs.Trail.{marks_in}

@@ -1,5 +1,5 @@
 -- The steps of a position, and the pieces from its spots, as they are collected.
-use Rattle.std.proofs.Common.{◌≡◌, ◌↔◌, ℕ, zero, suc, ◌+◌, ◌/◌, ◌%◌, ◌<◌, ◌≤◌, Bool, true, false, ◌⊎◌, inl, inr, Option, Some, None, List, [], ◌∷◌, ◌++◌, length, get_or, slice_get, take, refl, sym, ap, subst, ◌∙◌, arith, length-append}
+use Rattle.std.proofs.Common.{◌≡◌, ◌↔◌, ℕ, zero, suc, ◌+◌, ◌/◌, ◌%◌, ◌<◌, ◌≤◌, Bool, true, false, ◌⊎◌, inl, inr, Option, Some, None, List, [], ◌∷◌, ◌++◌, length, get_or, set, slice_get, take, refl, sym, ap, subst, ◌∙◌, arith, length-append, length-set}
 use Rattle.std.proofs.lemmas.List.{take_all, take_more}
 use Rattle.std.proofs.lemmas.Option.{slice_get_within}
 use Rattle.map_tables.specs.Hex.{index_of}
@@ -24,7 +24,7 @@ use Rattle.tables.specs.declared.rolling_stock.Kind.{Kind}
 use Rattle.tables.specs.declared.roster.Company.{Company}
 use Rattle.best_run.specs.declared.task.Node.{Node}
 use Rattle.best_run.specs.declared.task.Piece.{Piece}
-use Rattle.best_run.specs.Described.{Adds, AreNumbered, ArePiecesFrom, ComesFrom, IsNumbered, IsPieceOf, code_before, codes_before, most_of, most_of_all, number_before, number_or_none}
+use Rattle.best_run.specs.Described.{Adds, AreNumbered, ArePiecesFrom, ComesFrom, IsNodeAt, IsNumbered, IsPieceOf, TakesPiece, TakesStep, code_before, most_of, most_of_all, number_before, number_or_none}
 
 -- a link taken in a direction
 abbrev pub taking : Link → Bool → Step
@@ -109,84 +109,52 @@ pub steps_all : (position : Position) (steps : List Step) (index : ℕ) → 93 �
 steps_all position steps index all before step =
     (before.only step, λ track. before.added step (omega (arith, index_low step.link.hex)) track)
 
--- the codes of some steps, one by one
-pub codes_more : (steps : List Step) (i : ℕ) (d : Step) → i < length steps → codes_before (take (i + 1) steps) ≡ codes_before (take i steps) ++ code_before (get_or steps i d) ∷ []
-codes_more steps i d low = ap codes_before (take_more steps i d low) ∙ codes_end (take i steps) (get_or steps i d)
-  where
-    codes_end : (first : List Step) (step : Step) → codes_before (first ++ step ∷ []) ≡ codes_before first ++ code_before step ∷ []
-    codes_end [] step = refl
-    codes_end (other ∷ first) step = ap (λ codes. code_before other ∷ codes) (codes_end first step)
-
-pub codes_all : (steps : List Step) (i : ℕ) → length steps ≤ i → codes_before (take i steps) ≡ codes_before steps
-codes_all steps i all = ap codes_before (take_all i steps all)
-
-pub codes_length : (steps : List Step) → length (codes_before steps) ≡ length steps
-codes_length [] = refl
-codes_length (step ∷ steps) = ap suc (codes_length steps)
-
-code_at : (steps : List Step) (i d : ℕ) (other : Step) → i < length steps → get_or (codes_before steps) i d ≡ code_before (get_or steps i other)
-code_at [] i d other low = absurd (omega arith)
-code_at (step ∷ steps) zero d other low = refl
-code_at (step ∷ steps) (suc i) d other low = code_at steps i d other (omega arith)
-
 -- a step comes from a spot exactly where its code is the spot's number
 code_comes : (number : ℕ) (found : Option ℕ) → number < 744 → (number_or_none found ≡ number) ↔ (found ≡ Some number)
 code_comes number None low = (λ is. absurd (omega (arith, low, is)), λ is. absurd cc)
 code_comes number (Some other) low = (λ is. ap (λ (n : ℕ). Some n) is, λ is. let same : other ≡ number = cc in same)
 
-pub comes_by_code : (steps : List Step) (i d number : ℕ) (other : Step) → i < length steps → number < 744 → (get_or (codes_before steps) i d ≡ number) ↔ ComesFrom number (get_or steps i other)
-comes_by_code steps i d number other low few =
-    let at = entered_at (get_or steps i other) in
-    let code : get_or (codes_before steps) i d ≡ code_before (get_or steps i other) = code_at steps i d other low in
-    let comes = code_comes number (number_before at.hex at.end) few in
-    (λ is. comes.0 (sym code ∙ is), λ is. code ∙ comes.1 is)
+comes_by_code : (number : ℕ) (step : Step) → number < 744 → (code_before step ≡ number) ↔ ComesFrom number step
+comes_by_code number step few = code_comes number (number_before (entered_at step).hex (entered_at step).end) few
 
 -- no step has come
-pub pieces_none : (number : ℕ) (steps : List Step) → ArePiecesFrom number (take 0 steps) []
-pieces_none number steps =
+pub pieces_none : (number : ℕ) → ArePiecesFrom number [] []
+pieces_none number =
     record {
       sound = λ piece none. absurd none;
       complete = λ step none comes. absurd none;
     }
 
 -- the next step may not be taken
-pub pieces_same : (number : ℕ) (steps : List Step) (pieces : List Piece) (i : ℕ) (d : Step) → i < length steps → (ComesFrom number (get_or steps i d) → ⊥) → ArePiecesFrom number (take i steps) pieces → ArePiecesFrom number (take (i + 1) steps) pieces
-pieces_same number steps pieces i d low fails before =
+pieces_same : (number : ℕ) (steps : List Step) (pieces : List Piece) (next : Step) → (ComesFrom number next → ⊥) → ArePiecesFrom number steps pieces → ArePiecesFrom number (steps ++ next ∷ []) pieces
+pieces_same number steps pieces next fails before =
     record {
       sound = λ piece among.
           let of = before.sound piece among in
-          record { step = of.step; among = subst (λ ls. IsAmong of.step ls) (sym (take_more steps i d low)) (among_before (take i steps) of.step (get_or steps i d) of.among); comes = of.comes; piece_is = of.piece_is };
-      complete = λ step among comes. elim (among_cases (take i steps) step (get_or steps i d) (subst (λ ls. IsAmong step ls) (take_more steps i d low) among)) [
+          record { step = of.step; among = among_before steps of.step next of.among; comes = of.comes; piece_is = of.piece_is };
+      complete = λ step among comes. elim (among_cases steps step next among) [
         | inl sooner ↦ before.complete step sooner comes
-        | inr next ↦ absurd (fails (subst (ComesFrom number) (sym next) comes))
+        | inr same ↦ absurd (fails (subst (ComesFrom number) (sym same) comes))
       ];
     }
 
-pub pieces_next : (number : ℕ) (steps : List Step) (pieces : List Piece) (i : ℕ) → i < length steps → number < 744 → (get_or (codes_before steps) i 0 ≡ number → ⊥) → ArePiecesFrom number (take i steps) pieces → ArePiecesFrom number (take (i + 1) steps) pieces
-pieces_next number [] pieces i low few other before = absurd (omega (arith, low))
-pieces_next number (step ∷ steps) pieces i low few other before =
-    pieces_same number (step ∷ steps) pieces i step low (λ comes. other ((comes_by_code (step ∷ steps) i 0 number step low few).1 comes)) before
-
 -- the piece of the next step is added
-pub pieces_more : (number : ℕ) (steps : List Step) (pieces : List Piece) (i : ℕ) (d : Step) → i < length steps → ComesFrom number (get_or steps i d) → (piece : Piece) → IsPieceOf (get_or steps i d) piece → ArePiecesFrom number (take i steps) pieces → ArePiecesFrom number (take (i + 1) steps) (pieces ++ piece ∷ [])
-pieces_more number steps pieces i d low comes piece is before =
+pieces_more : (number : ℕ) (steps : List Step) (pieces : List Piece) (next : Step) → ComesFrom number next → (piece : Piece) → IsPieceOf next piece → ArePiecesFrom number steps pieces → ArePiecesFrom number (steps ++ next ∷ []) (pieces ++ piece ∷ [])
+pieces_more number steps pieces next comes piece is before =
     record {
       sound = λ other among. elim (among_cases pieces other piece among) [
         | inl old ↦
             let of = before.sound other old in
-            record { step = of.step; among = subst (λ ls. IsAmong of.step ls) (sym (take_more steps i d low)) (among_before (take i steps) of.step (get_or steps i d) of.among); comes = of.comes; piece_is = of.piece_is }
-        | inr same ↦ record { step = get_or steps i d; among = subst (λ ls. IsAmong (get_or steps i d) ls) (sym (take_more steps i d low)) (among_end (take i steps) (get_or steps i d)); comes = comes; piece_is = subst (IsPieceOf (get_or steps i d)) same is }
+            record { step = of.step; among = among_before steps of.step next of.among; comes = of.comes; piece_is = of.piece_is }
+        | inr same ↦ record { step = next; among = among_end steps next; comes = comes; piece_is = subst (IsPieceOf next) same is }
       ];
-      complete = λ step among step_comes. elim (among_cases (take i steps) step (get_or steps i d) (subst (λ ls. IsAmong step ls) (take_more steps i d low) among)) [
+      complete = λ step among step_comes. elim (among_cases steps step next among) [
         | inl sooner ↦
             let has = before.complete step sooner step_comes in
             record { piece = has.piece; among = among_before pieces has.piece piece has.among; piece_is = has.piece_is }
-        | inr next ↦ record { piece = piece; among = among_end pieces piece; piece_is = subst (λ (s : Step). IsPieceOf s piece) next is }
+        | inr same ↦ record { piece = piece; among = among_end pieces piece; piece_is = subst (λ (s : Step). IsPieceOf s piece) same is }
       ];
     }
-
-pub pieces_all : (number : ℕ) (steps : List Step) (pieces : List Piece) (i : ℕ) → length steps ≤ i → ArePiecesFrom number (take i steps) pieces → ArePiecesFrom number steps pieces
-pieces_all number steps pieces i all are = subst (λ ls. ArePiecesFrom number ls pieces) (take_all i steps all) are
 
 -- a side has a number whose rest by eight is below six
 pub spot_side : (number : ℕ) (spot : Spot) → spot_number spot ≡ number → number % 8 < 6 → stop_of spot ≡ None
@@ -224,6 +192,84 @@ numbered_more position company steps count nodes node before is =
     at_end [] x (suc i) y at = absurd (omega (arith, slice_get_within (x ∷ []) (suc i) y at))
     at_end (z ∷ zs) x zero y at = inl at
     at_end (z ∷ zs) x (suc i) y at = elim (at_end zs x i y at) [ inl old ↦ inl old | inr last ↦ inr (ap suc last.0, last.1) ]
+
+-- what stands at a number may lead on by other pieces
+node_same : (position : Position) (company : Company) (stop : Option Stop) (old new : Node) → new ≡ record old { pieces = new.pieces } → IsNodeAt position company stop (Some old) → IsNodeAt position company stop (Some new)
+node_same position company stop old new same is =
+    subst (λ (n : Node). IsNodeAt position company stop (Some n)) (sym same) (by_stop stop is)
+  where
+    by_stop : (o : Option Stop) → IsNodeAt position company o (Some old) → IsNodeAt position company o (Some (record old { pieces = new.pieces }))
+    by_stop (Some stop) stands = record { stops = stands.stops; value = stands.value; own = stands.own; passes = stands.passes }
+    by_stop None stands = record { stops = stands.stops; value = stands.value; own = stands.own; passes = stands.passes }
+
+-- the next step may be taken from no spot
+pub takes_none : (step : Step) (nodes : List Node) → 744 ≤ code_before step → TakesStep step nodes nodes
+takes_none step nodes none position company steps before =
+    record {
+      all = before.all;
+      each = λ number node at.
+          let is = before.each number node at in
+          let low : number < 744 = omega (arith, slice_get_within nodes number node at, before.all) in
+          record {
+            spot = is.spot;
+            value = is.value;
+            side = is.side;
+            pieces = pieces_same number steps node.pieces.items step (λ comes. omega (arith, none, low, (comes_by_code number step low).1 comes)) is.pieces;
+          };
+    }
+
+-- what stands at a place of some spots, of which one is changed
+set_at : (nodes : List Node) (place number : ℕ) (new found : Node) → slice_get (set nodes place new) number ≡ Some found → ((number ≡ place) × (new ≡ found)) ⊎ ((number ≡ place → ⊥) × (slice_get nodes number ≡ Some found))
+set_at [] place number new found at = absurd (omega (arith, slice_get_within [] number found at))
+set_at (node ∷ nodes) zero zero new found at = inl (refl, let same : new ≡ found = cc in same)
+set_at (node ∷ nodes) zero (suc number) new found at = inr (λ is. omega (arith, is), at)
+set_at (node ∷ nodes) (suc place) zero new found at = inr (λ is. omega (arith, is), at)
+set_at (node ∷ nodes) (suc place) (suc number) new found at =
+    elim (set_at nodes place number new found at) [
+      | inl here ↦ inl (ap suc here.0, here.1)
+      | inr other ↦ inr (λ is. other.0 (omega (arith, is)), other.1)
+    ]
+
+-- its piece is appended to those of the spot from which it may be taken
+pub takes_piece : (step : Step) (nodes : List Node) (old new : Node) (piece : Piece) → code_before step < 744 → slice_get nodes (code_before step) ≡ Some old → IsPieceOf step piece → TakesPiece piece old new → TakesStep step nodes (set nodes (code_before step) new)
+takes_piece step nodes old new piece few there piece_is takes position company steps before =
+    record {
+      all = length-set nodes (code_before step) new ∙ before.all;
+      each = λ number node at. elim (set_at nodes (code_before step) number new node at) [
+        | inl here ↦ subst (λ (n : Node). IsNumbered position company (steps ++ step ∷ []) number n) here.1 (at_code number here.0)
+        | inr other ↦
+            let is = before.each number node other.1 in
+            let low : number < 744 = omega (arith, slice_get_within nodes number node other.1, before.all) in
+            record {
+              spot = is.spot;
+              value = is.value;
+              side = is.side;
+              pieces = pieces_same number steps node.pieces.items step (λ comes. other.0 (sym ((comes_by_code number step low).1 comes))) is.pieces;
+            }
+      ];
+    }
+  where
+    at_code : (number : ℕ) → number ≡ code_before step → IsNumbered position company (steps ++ step ∷ []) number new
+    at_code number same =
+        let is = before.each number old (ap (λ (n : ℕ). slice_get nodes n) same ∙ there) in
+        let value : new.value ≡ old.value = ap (λ (n : Node). n.value) takes.same in
+        let stop : new.stop ≡ old.stop = ap (λ (n : Node). n.stop) takes.same in
+        record {
+          spot = λ spot spot_is. node_same position company (stop_of spot) old new takes.same (is.spot spot spot_is);
+          value = omega (arith, value, is.value);
+          side = λ side. value ∙ is.side (sym stop ∙ side);
+          pieces = subst (ArePiecesFrom number (steps ++ step ∷ [])) (sym takes.more)
+              (pieces_more number steps old.pieces.items step ((comes_by_code number step (omega (arith, few, same))).0 (sym same)) piece piece_is is.pieces);
+        }
+
+-- the piece of one more step has come, and those of all steps
+pub numbered_next : (position : Position) (company : Company) (steps : List Step) (i : ℕ) (d : Step) (old new : List Node) → i < length steps → AreNumbered position company (take i steps) 744 old → TakesStep (get_or steps i d) old new → AreNumbered position company (take (i + 1) steps) 744 new
+numbered_next position company steps i d old new low before takes =
+    subst (λ ss. AreNumbered position company ss 744 new) (sym (take_more steps i d low)) (takes position company (take i steps) before)
+
+pub numbered_all : (position : Position) (company : Company) (steps : List Step) (i : ℕ) (nodes : List Node) → length steps ≤ i → AreNumbered position company (take i steps) 744 nodes → AreNumbered position company steps 744 nodes
+numbered_all position company steps i nodes all before =
+    subst (λ ss. AreNumbered position company ss 744 nodes) (take_all i steps all) before
 
 -- one more train
 pub most_more : (kinds : List Kind) (i : ℕ) (d : Kind) → i < length kinds → most_of_all (take (i + 1) kinds) ≡ most_of_all (take i kinds) ++ most_of (stops_of (get_or kinds i d)) ∷ []

@@ -1,6 +1,6 @@
 -- What a search goes over, on a position: its spots are the ends of the hexes, by their numbers, with what the stops
 -- are to a company; the pieces that lead from a spot are the steps of walks that may be taken from there.
-use Rattle.std.specs.Prelude.{◌≡◌, ◌↔◌, ℕ, ◌≤◌, true, false, ◌⊎◌, Option, Some, None, option_map, List, [], ◌∷◌, length, slice_get}
+use Rattle.std.specs.Prelude.{◌≡◌, ◌↔◌, ℕ, ◌≤◌, true, false, ◌⊎◌, Option, Some, None, option_map, List, [], ◌∷◌, ◌++◌, length, slice_get}
 use Rattle.map_tables.specs.declared.hex.Hex.{Hex}
 use Rattle.map_tables.specs.declared.place.Stop.{Stop}
 use Rattle.map_tables.specs.declared.track.End.{End}
@@ -97,11 +97,6 @@ number_or_none None = 744
 abbrev pub code_before : Step → ℕ
 code_before step = number_or_none (number_before (entered_at step).hex (entered_at step).end)
 
--- the same for each of some steps
-abbrev pub codes_before : List Step → List ℕ
-codes_before [] = []
-codes_before (step ∷ steps) = code_before step ∷ codes_before steps
-
 -- these are all steps of a position
 abbrev pub AreSteps : Position → List Step → Type 0
 AreSteps position steps = (step : Step) → IsAmong step steps ↔ IsTrack position step
@@ -141,3 +136,13 @@ pub record IsNumbered (position : Position) (company : Company) (steps : List St
 pub record AreNumbered (position : Position) (company : Company) (steps : List Step) (count : ℕ) (nodes : List Node) : Type 0 where
   pub all : length nodes ≡ count
   pub each : (number : ℕ) (node : Node) → slice_get nodes number ≡ Some node → IsNumbered position company steps number node
+
+-- a piece is appended to those that lead from a spot
+pub record TakesPiece (piece : Piece) (old new : Node) : Type 0 where
+  pub same : new ≡ record old { pieces = new.pieces }
+  pub more : new.pieces.items ≡ old.pieces.items ++ piece ∷ []
+
+-- spots that stand at their numbers with the pieces of some steps have the piece of one more step
+abbrev pub TakesStep : Step → List Node → List Node → Type 0
+TakesStep step old new =
+    (position : Position) (company : Company) (steps : List Step) → AreNumbered position company steps 744 old → AreNumbered position company (steps ++ step ∷ []) 744 new

@@ -1,6 +1,6 @@
 //! The spots of a position, with the pieces of track that lead from them.
-ghost use Rattle.std.specs.Prelude.{◌≡◌, ◌+◌, ◌<◌, ◌≤◌, ◌/◌, ◌%◌, ◌↔◌, length, IfOk, IsTrue, OnOk, Some};
-ghost use Rattle.best_run.specs.Described.{Adds, ArePiecesFrom, AreNumbered, AreSteps, Describes, IsNumbered, IsPieceOf, IsSideNode, IsStopNode, code_before, codes_before, most_of, most_of_all, number_before};
+ghost use Rattle.std.specs.Prelude.{◌≡◌, ◌+◌, ◌<◌, ◌≤◌, ◌%◌, ◌↔◌, [], length, IfOk, IsTrue, OnOk, Some};
+ghost use Rattle.best_run.specs.Described.{Adds, AreNumbered, AreSteps, Describes, IsNumbered, IsPieceOf, IsSideNode, IsStopNode, TakesPiece, TakesStep, code_before, most_of, most_of_all, number_before};
 ghost use Rattle.best_run.specs.Fit.{IsFit};
 ghost use Rattle.best_run.specs.Ways.{AreReady};
 ghost use Rattle.certificate.specs.Legal.{border_of};
@@ -142,38 +142,6 @@ fn code_before(step: Step) -> usize
     }
 }
 
-/// For each of some steps, the number of the spot from which it may be taken.
-fn codes_before(alloc: Global, steps: &[Step]) -> Result<Vec<usize>, AllocError>
-    ensures { IfOk result (λ codes. codes.items ≡ codes_before steps.now) }
-{
-    let mut codes = Vec::new(alloc);
-    for step in steps {
-        codes.push(code_before(*step))?;
-    }
-    Ok(codes)
-}
-
-/// The pieces of those steps that may be taken from a spot. The codes are the numbers of the spots
-/// from which the steps may be taken.
-pub(crate) fn pieces_from(
-    alloc: Global,
-    steps: &[Step],
-    codes: &[usize],
-    number: usize,
-) -> Result<Vec<Piece>, AllocError>
-    requires codes { codes.now ≡ codes_before steps.now }
-    requires number { number < 744 }
-    ensures { IfOk result (λ pieces. ArePiecesFrom number steps.now pieces.items) }
-{
-    let mut pieces = Vec::new(alloc);
-    for index in 0..codes.len() {
-        if codes[index] == number {
-            pieces.push(piece_of(alloc, steps[index])?)?;
-        }
-    }
-    Ok(pieces)
-}
-
 /// A side, which is nothing to a company.
 fn side_node(pieces: Vec<Piece>) -> Node
     ensures node { IsSideNode (Some result) }
@@ -231,32 +199,62 @@ fn stop_numbered(place: usize) -> StopNumber
     }
 }
 
-/// The spot with a number, with the pieces from there.
-fn node_of<N: Network>(
-    alloc: Global,
-    network: &N,
-    company: Company,
-    steps: &[Step],
-    codes: &[usize],
-    number: usize,
-) -> Result<Node, AllocError>
-    requires codes { codes.now ≡ codes_before steps.now }
-    requires number { number < 744 }
+/// The spot with a number, with no pieces from there.
+fn bare_node<N: Network>(alloc: Global, network: &N, company: Company, number: usize) -> Node
+    requires { number < 744 }
     ensures { let position = N.position network.now in
-        IfOk result (IsNumbered position company steps.now number) }
+        IsNumbered position company [] number result }
 {
-    let pieces = pieces_from(alloc, steps, codes, number)?;
+    let pieces = Vec::new(alloc);
     if is_side(number) {
-        return Ok(side_node(pieces));
+        return side_node(pieces);
     }
     let stop = Stop {
         hex: hex_at(number / ENDS),
         number: stop_numbered(number % ENDS),
     };
-    Ok(stop_node(network, company, stop, pieces))
+    stop_node(network, company, stop, pieces)
 }
 
-/// All spots, by their numbers.
+/// All spots, by their numbers, with no pieces.
+fn bare_spots<N: Network>(
+    alloc: Global,
+    network: &N,
+    company: Company,
+) -> Result<Vec<Node>, AllocError>
+    ensures { let position = N.position network.now in
+        IfOk result (λ nodes. AreNumbered position company [] 744 nodes.items) }
+{
+    let mut nodes = Vec::new(alloc);
+    for number in 0..SPOTS {
+        nodes.push(bare_node(alloc, network, company, number))?;
+    }
+    Ok(nodes)
+}
+
+/// Appends a piece to those that lead from a spot. The only error is want of memory.
+fn add_piece(node: &mut Node, piece: Piece) -> Result<(), AllocError>
+    ensures { OnOk result (TakesPiece piece node.old node.new) }
+{
+    node.pieces.push(piece)?;
+    Ok(())
+}
+
+/// Adds the piece of a step to those of the spot from which it may be taken, if there is one. The only
+/// error is want of memory.
+fn add_step(alloc: Global, step: Step, nodes: &mut Vec<Node>) -> Result<(), AllocError>
+    requires { length nodes.old.items ≡ 744 }
+    ensures { OnOk result (TakesStep step nodes.old.items nodes.new.items) }
+{
+    let number = code_before(step);
+    if number < SPOTS {
+        let piece = piece_of(alloc, step)?;
+        add_piece(&mut nodes[number], piece)?;
+    }
+    Ok(())
+}
+
+/// All spots, by their numbers, with the pieces from each of them.
 fn all_spots<N: Network>(
     alloc: Global,
     network: &N,
@@ -266,10 +264,9 @@ fn all_spots<N: Network>(
     ensures { let position = N.position network.now in
         IfOk result (λ nodes. AreNumbered position company steps.now 744 nodes.items) }
 {
-    let codes = codes_before(alloc, steps)?;
-    let mut nodes = Vec::new(alloc);
-    for number in 0..SPOTS {
-        nodes.push(node_of(alloc, network, company, steps, &codes, number)?)?;
+    let mut nodes = bare_spots(alloc, network, company)?;
+    for step in steps {
+        add_step(alloc, *step, &mut nodes)?;
     }
     Ok(nodes)
 }

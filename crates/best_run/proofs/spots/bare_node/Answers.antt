@@ -1,9 +1,9 @@
 -- The spot with the number is a side or a stop, by the rest of the number by eight.
-use Rattle.std.proofs.Common.{◌≡◌, ◌%◌, ◌<◌, ◌≤◌, true, false, Some, sym, subst, ◌∙◌, arith}
+use Rattle.std.proofs.Common.{◌≡◌, ◌%◌, ◌<◌, ◌≤◌, true, false, Some, [], sym, subst, ◌∙◌, arith}
 use Rattle.map_tables.specs.declared.place.Stop.{Stop}
 use Rattle.best_run.specs.Described.{ArePiecesFrom, IsNodeAt}
-use Rattle.best_run.proofs.Laid.{spot_side, spot_stop}
-use Rattle.best_run.proofs.spots.node_of.Goals as goal
+use Rattle.best_run.proofs.Laid.{pieces_none, spot_side, spot_stop}
+use Rattle.best_run.proofs.spots.bare_node.Goals as goal
 
 pub returns-then-is_side : goal.returns-then-is_side
 returns-then-is_side g c =
@@ -13,7 +13,7 @@ returns-then-is_side g c =
       spot = λ spot is. subst (λ o. IsNodeAt position c.args.company o (Some c.side_node.result)) (sym (spot_side c.args.number spot is low)) c.side_node.ensures.node;
       value = c.side_node.ensures.value;
       side = λ side. c.side_node.ensures.node.value;
-      pieces = subst (ArePiecesFrom c.args.number c.args.steps.now) (sym c.side_node.ensures.pieces) c.in_ok-pieces.ensures;
+      pieces = subst (ArePiecesFrom c.args.number []) (sym (c.side_node.ensures.pieces ∙ c.new-pieces.ensures.items)) (pieces_none c.args.number);
     }
 
 pub returns : goal.returns
@@ -25,5 +25,5 @@ returns g c =
       spot = λ spot is. subst (λ o. IsNodeAt position c.args.company o (Some c.stop_node.result)) (sym (spot_stop c.args.number spot is low stop c.hex_at.ensures c.stop_numbered.ensures)) c.stop_node.ensures.node;
       value = c.stop_node.ensures.value;
       side = λ side. let wrong : true ≡ false = sym c.stop_node.ensures.node.stops ∙ side in absurd cc;
-      pieces = subst (ArePiecesFrom c.args.number c.args.steps.now) (sym c.stop_node.ensures.pieces) c.in_ok-pieces.ensures;
+      pieces = subst (ArePiecesFrom c.args.number []) (sym (c.stop_node.ensures.pieces ∙ c.new-pieces.ensures.items)) (pieces_none c.args.number);
     }
