@@ -116,10 +116,10 @@ pub leads_settle :
 leads_settle task settled run may later completes =
     record { moves = settle ∷ later; completes = (may, completes); total = refl; marks_are = refl }
 
--- the next train has passed, and has begun all its runs
+-- the next train has begun all its runs, and has passed
 pub explores_between :
-    (task : Task) (settled : Settled) (old middle new : Found) → ExploresFrom task (between settled) (between (passed settled)) old middle →
-    Tries task (between settled) (IsBegin Any) middle new → settled.next < length task.trains.items → Explores task (between settled) old new
+    (task : Task) (settled : Settled) (old middle new : Found) → Tries task (between settled) (IsBegin Any) old middle →
+    ExploresFrom task (between settled) (between (passed settled)) middle new → settled.next < length task.trains.items → Explores task (between settled) old new
 explores_between task settled old middle new first second before =
     record {
       grows = le_trans first.grows second.grows;
@@ -130,8 +130,8 @@ explores_between task settled old middle new first second before =
   where
     by_moves : AreExplored task old → (moves : List Move) → Completes task (between settled) moves → total_after task (between settled) moves ≤ new.amount
     by_moves known [] completes = absurd (let over : length task.trains.items ≤ settled.next = completes in omega arith)
-    by_moves known (pass ∷ moves) completes = le_trans (first.most known moves completes.1) second.grows
-    by_moves known (begin token i found ∷ moves) completes = second.most (first.known known) (begin token i found) moves tt completes
+    by_moves known (pass ∷ moves) completes = second.most (first.known known) moves completes.1
+    by_moves known (begin token i found ∷ moves) completes = le_trans (first.most known (begin token i found) moves tt completes) second.grows
     by_moves known (go i found ∷ moves) completes = absurd completes.0
     by_moves known (turn i found ∷ moves) completes = absurd completes.0
     by_moves known (settle ∷ moves) completes = absurd completes.0
@@ -148,10 +148,10 @@ tries_on task settled run old middle new first second =
     either (turn i found) is may = inr tt
     either settle is may = absurd is
 
--- the run has been settled, if it may be, and has gone on
+-- the run has gone on, and has been settled, if it may be
 pub explores_standing :
     (task : Task) (settled : Settled) (run : Standing) (old middle new : Found) →
-    ExploresFrom task (standing settled run) (between (settling settled run)) old middle → Tries task (standing settled run) IsOn middle new →
+    Tries task (standing settled run) IsOn old middle → ExploresFrom task (standing settled run) (between (settling settled run)) middle new →
     Explores task (standing settled run) old new
 explores_standing task settled run old middle new first second =
     record {
@@ -165,9 +165,9 @@ explores_standing task settled run old middle new first second =
     by_moves known [] completes = absurd completes
     by_moves known (pass ∷ moves) completes = absurd completes.0
     by_moves known (begin stop i found ∷ moves) completes = absurd completes.0
-    by_moves known (go i found ∷ moves) completes = second.most (first.known known) (go i found) moves tt completes
-    by_moves known (turn i found ∷ moves) completes = second.most (first.known known) (turn i found) moves tt completes
-    by_moves known (settle ∷ moves) completes = le_trans (first.most known moves completes.1) second.grows
+    by_moves known (go i found ∷ moves) completes = le_trans (first.most known (go i found) moves tt completes) second.grows
+    by_moves known (turn i found ∷ moves) completes = le_trans (first.most known (turn i found) moves tt completes) second.grows
+    by_moves known (settle ∷ moves) completes = second.most (first.known known) moves completes.1
 
 pub explores_on : (task : Task) (settled : Settled) (run : Standing) (old new : Found) → may_settle task settled run ≡ false → Tries task (standing settled run) IsOn old new → Explores task (standing settled run) old new
 explores_on task settled run old new none second =

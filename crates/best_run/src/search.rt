@@ -68,7 +68,8 @@ impl Task {
         bounds[left] <= best - total - most
     }
 
-    /// Tries all ways from a state between runs to the end.
+    /// Tries all ways from a state between runs to the end. Runs come first: what they earn bounds what
+    /// is tried where the next train passes.
     #[cycle(explore)]
     pub(crate) fn settle_next(&self, settled: &Settled, bounds: &[Amount], best: &mut Found)
         requires fit { IsFit self.now }
@@ -102,11 +103,11 @@ impl Task {
         if best.covers(&alike) {
             return;
         }
+        self.begin_runs(settled, bounds, best);
         let before = best.amount;
         let passed = settled.passed();
         self.settle_next(&passed, bounds, best);
         best.trace(before, Mark::Pass);
-        self.begin_runs(settled, bounds, best);
         best.keep(&alike);
     }
 
@@ -181,7 +182,7 @@ impl Task {
         }
     }
 
-    /// Tries all ways to the end from a run that has begun.
+    /// Tries all ways to the end from a run that has begun. Longer runs come first, since they earn more.
     #[cycle(explore)]
     fn stand(&self, settled: &Settled, run: &Standing, bounds: &[Amount], best: &mut Found)
         requires fit { IsFit self.now }
@@ -199,14 +200,14 @@ impl Task {
         if self.is_hopeless(settled, run, bounds, best.amount) {
             return;
         }
+        self.go_on(settled, run, bounds, best);
+        self.turn_back(settled, run, bounds, best);
         if self.may_settle(settled, run) {
             let before = best.amount;
             let settling = settled.settling(run);
             self.settle_next(&settling, bounds, best);
             best.trace(before, Mark::Settle);
         }
-        self.go_on(settled, run, bounds, best);
-        self.turn_back(settled, run, bounds, best);
     }
 
     /// Tries all ways on from where a run stands.

@@ -92,7 +92,8 @@ fn hex_at(index: usize) -> Hex
     requires { index < 93 }
     ensures { index_of result ≡ index }
 {
-    Hex::ALL[index]
+    let all = &Hex::ALL;
+    all[index]
 }
 
 /// All steps of a position, each link in both directions.

@@ -21,7 +21,7 @@ use Rattle.best_run.proofs.Places.{less_by, node_is, one_at_side, one_low, one_o
 use Rattle.best_run.proofs.Traced.{explores_from, takes_from, traces_both}
 use Rattle.best_run.proofs.Tried.{begin_every, begin_more, begin_none, explores_between, explores_on, explores_standing, leads_pass, leads_settle, over_better, over_no_better, tries_on}
 use Rattle.best_run.proofs.task.Task.+explore.Goals as goal
-use Rattle.best_run.proofs.task.Task.+explore.Goals.{stand-then-may_settle, stand-else-may_settle, begin_runs-then-node+then-node-2, begin_runs-else-node, begin_runs-else-node-via-then-node+else-node-2, begin_runs-else-node-via-else-node, turn_back-then-run-way, turn_back-else-run-way}
+use Rattle.best_run.proofs.task.Task.+explore.Goals.{begin_runs-then-node+then-node-2, begin_runs-else-node, begin_runs-else-node-via-then-node+else-node-2, begin_runs-else-node-via-else-node, turn_back-then-run-way, turn_back-else-run-way}
 
 pub begin_at-loop-index-init : goal.begin_at-loop-index-init
 begin_at-loop-index-init t c =
@@ -109,12 +109,12 @@ pub settle_next-returns : goal.settle_next-returns
 settle_next-returns t c =
     let task = c.args.self.now in
     let settled = c.args.settled.now in
-    explores_kept task settled c.alike-alike.result c.args.best.now c.begin_runs.new.best c.keep.new.self (low_back task settled c.alike-alike.result c.alike-alike.ensures)
-    (explores_between task settled c.args.best.now c.trace.new.self c.begin_runs.new.best
-    (explores_from task (between settled) (between (passed settled)) (Pass ∷ []) c.args.best.now c.settle_next.new.best c.trace.new.self (leads_pass task settled (omega arith))
-    (subst (λ (s : Settled). Explores task (between s) c.args.best.now c.settle_next.new.best) c.passed-passed.ensures c.settle_next.ensures)
+    explores_kept task settled c.alike-alike.result c.args.best.now c.trace.new.self c.keep.new.self (low_back task settled c.alike-alike.result c.alike-alike.ensures)
+    (explores_between task settled c.args.best.now c.begin_runs.new.best c.trace.new.self c.begin_runs.ensures
+    (explores_from task (between settled) (between (passed settled)) (Pass ∷ []) c.begin_runs.new.best c.settle_next.new.best c.trace.new.self (leads_pass task settled (omega arith))
+    (subst (λ (s : Settled). Explores task (between s) c.begin_runs.new.best c.settle_next.new.best) c.passed-passed.ensures c.settle_next.ensures)
     c.trace.ensures)
-    c.begin_runs.ensures (omega arith))
+    (omega arith))
     c.keep.ensures
 
 pub settle_next-returns-then-covers : goal.settle_next-returns-then-covers
@@ -125,27 +125,25 @@ pub stand-returns-then-is_hopeless : goal.stand-returns-then-is_hopeless
 stand-returns-then-is_hopeless t c =
     explores_hopeless c.args.self.now c.args.settled.now c.args.run.now c.args.best.now (c.is_hopeless.ensures c.if-is_hopeless.true)
 
-pub stand-returns : goal.stand-returns
-stand-returns t c =
+pub stand-returns-then-may_settle : goal.stand-returns-then-may_settle
+stand-returns-then-may_settle t c =
     let task = c.args.self.now in
     let settled = c.args.settled.now in
     let run = c.args.run.now in
-    elim c.if-may_settle.branch [
-      | stand-then-may_settle w ↦
-          explores_standing task settled run c.args.best.now w.trace.new.self c.turn_back.new.best
-          (explores_from task (standing settled run) (between (settling settled run)) (Settle ∷ []) c.args.best.now w.settle_next.new.best w.trace.new.self
-          (leads_settle task settled run (sym c.may_settle.ensures ∙ w.if-may_settle.true))
-          (subst (λ (s : Settled). Explores task (between s) c.args.best.now w.settle_next.new.best) w.settling-settling.ensures w.settle_next.ensures)
-          w.trace.ensures)
-          (tries_on task settled run w.trace.new.self c.go_on.new.best c.turn_back.new.best
-          (subst (λ (b : Found). Tries task (standing settled run) (IsGo Any) b c.go_on.new.best) w.best-is c.go_on.ensures)
-          c.turn_back.ensures)
-      | stand-else-may_settle w ↦
-          explores_on task settled run c.args.best.now c.turn_back.new.best (sym c.may_settle.ensures ∙ w.if-may_settle.false)
-          (tries_on task settled run c.args.best.now c.go_on.new.best c.turn_back.new.best
-          (subst (λ (b : Found). Tries task (standing settled run) (IsGo Any) b c.go_on.new.best) w.best-is c.go_on.ensures)
-          c.turn_back.ensures)
-    ]
+    explores_standing task settled run c.args.best.now c.turn_back.new.best c.trace.new.self
+    (tries_on task settled run c.args.best.now c.go_on.new.best c.turn_back.new.best c.go_on.ensures c.turn_back.ensures)
+    (explores_from task (standing settled run) (between (settling settled run)) (Settle ∷ []) c.turn_back.new.best c.settle_next.new.best c.trace.new.self
+    (leads_settle task settled run (sym c.may_settle.ensures ∙ c.if-may_settle.true))
+    (subst (λ (s : Settled). Explores task (between s) c.turn_back.new.best c.settle_next.new.best) c.settling-settling.ensures c.settle_next.ensures)
+    c.trace.ensures)
+
+pub stand-returns-else-may_settle : goal.stand-returns-else-may_settle
+stand-returns-else-may_settle t c =
+    let task = c.args.self.now in
+    let settled = c.args.settled.now in
+    let run = c.args.run.now in
+    explores_on task settled run c.args.best.now c.turn_back.new.best (sym c.may_settle.ensures ∙ c.if-may_settle.false)
+    (tries_on task settled run c.args.best.now c.go_on.new.best c.turn_back.new.best c.go_on.ensures c.turn_back.ensures)
 
 pub take-stand-requires : goal.take-stand-requires
 take-stand-requires t c =
