@@ -9,3 +9,4 @@ pub mod AcceptedLemmas
 pub mod NumberLemmas
 pub mod GroupLemmas
 pub mod TakenLemmas
+pub mod Heads

@@ -2,7 +2,7 @@
 -- 512 is a head, and opens a group; in an operating round's sheet each COMPANY line up to line 512 is
 -- one, and opens a block. The lines before the first head stand alone. A line past 512 has that fault
 -- before any other, so it is no head.
-use Rattle.std.specs.Prelude.{◌≡◌, ℕ, ◌+◌, Bool, true, false, nat_lt, if◌then◌else◌, List, [], ◌∷◌, length, map, Option, Some, None, Result, Ok, Err, unwrap_or}
+use Rattle.std.specs.Prelude.{◌≡◌, ℕ, ◌+◌, Bool, true, false, nat_lt, if◌then◌else◌, List, [], ◌∷◌, length, map, Option, Some, None, Result, Ok, Err, codes, unwrap_or}
 use Rattle.order_grammar.specs.Line.{order_of, reading_of}
 use Rattle.order_grammar.specs.declared.fault.Fault.{Fault}
 use Rattle.order_grammar.specs.declared.fault.Fault.TheVariants.{PastLastLine}
@@ -12,6 +12,7 @@ use Rattle.sheets.specs.File.{sheet_of}
 use Rattle.sheets.specs.Limits.{lines_most}
 use Rattle.sheets.specs.Sheet.{Unruled}
 use Rattle.sheets.specs.declared.sheet.NumberedLine.{NumberedLine}
+use Rattle.sheets.specs.declared.sheet.UnreadLine.{UnreadLine}
 use Rattle.tables.specs.declared.round.Round.{Round}
 use Rattle.tables.specs.declared.round.Round.TheVariants.{Operating}
 
@@ -32,6 +33,10 @@ numbered number reading = record { number = number; reading = reading_at number 
 abbrev pub line_read : NumberedLine → Numbered
 line_read line = numbered line.number (order_of line.reading)
 
+-- a line that is not read, where it stands
+abbrev pub line_unread : UnreadLine → Numbered
+line_unread line = numbered line.number (reading_of line.text.now)
+
 -- the order that opens a group
 abbrev pub is_turn : Result Order Fault → Bool
 is_turn (Ok Turn) = true
@@ -46,6 +51,11 @@ is_company other = false
 abbrev pub opens_part : Round → Result Order Fault → Bool
 opens_part (Operating set number) reading = is_company reading
 opens_part round reading = is_turn reading
+
+-- the word with which a line begins that opens a part of a sheet for this round
+abbrev pub head_word : Round → List ℕ
+head_word (Operating set number) = codes "COMPANY"
+head_word round = codes "TURN"
 
 -- a group or block: its head, and the lines after that up to the next head
 pub record Part : Type 0 where

@@ -1,9 +1,9 @@
 ghost use Rattle.std.specs.Prelude.{◌≡◌, []};
 ghost use Rattle.sheets.specs.Block.{block_in, opens_block_of as opens_a_block_of};
-ghost use Rattle.sheets.specs.Part.{StandsAtHead, TakesHead, TakesOrdinary, line_read, lines_in, opens_part as opens_a_part, parts_left};
+ghost use Rattle.sheets.specs.Part.{StandsAtHead, TakesHead, TakesOrdinary, head_word as word_of_heads, line_read, line_unread, lines_in, opens_part as opens_a_part, parts_left};
 
-use crate::sheet::{Lines, NumberedLine};
-use order_grammar::Order;
+use crate::sheet::{Lines, NumberedLine, UnreadLine};
+use order_grammar::{Order, begins_with_word, read_where_spelt};
 use std::marker::Model;
 use tables::{Company, Round};
 
@@ -72,8 +72,8 @@ impl<'a> PartsLeft<'a> {
     pub(crate) fn take_to_block(&mut self, company: Company)
         ensures { self.new.before ≡ block_in company self.old.opened }
     {
-        while let Some(line) = self.lines.take_line() {
-            if opens_part(self.round, &line) && opens_block_of(company, &line) {
+        while let Some(line) = self.lines.take_unread() {
+            if is_head(self.round, line) && opens_block_of(company, &line.read()) {
                 break;
             }
         }
@@ -85,8 +85,8 @@ impl<'a> PartsLeft<'a> {
     {
         let mut rest = self.lines.duplicate();
         let mut count: u32 = 0;
-        while let Some(line) = rest.take_line() {
-            if !opens_part(self.round, &line) {
+        while let Some(line) = rest.take_unread() {
+            if !is_head(self.round, line) {
                 count += 1;
             }
         }
@@ -103,7 +103,25 @@ impl<'a> Default for PartsLeft<'a> {
     }
 }
 
-/// Whether a line opens a part of a sheet for a round.
+/// Whether a line opens a part of a sheet for a round. It is read only if its first word may open one.
+fn is_head(round: Round, line: UnreadLine) -> bool
+    ensures { result ≡ opens_a_part round (line_unread line.entry).reading }
+{
+    read_where_spelt();
+    begins_with_word(line.text, head_word(round)) && opens_part(round, &line.read())
+}
+
+/// The word with which the lines begin that open a part of a sheet for a round.
+fn head_word(round: Round) -> &'static [u8]
+    ensures { result.now ≡ word_of_heads round }
+{
+    match round {
+        Round::Opening(_) | Round::Stock(_) => b"TURN",
+        Round::Operating { .. } => b"COMPANY",
+    }
+}
+
+/// Whether a line that was read opens a part of a sheet for a round.
 fn opens_part(round: Round, line: &NumberedLine) -> bool
     ensures { result ≡ opens_a_part round (line_read line.now).reading }
 {

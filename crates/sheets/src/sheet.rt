@@ -1,8 +1,9 @@
-ghost use Rattle.std.specs.Prelude.{◌≡◌, ◌≤◌, [], length, MatchResult, Ok, Err};
+ghost use Rattle.std.specs.Prelude.{◌≡◌, ◌≤◌, [], length, IfOk, MatchResult, Ok, Err};
+ghost use Rattle.order_grammar.specs.Words.{AreWordsOf};
 ghost use Rattle.std.specs.Iterator.{at_most};
 ghost use Rattle.sheets.specs.Limits.{file_most};
-ghost use Rattle.sheets.specs.Part.{line_read};
-ghost use Rattle.sheets.specs.Sheet.{Unruled, TakesLine};
+ghost use Rattle.sheets.specs.Part.{line_read, line_unread};
+ghost use Rattle.sheets.specs.Sheet.{Unruled, TakesLine, TakesUnread};
 ghost use Rattle.sheets.specs.Text.{written_lines};
 
 use crate::text::first_written;
@@ -80,6 +81,29 @@ impl<'a> NumberedLine<'a> {
     }
 }
 
+/// A line of a sheet that is not read.
+#[derive(Clone, Copy, Debug)]
+pub(crate) struct UnreadLine<'a> {
+    /// Its number in the sheet, from 1; blank lines have none.
+    pub(crate) number: u32,
+    /// Its bytes.
+    pub(crate) text: &'a [u8],
+}
+
+impl<'a> UnreadLine<'a> {
+    /// The line, read.
+    pub(crate) fn read(self) -> NumberedLine<'a>
+        ensures number { result.number ≡ self.entry.number }
+        ensures line { line_read result ≡ line_unread self.entry }
+        ensures words { IfOk result.reading (λ read. AreWordsOf self.entry.text.now read.words) }
+    {
+        NumberedLine {
+            number: self.number,
+            reading: read_line(self.text),
+        }
+    }
+}
+
 /// The lines of a sheet that are still to come.
 #[derive(Debug, Drop)]
 pub struct Lines<'a> {
@@ -128,12 +152,23 @@ impl<'a> Lines<'a> {
     pub fn take_line(&mut self) -> Option<NumberedLine<'a>>
         ensures { TakesLine self.old result self.new }
     {
+        let line = self.take_unread()?;
+        Some(NumberedLine {
+            number: line.number,
+            reading: read_line(line.text),
+        })
+    }
+
+    /// Takes the next line as it is written; `None` where there is none.
+    pub(crate) fn take_unread(&mut self) -> Option<UnreadLine<'a>>
+        ensures { TakesUnread self.old result self.new }
+    {
         let piece = first_written(self.rest)?;
         self.rest = piece.rest;
         self.number += 1;
-        Some(NumberedLine {
+        Some(UnreadLine {
             number: self.number,
-            reading: read_line(piece.line),
+            text: piece.line,
         })
     }
 }
