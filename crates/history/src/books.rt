@@ -47,6 +47,9 @@ pub struct Books {
     pub(crate) rulings: [usize; PLAYERS_MOST],
 }
 
+// A walk holds them by value.
+const _: () = prove!(size_of::<Books>() < 4096);
+
 impl Books {
     /// The books of no events.
     pub fn start() -> Books
