@@ -1,5 +1,5 @@
 -- What lies ahead of a run is found piece by piece, and what is found is all that the run may come to.
-use Rattle.std.proofs.Common.{◌≡◌, ℕ, ◌+◌, ◌<◌, ◌≤◌, Bool, true, false, ◌⊎◌, inl, inr, Some, List, length, get_or, set, replicate, slice_get, sym, ap, subst, ◌∙◌, arith, le_trans, get_or-set_same}
+use Rattle.std.proofs.Common.{◌≡◌, ℕ, ◌+◌, ◌<◌, ◌≤◌, Bool, true, false, not, ◌&&◌, ◌⊎◌, inl, inr, Some, List, length, get_or, set, replicate, slice_get, refl, sym, ap, subst, ◌∙◌, arith, le_trans, get_or-set_same}
 use Rattle.std.proofs.lemmas.Option.{slice_get_within}
 use Rattle.reach.proofs.Collected.{none_marked}
 use Rattle.reach.proofs.Marking.{set_cases, set_keeps}
@@ -8,7 +8,7 @@ use Rattle.best_run.specs.declared.task.Task.{Task}
 use Rattle.best_run.specs.declared.task.Way.{Way}
 use Rattle.best_run.specs.declared.state.Settled.{Settled}
 use Rattle.best_run.specs.declared.state.Standing.{Standing}
-use Rattle.best_run.specs.Ahead.{IsGoneOver, IsOutlook, LiesAhead, Widens, WidensBelow, WidensBy, WidensFrom}
+use Rattle.best_run.specs.Ahead.{IsGoneOver, IsOutlook, LiesAhead, Widens, WidensBelow, WidensBy, WidensFrom, WidensPast, leads_on}
 use Rattle.best_run.specs.Moves.{can_take, ends_in, node_at}
 use Rattle.best_run.specs.Ways.{ways_at}
 use Rattle.best_run.proofs.Marks.{set_fewer}
@@ -72,30 +72,42 @@ module _ (task : Task) (settled : Settled) (run : Standing) where
   from_end spot ahead ends =
       record { widens = widens_none ahead; here = λ passes place way at taken. absurd (falsely (ends_in (node_at task spot)) ends passes) }
 
-  -- a piece leads to what lies ahead, may not be taken, or leads to more
-  pub along_known : (piece : Piece) (ahead : List Bool) → LiesAhead ahead piece.to → WidensBy task settled run piece ahead ahead
+  -- a piece leads to what lies ahead, or may not be taken
+  along_known : (piece : Piece) (ahead : List Bool) → LiesAhead ahead piece.to → WidensBy task settled run piece ahead ahead
   along_known piece ahead lies = record { widens = widens_none ahead; leads = λ taken. lies }
 
-  pub along_none : (piece : Piece) (ahead : List Bool) → can_take task run settled.used piece ≡ false → WidensBy task settled run piece ahead ahead
+  along_none : (piece : Piece) (ahead : List Bool) → can_take task run settled.used piece ≡ false → WidensBy task settled run piece ahead ahead
   along_none piece ahead none =
       record { widens = widens_none ahead; leads = λ taken. absurd (falsely (can_take task run settled.used piece) taken none) }
 
-  pub along_more : (piece : Piece) (old new : List Bool) → get_or old piece.to false ≡ false → piece.to < length old → WidensFrom task settled run piece.to (set old piece.to true) new → WidensBy task settled run piece old new
-  along_more piece old new free low from =
+  -- a stop that lies ahead is gone over
+  pub past_from : (spot : ℕ) (old new : List Bool) → get_or old spot false ≡ false → spot < length old → WidensFrom task settled run spot (set old spot true) new → WidensPast task settled run spot old new
+  past_from there old new free low from =
       record {
         widens = record {
-          kept = λ spot lies. from.widens.kept spot (set_keeps old piece.to spot low lies);
+          kept = λ spot lies. from.widens.kept spot (set_keeps old there spot low lies);
           over = λ spot lies. elim (from.widens.over spot lies) [
-            | inl marked ↦ elim (set_cases old piece.to spot marked) [
+            | inl marked ↦ elim (set_cases old there spot marked) [
               | inl same ↦ inr (subst (λ (s : ℕ). IsGoneOver task settled run new s) same from.here)
               | inr before ↦ inl before
             ]
             | inr over ↦ inr over
           ];
-          fewer = omega (arith, from.widens.fewer, set_fewer old piece.to low free);
+          fewer = omega (arith, from.widens.fewer, set_fewer old there low free);
         };
-        leads = λ taken. from.widens.kept piece.to (get_or-set_same old piece.to true false low);
+        lies = from.widens.kept there (get_or-set_same old there true false low);
       }
+
+  pub along_past : (piece : Piece) (old new : List Bool) → WidensPast task settled run piece.to old new → WidensBy task settled run piece old new
+  along_past piece old new past = record { widens = past.widens; leads = λ taken. past.lies }
+
+  -- a piece does not lead on
+  pub along_not : (piece : Piece) (ahead : List Bool) → leads_on task settled run ahead piece ≡ false → WidensBy task settled run piece ahead ahead
+  along_not piece ahead is = by_mark (get_or ahead piece.to false) refl is
+    where
+      by_mark : (lies : Bool) → get_or ahead piece.to false ≡ lies → (not lies && can_take task run settled.used piece) ≡ false → WidensBy task settled run piece ahead ahead
+      by_mark true there none = along_known piece ahead there
+      by_mark false there none = along_none piece ahead none
 
   -- where nothing lay ahead, all has been gone over
   all_over : (ahead : List Bool) → ((spot : ℕ) → LiesAhead ahead spot → LiesAhead (replicate 744 false) spot ⊎ IsGoneOver task settled run ahead spot) → (spot : ℕ) → LiesAhead ahead spot → IsGoneOver task settled run ahead spot
@@ -122,3 +134,8 @@ module _ (task : Task) (settled : Settled) (run : Standing) where
         home = λ not_turned. second.here;
         all = all_over ahead (widens_both (replicate 744 false) middle ahead first.widens second.widens).over;
       }
+
+-- a piece that leads on comes to a stop that does not lie ahead
+pub leads_free : (lies takes : Bool) → (not lies && takes) ≡ true → lies ≡ false
+leads_free true takes is = absurd (falsely false is refl)
+leads_free false takes is = refl

@@ -35,6 +35,15 @@ pub record WidensFrom (task : Task) (settled : Settled) (run : Standing) (spot :
   pub widens : Widens task settled run old new
   pub here : IsGoneOver task settled run new spot
 
+-- a stop lies ahead, and is gone over
+pub record WidensPast (task : Task) (settled : Settled) (run : Standing) (spot : ℕ) (old new : List Bool) : Type 0 where
+  pub widens : Widens task settled run old new
+  pub lies : LiesAhead new spot
+
+-- a run may come by a piece to a stop that does not lie ahead
+abbrev pub leads_on : Task → Settled → Standing → List Bool → Piece → Bool
+leads_on task settled run ahead piece = not (get_or ahead piece.to false) && can_take task run settled.used piece
+
 -- a piece leads to a stop that lies ahead, if the run may take it
 pub record WidensBy (task : Task) (settled : Settled) (run : Standing) (piece : Piece) (old new : List Bool) : Type 0 where
   pub widens : Widens task settled run old new

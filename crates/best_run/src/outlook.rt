@@ -1,6 +1,6 @@
 ghost use Rattle.std.specs.Prelude.{◌≡◌, ◌+◌, ◌<◌, ◌≤◌, IsTrue, List, true, false, get_or, length, replicate, set, ℕ};
 ghost use Rattle.best_run.specs.declared.task.Node.{Node};
-ghost use Rattle.best_run.specs.Ahead.{EarnsAhead, EndsAtMost, IsOutlook, IsWorth, WidensBy, WidensFrom, goes_back, goes_on};
+ghost use Rattle.best_run.specs.Ahead.{EarnsAhead, EndsAtMost, IsOutlook, IsWorth, WidensBy, WidensFrom, WidensPast, goes_back, goes_on, leads_on};
 ghost use Rattle.best_run.specs.Fit.{IsFit};
 ghost use Rattle.best_run.specs.Moves.{node_at, stop_in};
 ghost use Rattle.best_run.specs.Suffix.{AreBounds};
@@ -54,6 +54,15 @@ impl Task {
         }
     }
 
+    /// Whether a run may come by a piece to a stop that does not lie ahead so far.
+    fn leads_on(&self, settled: &Settled, run: &Standing, piece: &Piece, outlook: &Outlook) -> bool
+        requires fit { IsFit self.now }
+        requires to { piece.now.to < 744 }
+        ensures { result ≡ leads_on self.now settled.now run.now outlook.now.ahead piece.now }
+    {
+        !outlook.ahead.has(piece.to) && self.can_take(run, settled, piece)
+    }
+
     /// Adds to what lies ahead of a run what it may come to from a stop.
     #[cycle(look)]
     fn look_from(&self, settled: &Settled, run: &Standing, spot: usize, outlook: &mut Outlook)
@@ -71,12 +80,30 @@ impl Task {
         let from = &self.departures[spot];
         for index in 0..from.ways.len() {
             let way = &from.ways[index];
-            self.look_along(settled, run, &way.piece, outlook);
+            if self.leads_on(settled, run, &way.piece, outlook) {
+                self.look_past(settled, run, way.piece.to, outlook);
+            }
         }
     }
 
-    /// Adds to what lies ahead of a run what it may come to by a piece.
+    /// Adds to what lies ahead of a run a stop, and what it may come to from there.
     #[cycle(look)]
+    fn look_past(&self, settled: &Settled, run: &Standing, spot: usize, outlook: &mut Outlook)
+        requires fit { IsFit self.now }
+        requires ready { AreReady self.now }
+        requires spot { spot < 744 }
+        requires stop { stop_in (node_at self.now spot) ≡ true }
+        requires free { get_or outlook.old.ahead spot false ≡ false }
+        requires known { IsWorth self.now.spots.items outlook.old.ahead outlook.old.worth }
+        ensures widens { WidensPast self.now settled.now run.now spot outlook.old.ahead outlook.new.ahead }
+        ensures known { IsWorth self.now.spots.items outlook.new.ahead outlook.new.worth }
+    {
+        outlook.ahead.is_whole();
+        self.add(spot, outlook);
+        self.look_from(settled, run, spot, outlook);
+    }
+
+    /// Adds to what lies ahead of a run what it may come to by a piece.
     pub(crate) fn look_along(
         &self,
         settled: &Settled,
@@ -92,13 +119,8 @@ impl Task {
         ensures widens { WidensBy self.now settled.now run.now piece.now outlook.old.ahead outlook.new.ahead }
         ensures known { IsWorth self.now.spots.items outlook.new.ahead outlook.new.worth }
     {
-        outlook.ahead.is_whole();
-        if outlook.ahead.has(piece.to) {
-            return;
-        }
-        if self.can_take(run, settled, piece) {
-            self.add(piece.to, outlook);
-            self.look_from(settled, run, piece.to, outlook);
+        if self.leads_on(settled, run, piece, outlook) {
+            self.look_past(settled, run, piece.to, outlook);
         }
     }
 

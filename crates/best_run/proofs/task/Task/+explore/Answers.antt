@@ -7,7 +7,7 @@ use Rattle.best_run.specs.declared.state.Standing.{Standing}
 use Rattle.best_run.specs.declared.trail.Mark.TheVariants.{Pass, Turn, Settle}
 use Rattle.reach.specs.declared.walk.Step.{Step}
 use Rattle.best_run.specs.Trail.{go_along}
-use Rattle.best_run.specs.Moves.{Any, Below, Explores, IsBegin, IsGo, Takes, Traces, Tries, begun, begun_by, between, can_take, ends_in, node_at, own_in, passed, settling, standing, stop_in, turned_back}
+use Rattle.best_run.specs.Moves.{Below, Explores, IsBegin, Takes, Traces, Tries, begun, begun_by, between, can_take, ends_in, node_at, own_in, passed, settling, standing, stop_in, turned_back}
 use Rattle.best_run.specs.Ways.{AreWaysOf, StandsBefore, TriesWays}
 use Rattle.best_run.proofs.Likened.{low_alike, low_back}
 use Rattle.best_run.proofs.Along.{AnyWay, IsLater, begin_by_ways, go_by_ways, leads_begin, leads_go, leads_turn, turn_by_ways, way_fits, ways_more, ways_none, ways_skip}

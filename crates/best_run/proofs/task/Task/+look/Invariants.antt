@@ -4,8 +4,8 @@ use Rattle.best_run.specs.Ahead.{IsWorth, WidensBelow}
 use Rattle.best_run.specs.Fit.{unused}
 use Rattle.best_run.proofs.task.Task.+look.Given as goal
 
-abbrev pub decreases-look_along : goal.decreases-look_along
-decreases-look_along l = 2 * unused l.outlook.now.ahead
+abbrev pub decreases-look_past : goal.decreases-look_past
+decreases-look_past l = 2 * unused l.outlook.now.ahead
 
 abbrev pub decreases-look_from : goal.decreases-look_from
 decreases-look_from l = 2 * unused l.outlook.now.ahead + 1
