@@ -120,6 +120,11 @@ abbrev pub TakesOrdinary : Parts → Option NumberedLine → Parts → Type 0
 TakesOrdinary old None new = StandsAtHead old × (new ≡ old)
 TakesOrdinary old (Some line) new = old ≡ after_line (line_read line) new
 
+-- the same, where the line is not read
+abbrev pub TakesUnreadOrdinary : Parts → Option UnreadLine → Parts → Type 0
+TakesUnreadOrdinary old None new = StandsAtHead old × (new ≡ old)
+TakesUnreadOrdinary old (Some line) new = old ≡ after_line (line_unread line) new
+
 -- the next head is taken, if there is one
 abbrev pub TakesHead : Parts → Option NumberedLine → Parts → Type 0
 TakesHead old None new = (old.opened ≡ []) × (new ≡ old)

@@ -35,4 +35,4 @@ pub use laws::{
 };
 pub use parts::PartsLeft;
 pub use place::{fault_out_of_place, is_of_file};
-pub use sheet::{LINES_MOST, Lines, NumberedLine, Sheet};
+pub use sheet::{LINES_MOST, Lines, NumberedLine, Sheet, UnreadLine};

@@ -1,6 +1,6 @@
 ghost use Rattle.std.specs.Prelude.{◌≡◌, []};
 ghost use Rattle.sheets.specs.Block.{block_in, opens_block_of as opens_a_block_of};
-ghost use Rattle.sheets.specs.Part.{StandsAtHead, TakesHead, TakesOrdinary, head_word as word_of_heads, line_read, line_unread, lines_in, opens_part as opens_a_part, parts_left};
+ghost use Rattle.sheets.specs.Part.{StandsAtHead, TakesHead, TakesOrdinary, TakesUnreadOrdinary, head_word as word_of_heads, line_read, line_unread, lines_in, opens_part as opens_a_part, parts_left};
 
 use crate::sheet::{Lines, NumberedLine, UnreadLine};
 use order_grammar::{Order, begins_with_word, read_where_spelt};
@@ -53,6 +53,20 @@ impl<'a> PartsLeft<'a> {
         let mut ahead = self.lines.duplicate();
         let line = ahead.take_line()?;
         if opens_part(self.round, &line) {
+            return None;
+        }
+        self.lines = ahead;
+        Some(line)
+    }
+
+    /// Takes the next line before the next head as it is written; `None` where there is none, and then
+    /// nothing is taken.
+    pub fn take_unread(&mut self) -> Option<UnreadLine<'a>>
+        ensures { TakesUnreadOrdinary self.old result self.new }
+    {
+        let mut ahead = self.lines.duplicate();
+        let line = ahead.take_unread()?;
+        if is_head(self.round, line) {
             return None;
         }
         self.lines = ahead;

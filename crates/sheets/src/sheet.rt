@@ -83,16 +83,16 @@ impl<'a> NumberedLine<'a> {
 
 /// A line of a sheet that is not read.
 #[derive(Clone, Copy, Debug)]
-pub(crate) struct UnreadLine<'a> {
+pub struct UnreadLine<'a> {
     /// Its number in the sheet, from 1; blank lines have none.
-    pub(crate) number: u32,
-    /// Its bytes.
-    pub(crate) text: &'a [u8],
+    pub number: u32,
+    /// Its bytes, without its LF and a CR before that.
+    pub text: &'a [u8],
 }
 
 impl<'a> UnreadLine<'a> {
     /// The line, read.
-    pub(crate) fn read(self) -> NumberedLine<'a>
+    pub fn read(self) -> NumberedLine<'a>
         ensures number { result.number ≡ self.entry.number }
         ensures line { line_read result ≡ line_unread self.entry }
         ensures words { IfOk result.reading (λ read. AreWordsOf self.entry.text.now read.words) }
