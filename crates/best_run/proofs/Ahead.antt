@@ -8,7 +8,7 @@ use Rattle.best_run.specs.declared.task.Task.{Task}
 use Rattle.best_run.specs.declared.task.Way.{Way}
 use Rattle.best_run.specs.declared.state.Settled.{Settled}
 use Rattle.best_run.specs.declared.state.Standing.{Standing}
-use Rattle.best_run.specs.Ahead.{IsGoneOver, IsOutlook, LiesAhead, Widens, WidensBelow, WidensBy, WidensFrom, WidensPast, leads_on}
+use Rattle.best_run.specs.Ahead.{IsGoneOver, IsOutlook, LiesAhead, Widens, WidensBack, WidensBackBelow, WidensBelow, WidensBy, WidensFrom, WidensPast, leads_on}
 use Rattle.best_run.specs.Moves.{can_take, ends_in, node_at}
 use Rattle.best_run.specs.Ways.{ways_at}
 use Rattle.best_run.proofs.Marks.{set_fewer}
@@ -66,6 +66,47 @@ module _ (task : Task) (settled : Settled) (run : Standing) where
             let low : other < length ways = slice_get_within ways other way (ap (λ ws. slice_get ws other) (sym there) ∙ at) in
             below.leads other way (omega (arith, low, all)) at taken;
       }
+
+  -- the same for the stop where the run began
+  pub back_none : (ahead : List Bool) → WidensBackBelow task settled run 0 ahead ahead
+  back_none ahead = record { widens = widens_none ahead; leads = λ place way low at later taken. absurd (omega arith) }
+
+  pub back_more : (place : ℕ) (way : Way) (old middle new : List Bool) → slice_get (ways_at task run.home) place ≡ Some way → WidensBackBelow task settled run place old middle → WidensBy task settled run way.piece middle new → WidensBackBelow task settled run (place + 1) old new
+  back_more place way old middle new here before by =
+      record {
+        widens = widens_both old middle new before.widens by.widens;
+        leads = λ other found low at later taken. elim (below_next other place low) [
+          | inl less ↦ by.widens.kept found.piece.to (before.leads other found less at later taken)
+          | inr same ↦
+              let is : way ≡ found = one_way (ways_at task run.home) place other way found here at same in
+              subst (λ (w : Way). can_take task run settled.used w.piece ≡ true → LiesAhead new w.piece.to) is by.leads taken
+        ];
+      }
+
+  pub back_skip : (place : ℕ) (way : Way) (old new : List Bool) → slice_get (ways_at task run.home) place ≡ Some way → (run.first ≤ way.first → ⊥) → WidensBackBelow task settled run place old new → WidensBackBelow task settled run (place + 1) old new
+  back_skip place way old new here sooner before =
+      record {
+        widens = before.widens;
+        leads = λ other found low at later taken. elim (below_next other place low) [
+          | inl less ↦ before.leads other found less at later taken
+          | inr same ↦
+              let is : way ≡ found = one_way (ways_at task run.home) place other way found here at same in
+              absurd (sooner (subst (λ (w : Way). run.first ≤ w.first) (sym is) later))
+        ];
+      }
+
+  pub back_all : (ways : List Way) (place : ℕ) (old new : List Bool) → ways_at task run.home ≡ ways → length ways ≤ place → WidensBackBelow task settled run place old new → WidensBack task settled run old new
+  back_all ways place old new there all below =
+      record {
+        widens = below.widens;
+        here = λ passes other way at later taken.
+            let low : other < length ways = slice_get_within ways other way (ap (λ ws. slice_get ws other) (sym there) ∙ at) in
+            below.leads other way (omega (arith, low, all)) at later taken;
+      }
+
+  pub back_end : (ahead : List Bool) → ends_in (node_at task run.home) ≡ true → WidensBack task settled run ahead ahead
+  back_end ahead ends =
+      record { widens = widens_none ahead; here = λ passes place way at later taken. absurd (falsely (ends_in (node_at task run.home)) ends passes) }
 
   -- no run passes a spot
   pub from_end : (spot : ℕ) (ahead : List Bool) → ends_in (node_at task spot) ≡ true → WidensFrom task settled run spot ahead ahead
@@ -127,7 +168,7 @@ module _ (task : Task) (settled : Settled) (run : Standing) where
       }
 
   -- else from where it began as well
-  pub outlook_both : (middle ahead : List Bool) → WidensFrom task settled run run.head (replicate 744 false) middle → WidensFrom task settled run run.home middle ahead → IsOutlook task settled run ahead
+  pub outlook_both : (middle ahead : List Bool) → WidensFrom task settled run run.head (replicate 744 false) middle → WidensBack task settled run middle ahead → IsOutlook task settled run ahead
   outlook_both middle ahead first second =
       record {
         head = over_more middle ahead second.widens.kept run.head first.here;

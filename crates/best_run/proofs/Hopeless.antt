@@ -11,7 +11,7 @@ use Rattle.best_run.specs.declared.task.Way.{Way}
 use Rattle.best_run.specs.declared.explored.Found.{Found}
 use Rattle.best_run.specs.declared.state.Settled.{Settled}
 use Rattle.best_run.specs.declared.state.Standing.{Standing}
-use Rattle.best_run.specs.Ahead.{EndsAtMost, IsGoneOver, IsOutlook, LiesAhead, beyond, ends_by, goes_back, goes_on, if_ending, if_passed, most_ahead, one_end, two_ends}
+use Rattle.best_run.specs.Ahead.{EndsAtMost, IsGoneOverFrom, IsOutlook, LiesAhead, beyond, ends_by, goes_back, goes_on, if_ending, if_passed, most_ahead, one_end, two_ends}
 use Rattle.best_run.specs.Fit.{IsFit, PieceFits}
 use Rattle.best_run.specs.Moves.{Completes, Explores, LeadsFrom, Move, along, begin, between, can_take, ends_in, go, left_after, marked_all, marked_if, may_come, misses, node_at, pass, settle, settling, standing, stop_in, total_after, turn, turned_back, using, value_in}
 use Rattle.best_run.specs.Ways.{AreReady, AreWaysOf, IsStop, ways_at, ways_in}
@@ -149,10 +149,10 @@ take_back task run used piece = ap (λ b. b && misses used piece.borders.items) 
 
 module _ (task : Task) (fit : IsFit task) (ready : AreReady task) (first : Settled) (begun : Standing) (ahead : List Bool) (look : IsOutlook task first begun ahead) where
   -- a run that goes on from where the first one stands
-  record Follows (settled : Settled) (run : Standing) : Type 0 where
+  record Follows (least : ℕ) (settled : Settled) (run : Standing) : Type 0 where
     pub takes : (piece : Piece) → can_take task run settled.used piece ≡ true → can_take task begun first.used piece ≡ true
-    pub head : IsGoneOver task first begun ahead run.head
-    pub home : run.turned ≡ false → IsGoneOver task first begun ahead run.home
+    pub head : IsGoneOverFrom task first begun least ahead run.head
+    pub home : run.turned ≡ false → IsGoneOverFrom task first begun run.first ahead run.home
     pub stands : IsStop task run.head
     pub begins : IsStop task run.home
     pub next : settled.next ≡ first.next
@@ -174,16 +174,16 @@ module _ (task : Task) (fit : IsFit task) (ready : AreReady task) (first : Settl
     pub fits : PieceFits task false way.piece
     pub stop : IsStop task way.piece.to
 
-  leads_by : (settled : Settled) (run : Standing) → Follows settled run → ends_in (node_at task run.head) ≡ false → (place : ℕ) (way : Way) → slice_get (ways_at task run.head) place ≡ Some way → can_take task run settled.used way.piece ≡ true → Leads settled run way
-  leads_by settled run follows passes place way at taken =
+  leads_by : (least : ℕ) (settled : Settled) (run : Standing) → Follows least settled run → ends_in (node_at task run.head) ≡ false → (place : ℕ) (way : Way) → slice_get (ways_at task run.head) place ≡ Some way → least ≤ way.first → can_take task run settled.used way.piece ≡ true → Leads settled run way
+  leads_by least settled run follows passes place way at later taken =
       let fits = way_fits task fit run.head (ways_at task run.head) (ways_of run.head follows.stands) follows.stands.1 way (among_place (ways_at task run.head) place way at) in
-      record { lies = follows.head passes place way at (follows.takes way.piece taken); fits = fits.0; stop = (fits.0.to, fits.1) }
+      record { lies = follows.head passes place way at later (follows.takes way.piece taken); fits = fits.0; stop = (fits.0.to, fits.1) }
 
-  follows_go : (settled : Settled) (run : Standing) → Follows settled run → (way : Way) → Leads settled run way → Follows (using settled way.piece) (along task run way.piece)
-  follows_go settled run follows way leads =
+  follows_go : (least : ℕ) (settled : Settled) (run : Standing) → Follows least settled run → (way : Way) → Leads settled run way → Follows 0 (using settled way.piece) (along task run way.piece)
+  follows_go least settled run follows way leads =
       record {
         takes = λ other is. follows.takes other (take_before task settled run false way.piece leads.fits follows.whole follows.spots other is);
-        head = look.all way.piece.to leads.lies;
+        head = λ passes place other at later taken. look.all way.piece.to leads.lies passes place other at taken;
         home = follows.home;
         stands = leads.stop;
         begins = follows.begins;
@@ -194,7 +194,7 @@ module _ (task : Task) (fit : IsFit task) (ready : AreReady task) (first : Settl
       }
 
   -- a run that turns back goes on from where it began
-  follows_back : (settled : Settled) (run : Standing) → Follows settled run → run.turned ≡ false → Follows settled (turned_back run)
+  follows_back : (settled : Settled) (run : Standing) → Follows 0 settled run → run.turned ≡ false → Follows run.first settled (turned_back run)
   follows_back settled run follows once =
       record {
         takes = λ piece taken. follows.takes piece (sym (take_back task run settled.used piece) ∙ taken);
@@ -213,9 +213,9 @@ module _ (task : Task) (fit : IsFit task) (ready : AreReady task) (first : Settl
   still level run = most_ahead level task run (but ahead run.visited)
 
   -- a way leaves no more to be earned
-  still_go : (level : ℕ) (settled : Settled) (run : Standing) → Follows settled run → ends_in (node_at task run.head) ≡ false → (way : Way) → Leads settled run way → can_take task run settled.used way.piece ≡ true → value_in (node_at task way.piece.to) + still level (along task run way.piece) ≤ still level run
+  still_go : (level least : ℕ) (settled : Settled) (run : Standing) → Follows least settled run → ends_in (node_at task run.head) ≡ false → (way : Way) → Leads settled run way → can_take task run settled.used way.piece ≡ true → value_in (node_at task way.piece.to) + still level (along task run way.piece) ≤ still level run
   unfolding still
-  still_go level settled run follows passes way leads taken =
+  still_go level least settled run follows passes way leads taken =
       let to : ℕ = way.piece.to in
       let nodes : List Node = task.spots.items in
       let came : may_come true run way.piece.to ≡ true = subst (λ (b : Bool). may_come b run way.piece.to ≡ true) leads.stop.1 (both_first (may_come (stop_in (node_at task way.piece.to)) run way.piece.to) (misses settled.used way.piece.borders.items) taken) in
@@ -270,60 +270,60 @@ module _ (task : Task) (fit : IsFit task) (ready : AreReady task) (first : Settl
       )
 
   -- the way with which what comes after a piece begins
-  abbrev Way_of : (settled : Settled) (run : Standing) → Follows settled run → ℕ → Piece → List Move → Type 0
-  Way_of settled run follows place piece moves =
+  abbrev Way_of : (least : ℕ) (settled : Settled) (run : Standing) → Follows least settled run → ℕ → Piece → List Move → Type 0
+  Way_of least settled run follows place piece moves =
       ByWay task fit run.head follows.stands.1 (ways_at task run.head) (ways_of run.head follows.stands) settled run place piece moves
 
-  way_of : (settled : Settled) (run : Standing) → (follows : Follows settled run) → (place : ℕ) (piece : Piece) (moves : List Move) → LeadsFrom task run.head place piece → can_take task run settled.used piece ≡ true → Completes task (standing (using settled piece) (along task run piece)) moves → Way_of settled run follows place piece moves
-  way_of settled run follows place piece moves leads taken completes =
+  way_of : (least : ℕ) (settled : Settled) (run : Standing) → (follows : Follows least settled run) → (place : ℕ) (piece : Piece) (moves : List Move) → LeadsFrom task run.head place piece → can_take task run settled.used piece ≡ true → Completes task (standing (using settled piece) (along task run piece)) moves → Way_of least settled run follows place piece moves
+  way_of least settled run follows place piece moves leads taken completes =
       by_way task fit run.head follows.stands.1 (ways_at task run.head) (ways_of run.head follows.stands) settled run follows.whole place piece moves leads taken completes
 
   -- all ways on
-  low_by : (level later : ℕ) → EarnAtMost task (first.next + 1) later → (fuel : ℕ) (moves : List Move) → length moves ≤ fuel → (settled : Settled) (run : Standing) → Follows settled run → Completes task (standing settled run) moves → total_after task (standing settled run) moves ≤ settled.total + run.value + still level run + later
+  low_by : (level later : ℕ) → EarnAtMost task (first.next + 1) later → (fuel : ℕ) (moves : List Move) → length moves ≤ fuel → (settled : Settled) (run : Standing) → Follows 0 settled run → Completes task (standing settled run) moves → total_after task (standing settled run) moves ≤ settled.total + run.value + still level run + later
   low_by level later bound fuel [] enough settled run follows completes = absurd completes
   low_by level later bound fuel (pass ∷ moves) enough settled run follows completes = absurd completes.0
   low_by level later bound fuel (begin stop index piece ∷ moves) enough settled run follows completes = absurd completes.0
   low_by level later bound zero (go index piece ∷ moves) enough settled run follows completes = absurd (omega (arith, enough))
   low_by level later bound (suc fuel) (go index piece ∷ moves) enough settled run follows completes =
       let may = completes.0 in
-      let by : Way_of settled run follows index piece moves = way_of settled run follows index piece moves may.leads may.taken completes.1 in
-      let leads : Leads settled run by.way = leads_by settled run follows may.passes by.place_of by.way by.stands by.can in
-      let rest : total_after task (standing (using settled by.way.piece) (along task run by.way.piece)) by.later ≤ settled.total + (run.value + value_in (node_at task by.way.piece.to)) + still level (along task run by.way.piece) + later = low_by level later bound fuel by.later (omega (arith, by.shorter, enough)) (using settled by.way.piece) (along task run by.way.piece) (follows_go settled run follows by.way leads) by.completes in
-      omega (arith, rest, by.total, still_go level settled run follows may.passes by.way leads by.can)
+      let by : Way_of 0 settled run follows index piece moves = way_of 0 settled run follows index piece moves may.leads may.taken completes.1 in
+      let leads : Leads settled run by.way = leads_by 0 settled run follows may.passes by.place_of by.way by.stands (omega arith) by.can in
+      let rest : total_after task (standing (using settled by.way.piece) (along task run by.way.piece)) by.later ≤ settled.total + (run.value + value_in (node_at task by.way.piece.to)) + still level (along task run by.way.piece) + later = low_by level later bound fuel by.later (omega (arith, by.shorter, enough)) (using settled by.way.piece) (along task run by.way.piece) (follows_go 0 settled run follows by.way leads) by.completes in
+      omega (arith, rest, by.total, still_go level 0 settled run follows may.passes by.way leads by.can)
   low_by level later bound zero (turn index piece ∷ moves) enough settled run follows completes = absurd (omega (arith, enough))
   low_by level later bound (suc fuel) (turn index piece ∷ moves) enough settled run follows completes =
       let may = completes.0 in
-      let back : Follows settled (turned_back run) = follows_back settled run follows may.once in
-      let by : Way_of settled (turned_back run) back index piece moves = way_of settled (turned_back run) back index piece moves may.leads may.taken completes.1 in
-      let leads : Leads settled (turned_back run) by.way = leads_by settled (turned_back run) back may.passes by.place_of by.way by.stands by.can in
-      let rest : total_after task (standing (using settled by.way.piece) (along task (turned_back run) by.way.piece)) by.later ≤ settled.total + (run.value + value_in (node_at task by.way.piece.to)) + still level (along task (turned_back run) by.way.piece) + later = low_by level later bound fuel by.later (omega (arith, by.shorter, enough)) (using settled by.way.piece) (along task (turned_back run) by.way.piece) (follows_go settled (turned_back run) back by.way leads) by.completes in
-      omega (arith, rest, by.total, still_go level settled (turned_back run) back may.passes by.way leads by.can, still_back level run may.once may.passes)
+      let back : Follows run.first settled (turned_back run) = follows_back settled run follows may.once in
+      let by : Way_of run.first settled (turned_back run) back index piece moves = way_of run.first settled (turned_back run) back index piece moves may.leads may.taken completes.1 in
+      let leads : Leads settled (turned_back run) by.way = leads_by run.first settled (turned_back run) back may.passes by.place_of by.way by.stands (omega (arith, may.later, by.first)) by.can in
+      let rest : total_after task (standing (using settled by.way.piece) (along task (turned_back run) by.way.piece)) by.later ≤ settled.total + (run.value + value_in (node_at task by.way.piece.to)) + still level (along task (turned_back run) by.way.piece) + later = low_by level later bound fuel by.later (omega (arith, by.shorter, enough)) (using settled by.way.piece) (along task (turned_back run) by.way.piece) (follows_go run.first settled (turned_back run) back by.way leads) by.completes in
+      omega (arith, rest, by.total, still_go level run.first settled (turned_back run) back may.passes by.way leads by.can, still_back level run may.once may.passes)
   low_by level later bound fuel (settle ∷ moves) enough settled run follows completes =
       let here : EarnAtMost task (settling settled run).next later = subst (λ (n : ℕ). EarnAtMost task (n + 1) later) (sym follows.next) bound in
       let rest : total_after task (between (settling settled run)) moves ≤ settled.total + run.value + later = rest_low task (settling settled run) later here follows.whole moves completes.1 in
       omega arith
 
   -- all ways on, if the next trains are of the same kind
-  low_alike : (level most : ℕ) → 0 < begun.most → (equal later : ℕ) → AreEqual task (first.next + 1) equal begun.most → EarnAtMost task (first.next + 1 + equal) later → (fuel : ℕ) (moves : List Move) → length moves ≤ fuel → (settled : Settled) (run : Standing) → Follows settled run → run.value + still level run ≤ most → Completes task (standing settled run) moves → total_after task (standing settled run) moves ≤ settled.total + most + (equal * most + later)
+  low_alike : (level most : ℕ) → 0 < begun.most → (equal later : ℕ) → AreEqual task (first.next + 1) equal begun.most → EarnAtMost task (first.next + 1 + equal) later → (fuel : ℕ) (moves : List Move) → length moves ≤ fuel → (settled : Settled) (run : Standing) → Follows 0 settled run → run.value + still level run ≤ most → Completes task (standing settled run) moves → total_after task (standing settled run) moves ≤ settled.total + most + (equal * most + later)
   low_alike level most some equal later alike bound fuel [] enough settled run follows low completes = absurd completes
   low_alike level most some equal later alike bound fuel (pass ∷ moves) enough settled run follows low completes = absurd completes.0
   low_alike level most some equal later alike bound fuel (begin stop index piece ∷ moves) enough settled run follows low completes = absurd completes.0
   low_alike level most some equal later alike bound zero (go index piece ∷ moves) enough settled run follows low completes = absurd (omega (arith, enough))
   low_alike level most some equal later alike bound (suc fuel) (go index piece ∷ moves) enough settled run follows low completes =
       let may = completes.0 in
-      let by : Way_of settled run follows index piece moves = way_of settled run follows index piece moves may.leads may.taken completes.1 in
-      let leads : Leads settled run by.way = leads_by settled run follows may.passes by.place_of by.way by.stands by.can in
-      let rest = low_alike level most some equal later alike bound fuel by.later (omega (arith, by.shorter, enough)) (using settled by.way.piece) (along task run by.way.piece) (follows_go settled run follows by.way leads)
-      (omega (arith, low, still_go level settled run follows may.passes by.way leads by.can)) by.completes in
+      let by : Way_of 0 settled run follows index piece moves = way_of 0 settled run follows index piece moves may.leads may.taken completes.1 in
+      let leads : Leads settled run by.way = leads_by 0 settled run follows may.passes by.place_of by.way by.stands (omega arith) by.can in
+      let rest = low_alike level most some equal later alike bound fuel by.later (omega (arith, by.shorter, enough)) (using settled by.way.piece) (along task run by.way.piece) (follows_go 0 settled run follows by.way leads)
+      (omega (arith, low, still_go level 0 settled run follows may.passes by.way leads by.can)) by.completes in
       omega (arith, rest, by.total)
   low_alike level most some equal later alike bound zero (turn index piece ∷ moves) enough settled run follows low completes = absurd (omega (arith, enough))
   low_alike level most some equal later alike bound (suc fuel) (turn index piece ∷ moves) enough settled run follows low completes =
       let may = completes.0 in
-      let back : Follows settled (turned_back run) = follows_back settled run follows may.once in
-      let by : Way_of settled (turned_back run) back index piece moves = way_of settled (turned_back run) back index piece moves may.leads may.taken completes.1 in
-      let leads : Leads settled (turned_back run) by.way = leads_by settled (turned_back run) back may.passes by.place_of by.way by.stands by.can in
-      let rest = low_alike level most some equal later alike bound fuel by.later (omega (arith, by.shorter, enough)) (using settled by.way.piece) (along task (turned_back run) by.way.piece) (follows_go settled (turned_back run) back by.way leads)
-      (omega (arith, low, still_go level settled (turned_back run) back may.passes by.way leads by.can, still_back level run may.once may.passes)) by.completes in
+      let back : Follows run.first settled (turned_back run) = follows_back settled run follows may.once in
+      let by : Way_of run.first settled (turned_back run) back index piece moves = way_of run.first settled (turned_back run) back index piece moves may.leads may.taken completes.1 in
+      let leads : Leads settled (turned_back run) by.way = leads_by run.first settled (turned_back run) back may.passes by.place_of by.way by.stands (omega (arith, may.later, by.first)) by.can in
+      let rest = low_alike level most some equal later alike bound fuel by.later (omega (arith, by.shorter, enough)) (using settled by.way.piece) (along task (turned_back run) by.way.piece) (follows_go run.first settled (turned_back run) back by.way leads)
+      (omega (arith, low, still_go level run.first settled (turned_back run) back may.passes by.way leads by.can, still_back level run may.once may.passes)) by.completes in
       omega (arith, rest, by.total)
   low_alike level most some equal later alike bound fuel (settle ∷ moves) enough settled run follows low completes =
       let here : AreEqual task (settled.next + 1) equal begun.most = subst (λ (n : ℕ). AreEqual task (n + 1) equal begun.most) (sym follows.next) alike in
@@ -331,9 +331,9 @@ module _ (task : Task) (fit : IsFit task) (ready : AreReady task) (first : Settl
       let rest : total_after task (between (settling settled run)) moves ≤ settled.total + run.value + (equal * most + later) = low_settled task begun.most most later some equal (settling settled run) here follows.most (omega (arith, low)) follows.whole there moves completes.1 in
       omega (arith, rest, low)
 
-  first_follows : IsStop task begun.head → IsStop task begun.home → length first.used ≡ 279 → length begun.visited ≡ 744 → Follows first begun
+  first_follows : IsStop task begun.head → IsStop task begun.home → length first.used ≡ 279 → length begun.visited ≡ 744 → Follows 0 first begun
   first_follows stands begins whole spots =
-      record { takes = λ piece taken. taken; head = look.head; home = look.home; stands = stands; begins = begins; next = refl; most = refl; whole = whole; spots = spots }
+      record { takes = λ piece taken. taken; head = λ passes place way at later taken. look.head passes place way at taken; home = look.home; stands = stands; begins = begins; next = refl; most = refl; whole = whole; spots = spots }
 
   -- a run that earns too little
   pub ends_low : IsStop task begun.head → IsStop task begun.home → (level later best : ℕ) → EarnAtMost task (first.next + 1) later → length first.used ≡ 279 → length begun.visited ≡ 744 → first.total + begun.value + most_ahead level task begun ahead + later ≤ best → EndsAtMost task first begun best

@@ -24,6 +24,11 @@ abbrev pub IsGoneOver : Task → Settled → Standing → List Bool → ℕ → 
 IsGoneOver task settled run ahead spot =
     ends_in (node_at task spot) ≡ false → (place : ℕ) (way : Way) → slice_get (ways_at task spot) place ≡ Some way → can_take task run settled.used way.piece ≡ true → LiesAhead ahead way.piece.to
 
+-- the same for those ways alone of which the first piece does not stand before a place
+abbrev pub IsGoneOverFrom : Task → Settled → Standing → ℕ → List Bool → ℕ → Type 0
+IsGoneOverFrom task settled run least ahead spot =
+    ends_in (node_at task spot) ≡ false → (place : ℕ) (way : Way) → slice_get (ways_at task spot) place ≡ Some way → least ≤ way.first → can_take task run settled.used way.piece ≡ true → LiesAhead ahead way.piece.to
+
 -- more stops lie ahead, and each new one is gone over
 pub record Widens (task : Task) (settled : Settled) (run : Standing) (old new : List Bool) : Type 0 where
   pub kept : (spot : ℕ) → LiesAhead old spot → LiesAhead new spot
@@ -54,10 +59,20 @@ pub record WidensBelow (task : Task) (settled : Settled) (run : Standing) (spot 
   pub widens : Widens task settled run old new
   pub leads : (place : ℕ) (way : Way) → place < most → slice_get (ways_at task spot) place ≡ Some way → can_take task run settled.used way.piece ≡ true → LiesAhead new way.piece.to
 
+-- the stop where a run began is gone over, as far as the run may turn back
+pub record WidensBack (task : Task) (settled : Settled) (run : Standing) (old new : List Bool) : Type 0 where
+  pub widens : Widens task settled run old new
+  pub here : IsGoneOverFrom task settled run run.first new run.home
+
+-- the ways from there before one of them are gone over
+pub record WidensBackBelow (task : Task) (settled : Settled) (run : Standing) (most : ℕ) (old new : List Bool) : Type 0 where
+  pub widens : Widens task settled run old new
+  pub leads : (place : ℕ) (way : Way) → place < most → slice_get (ways_at task run.home) place ≡ Some way → run.first ≤ way.first → can_take task run settled.used way.piece ≡ true → LiesAhead new way.piece.to
+
 -- all stops that a run may still come to lie ahead
 pub record IsOutlook (task : Task) (settled : Settled) (run : Standing) (ahead : List Bool) : Type 0 where
   pub head : IsGoneOver task settled run ahead run.head
-  pub home : run.turned ≡ false → IsGoneOver task settled run ahead run.home
+  pub home : run.turned ≡ false → IsGoneOverFrom task settled run run.first ahead run.home
   pub all : (spot : ℕ) → LiesAhead ahead spot → IsGoneOver task settled run ahead spot
 
 -- what counts of a stop that may be passed, and of one at which runs end

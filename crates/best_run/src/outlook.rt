@@ -1,6 +1,6 @@
 ghost use Rattle.std.specs.Prelude.{◌≡◌, ◌+◌, ◌<◌, ◌≤◌, IsTrue, List, true, false, get_or, length, replicate, set, ℕ};
 ghost use Rattle.best_run.specs.declared.task.Node.{Node};
-ghost use Rattle.best_run.specs.Ahead.{EarnsAhead, EndsAtMost, IsOutlook, IsWorth, WidensBy, WidensFrom, WidensPast, goes_back, goes_on, leads_on};
+ghost use Rattle.best_run.specs.Ahead.{EarnsAhead, EndsAtMost, IsOutlook, IsWorth, WidensBack, WidensBy, WidensFrom, WidensPast, goes_back, goes_on, leads_on};
 ghost use Rattle.best_run.specs.Fit.{IsFit};
 ghost use Rattle.best_run.specs.Moves.{node_at, stop_in};
 ghost use Rattle.best_run.specs.Suffix.{AreBounds};
@@ -124,6 +124,29 @@ impl Task {
         }
     }
 
+    /// Adds to what lies ahead of a run what it may come to from where it began, once it turns back: not by
+    /// a way before the one by which it began.
+    fn look_back(&self, settled: &Settled, run: &Standing, outlook: &mut Outlook)
+        requires fit { IsFit self.now }
+        requires ready { AreReady self.now }
+        requires home { run.now.home < 744 }
+        requires begun { stop_in (node_at self.now run.now.home) ≡ true }
+        requires known { IsWorth self.now.spots.items outlook.old.ahead outlook.old.worth }
+        ensures widens { WidensBack self.now settled.now run.now outlook.old.ahead outlook.new.ahead }
+        ensures known { IsWorth self.now.spots.items outlook.new.ahead outlook.new.worth }
+    {
+        if self.spots[run.home].ends {
+            return;
+        }
+        let from = &self.departures[run.home];
+        for index in 0..from.ways.len() {
+            let way = &from.ways[index];
+            if run.first <= way.first {
+                self.look_along(settled, run, &way.piece, outlook);
+            }
+        }
+    }
+
     /// What lies ahead of a run.
     fn outlook(&self, settled: &Settled, run: &Standing) -> Outlook
         requires fit { IsFit self.now }
@@ -142,7 +165,7 @@ impl Task {
         let mut outlook = Outlook::nothing();
         self.look_from(settled, run, run.head, &mut outlook);
         if !run.turned {
-            self.look_from(settled, run, run.home, &mut outlook);
+            self.look_back(settled, run, &mut outlook);
         }
         outlook
     }

@@ -11,7 +11,7 @@ look_from-requires-clause-known c =
 pub returns-then-not-run-clause-outlook : goal.returns-then-not-run-clause-outlook
 returns-then-not-run-clause-outlook c =
     let first : WidensFrom c.args.self.now c.args.settled.now c.args.run.now c.args.run.now.head (replicate 744 false) c.look_from.new.outlook.ahead = subst (λ (ms : List Bool). WidensFrom c.args.self.now c.args.settled.now c.args.run.now c.args.run.now.head ms c.look_from.new.outlook.ahead) c.nothing-outlook.ensures.ahead c.look_from.ensures.widens in
-    outlook_both c.args.self.now c.args.settled.now c.args.run.now _ _ first c.look_from-then-not-run.ensures.widens
+    outlook_both c.args.self.now c.args.settled.now c.args.run.now _ _ first c.look_back.ensures.widens
 
 pub returns-else-not-run-clause-outlook : goal.returns-else-not-run-clause-outlook
 returns-else-not-run-clause-outlook c =
