@@ -79,7 +79,8 @@ fn hex_at(index: usize) -> Hex
     requires { index < 93 }
     ensures { index_of result ≡ index }
 {
-    Hex::ALL[index]
+    let all = &Hex::ALL;
+    all[index]
 }
 
 /// The stop at a place in the order of the map.
