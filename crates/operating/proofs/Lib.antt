@@ -51,3 +51,4 @@ pub mod Bankruptcies
 pub mod ForcedTrains
 pub mod NoRuns
 pub mod BestEarnings
+pub mod Raises

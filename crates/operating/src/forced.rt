@@ -5,7 +5,7 @@ ghost use Rattle.history.specs.Trains.{so_many as as_many};
 ghost use Rattle.operating.specs.Forced.{EndLeads, IsDue, after_forced, after_raise, after_raise_line, after_raises, cheapest as the_cheapest, concluded, falls_short as president_falls_short, first_on_sale as the_first_on_sale, first_to_sell as the_first_to_sell, has_trains as has_any_trains, lack_of, next_to_sell as the_next_to_sell, one_tenth, plain as plain_purchase, raise_rule as rule_of_raise, sale_rule as rule_of_sale, sold_further, sold_singly, with_aid, with_one_sold};
 ghost use Rattle.operating.specs.Ground.{IsFront};
 ghost use Rattle.operating.specs.Trains.{IsSmallPurchase};
-ghost use Rattle.sheets.specs.Part.{line_read};
+ghost use Rattle.sheets.specs.Part.{line_read, line_unread};
 
 use crate::ground::catch_up;
 use crate::operator::Operator;
@@ -16,8 +16,8 @@ use board::Board;
 use certificate::can_run;
 use certs::{Sale, may_sell, sell_block};
 use history::{Event, History, KeptRuling, Party, Past, Refusal, StockRule, TrainSeller, so_many};
-use order_grammar::Order;
-use sheets::{NumberedLine, PartsLeft};
+use order_grammar::{Order, begins_with_word, read_where_spelt};
+use sheets::{NumberedLine, PartsLeft, UnreadLine};
 use std::alloc::{AllocError, Global};
 use tables::{Amount, Company, Kind, Money};
 
@@ -102,14 +102,36 @@ fn rule_raises(
         ≡ after_raises due by history.old block.old.before) }
     ensures sound { OnOk result (IsSound history.new) }
 {
-    while let Some(line) = block.take_line() {
-        rule_if_raise(history, by, &line, due)?;
+    while let Some(line) = block.take_unread() {
+        rule_if_raise(history, by, line, due)?;
     }
     Ok(())
 }
 
-/// Rules a line of a block if it is a RAISE.
+/// Rules a line of a block if it is a RAISE. One that begins with another word is not read.
 fn rule_if_raise(
+    history: &mut History,
+    by: Operator,
+    line: UnreadLine,
+    due: bool,
+) -> Result<(), AllocError>
+    requires few { history.old.seats ≤ 6 }
+    requires at_table { by.president.0 < history.old.seats }
+    requires sound { IsSound history.old }
+    ensures seats { OnOk result (history.new.seats ≡ history.old.seats) }
+    ensures after { OnOk result (history.new ≡ after_raise_line due by history.old
+        (line_unread line.entry).number (line_unread line.entry).reading) }
+    ensures sound { OnOk result (IsSound history.new) }
+{
+    read_where_spelt();
+    if !begins_with_word(line.text, b"RAISE") {
+        return Ok(());
+    }
+    rule_order_if_raise(history, by, &line.read(), due)
+}
+
+/// Rules a line that was read if it is a RAISE.
+fn rule_order_if_raise(
     history: &mut History,
     by: Operator,
     line: &NumberedLine,
