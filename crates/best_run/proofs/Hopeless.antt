@@ -3,7 +3,6 @@
 use Rattle.std.proofs.Common.{◌≡◌, ℕ, zero, suc, ◌+◌, ◌-◌, ◌*◌, ◌<◌, ◌≤◌, Bool, true, false, not, ◌&&◌, nat_lt, Option, Some, None, inr, List, [], ◌∷◌, length, get_or, set, slice_get, refl, sym, ap, subst, ◌∙◌, arith, length-set, suc-mul}
 use Rattle.std.proofs.lemmas.Bool.{lt-ltb}
 use Rattle.reach.proofs.Marking.{set_keeps}
-use Rattle.best_run.specs.declared.task.Node.{Node}
 use Rattle.best_run.specs.declared.task.Piece.{Piece}
 use Rattle.best_run.specs.declared.task.Departures.{Departures}
 use Rattle.best_run.specs.declared.task.Task.{Task}
@@ -28,7 +27,7 @@ use Rattle.best_run.proofs.Marks.{length_marked}
 use Rattle.best_run.proofs.Traced.{traced_none}
 
 -- the stops ahead that are not visited
-but : List Bool → List Bool → List Bool
+pub but : List Bool → List Bool → List Bool
 but [] visited = []
 but (lies ∷ ahead) [] = []
 but (lies ∷ ahead) (was ∷ visited) = (lies && not was) ∷ but ahead visited
@@ -41,11 +40,24 @@ and_first : (a b : Bool) → (a && b) ≡ true → a ≡ true
 and_first true b is = refl
 and_first false b is = absurd cc
 
-but_within : (ahead visited : List Bool) → Within (but ahead visited) ahead
+pub but_within : (ahead visited : List Bool) → Within (but ahead visited) ahead
 unfolding but
 but_within [] visited = tt
 but_within (lies ∷ ahead) [] = tt
 but_within (lies ∷ ahead) (was ∷ visited) = (and_first lies (not was), but_within ahead visited)
+
+-- no more lies ahead than before a stop was visited
+pub but_unset : (ahead visited : List Bool) (n : ℕ) → get_or visited n false ≡ true → Within (but ahead visited) (set ahead n false)
+unfolding but
+but_unset [] visited n is = tt
+but_unset (lies ∷ ahead) [] n is = tt
+but_unset (lies ∷ ahead) (was ∷ visited) zero is = (none lies was is, but_within ahead visited)
+  where
+    none : (lies was : Bool) → was ≡ true → (lies && not was) ≡ true → false ≡ true
+    none true true is both = both
+    none false was is both = both
+    none lies false is both = absurd (falsely false is refl)
+but_unset (lies ∷ ahead) (was ∷ visited) (suc n) is = (and_first lies (not was), but_unset ahead visited n is)
 
 -- one more is visited
 but_set : (ahead visited : List Bool) (n : ℕ) → n < length visited → but ahead (set visited n true) ≡ set (but ahead visited) n false
@@ -69,7 +81,7 @@ but_at (lies ∷ ahead) (was ∷ visited) zero low is free = both_here lies was 
 but_at (lies ∷ ahead) (was ∷ visited) (suc n) low is free = but_at ahead visited n (omega arith) is free
 
 -- a stop is visited: what was left for it, and what it was worth beyond the level, is spent
-spend : (ending back : Bool) (value level here later passed after one first two second : ℕ) → later + level ≡ here → if_passed ending (value - level) + after ≤ passed → if_ending ending (value - level) ≤ one → if_ending ending (value - level) + first ≤ two → first ≤ one → second ≤ two → value + ((later + after) + ends_by (not ending) back first second) ≤ (here + passed) + ends_by true back one two
+pub spend : (ending back : Bool) (value level here later passed after one first two second : ℕ) → later + level ≡ here → if_passed ending (value - level) + after ≤ passed → if_ending ending (value - level) ≤ one → if_ending ending (value - level) + first ≤ two → first ≤ one → second ≤ two → value + ((later + after) + ends_by (not ending) back first second) ≤ (here + passed) + ends_by true back one two
 spend true true value level here later passed after one first two second left less ends both fewer all = omega arith
 spend true false value level here later passed after one first two second left less ends both fewer all = omega arith
 spend false true value level here later passed after one first two second left less ends both fewer all = omega arith
@@ -106,7 +118,7 @@ left_before false zero is = is
 left_before b (suc left) is = lt-ltb 0 (suc left) (omega arith)
 
 -- one stop fewer is left
-one_fewer : (left level : ℕ) → nat_lt 0 left ≡ true → (left - 1) * level + level ≡ left * level
+pub one_fewer : (left level : ℕ) → nat_lt 0 left ≡ true → (left - 1) * level + level ≡ left * level
 one_fewer zero level is = let wrong : false ≡ true = is in absurd cc
 one_fewer (suc left) level is =
     let less : suc left - 1 ≡ left = omega arith in rw less (sym (suc-mul left level))
@@ -115,7 +127,7 @@ mark_keeps : (b : Bool) (marks : List Bool) (n spot : ℕ) → n < length marks 
 mark_keeps true marks n spot low was = set_keeps marks n spot low was
 mark_keeps false marks n spot low was = was
 
-mark_length : (b : Bool) (marks : List Bool) (n : ℕ) → length (marked_if b marks n) ≡ length marks
+pub mark_length : (b : Bool) (marks : List Bool) (n : ℕ) → length (marked_if b marks n) ≡ length marks
 mark_length true marks n = length-set marks n true
 mark_length false marks n = refl
 
@@ -149,7 +161,7 @@ take_back task run used piece = ap (λ b. b && misses used piece.borders.items) 
 
 module _ (task : Task) (fit : IsFit task) (ready : AreReady task) (first : Settled) (begun : Standing) (ahead : List Bool) (look : IsOutlook task first begun ahead) where
   -- a run that goes on from where the first one stands
-  record Follows (least : ℕ) (settled : Settled) (run : Standing) : Type 0 where
+  pub record Follows (least : ℕ) (settled : Settled) (run : Standing) : Type 0 where
     pub takes : (piece : Piece) → can_take task run settled.used piece ≡ true → can_take task begun first.used piece ≡ true
     pub head : IsGoneOverFrom task first begun least ahead run.head
     pub home : run.turned ≡ false → IsGoneOverFrom task first begun run.first ahead run.home
@@ -169,7 +181,7 @@ module _ (task : Task) (fit : IsFit task) (ready : AreReady task) (first : Settl
       by_from (Some from) at = ready.each stop from at is.1
 
   -- the next way
-  record Leads (settled : Settled) (run : Standing) (way : Way) : Type 0 where
+  pub record Leads (settled : Settled) (run : Standing) (way : Way) : Type 0 where
     pub lies : LiesAhead ahead way.piece.to
     pub fits : PieceFits task false way.piece
     pub stop : IsStop task way.piece.to
@@ -179,7 +191,7 @@ module _ (task : Task) (fit : IsFit task) (ready : AreReady task) (first : Settl
       let fits = way_fits task fit run.head (ways_at task run.head) (ways_of run.head follows.stands) follows.stands.1 way (among_place (ways_at task run.head) place way at) in
       record { lies = follows.head passes place way at later (follows.takes way.piece taken); fits = fits.0; stop = (fits.0.to, fits.1) }
 
-  follows_go : (least : ℕ) (settled : Settled) (run : Standing) → Follows least settled run → (way : Way) → Leads settled run way → Follows 0 (using settled way.piece) (along task run way.piece)
+  pub follows_go : (least : ℕ) (settled : Settled) (run : Standing) → Follows least settled run → (way : Way) → Leads settled run way → Follows 0 (using settled way.piece) (along task run way.piece)
   follows_go least settled run follows way leads =
       record {
         takes = λ other is. follows.takes other (take_before task settled run false way.piece leads.fits follows.whole follows.spots other is);
@@ -209,30 +221,26 @@ module _ (task : Task) (fit : IsFit task) (ready : AreReady task) (first : Settl
       }
 
   -- what a run may still earn, at a level
-  still : ℕ → Standing → ℕ
+  pub still : ℕ → Standing → ℕ
   still level run = most_ahead level task run (but ahead run.visited)
 
-  -- a way leaves no more to be earned
-  still_go : (level least : ℕ) (settled : Settled) (run : Standing) → Follows least settled run → ends_in (node_at task run.head) ≡ false → (way : Way) → Leads settled run way → can_take task run settled.used way.piece ≡ true → value_in (node_at task way.piece.to) + still level (along task run way.piece) ≤ still level run
+  -- a way leaves no more to be earned, as if the stop that it leaves might be passed
+  pub still_way : (level least : ℕ) (settled : Settled) (run : Standing) → Follows least settled run → (way : Way) → Leads settled run way → can_take task run settled.used way.piece ≡ true → value_in (node_at task way.piece.to) + still level (along task run way.piece) ≤ (run.left * level + beyond level task.spots.items (but ahead run.visited)) + ends_by true (goes_back task run) (one_end level task.spots.items (but ahead run.visited)) (two_ends level task.spots.items (but ahead run.visited))
   unfolding still
-  still_go level least settled run follows passes way leads taken =
-      let to : ℕ = way.piece.to in
-      let nodes : List Node = task.spots.items in
+  still_way level least settled run follows way leads taken =
       let came : may_come true run way.piece.to ≡ true = subst (λ (b : Bool). may_come b run way.piece.to ≡ true) leads.stop.1 (both_first (may_come (stop_in (node_at task way.piece.to)) run way.piece.to) (misses settled.used way.piece.borders.items) taken) in
       let low : way.piece.to < length run.visited = omega (arith, follows.spots, leads.fits.to) in
       let free : get_or run.visited way.piece.to false ≡ false = not_is (get_or run.visited way.piece.to false) (both_second (nat_lt 0 run.left) (not (get_or run.visited way.piece.to false)) came) in
       let open_here : get_or (but ahead run.visited) way.piece.to false ≡ true = but_at ahead run.visited way.piece.to low leads.lies free in
-      still_by level run way.piece.to leads.stop.1 passes low open_here (both_first (nat_lt 0 run.left) (not (get_or run.visited way.piece.to false)) came)
+      still_by level run way.piece.to leads.stop.1 low open_here (both_first (nat_lt 0 run.left) (not (get_or run.visited way.piece.to false)) came)
     where
-      Still : ℕ → Standing → ℕ → Bool → Bool → Type 0
-      Still level run to stop head =
-          value_in (node_at task to) + ((left_after stop run.left * level + beyond level task.spots.items (but ahead (marked_if stop run.visited to))) + ends_by (not (ends_in (node_at task to))) (goes_back task run) (one_end level task.spots.items (but ahead (marked_if stop run.visited to))) (two_ends level task.spots.items (but ahead (marked_if stop run.visited to)))) ≤ (run.left * level + beyond level task.spots.items (but ahead run.visited)) + ends_by (not head) (goes_back task run) (one_end level task.spots.items (but ahead run.visited)) (two_ends level task.spots.items (but ahead run.visited))
+      Still : ℕ → Standing → ℕ → Bool → Type 0
+      Still level run to stop =
+          value_in (node_at task to) + ((left_after stop run.left * level + beyond level task.spots.items (but ahead (marked_if stop run.visited to))) + ends_by (not (ends_in (node_at task to))) (goes_back task run) (one_end level task.spots.items (but ahead (marked_if stop run.visited to))) (two_ends level task.spots.items (but ahead (marked_if stop run.visited to)))) ≤ (run.left * level + beyond level task.spots.items (but ahead run.visited)) + ends_by true (goes_back task run) (one_end level task.spots.items (but ahead run.visited)) (two_ends level task.spots.items (but ahead run.visited))
 
-      still_by : (level : ℕ) (run : Standing) (to : ℕ) → stop_in (node_at task to) ≡ true → ends_in (node_at task run.head) ≡ false → to < length run.visited → get_or (but ahead run.visited) to false ≡ true → nat_lt 0 run.left ≡ true → Still level run to (stop_in (node_at task to)) (ends_in (node_at task run.head))
-      still_by level run to stops passes low open_here some =
-          let nodes : List Node = task.spots.items in
-          subst (λ (b : Bool). Still level run to b (ends_in (node_at task run.head))) (sym stops)
-          (subst (λ (b : Bool). Still level run to true b) (sym passes)
+      still_by : (level : ℕ) (run : Standing) (to : ℕ) → stop_in (node_at task to) ≡ true → to < length run.visited → get_or (but ahead run.visited) to false ≡ true → nat_lt 0 run.left ≡ true → Still level run to (stop_in (node_at task to))
+      still_by level run to stops low open_here some =
+          subst (λ (b : Bool). Still level run to b) (sym stops)
           (subst (λ (bs : List Bool). value_in (node_at task to) + (((run.left - 1) * level + beyond level task.spots.items bs) + ends_by (not (ends_in (node_at task to))) (goes_back task run) (one_end level task.spots.items bs) (two_ends level task.spots.items bs)) ≤ (run.left * level + beyond level task.spots.items (but ahead run.visited)) + ends_by true (goes_back task run) (one_end level task.spots.items (but ahead run.visited)) (two_ends level task.spots.items (but ahead run.visited))) (sym (but_set ahead run.visited to low))
           (spend (ends_in (node_at task to)) (goes_back task run) (value_in (node_at task to)) level (run.left * level) ((run.left - 1) * level)
           (beyond level task.spots.items (but ahead run.visited)) (beyond level task.spots.items (set (but ahead run.visited) to false))
@@ -243,7 +251,14 @@ module _ (task : Task) (fit : IsFit task) (ready : AreReady task) (first : Settl
           (one_spent level task.spots.items (but ahead run.visited) to open_here)
           (two_spent level task.spots.items (but ahead run.visited) to open_here)
           (one_less level task.spots.items (set (but ahead run.visited) to false) (but ahead run.visited) (unset_within (but ahead run.visited) to))
-          (two_less level task.spots.items (set (but ahead run.visited) to false) (but ahead run.visited) (unset_within (but ahead run.visited) to)))))
+          (two_less level task.spots.items (set (but ahead run.visited) to false) (but ahead run.visited) (unset_within (but ahead run.visited) to))))
+
+  -- a way leaves no more to be earned
+  still_go : (level least : ℕ) (settled : Settled) (run : Standing) → Follows least settled run → ends_in (node_at task run.head) ≡ false → (way : Way) → Leads settled run way → can_take task run settled.used way.piece ≡ true → value_in (node_at task way.piece.to) + still level (along task run way.piece) ≤ still level run
+  unfolding still
+  still_go level least settled run follows passes way leads taken =
+      subst (λ (b : Bool). value_in (node_at task way.piece.to) + still level (along task run way.piece) ≤ (run.left * level + beyond level task.spots.items (but ahead run.visited)) + ends_by (not b) (goes_back task run) (one_end level task.spots.items (but ahead run.visited)) (two_ends level task.spots.items (but ahead run.visited))) (sym passes)
+      (still_way level least settled run follows way leads taken)
 
   -- a run that turns back has one end less
   back_by : (on once passes : Bool) (one two : ℕ) → one ≤ two → once ≡ false → passes ≡ false → ends_by (not passes) (not true && not passes) one two ≤ ends_by on (not once && not passes) one two
@@ -304,7 +319,7 @@ module _ (task : Task) (fit : IsFit task) (ready : AreReady task) (first : Settl
       omega arith
 
   -- all ways on, if the next trains are of the same kind
-  low_alike : (level most : ℕ) → 0 < begun.most → (equal later : ℕ) → AreEqual task (first.next + 1) equal begun.most → EarnAtMost task (first.next + 1 + equal) later → (fuel : ℕ) (moves : List Move) → length moves ≤ fuel → (settled : Settled) (run : Standing) → Follows 0 settled run → run.value + still level run ≤ most → Completes task (standing settled run) moves → total_after task (standing settled run) moves ≤ settled.total + most + (equal * most + later)
+  pub low_alike : (level most : ℕ) → 0 < begun.most → (equal later : ℕ) → AreEqual task (first.next + 1) equal begun.most → EarnAtMost task (first.next + 1 + equal) later → (fuel : ℕ) (moves : List Move) → length moves ≤ fuel → (settled : Settled) (run : Standing) → Follows 0 settled run → run.value + still level run ≤ most → Completes task (standing settled run) moves → total_after task (standing settled run) moves ≤ settled.total + most + (equal * most + later)
   low_alike level most some equal later alike bound fuel [] enough settled run follows low completes = absurd completes
   low_alike level most some equal later alike bound fuel (pass ∷ moves) enough settled run follows low completes = absurd completes.0
   low_alike level most some equal later alike bound fuel (begin stop index piece ∷ moves) enough settled run follows low completes = absurd completes.0
@@ -331,7 +346,7 @@ module _ (task : Task) (fit : IsFit task) (ready : AreReady task) (first : Settl
       let rest : total_after task (between (settling settled run)) moves ≤ settled.total + run.value + (equal * most + later) = low_settled task begun.most most later some equal (settling settled run) here follows.most (omega (arith, low)) follows.whole there moves completes.1 in
       omega (arith, rest, low)
 
-  first_follows : IsStop task begun.head → IsStop task begun.home → length first.used ≡ 279 → length begun.visited ≡ 744 → Follows 0 first begun
+  pub first_follows : IsStop task begun.head → IsStop task begun.home → length first.used ≡ 279 → length begun.visited ≡ 744 → Follows 0 first begun
   first_follows stands begins whole spots =
       record { takes = λ piece taken. taken; head = λ passes place way at later taken. look.head passes place way at taken; home = look.home; stands = stands; begins = begins; next = refl; most = refl; whole = whole; spots = spots }
 

@@ -10,6 +10,7 @@ pub mod Kept
 pub mod Equal
 pub mod Beyond
 pub mod Hopeless
+pub mod Reached
 pub mod Sorted
 pub mod Prefix
 pub mod Backwards

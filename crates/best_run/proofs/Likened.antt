@@ -1,8 +1,9 @@
 -- Ways to the end from a state between runs are ways to the end from one that is alike: no run to come crosses a border in
 -- which they differ.
-use Rattle.std.proofs.Common.{◌≡◌, ℕ, zero, suc, ◌+◌, ◌<◌, ◌≤◌, Bool, true, false, not, ◌&&◌, ◌||◌, ◌⊎◌, inl, inr, Option, Some, None, List, [], ◌∷◌, length, get_or, set, slice_get, replicate, refl, sym, ap, subst, ◌∙◌, arith}
+use Rattle.std.proofs.Common.{◌≡◌, ℕ, zero, suc, ◌+◌, ◌<◌, ◌≤◌, Bool, true, false, not, ◌&&◌, ◌||◌, ◌⊎◌, inl, inr, Option, Some, None, List, [], ◌∷◌, length, get_or, set, slice_get, replicate, refl, sym, ap, subst, ◌∙◌, arith, get_or-set_same}
 use Rattle.std.proofs.lemmas.Option.{slice_get_within}
 use Rattle.reach.proofs.Collected.{none_marked}
+use Rattle.reach.proofs.Marking.{set_cases, set_keeps}
 use Rattle.reach.specs.Position.{IsAmong}
 use Rattle.best_run.specs.declared.state.Settled.{Settled}
 use Rattle.best_run.specs.declared.state.Standing.{Standing}
@@ -12,7 +13,7 @@ use Rattle.best_run.specs.declared.task.Piece.{Piece}
 use Rattle.best_run.specs.declared.task.Task.{Task}
 use Rattle.best_run.specs.declared.task.Way.{Way}
 use Rattle.best_run.specs.Ahead.{LiesAhead, WidensBelow}
-use Rattle.best_run.specs.Alike.{AllLead, AreOpen, AreOpenBelow, IsAlike, IsInReach, IsShut, IsShutBelow, Opens, ReachesBelow, SetsOut, WidensTo, anywhere, cleared_all, sets_out}
+use Rattle.best_run.specs.Alike.{AllLead, AreHeld, AreOpen, AreOpenBelow, Holds, IsAlike, IsInReach, IsShut, IsShutBelow, Opens, ReachesBelow, SetsOut, WidensTo, anywhere, cleared_all, sets_out}
 use Rattle.best_run.specs.Fit.{BordersFit, IsFit, PieceFits}
 use Rattle.best_run.specs.Kept.{Freer}
 use Rattle.best_run.specs.Moves.{Completes, EarnsAtMost, LeadsFrom, Move, State, along, begin, begun, between, can_take, ends_in, go, marked_all, may_come, misses, node_at, own_in, pass, passed, settle, settling, standing, stop_in, total_after, turn, turned_back, using}
@@ -81,6 +82,7 @@ pub reach_none : (task : Task) (used : List Bool) → ReachesBelow task used 0 (
 reach_none task used =
     record {
       own = λ spot listed. absurd (let low = listed.1 in omega arith);
+      held = λ spot listed. absurd (let low = listed.1 in omega arith);
       all = λ spot lies. absurd (falsely (get_or (replicate 744 false) spot false) lies (none_marked 744 spot));
     }
 
@@ -93,15 +95,34 @@ widens_all task settled spot ways count old new there all below =
           below.leads place way (omega (arith, low, all)) at (takes_free task settled.used way.piece ∙ free);
     }
 
-pub reach_more : (task : Task) (settled : Settled) (place stop : ℕ) (old new : List Bool) → slice_get task.stops.items place ≡ Some stop → ReachesBelow task settled.used place old → WidensTo task settled stop old new → ReachesBelow task settled.used (place + 1) new
-reach_more task settled place stop old new at before more =
+-- a stop lay in reach before, or does so now
+pub holds_known : (stop : ℕ) (reach : List Bool) → LiesAhead reach stop → Holds stop reach reach
+holds_known stop reach lies = record { kept = λ spot is. is; over = λ spot is. inl is; lies = lies }
+
+pub holds_more : (stop : ℕ) (reach : List Bool) → stop < length reach → Holds stop reach (set reach stop true)
+holds_more stop reach low =
+    record {
+      kept = λ spot lies. set_keeps reach stop spot low lies;
+      over = λ spot lies. elim (set_cases reach stop spot lies) [ inl same ↦ inr same | inr before ↦ inl before ];
+      lies = get_or-set_same reach stop true false low;
+    }
+
+pub reach_more : (task : Task) (settled : Settled) (place stop : ℕ) (old middle new : List Bool) → slice_get task.stops.items place ≡ Some stop → ReachesBelow task settled.used place old → Holds stop old middle → WidensTo task settled stop middle new → ReachesBelow task settled.used (place + 1) new
+reach_more task settled place stop old middle new at before holds more =
     record {
       own = λ spot listed own. elim (next_listed task.stops.items place stop spot at listed) [
-        | inl less ↦ λ index way stands free. more.widens.kept way.piece.to (before.own spot less own index way stands free)
+        | inl less ↦ λ index way stands free. more.widens.kept way.piece.to (holds.kept way.piece.to (before.own spot less own index way stands free))
         | inr same ↦ subst (AllLead task settled.used new) same more.here
       ];
+      held = λ spot listed own. elim (next_listed task.stops.items place stop spot at listed) [
+        | inl less ↦ more.widens.kept spot (holds.kept spot (before.held spot less own))
+        | inr same ↦ subst (LiesAhead new) same (more.widens.kept stop holds.lies)
+      ];
       all = λ spot lies passes index way stands free. elim (more.widens.over spot lies) [
-        | inl known ↦ more.widens.kept way.piece.to (before.all spot known passes index way stands free)
+        | inl known ↦ elim (holds.over spot known) [
+          | inl was ↦ more.widens.kept way.piece.to (holds.kept way.piece.to (before.all spot was passes index way stands free))
+          | inr same ↦ subst (AllLead task settled.used new) same more.here index way stands free
+        ]
         | inr over ↦ over passes index way stands (takes_free task settled.used way.piece ∙ free)
       ];
     }
@@ -111,6 +132,10 @@ reach_same task used place stop reach at other before =
     record {
       own = λ spot listed own. elim (next_listed task.stops.items place stop spot at listed) [
         | inl less ↦ before.own spot less own
+        | inr same ↦ absurd (falsely (own_in (node_at task spot)) own (ap (λ (n : ℕ). own_in (node_at task n)) (sym same) ∙ other))
+      ];
+      held = λ spot listed own. elim (next_listed task.stops.items place stop spot at listed) [
+        | inl less ↦ before.held spot less own
         | inr same ↦ absurd (falsely (own_in (node_at task spot)) own (ap (λ (n : ℕ). own_in (node_at task n)) (sym same) ∙ other))
       ];
       all = before.all;
@@ -125,6 +150,16 @@ reach_all task ready used most reach all below spot is out =
       ]
       | inr on ↦ below.all spot on.0 on.1
     ]
+
+pub held_all : (task : Task) → AreReady task → (used : List Bool) (most : ℕ) (reach : List Bool) → length task.stops.items ≤ most → ReachesBelow task used most reach → AreHeld task used reach
+held_all task ready used most reach all below =
+    record {
+      held = λ spot is own. elim (ready.stops.each spot is.0 is.1) [
+        | inl none ↦ inl none
+        | inr listed ↦ inr (below.held spot (listed.0, (let low = listed.1 in omega arith), listed.2) own)
+      ];
+      all = below.all;
+    }
 
 -- a mark that is taken away
 unset_here : (marks : List Bool) (n : ℕ) → get_or (set marks n false) n false ≡ false

@@ -27,9 +27,21 @@ sets_out task reach spot =
 abbrev pub IsInReach : Task → List Bool → List Bool → Type 0
 IsInReach task used reach = (spot : ℕ) → IsStop task spot → SetsOut task reach spot → AllLead task used reach spot
 
+-- a stop lies in reach, and nothing else that did not before
+pub record Holds (stop : ℕ) (old new : List Bool) : Type 0 where
+  pub kept : (spot : ℕ) → LiesAhead old spot → LiesAhead new spot
+  pub over : (spot : ℕ) → LiesAhead new spot → LiesAhead old spot ⊎ (stop ≡ spot)
+  pub lies : LiesAhead new stop
+
+-- the tokens from which ways lead lie in reach, and all stops to which a run may come from a stop that does
+pub record AreHeld (task : Task) (used reach : List Bool) : Type 0 where
+  pub held : (spot : ℕ) → IsStop task spot → own_in (node_at task spot) ≡ true → (ways_at task spot ≡ []) ⊎ LiesAhead reach spot
+  pub all : (spot : ℕ) → LiesAhead reach spot → ends_in (node_at task spot) ≡ false → AllLead task used reach spot
+
 -- the same for tokens at listed stops before one, and for the stops that lie in reach so far
 pub record ReachesBelow (task : Task) (used : List Bool) (most : ℕ) (reach : List Bool) : Type 0 where
   pub own : (spot : ℕ) → IsListed task.stops.items most spot → own_in (node_at task spot) ≡ true → AllLead task used reach spot
+  pub held : (spot : ℕ) → IsListed task.stops.items most spot → own_in (node_at task spot) ≡ true → LiesAhead reach spot
   pub all : (spot : ℕ) → LiesAhead reach spot → ends_in (node_at task spot) ≡ false → AllLead task used reach spot
 
 -- a run that has visited nothing

@@ -1,16 +1,18 @@
 //! States between runs that are alike to the trains that are left: they differ only in borders that no
 //! run to come can cross.
-ghost use Rattle.std.specs.Prelude.{◌≡◌, ◌<◌, true};
+ghost use Rattle.std.specs.Prelude.{◌≡◌, ◌<◌, IsTrue, length, true};
 ghost use Rattle.best_run.specs.Ahead.{IsWorth};
-ghost use Rattle.best_run.specs.Alike.{AreOpen, IsAlike, IsInReach, IsShut, Opens, WidensTo, anywhere, sets_out};
+ghost use Rattle.best_run.specs.Alike.{AreHeld, AreOpen, Holds, IsAlike, IsInReach, IsShut, Opens, WidensTo, anywhere, sets_out};
 ghost use Rattle.best_run.specs.Fit.{IsFit};
-ghost use Rattle.best_run.specs.Moves.{node_at, stop_in};
+ghost use Rattle.best_run.specs.Moves.{EarnsAtMost, node_at, stop_in};
+ghost use Rattle.best_run.specs.Suffix.{AreBounds};
 ghost use Rattle.best_run.specs.Ways.{AreReady};
 
-use crate::bits::{Borders, Spots};
+use crate::bits::{Borders, SPOTS, Spots};
 use crate::outlook::Outlook;
 use crate::state::{Settled, Standing};
 use crate::task::Task;
+use tables::Amount;
 
 /// A run that has visited nothing, and may come to any stop.
 fn anywhere() -> Standing
@@ -47,20 +49,66 @@ impl Task {
         }
     }
 
-    /// The stops to which a run of the trains that are left may come.
-    fn reach(&self, settled: &Settled) -> Spots
+    /// A stop lies in reach.
+    fn hold(&self, stop: usize, reach: &mut Outlook)
+        requires fit { IsFit self.now }
+        requires spot { stop < 744 }
+        requires known { IsWorth self.now.spots.items reach.old.ahead reach.old.worth }
+        ensures holds { Holds stop reach.old.ahead reach.new.ahead }
+        ensures known { IsWorth self.now.spots.items reach.new.ahead reach.new.worth }
+    {
+        reach.ahead.is_whole();
+        if !reach.ahead.has(stop) {
+            self.add(stop, reach);
+        }
+    }
+
+    /// The stops that a run of the trains that are left may visit: where it may begin, and to which it may
+    /// come.
+    pub(crate) fn reach(&self, settled: &Settled) -> Outlook
         requires fit { IsFit self.now }
         requires ready { AreReady self.now }
-        ensures { IsInReach self.now settled.now.used result }
+        ensures reaches { IsInReach self.now settled.now.used result.ahead }
+        ensures held { AreHeld self.now settled.now.used result.ahead }
+        ensures known { IsWorth self.now.spots.items result.ahead result.worth }
     {
         let mut reach = Outlook::nothing();
         for place in 0..self.stops.len() {
             let stop = self.stops[place];
             if self.spots[stop].own {
+                self.hold(stop, &mut reach);
                 self.reach_from(settled, stop, &mut reach);
             }
         }
-        reach.ahead
+        reach
+    }
+
+    /// Whether the trains that are left can earn no more than what has been found, by what lies in reach:
+    /// each of the next ones that are alike earns no more than that, and the others no more than by
+    /// themselves. It is not told of all such states.
+    pub(crate) fn reaches_too_little(
+        &self,
+        settled: &Settled,
+        reach: &Outlook,
+        bounds: &[Amount],
+        best: Amount,
+    ) -> bool
+        requires fit { IsFit self.now }
+        requires ready { AreReady self.now }
+        requires bounds { AreBounds self.now bounds.now }
+        requires next { settled.now.next < length self.now.trains.items }
+        requires reaches { IsInReach self.now settled.now.used reach.now.ahead }
+        requires held { AreHeld self.now settled.now.used reach.now.ahead }
+        requires known { IsWorth self.now.spots.items reach.now.ahead reach.now.worth }
+        ensures { IsTrue result → EarnsAtMost self.now settled.now best }
+    {
+        settled.marks_all_borders();
+        let most = self.trains[settled.next];
+        if most > SPOTS {
+            return false;
+        }
+        let cap = reach.worth.least(most as Amount, true, true);
+        self.are_capped(settled.next, most, cap, settled.total, bounds, best)
     }
 
     /// Opens the ways from a stop that cross no used border.
@@ -111,18 +159,18 @@ impl Task {
 
     /// A state that is alike to the trains that are left, and in which all borders are used that they
     /// cannot cross.
-    pub(crate) fn alike(&self, settled: &Settled) -> Settled
+    pub(crate) fn alike(&self, settled: &Settled, reach: &Spots) -> Settled
         requires fit { IsFit self.now }
         requires ready { AreReady self.now }
+        requires reaches { IsInReach self.now settled.now.used reach.now }
         ensures { IsAlike self.now settled.now result }
     {
-        let reach = self.reach(settled);
         Settled {
             next: settled.next,
             total: settled.total,
             kind: settled.kind,
             cap: settled.cap,
-            used: self.shut(settled, &reach),
+            used: self.shut(settled, reach),
         }
     }
 }

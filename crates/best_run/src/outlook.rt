@@ -36,7 +36,7 @@ impl Outlook {
 
 impl Task {
     /// One stop more lies ahead.
-    fn add(&self, spot: usize, outlook: &mut Outlook)
+    pub(crate) fn add(&self, spot: usize, outlook: &mut Outlook)
         requires fit { IsFit self.now }
         requires spot { spot < 744 }
         requires free { get_or outlook.old.ahead spot false ≡ false }

@@ -99,7 +99,11 @@ impl Task {
         ) {
             return;
         }
-        let alike = self.alike(settled);
+        let reach = self.reach(settled);
+        if self.reaches_too_little(settled, &reach, bounds, best.amount) {
+            return;
+        }
+        let alike = self.alike(settled, &reach.ahead);
         if best.covers(&alike) {
             return;
         }

@@ -18,6 +18,7 @@ use Rattle.best_run.proofs.Equal.{explores_capped}
 use Rattle.best_run.proofs.Hopeless.{explores_hopeless}
 use Rattle.best_run.proofs.Kept.{explores_covered, explores_kept}
 use Rattle.best_run.proofs.Places.{less_by, node_is, one_at_side, one_low, one_of, room_by, take_free, value_low}
+use Rattle.best_run.proofs.Reached.{explores_reached}
 use Rattle.best_run.proofs.Traced.{explores_from, takes_from, traces_both}
 use Rattle.best_run.proofs.Tried.{begin_every, begin_more, begin_none, explores_between, explores_on, explores_standing, leads_pass, leads_settle, over_better, over_no_better, tries_on}
 use Rattle.best_run.proofs.task.Task.+explore.Goals as goal
@@ -104,6 +105,10 @@ settle_next-returns-then-falls_short t c =
 pub settle_next-returns-then-are_capped : goal.settle_next-returns-then-are_capped
 settle_next-returns-then-are_capped t c =
     explores_capped c.args.self.now c.args.settled.now c.args.best.now c.falls_short.ensures.whole (c.are_capped.ensures c.if-are_capped.true)
+
+pub settle_next-returns-then-reaches_too_little : goal.settle_next-returns-then-reaches_too_little
+settle_next-returns-then-reaches_too_little t c =
+    explores_reached c.args.self.now c.args.settled.now c.args.best.now (c.reaches_too_little.ensures c.if-reaches_too_little.true)
 
 pub settle_next-returns : goal.settle_next-returns
 settle_next-returns t c =

@@ -6,7 +6,7 @@ use Rattle.best_run.specs.Ahead.{IsWorth}
 use Rattle.best_run.specs.Alike.{ReachesBelow}
 use Rattle.best_run.specs.Moves.{own_in}
 use Rattle.best_run.specs.Ways.{IsStop}
-use Rattle.best_run.proofs.Likened.{reach_all, reach_more, reach_none, reach_same}
+use Rattle.best_run.proofs.Likened.{held_all, reach_all, reach_more, reach_none, reach_same}
 use Rattle.best_run.proofs.Places.{node_is}
 use Rattle.best_run.proofs.task.Task.reach.Goals as goal
 use Rattle.best_run.proofs.task.Task.reach.Goals.{then-index, else-index}
@@ -20,6 +20,11 @@ index-requires c =
     let stops = c.args.self.now.stops.items in
     let is = c.requires.ready.stops.only c.loop-place.place c.index-stop.result.now (slice_get_read stops (length stops) c.loop-place.place c.index-stop.result.now refl (omega arith) c.index-stop.ensures) in
     omega (arith, is.0, c.requires.fit.all)
+
+pub hold-requires-clause-spot : goal.hold-requires-clause-spot
+hold-requires-clause-spot c =
+    let stops = c.args.self.now.stops.items in
+    (c.requires.ready.stops.only c.loop-place.place c.index-stop.result.now (slice_get_read stops (length stops) c.loop-place.place c.index-stop.result.now refl (omega arith) c.index-stop.ensures)).0
 
 pub reach_from-requires-clause-spot : goal.reach_from-requires-clause-spot
 reach_from-requires-clause-spot c =
@@ -45,11 +50,15 @@ loop-place-preserved c =
     let Known : Outlook → Type 0 = λ r. ReachesBelow task settled.used (place + 1) r.ahead × IsWorth nodes r.ahead r.worth in
     elim c.if-index.branch [
       | then-index w ↦
-          subst Known (sym w.reach-is) (reach_more task settled place stop _ _ at c.loop-place.invariant.0 w.reach_from.ensures.reaches, w.reach_from.ensures.known)
+          subst Known (sym w.reach-is) (reach_more task settled place stop _ _ _ at c.loop-place.invariant.0 w.hold.ensures.holds w.reach_from.ensures.reaches, w.reach_from.ensures.known)
       | else-index w ↦
           subst Known (sym w.reach-is) (reach_same task settled.used place stop c.loop-place.reach.ahead at (ap own_in there ∙ w.if-index.false) c.loop-place.invariant.0, c.loop-place.invariant.1)
     ]
 
-pub returns : goal.returns
-returns c =
+pub returns-clause-reaches : goal.returns-clause-reaches
+returns-clause-reaches c =
     reach_all c.args.self.now c.requires.ready c.args.settled.now.used c.loop-place.place c.loop-place.reach.ahead (omega arith) c.loop-place.invariant.0
+
+pub returns-clause-held : goal.returns-clause-held
+returns-clause-held c =
+    held_all c.args.self.now c.requires.ready c.args.settled.now.used c.loop-place.place c.loop-place.reach.ahead (omega arith) c.loop-place.invariant.0
