@@ -186,6 +186,17 @@ explores_on task settled run old new none second =
     by_moves known (turn i found ∷ moves) completes = second.most known (turn i found) moves tt completes
     by_moves known (settle ∷ moves) completes = absurd (let wrong : true ≡ false = sym completes.0 ∙ none in cc)
 
+-- no run begins before the first stop
+pub begin_first : (task : Task) (settled : Settled) (best : Found) → Tries task (between settled) (IsBegin (Below 0)) best best
+begin_first task settled best = tries_none task (between settled) (IsBegin (Below 0)) best none
+  where
+    none : (move : Move) → IsBegin (Below 0) move → Allows task (between settled) move → ⊥
+    none pass is may = is
+    none (begin there i found) is may = let low : there < 0 = is in omega arith
+    none (go i found) is may = is
+    none (turn i found) is may = is
+    none settle is may = is
+
 -- all runs from the stops before one have been tried, and then those from there
 pub begin_more : (task : Task) (settled : Settled) (stop : ℕ) (old middle new : Found) → Tries task (between settled) (IsBegin (Below stop)) old middle → Tries task (between settled) (IsBeginAt stop Any) middle new → Tries task (between settled) (IsBegin (Below (stop + 1))) old new
 begin_more task settled stop old middle new first second =

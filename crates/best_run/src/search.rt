@@ -2,8 +2,9 @@ ghost use Rattle.std.specs.Prelude.{◌≡◌, ◌+◌, ◌<◌, ◌≤◌, true
 ghost use Rattle.best_run.specs.Fit.{HasRoom, IsFit, PieceFits, credit};
 ghost use Rattle.best_run.specs.Suffix.{AreBounds, AreCapped, AreEqual, FallShort};
 ghost use Rattle.best_run.specs.Ways.{AreReady};
-ghost use Rattle.best_run.specs.Moves.{Any, Explores, IsBegin, IsBeginAt, IsGo, IsTurn, Takes, Tries, between, node_at, own_in, standing, stop_in};
+ghost use Rattle.best_run.specs.Moves.{Any, Explores, IsBegin, IsBeginAt, IsGo, IsTurn, Takes, Tries, between, node_at, own_before, own_in, standing, stop_in};
 
+use crate::bits::Spots;
 use crate::explored::Found;
 use crate::state::{Settled, Standing};
 use crate::task::{Piece, Task};
@@ -125,17 +126,27 @@ impl Task {
         requires room { HasRoom settled.now.used settled.now.total 44640 }
         ensures { Tries self.now (between settled.now) (IsBegin Any) best.old best.new }
     {
+        let mut before = Spots::none();
         for stop in 0..self.spots.len() {
             let node = &self.spots[stop];
             if node.stop && node.own {
-                self.begin_at(settled, stop, bounds, best);
+                self.begin_at(settled, stop, &before, bounds, best);
             }
+            self.mark_own(stop, &mut before);
         }
     }
 
-    /// Tries all runs of the next train that begin at a token of the company.
+    /// Tries all runs of the next train that begin at a token of the company. The tokens before that one are
+    /// given.
     #[cycle(explore)]
-    fn begin_at(&self, settled: &Settled, stop: usize, bounds: &[Amount], best: &mut Found)
+    fn begin_at(
+        &self,
+        settled: &Settled,
+        stop: usize,
+        before: &Spots,
+        bounds: &[Amount],
+        best: &mut Found,
+    )
         requires fit { IsFit self.now }
         requires ready { AreReady self.now }
         requires bounds { AreBounds self.now bounds.now }
@@ -144,11 +155,12 @@ impl Task {
         requires stop { stop < 744 }
         requires begins { stop_in (node_at self.now stop) ≡ true }
         requires token { own_in (node_at self.now stop) ≡ true }
+        requires before { before.now ≡ own_before self.now stop }
         ensures { Tries self.now (between settled.now) (IsBeginAt stop Any) best.old best.new }
     {
         settled.marks_all_borders();
         let from = &self.departures[stop];
-        let begun = self.begun(settled, stop, 0);
+        let begun = self.begun(settled, stop, 0, before);
         for index in 0..from.ways.len() {
             let way = &from.ways[index];
             let run = begun.by(way.first);

@@ -191,29 +191,34 @@ impl Task {
         run.may_come(self.spots[piece.to].stop, piece.to) && piece.borders.misses(&settled.used)
     }
 
-    /// Marks the company's tokens before a number.
-    fn own_before(&self, number: usize) -> Spots
+    /// Marks a spot behind those before it, if the company has a token there.
+    pub(crate) fn mark_own(&self, number: usize, marks: &mut Spots)
         requires fit { IsFit self.now }
-        requires number { number ≤ 744 }
-        ensures { result ≡ own_before self.now number }
+        requires number { number < 744 }
+        requires before { marks.old ≡ own_before self.now number }
+        ensures { marks.new ≡ own_before self.now (number + 1) }
     {
-        let mut marks = Spots::none();
-        for other in 0..number {
-            if self.spots[other].own {
-                marks.mark(other);
-            }
+        if self.spots[number].own {
+            marks.mark(number);
         }
-        marks
     }
 
-    /// A run that stands at the token where it begins, by the piece at a place.
-    pub(crate) fn begun(&self, settled: &Settled, stop: usize, first: usize) -> Standing
+    /// A run that stands at the token where it begins, by the piece at a place. The tokens before that one
+    /// are given.
+    pub(crate) fn begun(
+        &self,
+        settled: &Settled,
+        stop: usize,
+        first: usize,
+        before: &Spots,
+    ) -> Standing
         requires fit { IsFit self.now }
         requires stop { stop < 744 }
         requires next { settled.now.next < length self.now.trains.items }
+        requires before { before.now ≡ own_before self.now stop }
         ensures { result ≡ begun self.now settled.now stop first }
     {
-        let mut visited = self.own_before(stop);
+        let mut visited = before.copy();
         visited.mark(stop);
         Standing {
             home: stop,

@@ -20,7 +20,7 @@ use Rattle.best_run.proofs.Kept.{explores_covered, explores_kept}
 use Rattle.best_run.proofs.Places.{less_by, node_is, one_at_side, one_low, one_of, room_by, take_free, value_low}
 use Rattle.best_run.proofs.Reached.{explores_reached}
 use Rattle.best_run.proofs.Traced.{explores_from, takes_from, traces_both}
-use Rattle.best_run.proofs.Tried.{begin_every, begin_more, begin_none, explores_between, explores_on, explores_standing, leads_pass, leads_settle, over_better, over_no_better, tries_on}
+use Rattle.best_run.proofs.Tried.{begin_every, begin_first, begin_more, begin_none, explores_between, explores_on, explores_standing, leads_pass, leads_settle, over_better, over_no_better, tries_on}
 use Rattle.best_run.proofs.task.Task.+explore.Goals as goal
 use Rattle.best_run.proofs.task.Task.+explore.Goals.{begin_runs-then-node+then-node-2, begin_runs-else-node, begin_runs-else-node-via-then-node+else-node-2, begin_runs-else-node-via-else-node, turn_back-then-run-way, turn_back-else-run-way}
 
@@ -217,28 +217,33 @@ go_on-take-requires t c =
     let fits = way_fits task c.requires.fit run.head ways are c.requires.stands way (among_place ways index way at) in
     (omega arith, (c.requires.fit, (c.requires.ready, (c.requires.bounds, (c.requires.next, (fits.0, (fits.1, (c.requires.home, (c.requires.begun, omega arith)))))))))
 
+pub begin_runs-loop-stop-init : goal.begin_runs-loop-stop-init
+begin_runs-loop-stop-init t c = (begin_first c.args.self.now c.args.settled.now c.args.best.now, c.none-before.ensures)
+
 pub begin_runs-loop-stop-preserved : goal.begin_runs-loop-stop-preserved
 begin_runs-loop-stop-preserved t c =
     let task = c.args.self.now in
     let stop = c.loop-stop.stop in
     let node = c.index-node.result.now in
-    let there : node_at task stop ≡ Some node = node_is task c.requires.fit stop node (omega (arith, c.requires.fit.all)) c.index-node.ensures in
-    elim c.if-node.branch [
-      | begin_runs-then-node+then-node-2 w ↦
-          subst (λ (b : Found). Tries task (between c.args.settled.now) (IsBegin (Below (stop + 1))) c.args.best.now b) (sym w.best-is)
-          (begin_more task c.args.settled.now stop _ _ _ c.loop-stop.invariant w.begin_at.ensures)
-      | begin_runs-else-node w ↦
-          subst (λ (b : Found). Tries task (between c.args.settled.now) (IsBegin (Below (stop + 1))) c.args.best.now b) (sym w.best-is)
-          (begin_more task c.args.settled.now stop _ _ _ c.loop-stop.invariant
-          (begin_none task c.args.settled.now stop _ (elim w.else-node.branch [
-            | begin_runs-else-node-via-then-node+else-node-2 v ↦ inr (ap own_in there ∙ v.if-node-2.false)
-            | begin_runs-else-node-via-else-node v ↦ inl (ap stop_in there ∙ v.if-node.false)
-          ])))
-    ]
+    let there : node_at task stop ≡ Some node = node_is task c.requires.fit stop node (omega (arith, c.requires.fit.all)) c.index-node.ensures in (
+      elim c.if-node.branch [
+        | begin_runs-then-node+then-node-2 w ↦
+            subst (λ (b : Found). Tries task (between c.args.settled.now) (IsBegin (Below (stop + 1))) c.args.best.now b) (sym w.best-is)
+            (begin_more task c.args.settled.now stop _ _ _ c.loop-stop.invariant.0 w.begin_at.ensures)
+        | begin_runs-else-node w ↦
+            subst (λ (b : Found). Tries task (between c.args.settled.now) (IsBegin (Below (stop + 1))) c.args.best.now b) (sym w.best-is)
+            (begin_more task c.args.settled.now stop _ _ _ c.loop-stop.invariant.0
+            (begin_none task c.args.settled.now stop _ (elim w.else-node.branch [
+              | begin_runs-else-node-via-then-node+else-node-2 v ↦ inr (ap own_in there ∙ v.if-node-2.false)
+              | begin_runs-else-node-via-else-node v ↦ inl (ap stop_in there ∙ v.if-node.false)
+            ])))
+      ],
+      c.mark_own.ensures,
+    )
 
 pub begin_runs-returns : goal.begin_runs-returns
 begin_runs-returns t c =
-    begin_every c.args.self.now c.args.settled.now c.loop-stop.stop _ _ (omega arith) c.loop-stop.invariant
+    begin_every c.args.self.now c.args.settled.now c.loop-stop.stop _ _ (omega arith) c.loop-stop.invariant.0
 
 pub turn_back-take-requires : goal.turn_back-take-requires
 turn_back-take-requires t c =
