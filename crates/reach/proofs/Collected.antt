@@ -1,10 +1,8 @@
--- Marking tokens, stop by stop, and collecting what is marked, stop by stop and link by link.
-use Rattle.std.proofs.Common.{◌≡◌, ℕ, zero, suc, ◌+◌, ◌<◌, ◌≤◌, Bool, true, false, Some, None, ◌⊎◌, inl, inr, List, [], ◌∷◌, ◌++◌, length, get_or, take, set, replicate, refl, sym, ◌∙◌, subst, arith, get_or-set_same}
+-- Marking tokens, stop by stop, and collecting the stops that are marked.
+use Rattle.std.proofs.Common.{◌≡◌, ℕ, zero, suc, ◌+◌, ◌<◌, ◌≤◌, Bool, true, false, Some, None, inl, inr, List, [], ◌∷◌, ◌++◌, length, get_or, set, replicate, refl, sym, ◌∙◌, subst, arith, get_or-set_same}
 use Rattle.std.specs.List.{AllByRecursion}
 use Rattle.std.proofs.lemmas.Bool.{cases_eq}
-use Rattle.std.proofs.lemmas.List.{take_all}
 use Rattle.map_tables.specs.Laws.{LieIn}
-use Rattle.map_tables.specs.Hex.{index_of}
 use Rattle.map_tables.specs.Place.{joined_stop_of, stop_at}
 use Rattle.map_tables.specs.declared.hex.Hex.{Hex}
 use Rattle.map_tables.specs.declared.place.Stop.{Stop}
@@ -14,11 +12,10 @@ use Rattle.map_tables.specs.declared.track.Link.{Link}
 use Rattle.reach.specs.Lawful.{IsLawful}
 use Rattle.reach.specs.Position.{Position, HasToken, IsAmong, links_of}
 use Rattle.reach.specs.Reached.{StandInOrder, stop_order}
-use Rattle.reach.specs.Search.{spot_number, IsMarked, IsMarkedStop, Collects, AllArrive, HasAllTokens}
+use Rattle.reach.specs.Search.{spot_number, IsMarked, IsMarkedStop, AllArrive, HasAllTokens}
 use Rattle.reach.specs.Walk.{spot_at, stop_at_end}
 use Rattle.reach.specs.declared.walk.Spot.{Spot}
-use Rattle.reach.proofs.Hexes.{same_index}
-use Rattle.reach.proofs.Lists.{among_end, among_before, among_cases, among_next, next_among, among_sooner, all_push, order_push}
+use Rattle.reach.proofs.Lists.{among_end, among_before, among_cases, all_push, order_push}
 use Rattle.reach.proofs.Marking.{set_cases, set_keeps}
 use Rattle.reach.proofs.Spots.{are_one, same_order, order_low}
 use Rattle.tables.specs.declared.roster.Company.{Company}
@@ -123,14 +120,6 @@ module _ (marks : List Bool) (stops : List Stop) (stop : Stop) (place : ℕ) (he
         ];
       }
 
--- a link of the first hexes and one more is of those hexes, or of that hex
-pub hexes_more : (position : Position) (hex : Hex) (index : ℕ) → index_of hex ≡ index → (link : Link) → index_of link.hex < index + 1 → IsAmong link (links_of position link.hex) → (index_of link.hex < index) ⊎ IsAmong link (links_of position hex)
-hexes_more position hex index is link low track =
-    elim (cases_eq (index_of link.hex) index) [
-      | inl same ↦ inr (subst (λ h. IsAmong link (links_of position h)) (same_index link.hex hex (same ∙ sym is)) track)
-      | inr different ↦ inl (omega arith)
-    ]
-
 -- each of the links that lie in a hex lies there
 pub lies_there : (hex : Hex) (links : List Link) (link : Link) → LieIn hex links → IsAmong link links → link.hex ≡ hex
 lies_there hex [] link lie among = absurd among
@@ -142,44 +131,3 @@ pub own_hex : (position : Position) → IsLawful position → (hex : Hex) (link 
 own_hex position lawful hex link among =
     let is : link.hex ≡ hex = lies_there hex (links_of position hex) link (lawful.links hex).here among in
     subst (λ h. IsAmong link (links_of position h)) (sym is) among
-
-module _ (P : Link → Type 0) (first links all : List Link) (i : ℕ) (d : Link) (low : i < length all) (so_far : Collects P first (take i all) links) where
-  -- the next link passes, and is pushed
-  pub link_pushed : P (get_or all i d) → (new : List Link) → new ≡ links ++ get_or all i d ∷ [] → Collects P first (take (i + 1) all) new
-  link_pushed passes new new_is =
-      let pushed : Collects P first (take (i + 1) all) (links ++ get_or all i d ∷ []) =
-      record {
-        before = λ link among. among_before links link (get_or all i d) (so_far.before link among);
-        added = λ link among link_passes. elim (among_next all i link d low among) [
-          | inl earlier ↦ among_before links link (get_or all i d) (so_far.added link earlier link_passes)
-          | inr here ↦ subst (λ l. IsAmong l (links ++ get_or all i d ∷ [])) (sym here) (among_end links (get_or all i d))
-        ];
-        only = λ link among. elim (among_cases links link (get_or all i d) among) [
-          | inl earlier ↦ elim (so_far.only link earlier) [
-            | inl there ↦ inl there
-            | inr came ↦ inr (among_sooner all i link d low came.0, came.1)
-          ]
-          | inr here ↦ inr (subst (λ l. IsAmong l (take (i + 1) all) × P l) here (next_among all i d low, passes))
-        ];
-      }
-      in subst (λ ls. Collects P first (take (i + 1) all) ls) (sym new_is) pushed
-
-  -- it does not, and is passed over
-  pub link_passed : ¬ P (get_or all i d) → Collects P first (take (i + 1) all) links
-  link_passed fails =
-      record {
-        before = so_far.before;
-        added = λ link among link_passes. elim (among_next all i link d low among) [
-          | inl earlier ↦ so_far.added link earlier link_passes
-          | inr here ↦ absurd (fails (subst P here link_passes))
-        ];
-        only = λ link among. elim (so_far.only link among) [
-          | inl there ↦ inl there
-          | inr came ↦ inr (among_sooner all i link d low came.0, came.1)
-        ];
-      }
-
--- all links have come
-pub all_links : (P : Link → Type 0) (first links all : List Link) (i : ℕ) → length all ≤ i → Collects P first (take i all) links → Collects P first all links
-all_links P first links all i come so_far =
-    subst (λ ls. Collects P first ls links) (take_all i all come) so_far

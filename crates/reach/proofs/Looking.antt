@@ -1,5 +1,5 @@
 -- Looking at a spot: the links by which a walk that has arrived there goes on, and what is left to be looked at.
-use Rattle.std.proofs.Common.{◌≡◌, ℕ, ◌+◌, ◌*◌, true, false, Some, None, IfSome, ◌⊎◌, inl, inr, Bool, List, [], ◌∷◌, ◌++◌, get_or, refl, ap, sym, ◌∙◌, subst}
+use Rattle.std.proofs.Common.{◌≡◌, ◌+◌, ◌*◌, true, false, Some, None, IfSome, ◌⊎◌, inl, inr, Bool, List, [], ◌∷◌, ◌++◌, get_or, refl, ap, sym, ◌∙◌, subst}
 use Rattle.map_tables.specs.Hex.{index_of}
 use Rattle.map_tables.specs.Place.{joined_hex, joined_stop_of, stop_at, stop_index_of}
 use Rattle.map_tables.specs.declared.hex.Hex.{Hex}
@@ -7,9 +7,10 @@ use Rattle.map_tables.specs.declared.hex.Hex.TheVariants.{A9, A11, I1, J2}
 use Rattle.map_tables.specs.declared.place.Stop.{Stop}
 use Rattle.map_tables.specs.declared.track.End.{End}
 use Rattle.map_tables.specs.declared.track.End.TheVariants.{Side as AtSide, Stop as AtStop}
+use Rattle.map_tables.specs.declared.track.Link.{Link}
 use Rattle.reach.specs.Lawful.{IsLawful}
 use Rattle.reach.specs.Position.{Position, IsAmong, IsFull, links_of}
-use Rattle.reach.specs.Search.{spot_number, twin_of, IsMarked, IsMarkedStop, IsEnteredAt, IsClosed, CanEnter, CanEnterAt, GoesOnAt, LeadsTo, IsLookedAt, AreLookedAt, Spreads}
+use Rattle.reach.specs.Search.{spot_number, twin_of, IsMarked, IsMarkedStop, IsEnteredAt, IsClosed, CanEnter, CanEnterAt, CanTakeAll, AreTaken, GoesOnAt, LeadsTo, AreLookedAt, WasFollowed, Spreads}
 use Rattle.reach.specs.Walk.{spot_at, stop_at_end, across_end, stop_of, across, entered_at, left_at, IsTrack}
 use Rattle.reach.specs.declared.walk.Spot.{Spot}
 use Rattle.reach.specs.declared.walk.Step.{Step}
@@ -124,8 +125,8 @@ module _ (position : Position) (company : Company) where
       }
 
   -- once one that waited has been looked at
-  pub looked_on : (rest : List Spot) (from : Spot) (old new : List Bool) (waiting : List Spot) → AreLookedAt position company old (rest ++ from ∷ []) → Spreads position company (λ taken. IsTrack position taken × LeadsTo position company from (entered_at taken)) old rest new waiting → AreLookedAt position company new waiting
-  looked_on rest from old new waiting so_far spreads =
+  pub looked_on : (rest : List Spot) (from : Spot) (old : List Bool) (first : List Link) (new : List Bool) (waiting : List Spot) (links : List Link) → AreLookedAt position company old (rest ++ from ∷ []) first → Spreads position company (λ taken. IsTrack position taken × LeadsTo position company from (entered_at taken)) old rest first new waiting links → AreLookedAt position company new waiting links
+  looked_on rest from old first new waiting links so_far spreads =
       record {
         known = λ spot waits. elim (spreads.known spot waits) [
           | inl before ↦ spreads.kept spot (so_far.known spot (waits_before rest from spot before))
@@ -134,10 +135,11 @@ module _ (position : Position) (company : Company) where
         looked = λ spot is. elim (spreads.fresh spot is) [
           | inr waits ↦ inl waits
           | inl was ↦ elim (so_far.looked spot was) [
-            | inr done ↦ inr (λ step track leads. spreads.kept (left_at step) (done step track leads))
+            | inr done ↦ inr (λ step track leads.
+                let followed = done step track leads in (spreads.kept (left_at step) followed.0, spreads.stay step.link followed.1))
             | inl waits ↦ elim (waits_cases rest from spot waits) [
               | inl before ↦ inl (spreads.still spot before)
-              | inr same ↦ inr (λ step track leads. spreads.led step (track, leads_same spot from (entered_at step) (sym same) leads))
+              | inr same ↦ inr (λ step track leads. spreads.followed step (track, leads_same spot from (entered_at step) (sym same) leads))
             ]
           ]
         ];
@@ -150,12 +152,26 @@ module _ (position : Position) (company : Company) where
   arrived_from lawful marks hex (AtStop number) can =
       (spot_at hex (AtStop number), can.0, record { joined = inl (joined_stop_of (stop_at hex number), refl, refl); may_pass = can.1 })
 
-  -- once nothing waits, what is marked holds all walks
-  pub all_looked_at : IsLawful position → (marks : List Bool) → AreLookedAt position company marks [] → IsClosed position company (IsTrack position) marks
-  all_looked_at lawful marks looked step track can =
+  -- once nothing waits, all steps that may be taken were followed
+  all_followed : IsLawful position → (marks : List Bool) (links : List Link) → AreLookedAt position company marks [] links → (step : Step) → IsTrack position step → CanEnter position company marks (entered_at step) → WasFollowed marks links step
+  all_followed lawful marks links looked step track can =
       let came : (from : Spot) × IsMarked marks from × LeadsTo position company from (entered_at step) =
       arrived_from lawful marks (entered_at step).hex (entered_at step).end can in
       elim (looked.looked came.0 came.1) [
         | inl waits ↦ absurd waits
         | inr done ↦ done step track came.2
       ]
+
+  -- so what is marked holds all walks
+  pub all_looked_at : IsLawful position → (marks : List Bool) (links : List Link) → AreLookedAt position company marks [] links → IsClosed position company (IsTrack position) marks
+  all_looked_at lawful marks links looked step track can = (all_followed lawful marks links looked step track can).0
+
+  -- and the links that are kept are those that may be taken
+  pub all_taken : IsLawful position → (marks : List Bool) (links : List Link) → AreLookedAt position company marks [] links → CanTakeAll position company marks links → AreTaken position company marks links
+  all_taken lawful marks links looked taken link = (
+    taken link,
+    λ can. elim can.1 [
+      | inl first ↦ (all_followed lawful marks links looked (record { link = link; turned = false }) can.0 first).1
+      | inr second ↦ (all_followed lawful marks links looked (record { link = link; turned = true }) can.0 second).1
+    ],
+  )

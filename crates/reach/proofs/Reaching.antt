@@ -29,7 +29,7 @@ entered_stop position company marks hex (AtStop number) stop is can = can.0
 entered_stop position company marks hex (AtSide side) stop is can = absurd (let nowhere : None ≡ Some stop = is in cc)
 
 -- a link that a step takes may be entered at one of its ends
-entered_either : (position : Position) (company : Company) (marks : List Bool) (link : Link) (turned : Bool) → CanEnter position company marks (entered_at (record { link = link; turned = turned })) → CanEnterEither position company marks link
+pub entered_either : (position : Position) (company : Company) (marks : List Bool) (link : Link) (turned : Bool) → CanEnter position company marks (entered_at (record { link = link; turned = turned })) → CanEnterEither position company marks link
 entered_either position company marks link true can = inr can
 entered_either position company marks link false can = inl can
 

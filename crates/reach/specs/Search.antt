@@ -51,6 +51,26 @@ CanEnterAt position company marks hex (AtStop number) =
 abbrev pub CanEnter : Position → Company → List Bool → Spot → Type 0
 CanEnter position company marks spot = CanEnterAt position company marks spot.hex spot.end
 
+-- a walk that arrives where the marks say may enter a link at one of its ends
+abbrev pub CanEnterEither : Position → Company → List Bool → Link → Type 0
+CanEnterEither position company marks link =
+    CanEnter position company marks (spot_at link.hex link.a) ⊎ CanEnter position company marks (spot_at link.hex link.b)
+
+-- such a walk may take a link of the position
+abbrev pub CanTake : Position → Company → List Bool → Link → Type 0
+CanTake position company marks link =
+    IsAmong link (links_of position link.hex) × CanEnterEither position company marks link
+
+-- such a walk may take each of these links
+abbrev pub CanTakeAll : Position → Company → List Bool → List Link → Type 0
+CanTakeAll position company marks links =
+    (link : Link) → IsAmong link links → CanTake position company marks link
+
+-- these are all links of the position that such a walk may take
+abbrev pub AreTaken : Position → Company → List Bool → List Link → Type 0
+AreTaken position company marks links =
+    (link : Link) → IsAmong link links ↔ CanTake position company marks link
+
 -- a walk of the company arrives at a spot: it has a token there, or its latest link is left there
 abbrev pub Arrives : Position → Company → Spot → Type 0
 Arrives position company spot =
@@ -94,10 +114,11 @@ pub record IsMarking (spot : Spot) (old : List Bool) (waited : List Spot) (new :
 abbrev pub IsEnteredAt : Spot → Step → Type 0
 IsEnteredAt at step = spot_number (entered_at step) ≡ spot_number at
 
--- a step is followed from a spot: where it is left is marked, if it is entered there
-pub record IsFollowed (step : Step) (at : Spot) (old : List Bool) (waited : List Spot) (new : List Bool) (waiting : List Spot) : Type 0 where
+-- a step is followed from a spot: where it is left is marked, and its link is kept, if it is entered there
+pub record IsFollowed (step : Step) (at : Spot) (old : List Bool) (waited : List Spot) (kept : List Link) (new : List Bool) (waiting : List Spot) (links : List Link) : Type 0 where
   pub entered : IsEnteredAt at step → IsMarking (left_at step) old waited new waiting
-  pub other : ¬ IsEnteredAt at step → (new ≡ old) × (waiting ≡ waited)
+  pub link : IsEnteredAt at step → links ≡ kept ++ step.link ∷ []
+  pub other : ¬ IsEnteredAt at step → (new ≡ old) × (waiting ≡ waited) × (links ≡ kept)
 
 -- the other hex in which the stop of a hex lies
 abbrev pub twin_of : Hex → Option Hex
@@ -115,46 +136,31 @@ pub record LeadsTo (position : Position) (company : Company) (from at : Spot) : 
   pub joined : AreJoined from at
   pub may_pass : IfSome (stop_of at) (λ stop. ¬ IsFull position stop company)
 
--- where the steps lead by which a walk that has arrived at a spot may go on is marked
-abbrev pub IsLookedAt : Position → Company → List Bool → Spot → Type 0
-IsLookedAt position company marks from =
-    (step : Step) → IsTrack position step → LeadsTo position company from (entered_at step) → IsMarked marks (left_at step)
+-- a step was followed: where it leads is marked, and its link is kept
+abbrev pub WasFollowed : List Bool → List Link → Step → Type 0
+WasFollowed marks links step = IsMarked marks (left_at step) × IsAmong step.link links
+
+-- the steps were followed by which a walk that has arrived at a spot may go on
+abbrev pub IsLookedAt : Position → Company → List Bool → List Link → Spot → Type 0
+IsLookedAt position company marks links from =
+    (step : Step) → IsTrack position step → LeadsTo position company from (entered_at step) → WasFollowed marks links step
 
 -- each spot that is marked waits to be looked at, or was looked at; and what waits is marked
-pub record AreLookedAt (position : Position) (company : Company) (marks : List Bool) (waiting : List Spot) : Type 0 where
+pub record AreLookedAt (position : Position) (company : Company) (marks : List Bool) (waiting : List Spot) (links : List Link) : Type 0 where
   pub known : (spot : Spot) → Waits waiting spot → IsMarked marks spot
-  pub looked : (spot : Spot) → IsMarked marks spot → Waits waiting spot ⊎ IsLookedAt position company marks spot
+  pub looked : (spot : Spot) → IsMarked marks spot → Waits waiting spot ⊎ IsLookedAt position company marks links spot
 
--- What it is to follow such steps: what is marked stays so, walks still arrive at all of it, where the steps lead is
--- marked, and as many more wait as are marked, each of those that are new among them.
-pub record Spreads (position : Position) (company : Company) (P : Step → Type 0) (old : List Bool) (waited : List Spot) (new : List Bool) (waiting : List Spot) : Type 0 where
+-- What it is to follow such steps: what is marked or kept stays so, walks still arrive at all of it and may take all
+-- those links, the steps were followed, and as many more wait as are marked, each of those that are new among them.
+pub record Spreads (position : Position) (company : Company) (P : Step → Type 0) (old : List Bool) (waited : List Spot) (first : List Link) (new : List Bool) (waiting : List Spot) (links : List Link) : Type 0 where
   pub length_kept : length new ≡ length old
   pub kept : (spot : Spot) → IsMarked old spot → IsMarked new spot
   pub arrive : AllArrive position company old → AllArrive position company new
-  pub led : (step : Step) → P step → IsMarked new (left_at step)
+  pub stay : (link : Link) → IsAmong link first → IsAmong link links
+  pub taken : CanTakeAll position company old first → CanTakeAll position company new links
+  pub followed : (step : Step) → P step → WasFollowed new links step
   pub fresh : (spot : Spot) → IsMarked new spot → IsMarked old spot ⊎ Waits waiting spot
   pub still : (spot : Spot) → Waits waited spot → Waits waiting spot
   pub known : (spot : Spot) → Waits waiting spot → Waits waited spot ⊎ IsMarked new spot
   pub balance : length waiting + marked old ≡ length waited + marked new
   pub grown : marked old ≤ marked new
-
--- a walk that arrives where the marks say may enter a link at one of its ends
-abbrev pub CanEnterEither : Position → Company → List Bool → Link → Type 0
-CanEnterEither position company marks link =
-    CanEnter position company marks (spot_at link.hex link.a) ⊎ CanEnter position company marks (spot_at link.hex link.b)
-
--- such a walk may take a link of the position
-abbrev pub CanTake : Position → Company → List Bool → Link → Type 0
-CanTake position company marks link =
-    IsAmong link (links_of position link.hex) × CanEnterEither position company marks link
-
--- these are all links of the position that such a walk may take
-abbrev pub AreTaken : Position → Company → List Bool → List Link → Type 0
-AreTaken position company marks links =
-    (link : Link) → IsAmong link links ↔ CanTake position company marks link
-
--- links are collected: those that were there first, and of those that come the ones that pass
-pub record Collects (P : Link → Type 0) (first came links : List Link) : Type 0 where
-  pub before : (link : Link) → IsAmong link first → IsAmong link links
-  pub added : (link : Link) → IsAmong link came → P link → IsAmong link links
-  pub only : (link : Link) → IsAmong link links → IsAmong link first ⊎ (IsAmong link came × P link)

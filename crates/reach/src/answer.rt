@@ -3,7 +3,7 @@ ghost use Rattle.reach.specs.Position.{IsAmong};
 ghost use Rattle.reach.specs.Reached.{IsReach};
 
 use crate::network::Network;
-use crate::search::{Marks, reached_links, reached_stops, search};
+use crate::search::{Marks, reached_stops, search};
 use map_tables::{Link, Stop};
 use std::alloc::{AllocError, Global};
 use std::marker::Model;
@@ -53,8 +53,9 @@ pub fn reached<N: Network>(
 {
     network.keeps_laws();
     let marks = search(alloc, network, company)?;
+    let stops = reached_stops(alloc, &marks)?;
     Ok(Reach {
-        stops: reached_stops(alloc, &marks)?,
-        links: reached_links(alloc, network, company, &marks)?,
+        stops,
+        links: marks.followed(),
     })
 }

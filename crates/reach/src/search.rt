@@ -1,9 +1,9 @@
-ghost use Rattle.std.specs.Prelude.{◌≡◌, ◌<◌, ◌↔◌, IsTrue, IfOk, OnOk, [], false, slice_index_or, replicate};
+ghost use Rattle.std.specs.Prelude.{◌≡◌, ◌<◌, IfOk, OnOk, [], false, slice_index_or, replicate};
 ghost use Rattle.map_tables.specs.Hex.{index_of};
 ghost use Rattle.reach.specs.Lawful.{IsLawful};
 ghost use Rattle.reach.specs.Position.{IsAmong, links_of};
 ghost use Rattle.reach.specs.Reached.{StandInOrder, stop_order};
-ghost use Rattle.reach.specs.Search.{AllArrive, AllWait, AreMarkedStops, AreTaken, CanEnter, CanEnterEither, Collects, GoesOnAt, HasAllTokens, IsClosed, IsEnteredAt, IsFollowed, IsMarked, IsMarkedStop, IsMarking, LeadsTo, Spreads, spot_number, twin_of};
+ghost use Rattle.reach.specs.Search.{AllArrive, AllWait, AreMarkedStops, AreTaken, CanEnter, GoesOnAt, HasAllTokens, IsClosed, IsEnteredAt, IsFollowed, IsMarked, IsMarkedStop, IsMarking, LeadsTo, Spreads, spot_number, twin_of};
 ghost use Rattle.reach.specs.Walk.{IsTrack, entered_at};
 ghost use Rattle.reach.specs.declared.walk.Step.{Step};
 
@@ -16,12 +16,14 @@ use tables::Company;
 /// How many ends the hexes of the map have: six sides and two stops each.
 const SPOTS: usize = 8 * HEXES;
 
-/// The ends of the map's hexes at which some walk of the company has arrived, or may begin, and those
-/// of them that are still to be looked at.
+/// The ends of the map's hexes at which some walk of the company has arrived, or may begin, those of
+/// them that are still to be looked at, and the links that were followed: each once, or twice where it
+/// was in both directions.
 #[derive(Drop)]
 pub(crate) struct Marks {
     marks: [bool; SPOTS],
     waiting: Vec<Spot>,
+    links: Vec<Link>,
 }
 
 impl Marks {
@@ -29,10 +31,12 @@ impl Marks {
     fn none(alloc: Global) -> Marks
         ensures marks { result.marks ≡ replicate 744 false }
         ensures waiting { result.waiting.items ≡ [] }
+        ensures links { result.links.items ≡ [] }
     {
         Marks {
             marks: [false; SPOTS],
             waiting: Vec::new(alloc),
+            links: Vec::new(alloc),
         }
     }
 
@@ -45,8 +49,9 @@ impl Marks {
 
     /// Marks a spot, which is to be looked at if it was not marked before.
     fn mark(&mut self, spot: Spot) -> Result<(), AllocError>
-        ensures { OnOk result (IsMarking spot
+        ensures marking { OnOk result (IsMarking spot
             self.old.marks self.old.waiting.items self.new.marks self.new.waiting.items) }
+        ensures links { OnOk result (self.new.links.items ≡ self.old.links.items) }
     {
         let number = number_of(spot);
         if !self.marks[number] {
@@ -54,6 +59,13 @@ impl Marks {
             self.waiting.push(spot)?;
         }
         Ok(())
+    }
+
+    /// The links that were followed.
+    pub(crate) fn followed(self) -> Vec<Link>
+        ensures { result.items ≡ self.links.items }
+    {
+        self.links
     }
 }
 
@@ -98,19 +110,6 @@ fn stop_at(place: usize) -> Stop
     }
 }
 
-/// Whether a walk that has arrived where the marks say may enter a link at a spot.
-fn can_enter<N: Network>(network: &N, company: Company, marks: &Marks, spot: Spot) -> bool
-    ensures { IsTrue result ↔ CanEnter (N.position network.now) company marks.now.marks spot }
-{
-    match spot.stop() {
-        Some(stop) => marks.has(spot) && !network.full(stop, company),
-        None => match spot.across() {
-            Some(from) => marks.has(from),
-            None => false,
-        },
-    }
-}
-
 /// The other hex in which the stop of a hex lies, if there is one.
 fn twin(hex: Hex) -> Option<Hex>
     ensures { result ≡ twin_of hex }
@@ -122,13 +121,15 @@ fn twin(hex: Hex) -> Option<Hex>
     }
 }
 
-/// Follows a link in one direction if it is entered at a spot, and marks where it is left.
+/// Follows a link in one direction if it is entered at a spot: keeps it, and marks where it is left.
 fn follow(step: Step, at: Spot, marks: &mut Marks) -> Result<(), AllocError>
     ensures { OnOk result (IsFollowed step at
-        marks.old.marks marks.old.waiting.items marks.new.marks marks.new.waiting.items) }
+        marks.old.marks marks.old.waiting.items marks.old.links.items
+        marks.new.marks marks.new.waiting.items marks.new.links.items) }
 {
     if number_of(step.entered()) == number_of(at) {
         marks.mark(step.left())?;
+        marks.links.push(step.link)?;
     }
     Ok(())
 }
@@ -146,7 +147,8 @@ fn follow_both<N: Network>(
     requires may { CanEnter (N.position network.now) company marks.old.marks at }
     ensures { let takes = λ (taken : Step). (taken.link ≡ link) × IsEnteredAt at taken in
         OnOk result (Spreads (N.position network.now) company takes
-        marks.old.marks marks.old.waiting.items marks.new.marks marks.new.waiting.items) }
+        marks.old.marks marks.old.waiting.items marks.old.links.items
+        marks.new.marks marks.new.waiting.items marks.new.links.items) }
 {
     let forward = Step {
         link,
@@ -171,7 +173,8 @@ fn follow_from<N: Network>(
         let takes = λ (taken : Step).
         IsAmong taken.link (links_of position at.hex) × IsEnteredAt at taken in
         OnOk result (Spreads position company takes
-        marks.old.marks marks.old.waiting.items marks.new.marks marks.new.waiting.items) }
+        marks.old.marks marks.old.waiting.items marks.old.links.items
+        marks.new.marks marks.new.waiting.items marks.new.links.items) }
 {
     let links = network.links(at.hex);
     for link in links.as_slice() {
@@ -194,7 +197,8 @@ fn look_from_stop<N: Network>(
         let takes = λ (taken : Step). IsTrack position taken
         × GoesOnAt position company stop (entered_at taken) in
         OnOk result (Spreads position company takes
-        marks.old.marks marks.old.waiting.items marks.new.marks marks.new.waiting.items) }
+        marks.old.marks marks.old.waiting.items marks.old.links.items
+        marks.new.marks marks.new.waiting.items marks.new.links.items) }
 {
     if network.full(stop, company) {
         return Ok(());
@@ -222,7 +226,8 @@ fn look<N: Network>(
         let takes = λ (taken : Step). IsTrack position taken
         × LeadsTo position company from (entered_at taken) in
         OnOk result (Spreads position company takes
-        marks.old.marks marks.old.waiting.items marks.new.marks marks.new.waiting.items) }
+        marks.old.marks marks.old.waiting.items marks.old.links.items
+        marks.new.marks marks.new.waiting.items marks.new.links.items) }
 {
     if let Some(stop) = from.stop() {
         look_from_stop(network, company, stop, marks)?;
@@ -247,6 +252,7 @@ fn mark_tokens<N: Network>(
     ensures tokens { IfOk result (λ marks.
         HasAllTokens (N.position network.now) company marks.marks) }
     ensures wait { IfOk result (λ marks. AllWait marks.marks marks.waiting.items) }
+    ensures links { IfOk result (λ marks. marks.links.items ≡ []) }
 {
     let mut marks = Marks::none(alloc);
     for place in 0..2 * HEXES {
@@ -275,6 +281,8 @@ pub(crate) fn search<N: Network>(
         HasAllTokens (N.position network.now) company marks.marks) }
     ensures closed { let position = N.position network.now in
         IfOk result (λ marks. IsClosed position company (IsTrack position) marks.marks) }
+    ensures taken { let position = N.position network.now in
+        IfOk result (λ marks. AreTaken position company marks.marks marks.links.items) }
 {
     let mut marks = mark_tokens(alloc, network, company)?;
     while let Some(spot) = marks.waiting.pop() {
@@ -300,58 +308,4 @@ pub(crate) fn reached_stops(alloc: Global, marks: &Marks) -> Result<Vec<Stop>, A
         }
     }
     Ok(stops)
-}
-
-/// The links that a walk which has arrived where the marks say may take.
-pub(crate) fn reached_links<N: Network>(
-    alloc: Global,
-    network: &N,
-    company: Company,
-    marks: &Marks,
-) -> Result<Vec<Link>, AllocError>
-    requires { IsLawful (N.position network.now) }
-    ensures { let position = N.position network.now in
-        IfOk result (λ links. AreTaken position company marks.now.marks links.items) }
-{
-    let mut links = Vec::new(alloc);
-    for index in 0..HEXES {
-        push_links(network, company, marks, hex_at(index), &mut links)?;
-    }
-    Ok(links)
-}
-
-/// Appends those links of a hex that such a walk may take.
-fn push_links<N: Network>(
-    network: &N,
-    company: Company,
-    marks: &Marks,
-    hex: Hex,
-    links: &mut Vec<Link>,
-) -> Result<(), AllocError>
-    ensures { let position = N.position network.now in
-        let takes = CanEnterEither position company marks.now.marks in
-        OnOk result (Collects takes links.old.items (links_of position hex) links.new.items) }
-{
-    let here = network.links(hex);
-    for link in here.as_slice() {
-        if can_take(network, company, marks, *link) {
-            links.push(*link)?;
-        }
-    }
-    Ok(())
-}
-
-/// Whether a walk that has arrived where the marks say may enter a link at one of its ends.
-fn can_take<N: Network>(network: &N, company: Company, marks: &Marks, link: Link) -> bool
-    ensures { IsTrue result ↔ CanEnterEither (N.position network.now) company marks.now.marks link }
-{
-    let a = Spot {
-        hex: link.hex,
-        end: link.a,
-    };
-    let b = Spot {
-        hex: link.hex,
-        end: link.b,
-    };
-    can_enter(network, company, marks, a) || can_enter(network, company, marks, b)
 }

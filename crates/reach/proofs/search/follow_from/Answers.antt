@@ -20,7 +20,7 @@ element position lawful hex links is i d low =
 
 pub loop-link-init : goal.loop-link-init
 loop-link-init g c =
-    spreads_none (g.N.Network.position c.args.network.now) c.args.company _ _ _ (λ step none. absurd none.0)
+    spreads_none (g.N.Network.position c.args.network.now) c.args.company _ _ _ _ (λ step none. none.0)
 
 pub follow_both-requires-clause-track : goal.follow_both-requires-clause-track
 follow_both-requires-clause-track g c =
@@ -41,7 +41,7 @@ next links all is i d low at taken both =
 pub loop-link-preserved : goal.loop-link-preserved
 loop-link-preserved g c =
     let position = g.N.Network.position c.args.network.now in
-    spreads_on position c.args.company _ _ _ _ _ _ _ _ _ c.loop-link.invariant c.in_ok-follow_both.ensures
+    spreads_on position c.args.company _ _ _ _ _ _ _ _ _ _ _ _ c.loop-link.invariant c.in_ok-follow_both.ensures
     (next c.as_slice-link-items.result.now (links_of position c.args.at.hex) (c.as_slice-link-items.ensures.value ∙ c.links-links.ensures) c.loop-link.link-index _ c.loop-link-test.true c.args.at)
 
 -- the links of the hex
@@ -52,5 +52,5 @@ whole links all is i come at taken both =
 pub returns : goal.returns
 returns g c =
     let position = g.N.Network.position c.args.network.now in
-    spreads_fewer position c.args.company _ _ _ _ _ _ c.loop-link.invariant
+    spreads_fewer position c.args.company _ _ _ _ _ _ _ _ c.loop-link.invariant
     (whole c.as_slice-link-items.result.now (links_of position c.args.at.hex) (c.as_slice-link-items.ensures.value ∙ c.links-links.ensures) c.loop-link.link-index c.loop-link-test.false c.args.at)

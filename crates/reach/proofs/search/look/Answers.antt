@@ -1,5 +1,5 @@
 -- A stop is looked at as a stop; from a side the walk goes on across the border, if it may.
-use Rattle.std.proofs.Common.{◌≡◌, Some, None, IfSome, inr, sym, ◌∙◌, subst}
+use Rattle.std.proofs.Common.{◌≡◌, Some, IfSome, inr, sym, ◌∙◌, subst}
 use Rattle.reach.specs.Position.{IsFull}
 use Rattle.reach.specs.Walk.{stop_of, across, entered_at}
 use Rattle.reach.proofs.Following.{enter_joined}
@@ -17,7 +17,7 @@ pub returns-in-Some : goal.returns-in-Some
 returns-in-Some g c =
     let position = g.N.Network.position c.args.network.now in
     let stop_is : stop_of c.args.from ≡ Some c.in-Some.stop = sym c.stop.ensures ∙ c.in-Some.is in
-    spreads_fewer position c.args.company _ _ _ _ _ _ c.in_ok-look_from_stop.ensures
+    spreads_fewer position c.args.company _ _ _ _ _ _ _ _ c.in_ok-look_from_stop.ensures
     (λ step is. (is.0, goes_on_at position c.args.company c.args.from c.in-Some.stop stop_is (entered_at step) is.1))
 
 pub follow_from-requires-clause-may : goal.follow_from-requires-clause-may
@@ -31,11 +31,11 @@ follow_from-requires-clause-may g c =
 pub returns-in-Some-across : goal.returns-in-Some-across
 returns-in-Some-across g c =
     let position = g.N.Network.position c.args.network.now in
-    spreads_fewer position c.args.company _ _ _ _ _ _ c.in_ok-follow_from.ensures
+    spreads_fewer position c.args.company _ _ _ _ _ _ _ _ c.in_ok-follow_from.ensures
     (λ step is. goes_across position c.args.company c.args.from c.in-Some-across.at (sym c.stop.ensures ∙ c.in_default.is) (sym c.across.ensures ∙ c.in-Some-across.is) step is.0 is.1)
 
 pub returns : goal.returns
 returns g c =
     let position = g.N.Network.position c.args.network.now in
-    spreads_none position c.args.company _ _ _
-    (λ step is. absurd (goes_nowhere position c.args.company c.args.from (entered_at step) (sym c.stop.ensures ∙ c.in_default.is) (sym c.across.ensures ∙ c.in_default-across.is) is.1))
+    spreads_none position c.args.company _ _ _ _
+    (λ step is. goes_nowhere position c.args.company c.args.from (entered_at step) (sym c.stop.ensures ∙ c.in_default.is) (sym c.across.ensures ∙ c.in_default-across.is) is.1)

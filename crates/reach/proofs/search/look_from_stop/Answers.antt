@@ -28,7 +28,7 @@ returns-in-Some g c =
     let position = g.N.Network.position c.args.network.now in
     let stop = c.args.stop in
     let twin : twin_of stop.hex ≡ Some c.in-Some.hex = sym c.twin.ensures ∙ c.in-Some.is in
-    spreads_on position c.args.company _ _ _ _ _ _ _ _ _ c.in_ok-follow_from.ensures c.in_ok-follow_from-2.ensures
+    spreads_on position c.args.company _ _ _ _ _ _ _ _ _ _ _ _ c.in_ok-follow_from.ensures c.in_ok-follow_from-2.ensures
     (λ step is. goes_on_in_both position c.args.company stop c.requires.arrived.0 c.in-Some.hex twin step is.0 is.1)
 
 pub returns : goal.returns
@@ -36,10 +36,10 @@ returns g c =
     let position = g.N.Network.position c.args.network.now in
     let stop = c.args.stop in
     let none : twin_of stop.hex ≡ None = sym c.twin.ensures ∙ c.in_default.is in
-    spreads_fewer position c.args.company _ _ _ _ _ _ c.in_ok-follow_from.ensures
+    spreads_fewer position c.args.company _ _ _ _ _ _ _ _ c.in_ok-follow_from.ensures
     (λ step is. goes_on_in position c.args.company stop c.requires.arrived.0 none step is.0 is.1)
 
 pub returns-then-full : goal.returns-then-full
 returns-then-full g c =
-    spreads_none (g.N.Network.position c.args.network.now) c.args.company _ _ _
-    (λ step is. absurd (is.1.may_pass (c.full.ensures.0 c.if-full.true)))
+    spreads_none (g.N.Network.position c.args.network.now) c.args.company _ _ _ _
+    (λ step is. is.1.may_pass (c.full.ensures.0 c.if-full.true))

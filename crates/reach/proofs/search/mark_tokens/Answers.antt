@@ -22,6 +22,7 @@ loop-place-init g c =
         all = λ spot is. absurd (unmarked c.none-marks.result.marks c.none-marks.ensures.marks (spot_number spot) is);
         known = λ spot waits. absurd (subst (λ w. Waits w spot) c.none-marks.ensures.waiting waits);
       };
+      links = c.none-marks.ensures.links;
     }
 
 pub loop-place-preserved : goal.loop-place-preserved
@@ -34,13 +35,14 @@ loop-place-preserved g c =
     elim c.if-token.branch [
       | then-token+in_ok-mark w ↦
           let has : HasToken position (joined_stop_of stop) c.args.company = subst (λ s. HasToken position s c.args.company) c.joined_stop.ensures (c.token.ensures.0 w.if-token.true) in
-          let marking = w.in_ok-mark.ensures in
+          let marking = w.in_ok-mark.ensures.marking in
           let new_is = marks_set (spot_of stop) old waited _ _ marking in
           rw w.marks-is
           (record {
             arrive = token_arrives position c.args.company old stop place c.stop_at-stop.ensures has c.loop-place.invariant.arrive _ new_is;
             tokens = token_marked position c.args.company old stop place c.stop_at-stop.ensures marking.low c.loop-place.invariant.tokens _ new_is;
             wait = wait_on (spot_of stop) old waited _ _ c.loop-place.invariant.wait marking;
+            links = w.in_ok-mark.ensures.links ∙ c.loop-place.invariant.links;
           })
       | else-token w ↦
           rw w.marks-is
@@ -50,6 +52,7 @@ loop-place-preserved g c =
                 (λ token. let found : c.token.result ≡ true = c.token.ensures.1 (subst (λ s. HasToken position s c.args.company) (sym c.joined_stop.ensures) token) in absurd cc)
                 c.loop-place.invariant.tokens;
             wait = c.loop-place.invariant.wait;
+            links = c.loop-place.invariant.links;
           })
     ]
 
