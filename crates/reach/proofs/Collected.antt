@@ -1,23 +1,25 @@
 -- Marking tokens, stop by stop, and collecting the stops that are marked.
-use Rattle.std.proofs.Common.{◌≡◌, ℕ, zero, suc, ◌+◌, ◌<◌, ◌≤◌, Bool, true, false, Some, None, inl, inr, List, [], ◌∷◌, ◌++◌, length, get_or, set, replicate, refl, sym, ◌∙◌, subst, arith, get_or-set_same}
+use Rattle.std.proofs.Common.{◌≡◌, ℕ, zero, suc, ◌+◌, ◌*◌, ◌<◌, ◌≤◌, Bool, true, false, Some, None, inl, inr, List, [], ◌∷◌, ◌++◌, length, get_or, set, replicate, refl, ap, sym, ◌∙◌, subst, arith, get_or-set_same}
 use Rattle.std.specs.List.{AllByRecursion}
 use Rattle.std.proofs.lemmas.Bool.{cases_eq}
+use Rattle.map_tables.specs.Hex.{index_of}
 use Rattle.map_tables.specs.Laws.{LieIn}
-use Rattle.map_tables.specs.Place.{joined_stop_of, stop_at}
+use Rattle.map_tables.specs.Place.{joined_stop_of, stop_at, stop_index_of}
 use Rattle.map_tables.specs.declared.hex.Hex.{Hex}
 use Rattle.map_tables.specs.declared.place.Stop.{Stop}
+use Rattle.map_tables.specs.declared.place.StopNumber.TheVariants.{First, Second}
 use Rattle.map_tables.specs.declared.track.End.{End}
 use Rattle.map_tables.specs.declared.track.End.TheVariants.{Side as AtSide, Stop as AtStop}
 use Rattle.map_tables.specs.declared.track.Link.{Link}
 use Rattle.reach.specs.Lawful.{IsLawful}
 use Rattle.reach.specs.Position.{Position, HasToken, IsAmong, links_of}
 use Rattle.reach.specs.Reached.{StandInOrder, stop_order}
-use Rattle.reach.specs.Search.{spot_number, IsMarked, IsMarkedStop, AllArrive, HasAllTokens}
+use Rattle.reach.specs.Search.{spot_number, IsMarked, IsMarkedStop, IsTokenMarked, IsPushed, AllArrive, AllWait, HasAllTokens}
 use Rattle.reach.specs.Walk.{spot_at, stop_at_end}
 use Rattle.reach.specs.declared.walk.Spot.{Spot}
 use Rattle.reach.proofs.Lists.{among_end, among_before, among_cases, all_push, order_push}
-use Rattle.reach.proofs.Marking.{set_cases, set_keeps}
-use Rattle.reach.proofs.Spots.{are_one, same_order, order_low}
+use Rattle.reach.proofs.Marking.{marks_set, set_cases, set_keeps, wait_on}
+use Rattle.reach.proofs.Spots.{are_one, same_order, order_low, stop_number}
 use Rattle.tables.specs.declared.roster.Company.{Company}
 
 -- the spot of a stop
@@ -61,6 +63,39 @@ module _ (position : Position) (company : Company) (old : List Bool) (stop : Sto
         | inl same ↦ absurd (none (subst (λ (s : Stop). HasToken position (joined_stop_of s) company) (same_order other stop (same ∙ sym here)) token))
         | inr different ↦ tokens other (omega arith) token
       ]
+
+-- what is so once the stops before a place have been looked at: walks arrive at all that is marked, the stops with a
+-- token are marked, and all that is marked waits
+pub record TokensMarked (position : Position) (company : Company) (marks : List Bool) (waiting : List Spot) (place : ℕ) : Type 0 where
+  pub arrive : AllArrive position company marks
+  pub tokens : TokensBefore position company marks place
+  pub wait : AllWait marks waiting
+
+-- and once one more has been
+pub token_added : (position : Position) (company : Company) (old : List Bool) (waited : List Spot) (stop : Stop) (place : ℕ) → stop_order stop ≡ place → TokensMarked position company old waited place → (new : List Bool) (waiting : List Spot) → IsTokenMarked position company stop old waited new waiting → TokensMarked position company new waiting (place + 1)
+token_added position company old waited stop place here so_far new waiting (inl has) =
+    let new_is : new ≡ set old (spot_number (spot_of stop)) true = marks_set (spot_of stop) old waited new waiting has.1 in
+    record {
+      arrive = token_arrives position company old stop place here has.0 so_far.arrive new new_is;
+      tokens = token_marked position company old stop place here has.1.low so_far.tokens new new_is;
+      wait = wait_on (spot_of stop) old waited new waiting so_far.wait has.1;
+    }
+token_added position company old waited stop place here so_far new waiting (inr none) =
+    subst (λ m. TokensMarked position company m waiting (place + 1)) (sym none.1)
+    (subst (λ w. TokensMarked position company old w (place + 1)) (sym none.2)
+    (record {
+      arrive = so_far.arrive;
+      tokens = token_passed position company old stop place here none.0 so_far.tokens;
+      wait = so_far.wait;
+    }))
+
+-- both stops of a hex
+pub tokens_added : (position : Position) (company : Company) (old : List Bool) (waited : List Spot) (hex : Hex) (index : ℕ) → index_of hex ≡ index → TokensMarked position company old waited (2 * index) → (between : List Bool) (waits : List Spot) → IsTokenMarked position company (stop_at hex First) old waited between waits → (new : List Bool) (waiting : List Spot) → IsTokenMarked position company (stop_at hex Second) between waits new waiting → TokensMarked position company new waiting (2 * (index + 1))
+tokens_added position company old waited hex index is so_far between waits first new waiting second =
+    subst (λ n. TokensMarked position company new waiting n) (omega arith)
+    (token_added position company between waits (stop_at hex Second) (2 * index + 1) (omega (arith, is))
+    (token_added position company old waited (stop_at hex First) (2 * index) (omega (arith, is)) so_far between waits first)
+    new waiting second)
 
 token_at : (position : Position) (company : Company) (marks : List Bool) → TokensBefore position company marks 186 → (hex : Hex) (end : End) (stop : Stop) → stop_at_end hex end ≡ Some stop → HasToken position stop company → IsMarked marks (spot_at hex end)
 token_at position company marks tokens hex (AtSide side) stop is token = absurd (let nowhere : None ≡ Some stop = is in cc)
@@ -131,3 +166,22 @@ pub own_hex : (position : Position) → IsLawful position → (hex : Hex) (link 
 own_hex position lawful hex link among =
     let is : link.hex ≡ hex = lies_there hex (links_of position hex) link (lawful.links hex).here among in
     subst (λ h. IsAmong link (links_of position h)) (sym is) among
+
+-- one more stop
+pub stop_added : (marks : List Bool) (stops : List Stop) (stop : Stop) (place : ℕ) → stop_order stop ≡ place → StopsBefore marks stops place → (new : List Stop) → IsPushed marks stop stops new → StopsBefore marks new (place + 1)
+stop_added marks stops stop place here so_far new (inl is) =
+    subst (λ ls. StopsBefore marks ls (place + 1)) (sym is.1) (stop_pushed marks stops stop place here so_far is.0.0 is.0.1)
+stop_added marks stops stop place here so_far new (inr none) =
+    subst (λ ls. StopsBefore marks ls (place + 1)) (sym none.1) (stop_passed marks stops stop place here so_far none.0)
+
+-- both stops of a hex
+pub stops_added : (marks : List Bool) (stops : List Stop) (hex : Hex) (index : ℕ) → index_of hex ≡ index → StopsBefore marks stops (2 * index) → (between : List Stop) → IsPushed marks (stop_at hex First) stops between → (new : List Stop) → IsPushed marks (stop_at hex Second) between new → StopsBefore marks new (2 * (index + 1))
+stops_added marks stops hex index is so_far between first new second =
+    subst (λ n. StopsBefore marks new n) (omega arith)
+    (stop_added marks between (stop_at hex Second) (2 * index + 1) (omega (arith, is))
+    (stop_added marks stops (stop_at hex First) (2 * index) (omega (arith, is)) so_far between first)
+    new second)
+
+-- the number of a stop under its own name
+pub named_number : (stop : Stop) → joined_stop_of stop ≡ stop → spot_number (spot_of stop) ≡ 8 * index_of stop.hex + (6 + stop_index_of stop.number)
+named_number stop named = stop_number (spot_of stop) stop (ap (λ (s : Stop). Some s) named)

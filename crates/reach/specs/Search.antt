@@ -110,6 +110,16 @@ pub record IsMarking (spot : Spot) (old : List Bool) (waited : List Spot) (new :
   pub marks : new ≡ (if get_or old (spot_number spot) false then old else set old (spot_number spot) true)
   pub waits : waiting ≡ (if get_or old (spot_number spot) false then waited else waited ++ spot ∷ [])
 
+-- a stop is marked if the company has a token there
+abbrev pub IsTokenMarked : Position → Company → Stop → List Bool → List Spot → List Bool → List Spot → Type 0
+IsTokenMarked position company stop old waited new waiting =
+    (HasToken position (joined_stop_of stop) company × IsMarking (spot_at stop.hex (AtStop stop.number)) old waited new waiting) ⊎ ((¬ HasToken position (joined_stop_of stop) company) × (new ≡ old) × (waiting ≡ waited))
+
+-- a stop is appended if it is marked and stands under its own name
+abbrev pub IsPushed : List Bool → Stop → List Stop → List Stop → Type 0
+IsPushed marks stop old new =
+    (IsMarkedStop marks stop × (new ≡ old ++ stop ∷ [])) ⊎ ((¬ IsMarkedStop marks stop) × (new ≡ old))
+
 -- a step enters its link at a spot
 abbrev pub IsEnteredAt : Spot → Step → Type 0
 IsEnteredAt at step = spot_number (entered_at step) ≡ spot_number at

@@ -1,9 +1,9 @@
-ghost use Rattle.std.specs.Prelude.{◌≡◌, ◌<◌, IfOk, OnOk, [], false, slice_index_or, replicate};
+ghost use Rattle.std.specs.Prelude.{◌≡◌, ◌<◌, ◌↔◌, IsTrue, IfOk, OnOk, [], false, slice_index_or, replicate};
 ghost use Rattle.map_tables.specs.Hex.{index_of};
 ghost use Rattle.reach.specs.Lawful.{IsLawful};
 ghost use Rattle.reach.specs.Position.{IsAmong, links_of};
 ghost use Rattle.reach.specs.Reached.{StandInOrder, stop_order};
-ghost use Rattle.reach.specs.Search.{AllArrive, AllWait, AreMarkedStops, AreTaken, CanEnter, GoesOnAt, HasAllTokens, IsClosed, IsEnteredAt, IsFollowed, IsMarked, IsMarkedStop, IsMarking, LeadsTo, Spreads, spot_number, twin_of};
+ghost use Rattle.reach.specs.Search.{AllArrive, AllWait, AreMarkedStops, AreTaken, CanEnter, GoesOnAt, HasAllTokens, IsClosed, IsEnteredAt, IsFollowed, IsMarked, IsMarkedStop, IsMarking, IsPushed, IsTokenMarked, LeadsTo, Spreads, spot_number, twin_of};
 ghost use Rattle.reach.specs.Walk.{IsTrack, entered_at};
 ghost use Rattle.reach.specs.declared.walk.Step.{Step};
 
@@ -15,6 +15,14 @@ use tables::Company;
 
 /// How many ends the hexes of the map have: six sides and two stops each.
 const SPOTS: usize = 8 * HEXES;
+
+/// How much room a search begins with: for spots that wait, for links, and for stops. A usual map
+/// needs no more.
+const WAITING_ROOM: usize = 32;
+
+const LINKS_ROOM: usize = 96;
+
+const STOPS_ROOM: usize = 48;
 
 /// The ends of the map's hexes at which some walk of the company has arrived, or may begin, those of
 /// them that are still to be looked at, and the links that were followed: each once, or twice where it
@@ -28,23 +36,32 @@ pub(crate) struct Marks {
 
 impl Marks {
     /// No walk has arrived anywhere yet.
-    fn none(alloc: Global) -> Marks
-        ensures marks { result.marks ≡ replicate 744 false }
-        ensures waiting { result.waiting.items ≡ [] }
-        ensures links { result.links.items ≡ [] }
+    fn none(alloc: Global) -> Result<Marks, AllocError>
+        ensures marks { IfOk result (λ marks. marks.marks ≡ replicate 744 false) }
+        ensures waiting { IfOk result (λ marks. marks.waiting.items ≡ []) }
+        ensures links { IfOk result (λ marks. marks.links.items ≡ []) }
     {
-        Marks {
+        Ok(Marks {
             marks: [false; SPOTS],
-            waiting: Vec::new(alloc),
-            links: Vec::new(alloc),
-        }
+            waiting: Vec::with_capacity(alloc, WAITING_ROOM)?,
+            links: Vec::with_capacity(alloc, LINKS_ROOM)?,
+        })
     }
 
-    /// Whether a walk has arrived at a spot.
-    fn has(&self, spot: Spot) -> bool
-        ensures { result ≡ slice_index_or self.now.marks (spot_number spot) false }
+    /// Whether a number is marked.
+    fn is_marked(&self, number: usize) -> bool
+        requires { number < 744 }
+        ensures { result ≡ slice_index_or self.now.marks number false }
     {
-        self.marks[number_of(spot)]
+        self.marks[number]
+    }
+
+    /// Whether a walk has arrived at a stop, and it stands under its own name.
+    fn has_stop(&self, stop: Stop) -> bool
+        ensures { IsTrue result ↔ IsMarkedStop self.now.marks stop }
+    {
+        let number = 8 * stop.hex.index() + 6 + stop.number.index();
+        self.is_marked(number) && joined_stop(stop) == stop
     }
 
     /// Marks a spot, which is to be looked at if it was not marked before.
@@ -93,21 +110,6 @@ fn hex_at(index: usize) -> Hex
 {
     let all = &Hex::ALL;
     all[index]
-}
-
-/// The stop at a place in the order of the map.
-fn stop_at(place: usize) -> Stop
-    requires { place < 186 }
-    ensures { stop_order result ≡ place }
-{
-    Stop {
-        hex: hex_at(place / 2),
-        number: if place % 2 == 0 {
-            StopNumber::First
-        } else {
-            StopNumber::Second
-        },
-    }
 }
 
 /// The other hex in which the stop of a hex lies, if there is one.
@@ -254,17 +256,42 @@ fn mark_tokens<N: Network>(
     ensures wait { IfOk result (λ marks. AllWait marks.marks marks.waiting.items) }
     ensures links { IfOk result (λ marks. marks.links.items ≡ []) }
 {
-    let mut marks = Marks::none(alloc);
-    for place in 0..2 * HEXES {
-        let stop = stop_at(place);
-        if network.token(joined_stop(stop), company) {
-            marks.mark(Spot {
-                hex: stop.hex,
-                end: End::Stop(stop.number),
-            })?;
-        }
+    let mut marks = Marks::none(alloc)?;
+    for index in 0..HEXES {
+        let hex = hex_at(index);
+        let first = StopNumber::First;
+        let second = StopNumber::Second;
+        mark_token(network, company, Stop { hex, number: first }, &mut marks)?;
+        mark_token(
+            network,
+            company,
+            Stop {
+                hex,
+                number: second,
+            },
+            &mut marks,
+        )?;
     }
     Ok(marks)
+}
+
+/// Marks a stop if the company has a token there.
+fn mark_token<N: Network>(
+    network: &N,
+    company: Company,
+    stop: Stop,
+    marks: &mut Marks,
+) -> Result<(), AllocError>
+    ensures marking { OnOk result (IsTokenMarked (N.position network.now) company stop
+        marks.old.marks marks.old.waiting.items marks.new.marks marks.new.waiting.items) }
+    ensures links { OnOk result (marks.new.links.items ≡ marks.old.links.items) }
+{
+    if network.token(joined_stop(stop), company) {
+        let end = End::Stop(stop.number);
+        marks.mark(Spot { hex: stop.hex, end })?;
+        return Ok(());
+    }
+    Ok(())
 }
 
 /// Finds all spots at which walks of the company arrive: its tokens, and from each spot that is
@@ -296,16 +323,31 @@ pub(crate) fn reached_stops(alloc: Global, marks: &Marks) -> Result<Vec<Stop>, A
     ensures marked { IfOk result (λ stops. AreMarkedStops marks.now.marks stops.items) }
     ensures in_order { IfOk result (λ stops. StandInOrder stop_order stops.items) }
 {
-    let mut stops = Vec::new(alloc);
-    for place in 0..2 * HEXES {
-        let stop = stop_at(place);
-        let spot = Spot {
-            hex: stop.hex,
-            end: End::Stop(stop.number),
-        };
-        if joined_stop(stop) == stop && marks.has(spot) {
-            stops.push(stop)?;
-        }
+    let mut stops = Vec::with_capacity(alloc, STOPS_ROOM)?;
+    for index in 0..HEXES {
+        let hex = hex_at(index);
+        let first = StopNumber::First;
+        let second = StopNumber::Second;
+        push_stop(marks, Stop { hex, number: first }, &mut stops)?;
+        push_stop(
+            marks,
+            Stop {
+                hex,
+                number: second,
+            },
+            &mut stops,
+        )?;
     }
     Ok(stops)
+}
+
+/// Appends a stop if it is marked and stands under its own name.
+fn push_stop(marks: &Marks, stop: Stop, stops: &mut Vec<Stop>) -> Result<(), AllocError>
+    ensures { OnOk result (IsPushed marks.now.marks stop stops.old.items stops.new.items) }
+{
+    if marks.has_stop(stop) {
+        stops.push(stop)?;
+        return Ok(());
+    }
+    Ok(())
 }
