@@ -35,7 +35,8 @@ stop_same a b is =
     and_both (sameb hex_type a.hex b.hex) (sameb number_type a.number b.number)
     (true_same hex_type a.hex b.hex (ap (λ (s : Stop). s.hex) is)) (true_same number_type a.number b.number (ap (λ (s : Stop). s.number) is))
 
-same_end : (a b : End) → end_ghosts.eq a b ≡ true → a ≡ b
+-- ends that compare alike are one
+pub same_end : (a b : End) → end_ghosts.eq a b ≡ true → a ≡ b
 same_end (AtSide side) (AtSide other) alike = ap AtSide (same_true side_type tt side other alike)
 same_end (AtStop number) (AtStop other) alike = ap AtStop (same_true number_type tt number other alike)
 same_end (AtSide side) (AtStop number) alike = cc
@@ -44,6 +45,10 @@ same_end (AtStop number) (AtSide side) alike = cc
 end_itself : (a : End) → end_ghosts.eq a a ≡ true
 end_itself (AtSide side) = true_same side_type side side refl
 end_itself (AtStop number) = true_same number_type number number refl
+
+-- and one end compares alike
+pub end_same : (a b : End) → a ≡ b → end_ghosts.eq a b ≡ true
+end_same a b is = ap (end_ghosts.eq a) (sym is) ∙ end_itself a
 
 -- links that compare alike are one
 pub same_link : (a b : Link) → link_ghosts.eq a b ≡ true → a ≡ b

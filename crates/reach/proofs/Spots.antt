@@ -46,6 +46,15 @@ one_number hex (AtSide side) other (AtStop number) same =
 one_number hex (AtStop number) other (AtSide side) same =
     absurd (omega (arith, (eights (index_of (joined_hex hex)) (index_of other) (6 + stop_index_of number) (number_of side) (omega (arith, stop_index_low number)) (omega (arith, side_low side)) same).1, side_low side))
 
+-- ends of one hex with one number are one
+pub one_end : (hex : Hex) (end other : End) → number_at hex end ≡ number_at hex other → end ≡ other
+one_end hex (AtSide side) (AtSide other) same = ap AtSide (same_side side other (omega (arith, same)))
+one_end hex (AtStop number) (AtStop other) same = ap AtStop (same_stop_index number other (omega (arith, same)))
+one_end hex (AtSide side) (AtStop number) same =
+    absurd (omega (arith, (eights (index_of hex) (index_of (joined_hex hex)) (number_of side) (6 + stop_index_of number) (omega (arith, side_low side)) (omega (arith, stop_index_low number)) same).1, side_low side))
+one_end hex (AtStop number) (AtSide side) same =
+    absurd (omega (arith, (eights (index_of (joined_hex hex)) (index_of hex) (6 + stop_index_of number) (number_of side) (omega (arith, stop_index_low number)) (omega (arith, side_low side)) same).1, side_low side))
+
 -- spots with one number are one stop, or one side
 pub are_one : (spot other : Spot) → spot_number spot ≡ spot_number other → (stop_of spot ≡ stop_of other) × (across spot ≡ across other)
 are_one spot other same = let one = one_number spot.hex spot.end other.hex other.end same in (one.stop, one.across)

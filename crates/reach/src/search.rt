@@ -1,10 +1,10 @@
-ghost use Rattle.std.specs.Prelude.{◌≡◌, ◌<◌, ◌↔◌, IsTrue, IfOk, OnOk, [], false, slice_index_or, replicate};
+ghost use Rattle.std.specs.Prelude.{◌≡◌, ◌<◌, ◌↔◌, ◌++◌, ◌∷◌, IsTrue, IfOk, OnOk, [], false, true, slice_index_or, replicate};
 ghost use Rattle.map_tables.specs.Hex.{index_of};
 ghost use Rattle.reach.specs.Lawful.{IsLawful};
 ghost use Rattle.reach.specs.Position.{IsAmong, links_of};
 ghost use Rattle.reach.specs.Reached.{StandInOrder, stop_order};
 ghost use Rattle.reach.specs.Search.{AllArrive, AllWait, AreMarkedStops, AreTaken, CanEnter, GoesOnAt, HasAllTokens, IsClosed, IsEnteredAt, IsFollowed, IsMarked, IsMarkedStop, IsMarking, IsPushed, IsTokenMarked, LeadsTo, Spreads, spot_number, twin_of};
-ghost use Rattle.reach.specs.Walk.{IsTrack, entered_at};
+ghost use Rattle.reach.specs.Walk.{IsTrack, entered_at, left_at};
 ghost use Rattle.reach.specs.declared.walk.Step.{Step};
 
 use crate::network::Network;
@@ -123,15 +123,52 @@ fn twin(hex: Hex) -> Option<Hex>
     }
 }
 
-/// Follows a link in one direction if it is entered at a spot: keeps it, and marks where it is left.
-fn follow(step: Step, at: Spot, marks: &mut Marks) -> Result<(), AllocError>
-    ensures { OnOk result (IsFollowed step at
+/// Whether a step enters its link at a spot of the same hex.
+fn is_entered(step: Step, at: Spot) -> bool
+    requires { step.link.hex ≡ at.hex }
+    ensures { IsTrue result ↔ IsEnteredAt at step }
+{
+    step.entered().end == at.end
+}
+
+/// Follows a step: keeps its link, and marks where it is left.
+fn follow(step: Step, marks: &mut Marks) -> Result<(), AllocError>
+    ensures marking { OnOk result (IsMarking (left_at step)
+        marks.old.marks marks.old.waiting.items marks.new.marks marks.new.waiting.items) }
+    ensures links { OnOk result (marks.new.links.items ≡ marks.old.links.items ++ step.link ∷ []) }
+{
+    marks.mark(step.left())?;
+    marks.links.push(step.link)?;
+    Ok(())
+}
+
+/// Follows a link from its first end, if that lies at a spot.
+fn follow_on(link: Link, at: Spot, marks: &mut Marks) -> Result<(), AllocError>
+    requires { link.hex ≡ at.hex }
+    ensures { OnOk result (IsFollowed (record { link = link; turned = false }) at
         marks.old.marks marks.old.waiting.items marks.old.links.items
         marks.new.marks marks.new.waiting.items marks.new.links.items) }
 {
-    if number_of(step.entered()) == number_of(at) {
-        marks.mark(step.left())?;
-        marks.links.push(step.link)?;
+    let step = Step {
+        link,
+        turned: false,
+    };
+    if is_entered(step, at) {
+        follow(step, marks)?;
+    }
+    Ok(())
+}
+
+/// Follows a link from its second end, if that lies at a spot.
+fn follow_back(link: Link, at: Spot, marks: &mut Marks) -> Result<(), AllocError>
+    requires { link.hex ≡ at.hex }
+    ensures { OnOk result (IsFollowed (record { link = link; turned = true }) at
+        marks.old.marks marks.old.waiting.items marks.old.links.items
+        marks.new.marks marks.new.waiting.items marks.new.links.items) }
+{
+    let step = Step { link, turned: true };
+    if is_entered(step, at) {
+        follow(step, marks)?;
     }
     Ok(())
 }
@@ -145,6 +182,7 @@ fn follow_both<N: Network>(
     marks: &mut Marks,
 ) -> Result<(), AllocError>
     requires lawful { IsLawful (N.position network.now) }
+    requires here { link.hex ≡ at.hex }
     requires track { IsAmong link (links_of (N.position network.now) link.hex) }
     requires may { CanEnter (N.position network.now) company marks.old.marks at }
     ensures { let takes = λ (taken : Step). (taken.link ≡ link) × IsEnteredAt at taken in
@@ -152,13 +190,8 @@ fn follow_both<N: Network>(
         marks.old.marks marks.old.waiting.items marks.old.links.items
         marks.new.marks marks.new.waiting.items marks.new.links.items) }
 {
-    let forward = Step {
-        link,
-        turned: false,
-    };
-    let back = Step { link, turned: true };
-    follow(forward, at, marks)?;
-    follow(back, at, marks)?;
+    follow_on(link, at, marks)?;
+    follow_back(link, at, marks)?;
     Ok(())
 }
 

@@ -8,7 +8,7 @@ use Rattle.reach.specs.Position.{Position, IsAmong, links_of}
 use Rattle.reach.specs.Search.{IsEnteredAt}
 use Rattle.reach.specs.declared.walk.Spot.{Spot}
 use Rattle.reach.specs.declared.walk.Step.{Step}
-use Rattle.reach.proofs.Collected.{own_hex}
+use Rattle.reach.proofs.Collected.{lies_there, own_hex}
 use Rattle.reach.proofs.Lists.{among_at, among_next}
 use Rattle.reach.proofs.Marking.{can_still, spreads_fewer, spreads_none, spreads_on}
 use Rattle.reach.proofs.search.follow_from.Goals as goal
@@ -18,6 +18,11 @@ element : (position : Position) → IsLawful position → (hex : Hex) (links : L
 element position lawful hex links is i d low =
     own_hex position lawful hex (get_or links i d) (subst (λ ls. IsAmong (get_or links i d) ls) is (among_at links i d low))
 
+-- and lies there
+there : (position : Position) → IsLawful position → (hex : Hex) (links : List Link) → links ≡ links_of position hex → (i : ℕ) (d : Link) → i < length links → (get_or links i d).hex ≡ hex
+there position lawful hex links is i d low =
+    lies_there hex (links_of position hex) (get_or links i d) (lawful.links hex).here (subst (λ ls. IsAmong (get_or links i d) ls) is (among_at links i d low))
+
 pub loop-link-init : goal.loop-link-init
 loop-link-init g c =
     spreads_none (g.N.Network.position c.args.network.now) c.args.company _ _ _ _ (λ step none. none.0)
@@ -25,6 +30,10 @@ loop-link-init g c =
 pub follow_both-requires-clause-track : goal.follow_both-requires-clause-track
 follow_both-requires-clause-track g c =
     element (g.N.Network.position c.args.network.now) c.requires.lawful c.args.at.hex c.as_slice-link-items.result.now (c.as_slice-link-items.ensures.value ∙ c.links-links.ensures) c.loop-link.link-index _ c.loop-link-test.true
+
+pub follow_both-requires-clause-here : goal.follow_both-requires-clause-here
+follow_both-requires-clause-here g c =
+    there (g.N.Network.position c.args.network.now) c.requires.lawful c.args.at.hex c.as_slice-link-items.result.now (c.as_slice-link-items.ensures.value ∙ c.links-links.ensures) c.loop-link.link-index _ c.loop-link-test.true
 
 pub follow_both-requires-clause-may : goal.follow_both-requires-clause-may
 follow_both-requires-clause-may g c =
