@@ -139,8 +139,12 @@ pub(crate) fn red_shown<L: Lying>(_board: &L, stop: Stop) -> bool
 pub(crate) fn full_shown<L: Lying>(board: &L, stop: Stop, company: Company) -> bool
     ensures { IsTrue result ↔ IsFull (position_of (L.laid board.now)) stop company }
 {
+    let taken = taken(board, stop);
+    if taken == 0 {
+        return false;
+    }
     let slots = slots(board, stop);
-    0 < slots && slots <= taken(board, stop) && !token_shown(board, stop, company)
+    0 < slots && slots <= taken && !token_shown(board, stop, company)
 }
 
 /// Whether a company has a token at a stop in the position.
@@ -148,5 +152,5 @@ pub(crate) fn token_shown<L: Lying>(board: &L, stop: Stop, company: Company) -> 
     ensures { IsTrue result ↔ HasToken (position_of (L.laid board.now)) stop company }
 {
     let stop = joined_stop(stop);
-    is_stop(stop) && board.holds(stop, company)
+    board.holds(stop, company) && is_stop(stop)
 }

@@ -1,25 +1,47 @@
 -- Whether a company has a token at a stop is what the position has there.
-use Rattle.std.proofs.Common.{◌≡◌, ◌∙◌, ap, sym, subst, true, false}
+use Rattle.std.proofs.Common.{◌≡◌, ◌∙◌, Bool, ap, refl, sym, subst, true, false}
+use Rattle.board.specs.Ground.{Ground, position_of}
 use Rattle.map_tables.specs.Lying.{has_token, is_stop}
+use Rattle.map_tables.specs.Place.{joined_stop_of}
+use Rattle.map_tables.specs.declared.place.Stop.{Stop}
+use Rattle.reach.specs.Position.{AtStop, HasToken, IsAmong}
+use Rattle.tables.specs.declared.roster.Company.{Company}
 use Rattle.board.proofs.Positions.{shown, not_shown}
 use Rattle.board.proofs.Tokens.{among_is, is_among}
-use Rattle.map_tables.specs.Place.{joined_stop_of}
-use Rattle.reach.specs.Position.{AtStop, IsAmong}
 use Rattle.board.proofs.lying.token_shown.Goals as goal
 
-pub returns-then-is_stop : goal.returns-then-is_stop
-returns-then-is_stop g c =
-    let is : is_stop (joined_stop_of c.args.stop) ≡ true = cc in
-    let here = ap (λ (s : AtStop). s.tokens) (shown (g.L.Lying.laid c.args.board.now) c.args.stop is) in
-    let named = c.holds.ensures ∙ ap (λ stop. has_token (g.L.Lying.laid c.args.board.now).tokens stop c.args.company) c.joined_stop-stop.ensures in (
-      λ has. subst (IsAmong c.args.company) (sym here) (among_is (g.L.Lying.laid c.args.board.now).tokens (joined_stop_of c.args.stop) c.args.company (sym named ∙ has)),
-      λ among. named ∙ is_among (g.L.Lying.laid c.args.board.now).tokens (joined_stop_of c.args.stop) c.args.company (subst (IsAmong c.args.company) here among),
+-- where a company has a token there is a stop
+stop_there : (ground : Ground) (stop : Stop) (company : Company) → HasToken (position_of ground) stop company → is_stop (joined_stop_of stop) ≡ true
+stop_there ground stop company has = by_test (is_stop (joined_stop_of stop)) refl
+  where
+    by_test : (is : Bool) → is_stop (joined_stop_of stop) ≡ is → is_stop (joined_stop_of stop) ≡ true
+    by_test true is = is
+    by_test false is =
+        absurd (let none : ⊥ = subst (IsAmong company) (ap (λ (s : AtStop). s.tokens) (not_shown ground stop is)) has in none)
+
+-- at a stop the tokens are those that name it
+token_there : (ground : Ground) (stop : Stop) (company : Company) → is_stop (joined_stop_of stop) ≡ true → has_token ground.tokens (joined_stop_of stop) company ≡ true → HasToken (position_of ground) stop company
+token_there ground stop company is has =
+    subst (IsAmong company) (sym (ap (λ (s : AtStop). s.tokens) (shown ground stop is))) (among_is ground.tokens (joined_stop_of stop) company has)
+
+there_token : (ground : Ground) (stop : Stop) (company : Company) → HasToken (position_of ground) stop company → has_token ground.tokens (joined_stop_of stop) company ≡ true
+there_token ground stop company has =
+    is_among ground.tokens (joined_stop_of stop) company
+    (subst (IsAmong company) (ap (λ (s : AtStop). s.tokens) (shown ground stop (stop_there ground stop company has))) has)
+
+pub returns-then-holds : goal.returns-then-holds
+returns-then-holds g c =
+    let laid = g.L.Lying.laid c.args.board.now in
+    let named = c.holds.ensures ∙ ap (λ stop. has_token laid.tokens stop c.args.company) c.joined_stop-stop.ensures in
+    let asked = c.is_stop.ensures ∙ ap is_stop c.joined_stop-stop.ensures in (
+      λ is. token_there laid c.args.stop c.args.company (sym asked ∙ is) (sym named ∙ c.if-holds.true),
+      λ has. asked ∙ stop_there laid c.args.stop c.args.company has,
     )
 
-pub returns-else-is_stop : goal.returns-else-is_stop
-returns-else-is_stop g c =
-    let is : is_stop (joined_stop_of c.args.stop) ≡ false = cc in
-    let here = ap (λ (s : AtStop). s.tokens) (not_shown (g.L.Lying.laid c.args.board.now) c.args.stop is) in (
+pub returns-else-holds : goal.returns-else-holds
+returns-else-holds g c =
+    let laid = g.L.Lying.laid c.args.board.now in
+    let named = c.holds.ensures ∙ ap (λ stop. has_token laid.tokens stop c.args.company) c.joined_stop-stop.ensures in (
       λ stands. absurd (let wrong : ⊥ = cc in wrong),
-      λ among. absurd (let none : ⊥ = subst (IsAmong c.args.company) here among in none),
+      λ has. absurd (let found : false ≡ true = sym c.if-holds.false ∙ (named ∙ there_token laid c.args.stop c.args.company has) in cc),
     )

@@ -1,5 +1,5 @@
 -- The links of the tile that lies are kept.
-use Rattle.std.proofs.Common.{◌≡◌, ◌∙◌, ap, sym, [], Some}
+use Rattle.std.proofs.Common.{◌∙◌, ap, sym, []}
 use Rattle.board.specs.Ground.{Ground}
 use Rattle.map_tables.specs.Lay.{laid_links_of}
 use Rattle.map_tables.specs.Lying.{by_tile, tile_on}
