@@ -1,5 +1,5 @@
 -- The books that a reader is lent, if there are any.
-use Rattle.std.proofs.Common.{◌≡◌, ℕ, List, [], ◌∷◌, Bor, Option, Some, None, length, refl, sym, ap, subst, ◌∙◌, arith}
+use Rattle.std.proofs.Common.{◌≡◌, List, [], ◌∷◌, Bor, Option, Some, None, length, refl, ap, subst, arith}
 use Rattle.std.specs.Prelude.{MatchOption}
 use Rattle.history.specs.Books.{AreBooksOf}
 use Rattle.history.specs.declared.books.Books.{Books}

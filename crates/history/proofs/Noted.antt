@@ -5,7 +5,7 @@ use Rattle.std.proofs.lemmas.List.Folds.{list_any-append}
 use Rattle.std.proofs.lemmas.Int.{ints}
 use Rattle.std.specs.List.{list_any}
 use Rattle.std.specs.Option.{option_flatten, option_map, option_or}
-use Rattle.history.proofs.BidWords.{bid_of_at_end}
+use Rattle.history.proofs.BidWords.{bid_of_at_end, now_said_at_end}
 use Rattle.history.proofs.EventAtEnd.{balance_at_end, last_said_at_end}
 use Rattle.history.proofs.InOrder.{rulings_at_end, tokens_at_end}
 use Rattle.history.proofs.Places.{last_place_at_end}
@@ -16,6 +16,7 @@ use Rattle.history.specs.LookBack.{IsModerate, in_round, last_place_from, last_s
 use Rattle.history.specs.Operating.{rulings_in_round, rulings_then, tokens_placed}
 use Rattle.history.specs.Trains.{one_if}
 use Rattle.history.specs.declared.books.Books.{Books}
+use Rattle.history.specs.declared.event.Bidding.{Bidding}
 use Rattle.history.specs.declared.event.Event.{Event}
 use Rattle.tables.specs.declared.roster.Company.{Company}
 use Rattle.tables.specs.declared.roster.Private.{Private}
@@ -51,10 +52,20 @@ or_true false = refl
 
 -- a bid on a private is what the event says, or else the one before
 pub bid_noted :
-    (events : List Event) (event : Event) (private : Private) (seat : Seat) (old new : Option ℕ) →
-    new ≡ unwrap_or (bid_said private seat (bidding_of event)) old → old ≡ bid_of events private seat → new ≡ bid_of (events ++ event ∷ []) private seat
-bid_noted events event private seat old new noted before =
-    noted ∙ ap (unwrap_or (bid_said private seat (bidding_of event))) before ∙ sym (bid_of_at_end events event private seat)
+    (events : List Event) (event : Event) (private : Private) (seat : Seat) (bidding : Option Bidding) (old new : Option ℕ) → bidding ≡ bidding_of event →
+    new ≡ unwrap_or (bid_said private seat bidding) old → old ≡ bid_of events private seat → new ≡ bid_of (events ++ event ∷ []) private seat
+bid_noted events event private seat bidding old new is noted before =
+    noted
+    ∙ ap (λ told. unwrap_or (bid_said private seat told) old) is
+    ∙ ap (unwrap_or (bid_said private seat (bidding_of event))) before
+    ∙ sym (bid_of_at_end events event private seat)
+
+-- a word of the round that began last
+pub round_word_noted :
+    {A : Type 0} (says : Event → Option A) (events : List Event) (event : Event) (old new : Option A) →
+    new ≡ unwrap_or (in_round says event) old → old ≡ now_said (in_round says) events → new ≡ now_said (in_round says) (events ++ event ∷ [])
+round_word_noted says events event old new noted before =
+    noted ∙ ap (unwrap_or (in_round says event)) before ∙ sym (now_said_at_end (in_round says) events event)
 
 -- a test that some event has met
 pub flag_noted :

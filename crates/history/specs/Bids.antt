@@ -38,11 +38,11 @@ abbrev pub AreStanding : List Event → Private → List (Option ℕ) → Type 0
 AreStanding events private standing =
     (number : ℕ) → number < 6 → slice_index_or standing number None ≡ bid_of events private (seat_at number)
 
--- a table after an event has what the event says of the bids on a private, and else what it had
-abbrev pub NotesBidOn : Private → Event → List (Option ℕ) → List (Option ℕ) → Type 0
-NotesBidOn private event old new =
+-- a table after a word on bids has what that says of the bids on a private, and else what it had
+abbrev pub NotesBidOn : Private → Option Bidding → List (Option ℕ) → List (Option ℕ) → Type 0
+NotesBidOn private bidding old new =
     (number : ℕ) → number < 6 →
-    slice_index_or new number None ≡ unwrap_or (bid_said private (seat_at number) (bidding_of event)) (slice_index_or old number None)
+    slice_index_or new number None ≡ unwrap_or (bid_said private (seat_at number) bidding) (slice_index_or old number None)
 
 -- what a seat's standing bid on a private ties
 abbrev pub tied_on : List Event → Seat → Private → ℕ

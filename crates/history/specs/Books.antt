@@ -5,6 +5,7 @@ use Rattle.history.specs.Bids.{bid_of}
 use Rattle.history.specs.Event.{floated_by, ownership_of, payment_of, phase_set, round_of as round_begun, square_set, stable_of, sv_price_set, train_moved, transfer_of}
 use Rattle.history.specs.LookBack.{actor_of, balance, bankrupt_in, broken_in, last_place_from, last_said, owner_said, paid_by, paid_to}
 use Rattle.history.specs.Operating.{has_operated, rulings_in_round, tokens_placed}
+use Rattle.history.specs.Orders.{limit_of, par_ordered_of}
 use Rattle.history.specs.Shares.{brought_to, float_said, has_sold_in_round, par_of, president_of, square_of, square_said, taken_from}
 use Rattle.history.specs.Trains.{any_comes, any_goes, one_if, train_comes, train_goes}
 use Rattle.history.specs.declared.books.Books.{Books}
@@ -42,7 +43,7 @@ float_on events company = last_said (λ event. float_said company (floated_by ev
 abbrev pub at_company : {A : Type 0} → List (Option A) → Company → Option A
 at_company table company = slice_index_or table (place_of_company company) None
 
--- what a table has as a seat's standing bid on a private
+-- what a table has as a seat's standing bid on a private, or as how far it goes for one
 abbrev pub bid_in : List (List (Option ℕ)) → Private → ℕ → Option ℕ
 bid_in bids private number = slice_index_or (slice_index_or bids (place_of_private private) []) number None
 
@@ -172,3 +173,5 @@ pub record AreBooksOf (books : Books) (events : List Event) : Type 0 where
   pub operated : (company : Company) → flag_of books.operated company ≡ has_operated events company
   pub sales : (company : Company) (seat : Seat) → seat.0 < 6 → sale_in books.sales company seat ≡ has_sold_in_round events company seat
   pub rulings : (seat : Seat) → seat.0 < 6 → IsCounted (rulings_in_round events seat) events (count_at books.rulings seat.0)
+  pub limits : (private : Private) (seat : Seat) → seat.0 < 6 → bid_in books.limits private seat.0 ≡ limit_of events private seat
+  pub par_orders : (seat : Seat) → seat.0 < 6 → slice_index_or books.par_orders seat.0 None ≡ par_ordered_of events seat

@@ -25,6 +25,11 @@ par_of_baltimore_in (order.Par company price) =
     if same_company company BaltimoreOhio && is_par_value price then Some price else None
 par_of_baltimore_in other = None
 
+-- the same, where an order names this private and this sum, or none
+abbrev pub limit_said : Private → Option (Private × ℕ) → Option ℕ
+limit_said private None = None
+limit_said private (Some limit) = if same_private limit.0 private then Some limit.1 else None
+
 -- the same, of the order that a ruling obeys
 abbrev pub limit_obeyed : Private → Ruling → Option ℕ
 limit_obeyed private (Obeyed order) = limit_in private order

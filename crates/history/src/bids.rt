@@ -4,7 +4,7 @@ ghost use Rattle.history.specs.Orders.{limit_of, par_ordered_of};
 ghost use Rattle.history.specs.Bids.{AreStanding, NotesBidOn, bid_of, bids_elsewhere_of, bids_of, bids_on, free_cash_of, free_for, tied_on};
 
 use crate::aspect::{InRound, last_said};
-use crate::event::{Bid, Bidding, Event, Holder, Party};
+use crate::event::{Bid, Bidding, Holder, Party};
 use crate::look_back::Past;
 use crate::topics::{BidOn, LimitOn, ParOrdered};
 use arrayvec::ArrayVec;
@@ -59,14 +59,22 @@ impl Past<'_> {
     pub fn limit(&self, private: Private, seat: Seat) -> Option<Amount>
         ensures { result ≡ limit_of self.now.events.now private seat }
     {
-        last_said(&InRound(LimitOn(private, seat)), self.events).flatten()
+        let number = seat.number();
+        match self.books() {
+            Some(books) if number < PLAYERS_MOST => books.limits[private.place()][number],
+            _ => last_said(&InRound(LimitOn(private, seat)), self.events).flatten(),
+        }
     }
 
     /// The par value that a seat sets for BO if it buys BOP, by its last obeyed standing PAR line.
     pub fn par_ordered(&self, seat: Seat) -> Option<Amount>
         ensures { result ≡ par_ordered_of self.now.events.now seat }
     {
-        last_said(&ParOrdered(seat), self.events)
+        let number = seat.number();
+        match self.books() {
+            Some(books) if number < PLAYERS_MOST => books.par_orders[number],
+            _ => last_said(&ParOrdered(seat), self.events),
+        }
     }
 
     /// The sum of a seat's standing bids, in dollars.
@@ -112,15 +120,15 @@ impl Past<'_> {
     }
 }
 
-/// Notes what an event says of the bids on a private in a table of the seats' standing bids.
+/// Notes what is said of the bids on a private in a table of the seats' standing bids.
 pub(crate) fn note_bid_on(
     standing: &mut [Option<Amount>; PLAYERS_MOST],
     private: Private,
-    event: &Event,
+    bidding: Option<Bidding>,
 )
-    ensures { NotesBidOn private event.now standing.old standing.new }
+    ensures { NotesBidOn private bidding standing.old standing.new }
 {
-    match event.bidding() {
+    match bidding {
         Some(Bidding::Made(other, bid)) => {
             let number = bid.seat.number();
             if other == private && number < PLAYERS_MOST {

@@ -8,8 +8,9 @@ ghost use Rattle.history.specs.declared.event.Event.{Event as TheEvent};
 use crate::event::Event;
 use crate::nets::{note_payment, note_stable, note_train, note_transfer};
 use crate::noting::{
-    note, note_arrival, note_bankrupt, note_bids, note_broken, note_float, note_par,
-    note_president, note_ruling, note_sale, note_square, note_token, note_turn,
+    no_limits, note, note_arrival, note_bankrupt, note_bids, note_broken, note_float, note_limit,
+    note_par, note_par_order, note_president, note_ruling, note_sale, note_square, note_token,
+    note_turn,
 };
 use crate::owners::Owners;
 use crate::shares::Tenths;
@@ -19,7 +20,7 @@ use tables::{Amount, Company, Kind, Money, PLAYERS_MOST, Round, Seat, Square};
 /// What a list of events says: what was said last of each thing, `None` where nothing was. Tables
 /// are by the places of the privates and the companies in the roster, and by the numbers of seats.
 /// Of cash, tenths and trains it is what came to each party or place, less what went from it. Of
-/// companies' turns, seats' sales and rulings it is what the round has had that began last.
+/// companies' turns, seats' sales, rulings and limits it is what the round has had that began last.
 #[derive(Clone, Copy, Debug)]
 pub struct Books {
     /// How many events there are.
@@ -45,6 +46,8 @@ pub struct Books {
     pub(crate) operated: [bool; 8],
     pub(crate) sales: [[bool; PLAYERS_MOST]; 8],
     pub(crate) rulings: [usize; PLAYERS_MOST],
+    pub(crate) limits: [[Option<Amount>; PLAYERS_MOST]; 6],
+    pub(crate) par_orders: [Option<Amount>; PLAYERS_MOST],
 }
 
 // A walk holds them by value.
@@ -78,6 +81,8 @@ impl Books {
             operated: [false; 8],
             sales: [[false; PLAYERS_MOST]; 8],
             rulings: [0; PLAYERS_MOST],
+            limits: no_limits(),
+            par_orders: [None; PLAYERS_MOST],
         }
     }
 
@@ -100,7 +105,7 @@ impl Books {
             AreBooksOf self.new (events ++ event.now ∷ []) }
     {
         self.owners.note(event);
-        note_bids(&mut self.bids, event);
+        note_bids(&mut self.bids, event.bidding());
         note(&mut self.sv_price, &SvPrice, event);
         note(&mut self.actor, &Actor, event);
         note(&mut self.round, &RoundPlayed, event);
@@ -120,6 +125,8 @@ impl Books {
         note_turn(&mut self.operated, event);
         note_sale(&mut self.sales, event);
         note_ruling(&mut self.rulings, event);
+        note_limit(&mut self.limits, event);
+        note_par_order(&mut self.par_orders, event);
         self.told = self.told.saturating_add(1);
     }
 }

@@ -3,7 +3,7 @@ ghost use Rattle.std.specs.Prelude.{◌≡◌, false, MatchOption, MatchResult};
 ghost use Rattle.history.specs.Event.{acts};
 ghost use Rattle.history.specs.Kept.{TakesBox, has_short_form, order_in_short, ruling_by};
 ghost use Rattle.history.specs.Offers.{offer_obeyed, offered_in, same_offer, same_terms};
-ghost use Rattle.history.specs.Orders.{limit_obeyed, par_of_baltimore_in, par_of_baltimore_obeyed};
+ghost use Rattle.history.specs.Orders.{limit_obeyed, limit_said, par_of_baltimore_in, par_of_baltimore_obeyed};
 ghost use Rattle.history.specs.declared.ruling.Ruling.TheVariants.{Faulty, Obeyed, Refused};
 ghost use Rattle.order_grammar.specs.declared.order.Order.TheVariants as order;
 
@@ -273,28 +273,34 @@ impl KeptRuling {
         }
     }
 
-    /// How far the order that it obeys says to go in an auction of a private, if it does.
-    pub(crate) fn limit_on(&self, private: Private) -> Option<Amount>
-        ensures { result ≡ limit_obeyed private self.now }
+    /// The private in whose auction the order that it obeys says how far to go, and how far, if it
+    /// does.
+    pub(crate) fn limit(&self) -> Option<(Private, Amount)>
+        ensures { (private : Private) →
+            limit_said private result ≡ limit_obeyed private self.now }
     {
         match &self.kept {
             RulingKept::Short {
                 verdict: Verdict::Obeyed,
-                order: ShortOrder::Limit {
-                    private: other,
-                    amount,
-                },
-            } if *other == private => Some(*amount),
+                order: ShortOrder::Limit { private, amount },
+            } => Some((*private, *amount)),
             RulingKept::Boxed {
                 verdict: Verdict::Obeyed,
                 order,
             } => match &**order {
-                Order::Limit {
-                    private: other,
-                    amount,
-                } if *other == private => Some(*amount),
+                Order::Limit { private, amount } => Some((*private, *amount)),
                 _ => None,
             },
+            _ => None,
+        }
+    }
+
+    /// How far the order that it obeys says to go in an auction of a private, if it does.
+    pub(crate) fn limit_on(&self, private: Private) -> Option<Amount>
+        ensures { result ≡ limit_obeyed private self.now }
+    {
+        match self.limit() {
+            Some((other, amount)) if other == private => Some(amount),
             _ => None,
         }
     }

@@ -1,10 +1,12 @@
 //! How an event changes what the books have, table by table.
-ghost use Rattle.std.specs.Prelude.{◌≡◌, ℕ, ◌<◌, ◌+◌, ◌^◌, ◌&&◌, ◌||◌, [], ◌∷◌, false, is_some, slice_index_or, unwrap_or};
-ghost use Rattle.std.specs.Option.{option_or};
+ghost use Rattle.std.specs.Prelude.{◌≡◌, ℕ, ◌<◌, ◌+◌, ◌^◌, ◌&&◌, ◌||◌, [], ◌∷◌, None, Some, false, is_some, slice_index_or, unwrap_or};
+ghost use Rattle.std.specs.Option.{option_map, option_or};
 ghost use Rattle.history.specs.Bids.{bid_said};
 ghost use Rattle.history.specs.Books.{at_company, bid_in, count_at, flag_of, flag_then, here_if, sale_in};
-ghost use Rattle.history.specs.Event.{bidding_of, floated_by, office_of, operated_by, par_set, square_set, tells_bankrupt, tells_broken, transfer_of};
+ghost use Rattle.history.specs.Event.{floated_by, obeyed_of, office_of, operated_by, par_set, square_set, tells_bankrupt, tells_broken, transfer_of};
+ghost use Rattle.history.specs.LookBack.{in_round};
 ghost use Rattle.history.specs.Operating.{rulings_then, tokens_placed, turn_said};
+ghost use Rattle.history.specs.Orders.{limit_in, par_of_baltimore_in, said_by};
 ghost use Rattle.history.specs.Shares.{float_said, par_said, president_said, sale_said, same_shareholder, square_said};
 ghost use Rattle.history.specs.declared.event.Shareholder.TheVariants.{BankPool, Seat as OfSeat};
 ghost use Rattle.tables.specs.Roster.{place_of_company};
@@ -12,7 +14,8 @@ ghost use Rattle.tables.specs.Seat.{seat_at};
 
 use crate::aspect::Topic;
 use crate::bids::note_bid_on;
-use crate::event::{Bidding, Event, Shareholder};
+use crate::event::{Bid, Bidding, Event, Shareholder};
+use crate::topics::ParOrdered;
 use tables::{Amount, Company, PLAYERS_MOST, Private, Seat, Square};
 
 /// Notes what an event says of a thing, if it speaks of it.
@@ -67,18 +70,17 @@ pub(crate) fn note_float(floats: &mut [Option<Company>; 8], event: &Event)
     }
 }
 
-/// Notes what an event says of bids, in a table by the places of the privates and the seats.
-pub(crate) fn note_bids(bids: &mut [[Option<Amount>; PLAYERS_MOST]; 6], event: &Event)
+/// Notes what is said of bids, in a table by the places of the privates and the seats.
+pub(crate) fn note_bids(bids: &mut [[Option<Amount>; PLAYERS_MOST]; 6], bidding: Option<Bidding>)
     ensures { (private : Private) (number : ℕ) → number < 6 → bid_in bids.new private number
-        ≡ unwrap_or (bid_said private (seat_at number) (bidding_of event.now))
-        (bid_in bids.old private number) }
+        ≡ unwrap_or (bid_said private (seat_at number) bidding) (bid_in bids.old private number) }
 {
-    let private = match event.bidding() {
+    let private = match bidding {
         Some(Bidding::Made(private, _)) => private,
         Some(Bidding::Ended(private)) => private,
         None => return,
     };
-    note_bid_on(&mut bids[private.place()], private, event);
+    note_bid_on(&mut bids[private.place()], private, bidding);
 }
 
 /// Notes whether an event tells that the bank is broken.
@@ -200,6 +202,59 @@ pub(crate) fn note_ruling(rulings: &mut [usize; PLAYERS_MOST], event: &Event)
         let number = seat.number();
         if number < PLAYERS_MOST {
             rulings[number] = rulings[number].saturating_add(1);
+        }
+    }
+}
+
+/// A table in which no limit is told of.
+pub(crate) fn no_limits() -> [[Option<Amount>; PLAYERS_MOST]; 6]
+    ensures { (private : Private) (number : ℕ) → number < 6 →
+        bid_in result private number ≡ None }
+{
+    [[None; PLAYERS_MOST]; 6]
+}
+
+/// How far a seat goes in an auction of a private by the line that an event rules, as a bid.
+fn limit_told(event: &Event) -> Option<Bidding>
+    ensures { (private : Private) (seat : Seat) → bid_said private seat result
+        ≡ option_map Some (said_by seat (limit_in private) (obeyed_of event.now)) }
+{
+    match event {
+        Event::Ruled { seat, ruling, .. } => match ruling.limit() {
+            Some((private, amount)) => {
+                let seat = *seat;
+                Some(Bidding::Made(private, Bid { seat, amount }))
+            }
+            None => None,
+        },
+        _ => None,
+    }
+}
+
+/// Notes how far a seat goes in an auction of a private by an event, in a table like that of bids;
+/// one that begins a round empties the table.
+pub(crate) fn note_limit(limits: &mut [[Option<Amount>; PLAYERS_MOST]; 6], event: &Event)
+    ensures { (private : Private) (seat : Seat) → seat.0 < 6 → bid_in limits.new private seat.0
+        ≡ unwrap_or (in_round (λ e. said_by seat (limit_in private) (obeyed_of e)) event.now)
+        (bid_in limits.old private seat.0) }
+{
+    if event.round().is_some() {
+        *limits = no_limits();
+        return;
+    }
+    note_bids(limits, limit_told(event));
+}
+
+/// Notes the par value of BO that a seat orders by an event, in a table by the seats.
+pub(crate) fn note_par_order(orders: &mut [Option<Amount>; PLAYERS_MOST], event: &Event)
+    ensures { (seat : Seat) → seat.0 < 6 → slice_index_or orders.new seat.0 None
+        ≡ option_or (said_by seat par_of_baltimore_in (obeyed_of event.now))
+        (slice_index_or orders.old seat.0 None) }
+{
+    if let Some(seat) = event.ruled() {
+        let number = seat.number();
+        if number < PLAYERS_MOST {
+            note(&mut orders[number], &ParOrdered(seat), event);
         }
     }
 }

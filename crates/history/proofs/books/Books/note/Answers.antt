@@ -1,8 +1,9 @@
 use Rattle.std.proofs.Common.{[], ◌∷◌, arith, length-append}
-use Rattle.history.proofs.Noted.{bid_noted, flag_noted, net_noted, one_low, place_noted, round_flag_noted, rulings_noted, tokens_noted, word_noted}
-use Rattle.history.specs.Event.{floated_by, office_of, operated_by, ownership_of, par_set, payment_of, phase_set, round_of, square_set, sv_price_set, tells_bankrupt, tells_broken, train_moved, transfer_of}
+use Rattle.history.proofs.Noted.{bid_noted, flag_noted, net_noted, one_low, place_noted, round_flag_noted, round_word_noted, rulings_noted, tokens_noted, word_noted}
+use Rattle.history.specs.Event.{floated_by, obeyed_of, office_of, operated_by, ownership_of, par_set, payment_of, phase_set, round_of, square_set, sv_price_set, tells_bankrupt, tells_broken, train_moved, transfer_of}
 use Rattle.history.specs.LookBack.{actor_of, owner_said, paid_by, paid_to}
 use Rattle.history.specs.Operating.{turn_said}
+use Rattle.history.specs.Orders.{limit_in, par_of_baltimore_in, said_by}
 use Rattle.history.specs.Shares.{brought_to, float_said, par_said, president_said, sale_said, square_said, taken_from}
 use Rattle.history.specs.Trains.{any_comes, any_goes, one_if, train_comes, train_goes}
 use Rattle.tables.specs.Seat.{seat_at}
@@ -15,7 +16,7 @@ returns c = λ events short before.
       told = omega (arith, before.told, short, c.saturating_add-self.ensures, length-append events (event ∷ []));
       owners = λ private. word_noted (λ e. owner_said private (ownership_of e)) events event _ _ (c.note.ensures private) (before.owners private);
       bids = λ private number low.
-          bid_noted events event private (seat_at number) _ _ (c.note_bids.ensures private number low) (before.bids private number low);
+          bid_noted events event private (seat_at number) _ _ _ c.bidding.ensures (c.note_bids.ensures private number low) (before.bids private number low);
       sv_price = word_noted sv_price_set events event _ _ c.note-2.ensures before.sv_price;
       actor = word_noted actor_of events event _ _ c.note-3.ensures before.actor;
       round = word_noted round_of events event _ _ c.note-4.ensures before.round;
@@ -50,4 +51,10 @@ returns c = λ events short before.
           round_flag_noted (λ e. sale_said company seat (transfer_of e)) events event _ _ (c.note_sale.ensures company seat low)
           (before.sales company seat low);
       rulings = λ seat low. rulings_noted events event seat _ _ short (c.note_ruling.ensures seat low) (before.rulings seat low);
+      limits = λ private seat low.
+          round_word_noted (λ e. said_by seat (limit_in private) (obeyed_of e)) events event _ _ (c.note_limit.ensures private seat low)
+          (before.limits private seat low);
+      par_orders = λ seat low.
+          word_noted (λ e. said_by seat par_of_baltimore_in (obeyed_of e)) events event _ _ (c.note_par_order.ensures seat low)
+          (before.par_orders seat low);
     }

@@ -1,4 +1,4 @@
-use Rattle.std.proofs.Common.{false, refl}
+use Rattle.std.proofs.Common.{None, false, refl}
 use Rattle.history.proofs.Empty.{no_bid, no_count, no_net, no_sale, nothing_said, same_throughout}
 use Rattle.history.specs.Books.{party_entry, tenths_entry, train_entry, train_row}
 use Rattle.history.specs.Event.{payment_of, stable_of, train_moved, transfer_of}
@@ -35,4 +35,6 @@ returns c = record {
   operated = λ company. same_throughout false 8 (place_of_company company);
   sales = λ company seat low. no_sale company seat;
   rulings = λ seat low. no_count 6 seat.0;
+  limits = λ private seat low. c.no_limits.ensures private seat.0 low;
+  par_orders = λ seat low. same_throughout None 6 seat.0;
 }
