@@ -1,18 +1,19 @@
 -- What a bid or a sale makes of the standing bids.
 use Rattle.std.proofs.Common.{◌<◌, ◌≡◌, ℕ, ◌≤◌, ◌==◌, ◌⊎◌, inl, inr, Bool, true, false, ◌&&◌, if◌then◌else◌, List, [], ◌∷◌, ◌++◌, Option, Some, None, unwrap_or, sum_by, refl, subst, sym, ap, ◌∙◌, arith}
 use Rattle.std.proofs.lemmas.Bool.Decides.{Decides-eqb, nat_tests}
-use Rattle.std.specs.Option.{option_flatten, option_map, option_or}
+use Rattle.std.specs.Option.{option_flatten, option_or}
 use std.Path.{fun_ext}
 use Rattle.history.proofs.EventAtEnd.{last_said_at_end, now_said_before}
 use Rattle.history.specs.Bids.{bid_of, bid_said, bids_elsewhere_of, tied_on}
 use Rattle.history.specs.Event.{bidding_of, obeyed_by, obeyed_of}
 use Rattle.history.specs.LookBack.{last_said, now_said}
-use Rattle.history.specs.Orders.{limit_in, limit_obeyed, limit_said, said_by}
+use Rattle.history.specs.Orders.{said_by}
 use Rattle.history.specs.Sound.{BiddersAreSeated, BidsAreSmall, BidsDiffer}
 use Rattle.history.specs.declared.event.Event.{Event}
 use Rattle.history.specs.declared.event.Event.TheVariants.{Bids, Ruled, Sold}
 use Rattle.history.specs.declared.ruling.Ruling.{Ruling}
 use Rattle.history.specs.declared.ruling.Ruling.TheVariants.{Faulty, Obeyed, Refused}
+use Rattle.order_grammar.specs.declared.order.Order.{Order}
 use Rattle.tables.specs.Roster.{place_of_private, privates, same_private}
 use Rattle.tables.specs.Seat.{seat_at}
 use Rattle.tables.specs.declared.roster.Private.{Private}
@@ -175,24 +176,23 @@ seated_after_sale seats events private seat price seated on by said is =
     seated on by said (sale_cases (same_private private on) (bid_of events on by) said (sym (bid_of_at_end events (Sold private seat price) on by) ∙ is))
 
 -- no word is none, of whichever seat
-none_of : {A : Type 0} (here : Bool) → None ≡ option_map {T = A} Some (if here then None else None)
+none_of : {A : Type 0} (here : Bool) → ◌≡◌ {A = Option A} None (if here then None else None)
 none_of true = refl
 none_of false = refl
 
--- a ruling by which no LIMIT line is obeyed says nothing of how far a seat goes
-no_limit :
-    (by : Seat) (line : ℕ) (private : Private) (seat : Seat) (ruling : Ruling) → None ≡ limit_obeyed private ruling →
-    None ≡ option_map Some (said_by seat (limit_in private) (obeyed_by by line ruling))
-no_limit by line private seat (Obeyed order) none =
-    none_of (by.0 == seat.0) ∙ ap (λ (word : Option ℕ). option_map Some (if by.0 == seat.0 then word else None)) none
-no_limit by line private seat (Refused refusal order) none = refl
-no_limit by line private seat (Faulty fault) none = refl
+-- a ruling that obeys no order that speaks says nothing of a seat
+no_word :
+    {A : Type 0} (says : Order → Option A) (obeyed : Ruling → Option A) (by : Seat) (line : ℕ) (seat : Seat) (ruling : Ruling) →
+    ((order : Order) → obeyed (Obeyed order) ≡ says order) → None ≡ obeyed ruling → None ≡ said_by seat says (obeyed_by by line ruling)
+no_word {A} says obeyed by line seat (Obeyed order) agree none =
+    none_of (by.0 == seat.0) ∙ ap (λ (word : Option A). if by.0 == seat.0 then word else None) (none ∙ agree order)
+no_word says obeyed by line seat (Refused refusal order) agree none = refl
+no_word says obeyed by line seat (Faulty fault) agree none = refl
 
 -- and neither does the event that tells of it
-pub no_limit_told :
-    (event : Event) (by : Seat) (line : ℕ) (ruling : Ruling) (limit : Option (Private × ℕ)) (private : Private) (seat : Seat) →
-    event ≡ Ruled by line ruling → limit ≡ None → limit_said private limit ≡ limit_obeyed private ruling →
-    None ≡ option_map Some (said_by seat (limit_in private) (obeyed_of event))
-no_limit_told event by line ruling limit private seat is none says =
-    subst (λ e. None ≡ option_map Some (said_by seat (limit_in private) (obeyed_of e))) (sym is)
-    (no_limit by line private seat ruling (ap (limit_said private) (sym none) ∙ says))
+pub no_word_told :
+    {A : Type 0} (says : Order → Option A) (obeyed : Ruling → Option A) (event : Event) (by : Seat) (line : ℕ) (seat : Seat) (ruling : Ruling) →
+    ((order : Order) → obeyed (Obeyed order) ≡ says order) → event ≡ Ruled by line ruling → None ≡ obeyed ruling →
+    None ≡ said_by seat says (obeyed_of event)
+no_word_told says obeyed event by line seat ruling agree is none =
+    subst (λ e. None ≡ said_by seat says (obeyed_of e)) (sym is) (no_word says obeyed by line seat ruling agree none)

@@ -3,7 +3,7 @@ use Rattle.std.proofs.Common.{◌≡◌, ℕ, ◌+◌, ◌^◌, ◌<◌, ◌||�
 use Rattle.std.proofs.lemmas.List.{take_more}
 use Rattle.std.proofs.lemmas.List.Folds.{list_any-append}
 use Rattle.std.proofs.lemmas.Int.{ints}
-use Rattle.std.specs.List.{list_any}
+use Rattle.std.specs.List.{cons_option, list_any}
 use Rattle.std.specs.Option.{option_flatten, option_map, option_or}
 use Rattle.history.proofs.BidWords.{bid_of_at_end, now_said_at_end}
 use Rattle.history.proofs.EventAtEnd.{balance_at_end, last_said_at_end}
@@ -11,13 +11,16 @@ use Rattle.history.proofs.InOrder.{rulings_at_end, tokens_at_end}
 use Rattle.history.proofs.Places.{last_place_at_end}
 use Rattle.history.specs.Bids.{bid_of, bid_said}
 use Rattle.history.specs.Books.{AreBooksOf, IsCounted, IsNet, flag_then, here_if}
-use Rattle.history.specs.Event.{bidding_of, round_of}
+use Rattle.history.specs.Event.{bidding_of, obeyed_of, round_of}
 use Rattle.history.specs.LookBack.{IsModerate, in_round, last_place_from, last_said, now_said}
+use Rattle.history.specs.Offers.{AreOffersOf, is_among, is_that_offer, offered_in, tells_offer}
 use Rattle.history.specs.Operating.{rulings_in_round, rulings_then, tokens_placed}
+use Rattle.history.specs.Orders.{said_by}
 use Rattle.history.specs.Trains.{one_if}
 use Rattle.history.specs.declared.books.Books.{Books}
 use Rattle.history.specs.declared.event.Bidding.{Bidding}
 use Rattle.history.specs.declared.event.Event.{Event}
+use Rattle.order_grammar.specs.declared.order.Offer.{Offer}
 use Rattle.tables.specs.declared.roster.Company.{Company}
 use Rattle.tables.specs.declared.roster.Private.{Private}
 use Rattle.tables.specs.declared.seat.Seat.{Seat}
@@ -155,3 +158,28 @@ pub one_more :
 one_more events i event d old new below is before short notes =
     let longer = ap (λ e. take i events ++ e ∷ []) is ∙ sym (take_more events i d below) in
     subst (AreBooksOf new) longer (notes (take i events) (omega (arith, length-take-le i events)) before)
+
+-- an offer that is told is the one among those that it adds
+one_told : (seat : Seat) (sale : Offer) (told : Option (Seat × Offer)) → is_among seat sale (cons_option told []) ≡ tells_offer seat sale told
+one_told seat sale None = refl
+one_told seat sale (Some offer) = or_false (is_that_offer seat sale offer)
+
+-- the offers of a round, with that of an event
+pub offer_added :
+    (event : Event) (offers longer : List (Seat × Offer)) (told : Option (Seat × Offer)) (seat : Seat) (sale : Offer) → is_some (round_of event) ≡ false →
+    longer ≡ offers ++ cons_option told [] → tells_offer seat sale told ≡ is_some (said_by seat (offered_in sale) (obeyed_of event)) →
+    is_among seat sale longer ≡ flag_then event (is_some (said_by seat (offered_in sale) (obeyed_of event))) (is_among seat sale offers)
+offer_added event offers longer told seat sale quiet grows says =
+    ap (is_among seat sale) grows
+    ∙ list_any-append (is_that_offer seat sale) offers (cons_option told [])
+    ∙ ap (λ flag. is_among seat sale offers || flag) (one_told seat sale told ∙ says)
+    ∙ sym
+    (ap (λ begins. if begins then false else (is_among seat sale offers || is_some (said_by seat (offered_in sale) (obeyed_of event)))) quiet)
+
+-- and the offers that the round has had once it is told of
+pub offers_noted :
+    (events : List Event) (event : Event) (offers longer : List (Seat × Offer)) →
+    ((seat : Seat) (sale : Offer) → is_among seat sale longer ≡ flag_then event (is_some (said_by seat (offered_in sale) (obeyed_of event))) (is_among seat sale offers)) →
+    AreOffersOf offers events → AreOffersOf longer (events ++ event ∷ [])
+offers_noted events event offers longer noted before = λ seat sale.
+    round_flag_noted (λ e. said_by seat (offered_in sale) (obeyed_of e)) events event _ _ (noted seat sale) (before seat sale)

@@ -2,7 +2,7 @@
 ghost use Rattle.std.specs.Prelude.{◌≡◌, false, MatchOption, MatchResult};
 ghost use Rattle.history.specs.Event.{acts};
 ghost use Rattle.history.specs.Kept.{TakesBox, has_short_form, order_in_short, ruling_by};
-ghost use Rattle.history.specs.Offers.{offer_obeyed, offered_in, same_offer, same_terms};
+ghost use Rattle.history.specs.Offers.{offer_obeyed, offer_said, same_offer, same_terms};
 ghost use Rattle.history.specs.Orders.{limit_obeyed, limit_said, par_of_baltimore_in, par_of_baltimore_obeyed};
 ghost use Rattle.history.specs.declared.ruling.Ruling.TheVariants.{Faulty, Obeyed, Refused};
 ghost use Rattle.order_grammar.specs.declared.order.Order.TheVariants as order;
@@ -305,19 +305,32 @@ impl KeptRuling {
         }
     }
 
-    /// A sale, if the order that it obeys offers it.
-    pub(crate) fn offer_of(&self, sale: Offer) -> Option<Offer>
-        ensures { result ≡ offer_obeyed sale self.now }
+    /// The sale that the order that it obeys offers, if it does.
+    pub(crate) fn offer(&self) -> Option<Offer>
+        ensures { (sale : Offer) → offer_said sale result ≡ offer_obeyed sale self.now }
     {
         match &self.kept {
             RulingKept::Short {
                 verdict: Verdict::Obeyed,
-                order: ShortOrder::Offer(other),
-            } if is_offer(*other, sale) => Some(*other),
+                order: ShortOrder::Offer(sale),
+            } => Some(*sale),
             RulingKept::Boxed {
                 verdict: Verdict::Obeyed,
                 order,
-            } => offer_in(&**order, sale),
+            } => match &**order {
+                Order::Offer(sale) => Some(*sale),
+                _ => None,
+            },
+            _ => None,
+        }
+    }
+
+    /// A sale, if the order that it obeys offers it.
+    pub(crate) fn offer_of(&self, sale: Offer) -> Option<Offer>
+        ensures { result ≡ offer_obeyed sale self.now }
+    {
+        match self.offer() {
+            Some(other) if is_offer(other, sale) => Some(other),
             _ => None,
         }
     }
@@ -343,18 +356,8 @@ impl KeptRuling {
     }
 }
 
-/// A sale, if an order offers it.
-fn offer_in(order: &Order, sale: Offer) -> Option<Offer>
-    ensures { result ≡ offered_in sale order.now }
-{
-    match order {
-        Order::Offer(other) if is_offer(*other, sale) => Some(*other),
-        _ => None,
-    }
-}
-
 /// Whether two sales that are offered are the same.
-fn is_offer(one: Offer, sale: Offer) -> bool
+pub(crate) fn is_offer(one: Offer, sale: Offer) -> bool
     ensures { result ≡ same_offer one sale }
 {
     match one {

@@ -13,17 +13,19 @@ use crate::event::{Event, Holder, Party, SUM_MOST, Shareholder};
 use crate::kept::KeptOrder;
 use crate::kept_books::KeptBooks;
 use crate::look_back::Past;
+use crate::noting::note_offer;
 use crate::owners::Owners;
 use crate::shares::Tenths;
 use crate::trains::TrainCount;
 use map_tables::{Lay, Place};
-use order_grammar::Order;
+use order_grammar::{Offer, Order};
 use std::alloc::{AllocError, Global};
 use std::marker::Model;
 use tables::{Company, Kind, Money, Private, Round, Seat, Square};
 
 /// A game: the number of its seats and the list of its events, oldest first; and beside it the
-/// books of that list, which say what it says, with the tiles and the tokens that lie on the map.
+/// books of that list, which say what it says, with the tiles and the tokens that lie on the map,
+/// and the sales that were offered in the round.
 /// It is handed on by value, so it is of few bytes.
 #[derive(Debug, Drop)]
 pub struct History {
@@ -31,17 +33,19 @@ pub struct History {
     events: Vec<Event>,
     lays: Vec<Lay>,
     tokens: Vec<(Place, Company)>,
+    offers: Vec<(Seat, Offer)>,
     books: KeptBooks,
 }
 
 // The books, by far the most of a game, stand behind a box.
-const _: () = prove!(size_of::<History>() <= 96);
+const _: () = prove!(size_of::<History>() <= 120);
 
 impl Model for History {
     ghost use Rattle.std.specs.Prelude.{All, ◌≡◌, ◌≤◌};
     ghost use Rattle.history.specs.Event.{sum_of};
     ghost use Rattle.history.specs.KeptBooks.{KeepsBooksOf};
     ghost use Rattle.history.specs.LookBack.{Game};
+    ghost use Rattle.history.specs.Offers.{AreOffersOf};
     ghost use Rattle.history.specs.Operating.{lays_of, tokens_of};
 
     ghost Value = { Game };
@@ -50,7 +54,8 @@ impl Model for History {
 
     ghost invariant = { λ a.
         All (λ event. sum_of event ≤ 1000000) a.events.items × KeepsBooksOf a.books a.events.items
-        × (a.lays.items ≡ lays_of a.events.items) × (a.tokens.items ≡ tokens_of a.events.items) };
+        × (a.lays.items ≡ lays_of a.events.items) × (a.tokens.items ≡ tokens_of a.events.items)
+        × AreOffersOf a.offers.items a.events.items };
 }
 
 impl History {
@@ -64,6 +69,7 @@ impl History {
             events: Vec::new(alloc),
             lays: Vec::new(alloc),
             tokens: Vec::new(alloc),
+            offers: Vec::new(alloc),
             books: KeptBooks::start(),
         }
     }
@@ -83,11 +89,13 @@ impl History {
     {
         self.events.reserve(1)?;
         self.lays.reserve(1)?;
+        self.offers.reserve(1)?;
         self.books.reserve(*self.events.allocator())?;
         self.tokens.reserve(1)?;
         self.books.note(&event);
         push_any(&mut self.lays, event.lay())?;
         push_any(&mut self.tokens, event.token())?;
+        note_offer(&mut self.offers, &event)?;
         self.events.push(event)?;
         Ok(())
     }
@@ -112,7 +120,12 @@ impl History {
         ensures seats { result.seats ≡ self.now.seats }
         ensures events { result.events.now ≡ self.now.events }
     {
-        Past::with_books(self.seats, self.events.as_slice(), self.books.books())
+        Past::with_books(
+            self.seats,
+            self.events.as_slice(),
+            self.books.books(),
+            self.offers.as_slice(),
+        )
     }
 
     /// What a party has, in dollars; the bank's cash may be under 0.
@@ -343,7 +356,7 @@ impl History {
 }
 
 /// Adds one at the end of a list that has room for it, if there is one.
-fn push_any<T>(list: &mut Vec<T>, one: Option<T>) -> Result<(), AllocError>
+pub(crate) fn push_any<T>(list: &mut Vec<T>, one: Option<T>) -> Result<(), AllocError>
 where
     T: Drop,
     requires { vec_len list.old < vec_capacity list.old }

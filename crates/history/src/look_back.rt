@@ -1,6 +1,8 @@
 ghost use Rattle.std.specs.Prelude.{◌≡◌, MatchOption, None, Some, [], length};
 ghost use Rattle.std.specs.Borrow.{Bor};
+ghost use Rattle.std.specs.Option.{ForSome};
 ghost use Rattle.history.specs.Books.{AreBooksOf};
+ghost use Rattle.history.specs.Offers.{AreOffersOf};
 ghost use Rattle.history.specs.declared.books.Books.{Books as TheBooks};
 ghost use Rattle.history.specs.LookBack.{FitsMemory, IsModerate, actor_of, bankrupt_in, broken_in, cash_of, cheapest_in, cheapest_of, is_sold, is_sold_in, last_said, owner_in, owner_of, priority_of, round_of, start_of, sv_price_of};
 
@@ -10,6 +12,7 @@ use crate::event::{Event, Holder, Party};
 use crate::nets::entry_of_party;
 use crate::owners::Owners;
 use crate::topics::Cash;
+use order_grammar::Offer;
 use tables::{Amount, Money, Private, Round, Seat, bank_start, face, start_money};
 
 /// A list of events with the number of seats: a game as it stood after them.
@@ -21,9 +24,12 @@ pub struct Past<'a> {
     pub events: &'a [Event],
     /// What they say; `None` only where nothing has happened.
     books: Option<&'a Books>,
+    /// The sales that were offered in the round that began last; `None` where they are not kept.
+    offers: Option<&'a [(Seat, Offer)]>,
     ghost short: { FitsMemory events.now },
     ghost empty: { books ≡ None → length events.now ≡ 0 },
     ghost kept: { (all : Bor TheBooks) → books ≡ Some all → AreBooksOf all.now events.now },
+    ghost offered: { ForSome offers (λ all. AreOffersOf all.now events.now) },
 }
 
 impl<'a> Past<'a> {
@@ -38,18 +44,21 @@ impl<'a> Past<'a> {
             seats,
             events,
             books: Some(books),
+            offers: None,
         }
     }
 
     /// A game as it stood after these events, of which these are the books, if there are any:
-    /// where nothing has happened there may be none.
+    /// where nothing has happened there may be none; and these are the sales offered in the round.
     pub(crate) fn with_books(
         seats: usize,
         events: &'a [Event],
         books: Option<&'a Books>,
+        offers: &'a [(Seat, Offer)],
     ) -> Past<'a>
         requires short { FitsMemory events.now }
         requires kept { MatchOption books (events.now ≡ []) (λ all. AreBooksOf all.now events.now) }
+        requires offered { AreOffersOf offers.now events.now }
         ensures seats { result.seats ≡ seats }
         ensures events { result.events.now ≡ events.now }
     {
@@ -57,6 +66,7 @@ impl<'a> Past<'a> {
             seats,
             events,
             books,
+            offers: Some(offers),
         }
     }
 
@@ -66,6 +76,13 @@ impl<'a> Past<'a> {
             (λ books. AreBooksOf books.now self.now.events.now) }
     {
         self.books
+    }
+
+    /// The sales that were offered in the round that began last, where they are kept.
+    pub(crate) fn offers(&self) -> Option<&'a [(Seat, Offer)]>
+        ensures { ForSome result (λ offers. AreOffersOf offers.now self.now.events.now) }
+    {
+        self.offers
     }
 }
 

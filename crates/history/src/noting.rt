@@ -1,10 +1,11 @@
 //! How an event changes what the books have, table by table.
-ghost use Rattle.std.specs.Prelude.{◌≡◌, ℕ, ◌<◌, ◌+◌, ◌^◌, ◌&&◌, ◌||◌, [], ◌∷◌, None, Some, false, is_some, slice_index_or, unwrap_or};
+ghost use Rattle.std.specs.Prelude.{◌≡◌, ℕ, ◌<◌, ◌+◌, ◌^◌, ◌&&◌, ◌||◌, [], ◌∷◌, None, Some, IsOk, false, is_some, slice_index_or, unwrap_or, vec_capacity, vec_len};
 ghost use Rattle.std.specs.Option.{option_map, option_or};
 ghost use Rattle.history.specs.Bids.{bid_said};
 ghost use Rattle.history.specs.Books.{at_company, bid_in, count_at, flag_of, flag_then, here_if, sale_in};
 ghost use Rattle.history.specs.Event.{floated_by, obeyed_of, office_of, operated_by, par_set, square_set, tells_bankrupt, tells_broken, transfer_of};
 ghost use Rattle.history.specs.LookBack.{in_round};
+ghost use Rattle.history.specs.Offers.{is_among, offered_in, tells_offer};
 ghost use Rattle.history.specs.Operating.{rulings_then, tokens_placed, turn_said};
 ghost use Rattle.history.specs.Orders.{limit_in, par_of_baltimore_in, said_by};
 ghost use Rattle.history.specs.Shares.{float_said, par_said, president_said, sale_said, same_shareholder, square_said};
@@ -15,7 +16,10 @@ ghost use Rattle.tables.specs.Seat.{seat_at};
 use crate::aspect::Topic;
 use crate::bids::note_bid_on;
 use crate::event::{Bid, Bidding, Event, Shareholder};
+use crate::list::push_any;
 use crate::topics::ParOrdered;
+use order_grammar::Offer;
+use std::alloc::AllocError;
 use tables::{Amount, Company, PLAYERS_MOST, Private, Seat, Square};
 
 /// Notes what an event says of a thing, if it speaks of it.
@@ -257,4 +261,34 @@ pub(crate) fn note_par_order(orders: &mut [Option<Amount>; PLAYERS_MOST], event:
             note(&mut orders[number], &ParOrdered(seat), event);
         }
     }
+}
+
+/// The sale that the line that an event rules offers, with the seat that offers it.
+fn offer_told(event: &Event) -> Option<(Seat, Offer)>
+    ensures { (seat : Seat) (sale : Offer) → tells_offer seat sale result
+        ≡ is_some (said_by seat (offered_in sale) (obeyed_of event.now)) }
+{
+    match event {
+        Event::Ruled { seat, ruling, .. } => match ruling.offer() {
+            Some(sale) => Some((*seat, sale)),
+            None => None,
+        },
+        _ => None,
+    }
+}
+
+/// Notes the sale that is offered by an event in a list that has room for one more; one that begins
+/// a round empties the list.
+pub(crate) fn note_offer(offers: &mut Vec<(Seat, Offer)>, event: &Event) -> Result<(), AllocError>
+    requires { vec_len offers.old < vec_capacity offers.old }
+    ensures noted { (seat : Seat) (sale : Offer) → is_among seat sale offers.new.items
+        ≡ flag_then event.now (is_some (said_by seat (offered_in sale) (obeyed_of event.now)))
+        (is_among seat sale offers.old.items) }
+    ensures ok { IsOk result }
+{
+    if event.round().is_some() {
+        offers.clear();
+        return Ok(());
+    }
+    push_any(offers, offer_told(event))
 }

@@ -1,8 +1,9 @@
 //! Sales to which a seat has consented.
 ghost use Rattle.std.specs.Prelude.{◌≡◌};
-ghost use Rattle.history.specs.Offers.{has_consent, has_offered};
+ghost use Rattle.history.specs.Offers.{has_consent, has_offered, is_among};
 
 use crate::aspect::{InRound, last_said};
+use crate::kept::is_offer;
 use crate::look_back::Past;
 use crate::topics::OfferBy;
 use order_grammar::Offer;
@@ -14,9 +15,12 @@ impl Past<'_> {
     pub fn has_offered(&self, seat: Seat, sale: Offer) -> bool
         ensures { result ≡ has_offered self.now.events.now seat sale }
     {
-        last_said(&InRound(OfferBy(sale, seat)), self.events)
-            .flatten()
-            .is_some()
+        match self.offers() {
+            Some(offers) => is_among(offers, seat, sale),
+            None => last_said(&InRound(OfferBy(sale, seat)), self.events)
+                .flatten()
+                .is_some(),
+        }
     }
 
     /// Whether the seat that gives a thing consents to its sale, where this seat takes it: it is
@@ -26,4 +30,16 @@ impl Past<'_> {
     {
         giver == taker || self.has_offered(giver, sale)
     }
+}
+
+/// Whether a seat's offer of exactly this sale is among these.
+fn is_among(offers: &[(Seat, Offer)], seat: Seat, sale: Offer) -> bool
+    ensures { result ≡ is_among seat sale offers.now }
+{
+    for offer in offers {
+        if offer.0 == seat && is_offer(offer.1, sale) {
+            return true;
+        }
+    }
+    false
 }

@@ -1,7 +1,12 @@
-use Rattle.history.proofs.BidWords.{no_limit_told}
+use Rattle.std.proofs.Common.{Some, refl, ap, sym, ◌∙◌}
+use Rattle.std.specs.Option.{option_map}
+use Rattle.history.proofs.BidWords.{no_word_told}
+use Rattle.history.specs.Orders.{limit_in, limit_obeyed, limit_said}
 use Rattle.history.proofs.noting.limit_told.Goals as goal
 
 pub returns-in-None : goal.returns-in-None
 returns-in-None c = λ private seat.
-    no_limit_told c.args.event.now c.in-Ruled.seat c.in-Ruled.line c.in-Ruled.ruling c.limit.result private seat c.in-Ruled.is c.in-None.is
-    (c.limit.ensures private)
+    let none = ap (limit_said private) (sym c.in-None.is) ∙ c.limit.ensures private in
+    ap (option_map Some)
+    (no_word_told (limit_in private) (limit_obeyed private) c.args.event.now c.in-Ruled.seat c.in-Ruled.line seat c.in-Ruled.ruling (λ order. refl)
+    c.in-Ruled.is none)
