@@ -1,12 +1,12 @@
 -- The table of forms as the code goes over it: the values so far, and the nearest reading so far.
-use Rattle.std.proofs.Common.{◌≡◌, ℕ, ◌+◌, ◌<◌, ◌≤◌, Bool, true, false, cond, List, [], ◌∷◌, ◌++◌, Option, Some, None, Result, Ok, Err, fold, ltb, length, get_or, drop, map, refl, sym, ap, ◌∙◌, arith}
+use Rattle.std.proofs.Common.{◌≡◌, ℕ, ◌+◌, ◌<◌, ◌≤◌, Bool, true, false, cond, List, [], ◌∷◌, Option, Some, None, Result, Ok, Err, fold, ltb, length, get_or, drop, map, refl, sym, ap, ◌∙◌, arith}
 use Rattle.std.specs.List.{list_all}
 use Rattle.std.proofs.lemmas.Bool.{le-ltb, lt-ltb}
 use Rattle.std.proofs.lemmas.List.Recursion.{and_at}
 use Rattle.std.proofs.lemmas.List.{append-nil, at_drop_all, drop_more, length-map, get_or-map}
 use Rattle.order_grammar.specs.Form.{Row, forms, tail_reading, values_reading, row_reading, rows_reading, words_reading, nearness, nearer}
 use Rattle.order_grammar.specs.Keyword.{text_of_keyword}
-use Rattle.order_grammar.specs.Row.{row_of, is_short}
+use Rattle.order_grammar.specs.Row.{row_of, is_short, joined_values}
 use Rattle.order_grammar.specs.Token.{GivesFirst}
 use Rattle.order_grammar.specs.Words.{Placed, raised, same_word, texts_of}
 use Rattle.order_grammar.specs.declared.class.Class.{Class}
@@ -19,11 +19,6 @@ use Rattle.order_grammar.specs.declared.order.Tail.{Tail}
 use Rattle.order_grammar.specs.declared.order.Value.{Value}
 use Rattle.order_grammar.specs.declared.words.Token.{Token}
 use Rattle.order_grammar.proofs.WordLemmas.{next_words}
-
--- values so far, with whether a number was too large, in front of those to come
-abbrev pub joined_values : List Value → Bool → Result (List Value × Tail) Fault → Result (List Value × Tail) Fault
-joined_values front too_large (Ok rest) = cond too_large (Err NumberTooLarge) (Ok (front ++ rest.0, rest.1))
-joined_values front too_large (Err fault) = Err fault
 
 -- what the nearest is after one more row
 abbrev pub with_row : List ℕ → List (List ℕ) → Result Order Fault → Row → Result Order Fault

@@ -27,11 +27,17 @@ IsOfTenths keyword.Sell = ⊤
 IsOfTenths keyword.Raise = ⊤
 IsOfTenths other = ⊥
 
--- an order begins with it that tells of trains, or of what they earn
+-- an order begins with it that names one thing
+abbrev pub IsOfOne : Keyword → Type 0
+IsOfOne keyword.Exchange = ⊤
+IsOfOne keyword.Token = ⊤
+IsOfOne keyword.Run = ⊤
+IsOfOne other = ⊥
+
+-- an order begins with it that tells of what trains earn, or of one that is discarded
 abbrev pub IsOfTrains : Keyword → Type 0
 IsOfTrains keyword.Pay = ⊤
 IsOfTrains keyword.Withhold = ⊤
-IsOfTrains keyword.Train = ⊤
 IsOfTrains keyword.Discard = ⊤
 IsOfTrains other = ⊥
 

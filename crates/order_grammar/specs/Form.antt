@@ -127,6 +127,11 @@ order_of_values keyword (Err fault) = Err fault
 order_of_values keyword (Ok read) =
     elim (order_from keyword read.0 read.1) [ Some order ↦ Ok order | None ↦ Err WrongWords ]
 
+-- what a reading is that puts the order in its place
+abbrev pub put_reading : Result Unit Fault → Order → Result Order Fault
+put_reading (Ok done) order = Ok order
+put_reading (Err fault) order = Err fault
+
 -- what a first word and the words after it are by a row
 abbrev pub row_reading : Row → List ℕ → List (List ℕ) → Result Order Fault
 row_reading row first rest =

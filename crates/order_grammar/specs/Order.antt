@@ -126,3 +126,8 @@ order_from keyword.Offer ((value.Word keyword.Train) ∷ (value.Kind kind) ∷ (
     tail.Nothing =
     Some (Offer (offer.Train kind seller buyer price))
 order_from other values tail = None
+
+-- the order that was put in its place, if one was
+abbrev pub put_if : Bool → Order → Option Order
+put_if true order = Some order
+put_if false order = None

@@ -1,7 +1,9 @@
-ghost use Rattle.std.specs.Prelude.{◌≡◌, ◌≤◌, IfOk, IsTrue, map};
+ghost use Rattle.std.specs.Prelude.{◌≡◌, ◌≤◌, IsTrue, map};
 ghost use Rattle.std.specs.List.{list_all};
 ghost use Rattle.order_grammar.specs.Form.{
   nearer,
+  order_of_values,
+  put_reading,
   row_reading,
   rows_reading,
   run_reading,
@@ -9,14 +11,15 @@ ghost use Rattle.order_grammar.specs.Form.{
   values_by_row,
   words_reading,
 };
-ghost use Rattle.order_grammar.specs.Row.{has_room, is_short, names_reading, row_of, values_of};
+ghost use Rattle.order_grammar.specs.Row.{AreRead, has_room, is_short, names_reading, row_of};
 ghost use Rattle.order_grammar.specs.Words.{raised, texts_of};
+ghost use Rattle.order_grammar.specs.declared.form.Repeated.TheVariants.{Nothing};
 
 use crate::class::{Class, Reading};
 use crate::fault::Fault;
 use crate::keyword::Keyword;
 use crate::name::Name;
-use crate::order::{Order, Parts, Tail, Values, order_from};
+use crate::order::{Order, Tail, Values, put_order, put_plain};
 use crate::words::{Words, is_word};
 use arrayvec::ArrayVec;
 use map_tables::{Place, Run};
@@ -212,31 +215,38 @@ pub(crate) const FORMS: [Form; 29] = [
     },
 ];
 
-/// The order that the words of a line spell, or why they spell none: what comes nearest over all
-/// the forms.
-pub(crate) fn order_of_words(words: &Words) -> Result<Order, Fault>
-    ensures { result ≡ words_reading (texts_of words.now) }
+/// Puts the order that the words of a line spell in place of another; else tells why they spell none:
+/// what comes nearest over all the forms.
+pub(crate) fn read_order(words: &Words, order: &mut Order) -> Result<(), Fault>
+    ensures { put_reading result order.new ≡ words_reading (texts_of words.now) }
 {
     let mut rest = words.duplicate();
     let Some(first) = rest.next() else {
-        return Ok(Order::Blank);
+        *order = Order::Blank;
+        return Ok(());
     };
-    nearest_reading(&FORMS, first.text, &rest)
+    read_nearest(&FORMS, first.text, &rest, order)
 }
 
-/// What comes nearest to an order over some forms.
-fn nearest_reading(forms: &[Form], first: &[u8], rest: &Words) -> Result<Order, Fault>
+/// The same by some forms: what comes nearest over them.
+fn read_nearest(
+    forms: &[Form],
+    first: &[u8],
+    rest: &Words,
+    order: &mut Order,
+) -> Result<(), Fault>
     requires { IsTrue (list_all is_short (map row_of forms.now)) }
-    ensures { result ≡ rows_reading (map row_of forms.now) (raised first.now) (texts_of rest.now) }
+    ensures { put_reading result order.new
+        ≡ rows_reading (map row_of forms.now) (raised first.now) (texts_of rest.now) }
 {
     let mut nearest = Fault::UnknownWord;
     for form in forms {
-        // (a reading has room for all places of a run: none is made by a form of another word)
+        // (a form of another word makes nothing nearer)
         if !is_word(first, form.keyword.text()) {
             continue;
         }
-        match form.read(first, rest) {
-            Ok(order) => return Ok(order),
+        match form.read(first, rest, order) {
+            Ok(()) => return Ok(()),
             Err(fault) => nearest = nearer(nearest, fault),
         }
     }
@@ -254,58 +264,103 @@ fn nearer(first: Fault, second: Fault) -> Fault
     }
 }
 
+/// What stands in a line after its first word and before what is repeated.
+#[derive(Debug, Drop)]
+pub(crate) struct Front {
+    /// The values of its words.
+    pub(crate) values: Values,
+    /// Whether one of them is a number that is too large, which has no value.
+    pub(crate) too_large: bool,
+}
+
 impl Form {
-    /// The order that the words spell by this form; else `UnknownWord` where the first word is
-    /// another, `WrongWords` where the later words do not fit, `NumberTooLarge` where only
-    /// numbers do not.
-    fn read(&self, first: &[u8], rest: &Words) -> Result<Order, Fault>
+    /// Puts the order that the words spell by this form in place of another; else `UnknownWord` where
+    /// the first word is another, `WrongWords` where the later words do not fit, `NumberTooLarge`
+    /// where only numbers do not.
+    fn read(&self, first: &[u8], rest: &Words, order: &mut Order) -> Result<(), Fault>
         requires { IsTrue (is_short (row_of self.now)) }
-        ensures { result ≡ row_reading (row_of self.now) (raised first.now) (texts_of rest.now) }
+        ensures { put_reading result order.new
+            ≡ row_reading (row_of self.now) (raised first.now) (texts_of rest.now) }
     {
         if !is_word(first, self.keyword.text()) {
             return Err(Fault::UnknownWord);
         }
-        let Parts {
-            keyword,
-            values,
-            tail,
-        } = self.read_parts(rest)?;
-        match order_from(keyword, values.as_slice(), tail) {
-            Some(order) => Ok(order),
-            None => Err(Fault::WrongWords),
+        match self.repeated {
+            Repeated::Nothing => self.read_plain(rest, order),
+            _ => self.read_repeated(rest, order),
         }
     }
 
-    /// What words are as texts of the form's classes.
-    fn read_parts(&self, words: &Words) -> Result<Parts, Fault>
+    /// What words are as texts of the form's classes, and takes them away; `None` where they do not
+    /// fit.
+    fn read_values(&self, rest: &mut Words) -> Option<Front>
         requires { IsTrue (is_short (row_of self.now)) }
-        ensures values { values_of result ≡ values_by_row (row_of self.now) (texts_of words.now) }
-        ensures keyword { IfOk result (λ parts. parts.keyword ≡ self.now.keyword) }
+        ensures { AreRead (row_of self.now) (texts_of rest.old) (texts_of rest.new) result }
     {
-        let mut rest = words.duplicate();
         let mut values = Values::new();
         let mut too_large = false;
         for class in self.classes {
             let Some(word) = rest.next() else {
-                return Err(Fault::WrongWords);
+                return None;
             };
             match class.read(word.text) {
-                Reading::Wrong => return Err(Fault::WrongWords),
+                Reading::Wrong => return None,
                 Reading::TooLarge => too_large = true,
                 Reading::Value(value) => values.push(value),
             }
         }
+        Some(Front { values, too_large })
+    }
+
+    /// Puts the order that words spell by a form in which no class is repeated.
+    fn read_plain(&self, words: &Words, order: &mut Order) -> Result<(), Fault>
+        requires short { IsTrue (is_short (row_of self.now)) }
+        requires plain { self.now.repeated ≡ Nothing }
+        ensures { let row = row_of self.now in
+            put_reading result order.new
+            ≡ order_of_values row.keyword (values_by_row row (texts_of words.now)) }
+    {
+        let mut rest = words.duplicate();
+        let Some(front) = self.read_values(&mut rest) else {
+            return Err(Fault::WrongWords);
+        };
+        if rest.next().is_some() {
+            return Err(Fault::WrongWords);
+        }
+        if front.too_large {
+            return Err(Fault::NumberTooLarge);
+        }
+        if put_plain(self.keyword, front.values.as_slice(), order) {
+            Ok(())
+        } else {
+            Err(Fault::WrongWords)
+        }
+    }
+
+    /// Puts the order that words spell by a form. (It alone has room for what is repeated, so that
+    /// other forms need not pay for that.)
+    #[inline(never)]
+    fn read_repeated(&self, words: &Words, order: &mut Order) -> Result<(), Fault>
+        requires { IsTrue (is_short (row_of self.now)) }
+        ensures { let row = row_of self.now in
+            put_reading result order.new
+            ≡ order_of_values row.keyword (values_by_row row (texts_of words.now)) }
+    {
+        let mut rest = words.duplicate();
+        let Some(front) = self.read_values(&mut rest) else {
+            return Err(Fault::WrongWords);
+        };
         let Some(tail) = self.repeated.read_tail(&rest) else {
             return Err(Fault::WrongWords);
         };
-        if too_large {
+        if front.too_large {
             return Err(Fault::NumberTooLarge);
         }
-        Ok(Parts {
-            keyword: self.keyword,
-            values,
-            tail,
-        })
+        if put_order(self.keyword, front.values.as_slice(), tail, order) {
+            Ok(())
+        } else {
+            Err(Fault::WrongWords)
+        }
     }
 }
 

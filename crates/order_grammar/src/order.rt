@@ -1,10 +1,10 @@
 ghost use Rattle.std.specs.Prelude.{◌≡◌, ◌≤◌, Some, length};
-ghost use Rattle.order_grammar.specs.Family.{HasAmount, IsOfAmount, IsOfFile, IsOfTenths, IsOfTrains};
+ghost use Rattle.order_grammar.specs.Family.{HasAmount, IsOfAmount, IsOfFile, IsOfOne, IsOfTenths, IsOfTrains};
 ghost use Rattle.order_grammar.specs.declared.keyword.Keyword.TheVariants.{Buy, Lay as LayWord, Offer as OfferWord, Train};
 ghost use Rattle.order_grammar.specs.declared.order.Order.TheVariants.{BuyShare, BuyTrain, Discard, Lay as LayOrder, Offer as OfferOrder, Run as RunOrder};
 ghost use Rattle.order_grammar.specs.declared.order.Tail.TheVariants.{Nothing};
 ghost use Rattle.order_grammar.specs.declared.order.Value.TheVariants.{Number};
-ghost use Rattle.order_grammar.specs.Order.{keyword_of_source, order_from, parts_of, text_of_source};
+ghost use Rattle.order_grammar.specs.Order.{keyword_of_source, order_from, parts_of, put_if, text_of_source};
 
 use crate::keyword::Keyword;
 use crate::name::Name;
@@ -192,7 +192,12 @@ impl Order {
             values,
             tail,
         } = parts;
-        order_from(keyword, values.as_slice(), tail).unwrap_or(Order::Blank)
+        let mut order = Order::Blank;
+        if put_order(keyword, values.as_slice(), tail, &mut order) {
+            order
+        } else {
+            Order::Blank
+        }
     }
 
     /// What the order is made of; `None` for a blank line.
@@ -354,177 +359,165 @@ fn parts_of_discard(company: Company, kind: Kind) -> Parts
     )
 }
 
-/// The order of these parts; `None` where there is none.
-pub(crate) fn order_from(keyword: Keyword, values: &[Value], tail: Tail) -> Option<Order>
-    ensures { result ≡ order_from keyword values.now tail }
+/// Puts the order of these parts in place of another, if there is one, and answers whether there is.
+/// (An order has room for a run, so none is handed on by value here.)
+pub(crate) fn put_order(keyword: Keyword, values: &[Value], tail: Tail, order: &mut Order) -> bool
+    ensures { put_if result order.new ≡ order_from keyword values.now tail }
 {
     match tail {
-        Tail::Nothing => order_of_values(keyword, values),
+        Tail::Nothing => put_plain(keyword, values, order),
         Tail::Names(names) => match keyword {
-            Keyword::Players if values.is_empty() => Some(Order::Players(names)),
-            _ => None,
+            Keyword::Players if values.is_empty() => {
+                *order = Order::Players(names);
+                true
+            }
+            _ => false,
         },
         Tail::Places(run) => match (keyword, values) {
-            (Keyword::Run, [Value::Kind(kind)]) => Some(Order::Run { kind: *kind, run }),
-            _ => None,
+            (Keyword::Run, [Value::Kind(kind)]) => {
+                *order = Order::Run { kind: *kind, run };
+                true
+            }
+            _ => false,
         },
     }
 }
 
-/// The order of these parts where no class is repeated; `None` where there is none.
-fn order_of_values(keyword: Keyword, values: &[Value]) -> Option<Order>
-    ensures { result ≡ order_from keyword values.now Nothing }
+/// Puts the order of these parts, where no class is repeated, in place of another.
+pub(crate) fn put_plain(keyword: Keyword, values: &[Value], order: &mut Order) -> bool
+    ensures { put_if result order.new ≡ order_from keyword values.now Nothing }
 {
     match keyword {
         Keyword::Game | Keyword::Sheet | Keyword::Turn | Keyword::Company => {
-            order_of_file(keyword, values)
+            put_line_of_file(keyword, values, order)
         }
-        Keyword::Buy => order_to_buy(values),
+        Keyword::Buy => put_purchase(values, order),
         Keyword::Bid | Keyword::Limit | Keyword::Par | Keyword::Private => {
-            order_of_amount(keyword, values)
+            put_amount(keyword, values, order)
         }
-        Keyword::Sell | Keyword::Raise => order_of_tenths(keyword, values),
-        Keyword::Offer => order_to_offer(values),
-        Keyword::Exchange => match values {
-            [Value::Word(Keyword::Mohawk)] => Some(Order::ExchangeMohawk),
-            _ => None,
-        },
-        Keyword::Lay => order_to_lay(values),
-        Keyword::Token => match values {
-            [Value::Place(place)] => Some(Order::Token(*place)),
-            _ => None,
-        },
-        Keyword::Pay | Keyword::Withhold | Keyword::Train | Keyword::Discard => {
-            order_of_trains(keyword, values)
-        }
-        Keyword::Run => match values {
-            [Value::Word(Keyword::Best)] => Some(Order::RunBest),
-            _ => None,
-        },
-        Keyword::Players | Keyword::Best => None,
-        Keyword::InitialOffering | Keyword::Pool | Keyword::Mohawk | Keyword::Swap => None,
-        Keyword::Bank | Keyword::Trade => None,
+        Keyword::Sell | Keyword::Raise => put_tenths(keyword, values, order),
+        Keyword::Offer => put_offer(values, order),
+        Keyword::Exchange | Keyword::Token | Keyword::Run => put_one(keyword, values, order),
+        Keyword::Lay => put_lay(values, order),
+        Keyword::Pay | Keyword::Withhold | Keyword::Discard => put_revenue_or_discard(keyword, values, order),
+        Keyword::Train => put_train(values, order),
+        Keyword::Players | Keyword::Best => false,
+        Keyword::InitialOffering | Keyword::Pool | Keyword::Mohawk | Keyword::Swap => false,
+        Keyword::Bank | Keyword::Trade => false,
     }
 }
 
 /// The order of these parts that is a line of the file or a head of its sheets.
-fn order_of_file(keyword: Keyword, values: &[Value]) -> Option<Order>
+fn put_line_of_file(keyword: Keyword, values: &[Value], order: &mut Order) -> bool
     requires { IsOfFile keyword }
-    ensures { result ≡ order_from keyword values.now Nothing }
+    ensures { put_if result order.new ≡ order_from keyword values.now Nothing }
 {
-    match keyword {
-        Keyword::Game => match values {
-            [Value::Number(game), Value::Number(version)] => Some(Order::Game {
-                game: *game,
-                version: *version,
-            }),
-            _ => None,
+    *order = match (keyword, values) {
+        (Keyword::Game, [Value::Number(game), Value::Number(version)]) => Order::Game {
+            game: *game,
+            version: *version,
         },
-        Keyword::Sheet => match values {
-            [Value::Name(name), Value::Round(round)] => Some(Order::Sheet {
-                name: *name,
-                round: *round,
-            }),
-            _ => None,
+        (Keyword::Sheet, [Value::Name(name), Value::Round(round)]) => Order::Sheet {
+            name: *name,
+            round: *round,
         },
-        Keyword::Turn if values.is_empty() => Some(Order::Turn),
-        Keyword::Turn => None,
-        Keyword::Company => match values {
-            [Value::Company(company)] => Some(Order::Company(*company)),
-            _ => None,
-        },
-        _ => unreachable!(),
-    }
+        (Keyword::Turn, []) => Order::Turn,
+        (Keyword::Company, [Value::Company(company)]) => Order::Company(*company),
+        _ => return false,
+    };
+    true
 }
 
 /// The order to buy that has these values: a private, or a tenth of a company.
-fn order_to_buy(values: &[Value]) -> Option<Order>
-    ensures { result ≡ order_from Buy values.now Nothing }
+fn put_purchase(values: &[Value], order: &mut Order) -> bool
+    ensures { put_if result order.new ≡ order_from Buy values.now Nothing }
 {
-    match values {
-        [Value::Private(private)] => Some(Order::BuyPrivate(*private)),
+    *order = match values {
+        [Value::Private(private)] => Order::BuyPrivate(*private),
         [
             Value::Company(company),
             Value::Word(Keyword::InitialOffering),
         ] => {
-            Some(Order::BuyShare {
+            Order::BuyShare {
                 company: *company,
                 from: ShareSource::InitialOffering,
-            })
+            }
         }
-        [Value::Company(company), Value::Word(Keyword::Pool)] => Some(Order::BuyShare {
+        [Value::Company(company), Value::Word(Keyword::Pool)] => Order::BuyShare {
             company: *company,
             from: ShareSource::BankPool,
-        }),
-        _ => None,
-    }
+        },
+        _ => return false,
+    };
+    true
 }
 
 /// The order of these parts that names a number of dollars.
-fn order_of_amount(keyword: Keyword, values: &[Value]) -> Option<Order>
+fn put_amount(keyword: Keyword, values: &[Value], order: &mut Order) -> bool
     requires { IsOfAmount keyword }
-    ensures { result ≡ order_from keyword values.now Nothing }
+    ensures { put_if result order.new ≡ order_from keyword values.now Nothing }
 {
-    match keyword {
-        Keyword::Bid => match values {
-            [Value::Private(private), Value::Number(amount)] => Some(Order::Bid {
-                private: *private,
-                amount: *amount,
-            }),
-            _ => None,
+    *order = match (keyword, values) {
+        (Keyword::Bid, [Value::Private(private), Value::Number(amount)]) => Order::Bid {
+            private: *private,
+            amount: *amount,
         },
-        Keyword::Limit => match values {
-            [Value::Private(private), Value::Number(amount)] => Some(Order::Limit {
-                private: *private,
-                amount: *amount,
-            }),
-            _ => None,
+        (Keyword::Limit, [Value::Private(private), Value::Number(amount)]) => Order::Limit {
+            private: *private,
+            amount: *amount,
         },
-        Keyword::Par => match values {
-            [Value::Company(company), Value::Number(price)] => Some(Order::Par {
-                company: *company,
-                price: *price,
-            }),
-            _ => None,
+        (Keyword::Par, [Value::Company(company), Value::Number(price)]) => Order::Par {
+            company: *company,
+            price: *price,
         },
-        Keyword::Private => match values {
-            [Value::Private(private), Value::Number(price)] => Some(Order::BuyOwnedPrivate {
+        (Keyword::Private, [Value::Private(private), Value::Number(price)]) => {
+            Order::BuyOwnedPrivate {
                 private: *private,
                 price: *price,
-            }),
-            _ => None,
-        },
-        _ => unreachable!(),
-    }
+            }
+        }
+        _ => return false,
+    };
+    true
 }
 
 /// The order of these parts that names a number of tenths.
-fn order_of_tenths(keyword: Keyword, values: &[Value]) -> Option<Order>
+fn put_tenths(keyword: Keyword, values: &[Value], order: &mut Order) -> bool
     requires { IsOfTenths keyword }
-    ensures { result ≡ order_from keyword values.now Nothing }
+    ensures { put_if result order.new ≡ order_from keyword values.now Nothing }
 {
-    match keyword {
-        Keyword::Sell => match values {
-            [Value::Company(company), Value::Number(tenths)] => Some(Order::Sell {
-                company: *company,
-                tenths: *tenths,
-            }),
-            _ => None,
+    *order = match (keyword, values) {
+        (Keyword::Sell, [Value::Company(company), Value::Number(tenths)]) => Order::Sell {
+            company: *company,
+            tenths: *tenths,
         },
-        Keyword::Raise => match values {
-            [Value::Company(company), Value::Number(tenths)] => Some(Order::Raise {
-                company: *company,
-                tenths: *tenths,
-            }),
-            _ => None,
+        (Keyword::Raise, [Value::Company(company), Value::Number(tenths)]) => Order::Raise {
+            company: *company,
+            tenths: *tenths,
         },
-        _ => unreachable!(),
-    }
+        _ => return false,
+    };
+    true
+}
+
+/// The order of these parts that names one thing: what is exchanged, where a token is placed, or the
+/// best runs.
+fn put_one(keyword: Keyword, values: &[Value], order: &mut Order) -> bool
+    requires { IsOfOne keyword }
+    ensures { put_if result order.new ≡ order_from keyword values.now Nothing }
+{
+    *order = match (keyword, values) {
+        (Keyword::Exchange, [Value::Word(Keyword::Mohawk)]) => Order::ExchangeMohawk,
+        (Keyword::Token, [Value::Place(place)]) => Order::Token(*place),
+        (Keyword::Run, [Value::Word(Keyword::Best)]) => Order::RunBest,
+        _ => return false,
+    };
+    true
 }
 
 /// The order to lay a tile that has these values.
-fn order_to_lay(values: &[Value]) -> Option<Order>
-    ensures { result ≡ order_from LayWord values.now Nothing }
+fn put_lay(values: &[Value], order: &mut Order) -> bool
+    ensures { put_if result order.new ≡ order_from LayWord values.now Nothing }
 {
     let (tile, hex, rot, swap) = match values {
         [Value::Tile(tile), Value::Hex(hex), Value::Rotation(rot)] => { (*tile, *hex, *rot, false) }
@@ -534,41 +527,37 @@ fn order_to_lay(values: &[Value]) -> Option<Order>
             Value::Rotation(rot),
             Value::Word(Keyword::Swap),
         ] => { (*tile, *hex, *rot, true) }
-        _ => return None,
+        _ => return false,
     };
-    Some(Order::Lay(Lay {
+    *order = Order::Lay(Lay {
         hex,
         tile,
         rot,
         swap,
-    }))
+    });
+    true
 }
 
-/// The order of these parts that tells of trains or of what they earn.
-fn order_of_trains(keyword: Keyword, values: &[Value]) -> Option<Order>
+/// The order of these parts that tells of what trains earn, or of one that is discarded.
+fn put_revenue_or_discard(keyword: Keyword, values: &[Value], order: &mut Order) -> bool
     requires { IsOfTrains keyword }
-    ensures { result ≡ order_from keyword values.now Nothing }
+    ensures { put_if result order.new ≡ order_from keyword values.now Nothing }
 {
-    match keyword {
-        Keyword::Pay if values.is_empty() => Some(Order::Pay),
-        Keyword::Pay => None,
-        Keyword::Withhold if values.is_empty() => Some(Order::Withhold),
-        Keyword::Withhold => None,
-        Keyword::Train => order_to_buy_train(values),
-        Keyword::Discard => match values {
-            [Value::Company(company), Value::Kind(kind)] => Some(Order::Discard {
-                company: *company,
-                kind: *kind,
-            }),
-            _ => None,
+    *order = match (keyword, values) {
+        (Keyword::Pay, []) => Order::Pay,
+        (Keyword::Withhold, []) => Order::Withhold,
+        (Keyword::Discard, [Value::Company(company), Value::Kind(kind)]) => Order::Discard {
+            company: *company,
+            kind: *kind,
         },
-        _ => unreachable!(),
-    }
+        _ => return false,
+    };
+    true
 }
 
 /// The order to buy a train that has these values.
-fn order_to_buy_train(values: &[Value]) -> Option<Order>
-    ensures { result ≡ order_from Train values.now Nothing }
+fn put_train(values: &[Value], order: &mut Order) -> bool
+    ensures { put_if result order.new ≡ order_from Train values.now Nothing }
 {
     let (kind, from) = match values {
         [Value::Kind(kind), Value::Word(Keyword::Bank)] => (*kind, TrainSource::Bank),
@@ -587,14 +576,15 @@ fn order_to_buy_train(values: &[Value]) -> Option<Order>
             let (seller, price) = (*seller, *price);
             (*kind, TrainSource::Company { seller, price })
         }
-        _ => return None,
+        _ => return false,
     };
-    Some(Order::BuyTrain { kind, from })
+    *order = Order::BuyTrain { kind, from };
+    true
 }
 
 /// The consent to a sale that has these values.
-fn order_to_offer(values: &[Value]) -> Option<Order>
-    ensures { result ≡ order_from OfferWord values.now Nothing }
+fn put_offer(values: &[Value], order: &mut Order) -> bool
+    ensures { put_if result order.new ≡ order_from OfferWord values.now Nothing }
 {
     let offer = match values {
         [
@@ -623,9 +613,10 @@ fn order_to_offer(values: &[Value]) -> Option<Order>
                 price: *price,
             }
         }
-        _ => return None,
+        _ => return false,
     };
-    Some(Order::Offer(offer))
+    *order = Order::Offer(offer);
+    true
 }
 
 impl Parts {

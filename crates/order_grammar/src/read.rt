@@ -3,7 +3,7 @@ ghost use Rattle.order_grammar.specs.Line.{order_of, reading_of};
 ghost use Rattle.order_grammar.specs.Words.{AreWordsOf, is_printable};
 
 use crate::fault::Fault;
-use crate::form::order_of_words;
+use crate::form::read_order;
 use crate::order::Order;
 use crate::words::{Words, before_comment};
 
@@ -35,7 +35,8 @@ pub fn read_line(line: &[u8]) -> Result<Line<'_>, Fault>
         return Err(Fault::StrayByte);
     }
     let words = Words::of(line);
-    let order = order_of_words(&words)?;
+    let mut order = Order::Blank;
+    read_order(&words, &mut order)?;
     Ok(Line { order, words })
 }
 

@@ -1,12 +1,12 @@
 use Rattle.std.proofs.Common.{◌≡◌, ◌+◌, Result, Ok, Err, sym, ap, ◌∙◌, drop, map, fold}
-use Rattle.order_grammar.specs.Form.{nearer}
+use Rattle.order_grammar.specs.Form.{nearer, put_reading}
 use Rattle.order_grammar.specs.Row.{row_of}
 use Rattle.order_grammar.specs.Words.{raised, same_word, texts_of}
 use Rattle.order_grammar.specs.declared.fault.Fault.{Fault}
 use Rattle.order_grammar.specs.declared.fault.Fault.TheVariants.{UnknownWord}
 use Rattle.order_grammar.specs.declared.order.Order.{Order}
 use Rattle.order_grammar.proofs.FormLemmas.{with_row, found_stays, nearer-found, nearer-unknown, rows-next, short_form, unknown-row}
-use Rattle.order_grammar.proofs.form.nearest_reading.Goals as goal
+use Rattle.order_grammar.proofs.form.read_nearest.Goals as goal
 
 pub read-requires : goal.read-requires
 read-requires c = short_form c.args.forms.now c.loop-form.form-index _ c.requires c.loop-form-test.true
@@ -16,12 +16,14 @@ returns-in-Ok c =
     let first = raised c.args.first.now in
     let rest = texts_of c.args.rest.now in
     let i = c.loop-form.form-index in
+    let order = c.read.new.order in
     let others = drop (i + 1) (map row_of c.args.forms.now) in
-    let next = rows-next first rest (Err c.loop-form.nearest) c.args.forms.now i _ c.loop-form-test.true c.read.result c.read.ensures in
-    let found : fold (with_row first rest) (nearer (Err c.loop-form.nearest) c.read.result) others ≡ Ok c.in-Ok.order =
-    ap (λ (r : Result Order Fault). fold (with_row first rest) (nearer (Err c.loop-form.nearest) r) others) c.in-Ok.is
-    ∙ ap (λ (r : Result Order Fault). fold (with_row first rest) r others) (nearer-found c.loop-form.nearest c.in-Ok.order)
-    ∙ found_stays first rest c.in-Ok.order others in
+    let next =
+    rows-next first rest (Err c.loop-form.nearest) c.args.forms.now i _ c.loop-form-test.true (put_reading c.read.result order) c.read.ensures in
+    let found : fold (with_row first rest) (nearer (Err c.loop-form.nearest) (put_reading c.read.result order)) others ≡ Ok order =
+    ap (λ (r : Result Unit Fault). fold (with_row first rest) (nearer (Err c.loop-form.nearest) (put_reading r order)) others) c.in-Ok.is
+    ∙ ap (λ (r : Result Order Fault). fold (with_row first rest) r others) (nearer-found c.loop-form.nearest order)
+    ∙ found_stays first rest order others in
     sym found ∙ sym next ∙ c.loop-form.invariant
 
 pub loop-form-preserved : goal.loop-form-preserved
@@ -29,10 +31,13 @@ loop-form-preserved c =
     let first = raised c.args.first.now in
     let rest = texts_of c.args.rest.now in
     let i = c.loop-form.form-index in
+    let order = c.read.new.order in
     let others = drop (i + 1) (map row_of c.args.forms.now) in
-    let next = rows-next first rest (Err c.loop-form.nearest) c.args.forms.now i _ c.loop-form-test.true c.read.result c.read.ensures in
+    let next =
+    rows-next first rest (Err c.loop-form.nearest) c.args.forms.now i _ c.loop-form-test.true (put_reading c.read.result order) c.read.ensures in
     ap (λ (r : Result Order Fault). fold (with_row first rest) r others) c.nearer-nearest.ensures
-    ∙ ap (λ (r : Result Order Fault). fold (with_row first rest) (nearer (Err c.loop-form.nearest) r) others) (sym c.in-Err.is) ∙ sym next
+    ∙ ap (λ (r : Result Unit Fault). fold (with_row first rest) (nearer (Err c.loop-form.nearest) (put_reading r order)) others) (sym c.in-Err.is)
+    ∙ sym next
     ∙ c.loop-form.invariant
 
 -- a form of another word brings nothing nearer

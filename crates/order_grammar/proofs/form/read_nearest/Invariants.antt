@@ -3,7 +3,7 @@ use Rattle.order_grammar.specs.Form.{rows_reading}
 use Rattle.order_grammar.specs.Row.{row_of}
 use Rattle.order_grammar.specs.Words.{raised, texts_of}
 use Rattle.order_grammar.proofs.FormLemmas.{with_row}
-use Rattle.order_grammar.proofs.form.nearest_reading.Given as goal
+use Rattle.order_grammar.proofs.form.read_nearest.Given as goal
 
 -- the nearest so far, and then the other rows
 abbrev pub invariant-loop-form : goal.invariant-loop-form
