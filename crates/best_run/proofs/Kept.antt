@@ -1,17 +1,15 @@
 -- A state that is covered by one that has been explored earns no more than the best found; a state that has been explored may
 -- be kept.
-use Rattle.std.proofs.Common.{◌≡◌, ℕ, zero, suc, ◌≤◌, ◌⊎◌, inl, inr, Some, List, [], ◌∷◌, ◌++◌, length, set, slice_get, sym, ap, subst, ◌∙◌, arith}
+use Rattle.std.proofs.Common.{◌≡◌, ℕ, zero, suc, ◌≤◌, ◌⊎◌, inl, inr, Some, List, [], ◌∷◌, ◌++◌, set, slice_get, sym, ap, subst, ◌∙◌, arith}
 use Rattle.best_run.specs.declared.explored.Found.{Found}
 use Rattle.best_run.specs.declared.state.Settled.{Settled}
 use Rattle.best_run.specs.declared.task.Task.{Task}
 use Rattle.best_run.specs.declared.trail.Trail.{Trail}
-use Rattle.best_run.specs.Kept.{Covers, IsCovered, IsKept, IsNothing}
+use Rattle.best_run.specs.Kept.{Covers, IsCovered, IsHeld, IsKept, IsNothing}
 use Rattle.best_run.specs.Moves.{AreExplored, Completes, EarnsAtMost, Explores, between, total_after}
-use Rattle.best_run.specs.Suffix.{nothing_before}
 use Rattle.best_run.specs.Trail.{marks_in}
 use Rattle.best_run.proofs.Eased.{Eased, ease}
 use Rattle.best_run.proofs.Traced.{traced_both, traced_none}
-use Rattle.best_run.proofs.Tried.{over_most}
 
 -- what is covered earns no more
 low_covered : (task : Task) (entry settled : Settled) (most : ℕ) → Covers entry settled → EarnsAtMost task entry most → EarnsAtMost task settled most
@@ -42,16 +40,20 @@ explores_kept task settled like old new kept alike explores is =
         told = λ none. inl (record { amount = is.amount; marks = ap marks_in is.trail });
       });
       known = λ known place entry there. subst (λ (n : ℕ). EarnsAtMost task entry n) (sym is.amount) (elim (is.only place entry there) [
-        | inl before ↦ explores.known known place entry before
+        | inl held ↦ explores.known known held.0 entry held.1
         | inr same ↦ subst (λ (s : Settled). EarnsAtMost task s new.amount) same (alike new.amount (explores.most known))
       ]);
       most = λ known. subst (λ (n : ℕ). EarnsAtMost task settled n) (sym is.amount) (explores.most known);
     }
 
--- where no train is left nothing is earned
-pub nothing_explored : (task : Task) (found : Found) → IsNothing (length task.trains.items) found → AreExplored task found
+-- no state is kept at first
+pub nothing_explored : (task : Task) (found : Found) → IsNothing found → AreExplored task found
 nothing_explored task found is place entry there =
-    subst (λ (s : Settled). EarnsAtMost task s found.amount) (is.only place entry there) (over_most task (nothing_before (length task.trains.items)) found.amount (omega arith) (omega arith))
+    never place (subst (λ (entries : List Settled). slice_get entries place ≡ Some entry) is.none there)
+  where
+    never : (at : ℕ) → slice_get [] at ≡ Some entry → EarnsAtMost task entry found.amount
+    never zero none = absurd cc
+    never (suc at) none = absurd cc
 
 -- a place is written
 pub set_only : (entries : List Settled) (n place : ℕ) (settled entry : Settled) → slice_get (set entries n settled) place ≡ Some entry → (slice_get entries place ≡ Some entry) ⊎ (settled ≡ entry)
@@ -62,9 +64,20 @@ set_only (one ∷ entries) (suc n) zero settled entry is = inl is
 set_only (one ∷ entries) (suc n) (suc place) settled entry is = set_only entries n place settled entry is
 
 -- one more is pushed
-pub push_only : (same : Settled) (entries : List Settled) → ((place : ℕ) (entry : Settled) → slice_get entries place ≡ Some entry → same ≡ entry) → (place : ℕ) (entry : Settled) → slice_get (entries ++ same ∷ []) place ≡ Some entry → same ≡ entry
-push_only same [] only zero entry is = let e : Some same ≡ Some entry = is in cc
-push_only same [] only (suc place) entry is = only place entry is
-push_only same (one ∷ entries) only zero entry is = only zero entry is
-push_only same (one ∷ entries) only (suc place) entry is =
-    push_only same entries (λ n other at. only (suc n) other at) place entry is
+pub push_only : (one : Settled) (entries : List Settled) (place : ℕ) (entry : Settled) → slice_get (entries ++ one ∷ []) place ≡ Some entry → (slice_get entries place ≡ Some entry) ⊎ (one ≡ entry)
+push_only one [] zero entry is = inr (let e : Some one ≡ Some entry = is in cc)
+push_only one [] (suc place) entry is = inl is
+push_only one (other ∷ entries) zero entry is = inl is
+push_only one (other ∷ entries) (suc place) entry is = push_only one entries place entry is
+
+-- one that is held is held once more
+pub kept_twin : (settled twin : Settled) (old now new : Found) (place : ℕ) → IsKept settled old now → slice_get now.explored.items place ≡ Some twin → new.amount ≡ now.amount → new.trail ≡ now.trail → new.explored.items ≡ now.explored.items ++ twin ∷ [] → IsKept settled old new
+kept_twin settled twin old now new place is at amount trail items =
+    record {
+      amount = amount ∙ is.amount;
+      trail = trail ∙ is.trail;
+      only = λ other entry there. elim (push_only twin now.explored.items other entry (subst (λ (entries : List Settled). slice_get entries other ≡ Some entry) items there)) [
+        | inl before ↦ is.only other entry before
+        | inr same ↦ subst (λ (s : Settled). IsHeld old s ⊎ (settled ≡ s)) same (is.only place twin at)
+      ];
+    }

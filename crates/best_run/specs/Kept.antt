@@ -2,7 +2,6 @@
 use Rattle.std.specs.Prelude.{◌≡◌, ℕ, ◌≤◌, Bool, true, ◌⊎◌, Some, List, [], ◌∷◌, slice_get}
 use Rattle.best_run.specs.declared.explored.Found.{Found}
 use Rattle.best_run.specs.declared.state.Settled.{Settled}
-use Rattle.best_run.specs.Suffix.{nothing_before}
 use Rattle.best_run.specs.Trail.{marks_in}
 
 -- what is marked in the second is marked in the first
@@ -28,14 +27,18 @@ pub record IsCovered (found : Found) (settled : Settled) : Type 0 where
   pub there : slice_get found.explored.items place ≡ Some entry
   pub covers : Covers entry settled
 
--- a state is kept, if at all in place of another
+-- a state stands at some place
+abbrev pub IsHeld : Found → Settled → Type 0
+IsHeld found entry = (place : ℕ) × (slice_get found.explored.items place ≡ Some entry)
+
+-- a state is kept, if at all; the others that are kept are among those that were
 pub record IsKept (settled : Settled) (old new : Found) : Type 0 where
   pub amount : new.amount ≡ old.amount
   pub trail : new.trail ≡ old.trail
-  pub only : (place : ℕ) (entry : Settled) → slice_get new.explored.items place ≡ Some entry → (slice_get old.explored.items place ≡ Some entry) ⊎ (settled ≡ entry)
+  pub only : (place : ℕ) (entry : Settled) → slice_get new.explored.items place ≡ Some entry → IsHeld old entry ⊎ (settled ≡ entry)
 
--- nothing is found yet, no move is told, and what is kept are states in which no train is left
-pub record IsNothing (trains : ℕ) (found : Found) : Type 0 where
+-- nothing is found yet, no move is told, and no state is kept
+pub record IsNothing (found : Found) : Type 0 where
   pub amount : found.amount ≡ 0
   pub marks : marks_in found.trail ≡ []
-  pub only : (place : ℕ) (entry : Settled) → slice_get found.explored.items place ≡ Some entry → nothing_before trains ≡ entry
+  pub none : found.explored.items ≡ []

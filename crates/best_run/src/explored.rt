@@ -1,16 +1,22 @@
 //! What has been found, and which states between runs have been explored: a state from which no more
 //! can be earned than from one of these is not explored again.
-ghost use Rattle.std.specs.Prelude.{[], ◌∷◌, IfOk, IsTrue};
+ghost use Rattle.std.specs.Prelude.{◌≡◌, [], ◌∷◌, IfOk, IsTrue};
 ghost use Rattle.best_run.specs.Kept.{IsCovered, IsKept, IsNothing};
 ghost use Rattle.best_run.specs.Moves.{Traces};
 ghost use Rattle.best_run.specs.Trail.{go_along};
 
-use crate::bits::Borders;
 use crate::state::Settled;
 use crate::trail::{Mark, Trail};
 use reach::Step;
 use std::alloc::{AllocError, Global};
 use tables::Amount;
+
+/// How many explored states are kept at most.
+const MOST_PLACES: usize = 32_768;
+
+/// How many places there are for each state that has been kept, as long as there may be more: where there are
+/// too few, states are put in place of others that would have served.
+const PLACES_EACH: usize = 4;
 
 /// What has been found.
 #[derive(Drop)]
@@ -20,8 +26,13 @@ pub(crate) struct Found {
     /// The moves that earn it.
     pub(crate) trail: Trail,
     /// States between runs that have been explored: no way on from there earns more. Each stands at one
-    /// place, in place of the one that stood there.
+    /// place, in place of the one that stood there. There are no places at first, and twice as many each time
+    /// that there are too few.
     pub(crate) explored: Vec<Settled>,
+    /// How often a state has been kept.
+    pub(crate) kept: usize,
+    /// The error of a place for which memory was refused, if there was any.
+    pub(crate) refused: Option<AllocError>,
 }
 
 /// The place at which a state is kept. Any place would do: states that use the same borders share one.
@@ -31,27 +42,27 @@ fn place_of(settled: &Settled) -> usize {
 }
 
 impl Found {
-    /// Nothing is found yet. At each of so many places stands a state in which none of so many trains is
-    /// left. The only error is want of memory.
-    pub(crate) fn nothing(alloc: Global, trains: usize, places: usize) -> Result<Found, AllocError>
-        ensures { IfOk result (IsNothing trains) }
+    /// Nothing is found yet, and no state is kept.
+    pub(crate) fn nothing(alloc: Global) -> Found
+        ensures { IsNothing result }
     {
-        let over = Settled {
-            next: trains,
-            total: 0,
-            kind: 0,
-            cap: 0,
-            used: Borders::none(),
-        };
-        let mut explored = Vec::new(alloc);
-        for _ in 0..places {
-            explored.push(over.copy())?;
-        }
-        Ok(Found {
+        Found {
             amount: 0,
             trail: Trail::new(alloc),
-            explored,
-        })
+            explored: Vec::new(alloc),
+            kept: 0,
+            refused: None,
+        }
+    }
+
+    /// What is found, unless memory was refused for a place. The only error is that refusal.
+    pub(crate) fn unless_refused(self) -> Result<Found, AllocError>
+        ensures { IfOk result (λ found. found ≡ self) }
+    {
+        match self.refused {
+            Some(error) => Err(error),
+            None => Ok(self),
+        }
     }
 
     /// Tells of a move that led on to what has been found, if it is more than before.
@@ -84,13 +95,37 @@ impl Found {
         self.explored[place_of(settled) % places].covers(settled)
     }
 
-    /// Keeps a state that has been explored.
+    /// Makes the places twice as many; the states that stand in the first half stand in the other half, too,
+    /// where those are looked for whose place was the same. Before the first place there is the given state. The
+    /// only error is want of memory.
+    fn widen(&mut self, settled: &Settled) -> Result<(), AllocError>
+        ensures { IsKept settled.now self.old self.new }
+    {
+        let places = self.explored.len();
+        if places == 0 {
+            self.explored.push(settled.copy())?;
+        }
+        for place in 0..places {
+            let twin = self.explored[place].copy();
+            self.explored.push(twin)?;
+        }
+        Ok(())
+    }
+
+    /// Keeps a state that has been explored. Where memory is refused, the error is kept.
     pub(crate) fn keep(&mut self, settled: &Settled)
         ensures { IsKept settled.now self.old self.new }
     {
         let places = self.explored.len();
+        if places < MOST_PLACES && self.kept >= places / PLACES_EACH {
+            if let Err(error) = self.widen(settled) {
+                self.refused = Some(error);
+            }
+        }
+        let places = self.explored.len();
         if places > 0 {
             self.explored[place_of(settled) % places] = settled.copy();
+            self.kept = self.kept.saturating_add(1);
         }
     }
 }

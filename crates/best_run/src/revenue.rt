@@ -20,9 +20,6 @@ use reach::Network;
 use std::alloc::{AllocError, Global};
 use tables::{Amount, Company, Kind};
 
-/// How many explored states are kept at most.
-const MOST_PLACES: usize = 8192;
-
 impl Task {
     /// Tries all ways of the last trains by themselves, so many of them.
     fn settle_last(&self, count: usize, bounds: &[Amount], best: &mut Found)
@@ -49,30 +46,17 @@ impl Task {
     fn settle_suffixes(&self, alloc: Global, best: &mut Found) -> Result<Vec<Amount>, AllocError>
         requires fit { IsFit self.now }
         requires ready { AreReady self.now }
-        requires nothing { IsNothing (length self.now.trains.items) best.old }
+        requires nothing { IsNothing best.old }
         ensures { let all = length self.now.trains.items in
             IfOk result (λ bounds. IsSolved self.now all bounds.items best.new) }
     {
-        let mut bounds = Vec::new(alloc);
+        let mut bounds = Vec::with_capacity(alloc, self.trains.len())?;
         for count in 0..self.trains.len() {
             self.settle_last(count, &bounds, best);
             bounds.push(best.amount)?;
             best.trail.write(Mark::Pass);
         }
         Ok(bounds)
-    }
-
-    /// How many explored states are kept: none for one train, and fewer where there are few ways, since
-    /// to set them up takes time as well. Any number would do.
-    fn places(&self) -> usize {
-        if self.trains.len() < 2 {
-            return 0;
-        }
-        let mut ways: usize = 0;
-        for from in &self.departures {
-            ways = ways.saturating_add(from.ways.len());
-        }
-        (ways.saturating_mul(ways) / 4).min(MOST_PLACES)
     }
 
     /// The greatest total of all ways from nothing settled to the end, with the moves that earn it. The
@@ -82,10 +66,11 @@ impl Task {
         requires ready { AreReady self.now }
         ensures { IfOk result (IsTop self.now) }
     {
-        let mut best = Found::nothing(alloc, self.trains.len(), self.places())?;
+        let mut best = Found::nothing(alloc);
         let bounds = self.settle_suffixes(alloc, &mut best)?;
         self.settle_last(self.trains.len(), &bounds, &mut best);
-        Ok(best)
+        let found = best.unless_refused()?;
+        Ok(found)
     }
 }
 

@@ -1,7 +1,6 @@
 -- All trains are solved for in the end.
-use Rattle.std.proofs.Common.{ℕ, sym, subst, arith}
-use Rattle.best_run.specs.Kept.{IsNothing}
-use Rattle.best_run.specs.Suffix.{AreBounds}
+use Rattle.std.proofs.Common.{sym, subst, arith}
+use Rattle.best_run.specs.Suffix.{AreBounds, IsTop}
 use Rattle.best_run.proofs.Eased.{solved_all}
 use Rattle.best_run.proofs.task.Task.greatest.Goals as goal
 
@@ -10,7 +9,5 @@ settle_last-requires-clause-bounds c = subst (AreBounds c.args.self.now) (sym c.
 
 pub returns : goal.returns
 returns c =
-    solved_all c.args.self.now c.len-2.result _ _ _ (omega arith) c.in_ok-bounds.ensures c.settle_last.ensures
-
-pub settle_suffixes-requires-clause-nothing : goal.settle_suffixes-requires-clause-nothing
-settle_suffixes-requires-clause-nothing c = subst (λ (n : ℕ). IsNothing n c.in_ok-best.best) (omega arith) c.in_ok-best.ensures
+    subst (IsTop c.args.self.now) (sym c.in_ok-found.ensures)
+    (solved_all c.args.self.now c.len.result _ _ _ (omega arith) c.in_ok-bounds.ensures c.settle_last.ensures)

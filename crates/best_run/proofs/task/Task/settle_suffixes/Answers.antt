@@ -7,7 +7,7 @@ use Rattle.best_run.proofs.task.Task.settle_suffixes.Goals as goal
 
 pub loop-count-init : goal.loop-count-init
 loop-count-init c =
-    rw c.new-bounds.ensures.items
+    rw c.in_ok-bounds.ensures.items
     (solved_none c.args.self.now c.args.best.now c.requires.nothing.amount c.requires.nothing.marks (nothing_explored c.args.self.now c.args.best.now c.requires.nothing))
 
 pub settle_last-requires-clause-bounds : goal.settle_last-requires-clause-bounds

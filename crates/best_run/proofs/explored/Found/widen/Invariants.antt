@@ -1,0 +1,10 @@
+-- What stands at the places is what stood there before, or the state that is kept.
+use Rattle.std.proofs.Common.{◌≤◌, length}
+use Rattle.best_run.specs.Kept.{IsKept}
+use Rattle.best_run.proofs.explored.Found.widen.Given as goal
+
+abbrev pub invariant-loop-place : goal.invariant-loop-place
+invariant-loop-place l = record {
+  kept : IsKept l.settled l.fn.self l.self;
+  long : l.places ≤ length l.self.explored.items;
+}
