@@ -1,6 +1,7 @@
 -- The ways from a stop, as they are found: by a piece to a stop there is one, by a piece to a side those by the pieces
 -- from there.
-use Rattle.std.proofs.Common.{◌≡◌, ℕ, zero, suc, ◌+◌, ◌*◌, ◌<◌, ◌≤◌, Bool, true, false, ◌⊎◌, inl, inr, Some, None, List, [], ◌∷◌, ◌++◌, length, get_or, slice_get, refl, sym, ap, subst, ◌∙◌, arith, length-append}
+use Rattle.std.proofs.Common.{◌≡◌, ℕ, zero, suc, ◌+◌, ◌*◌, ◌<◌, ◌≤◌, Bool, true, false, ◌⊎◌, inl, inr, Some, None, List, [], ◌∷◌, ◌++◌, length, get_or, slice_get, take, refl, sym, ap, subst, ◌∙◌, arith, length-append}
+use Rattle.std.proofs.lemmas.List.{take_at}
 use Rattle.std.proofs.lemmas.Option.{slice_get_read, slice_get_within}
 use Rattle.reach.specs.Position.{IsAmong}
 use Rattle.reach.specs.declared.walk.Step.{Step}
@@ -10,9 +11,10 @@ use Rattle.best_run.specs.declared.task.Node.{Node}
 use Rattle.best_run.specs.declared.task.Piece.{Piece}
 use Rattle.best_run.specs.declared.task.Task.{Task}
 use Rattle.best_run.specs.declared.task.Way.{Way}
+use Rattle.best_run.specs.declared.ways.Path.{Path}
 use Rattle.best_run.specs.Fit.{BordersFit, unused}
 use Rattle.best_run.specs.Moves.{LeadsFrom, ends_in, marked_all, misses, node_at, pieces_in, stop_in}
-use Rattle.best_run.specs.Ways.{AddsBelow, AddsWays, AreDepartures, AreFree, AreReady, AreStops, AreWaysFrom, AreWaysOf, HasWay, Hop, IsMadeOf, IsStop, LeadsTo, borders_by, none_used, steps_by, ways_at, ways_in}
+use Rattle.best_run.specs.Ways.{AddsBelow, AddsWays, AreDepartures, AreFree, AreReady, AreStops, AreWaysFrom, AreWaysOf, AddsWaysBy, HasWay, Hop, IsMadeOf, IsSamePath, IsStop, LeadsTo, borders_by, none_used, steps_by, ways_at, ways_in}
 use Rattle.best_run.proofs.Marks.{marked_fewer}
 use Rattle.best_run.proofs.Places.{below_next, place_low}
 use Rattle.best_run.proofs.Split.{append_together}
@@ -175,6 +177,22 @@ adds_side task used path walked place piece node index old new free side passes 
           made = made_more task used path walked place piece hop hops has.way free side passes leads.1 has.made;
           to_is = has.to_is;
         }
+
+-- the ways after a path that is the same are the same
+pub adds_after : (task : Task) (used : List Bool) (old new : Path) (piece : Piece) (ways more : List Way) → IsSamePath old new → AddsWaysBy task used new piece ways more → AddsWaysBy task used old piece ways more
+adds_after task used old new piece ways more same adds =
+    subst (λ (n : ℕ). AddsWays task used old.borders.items old.steps.items n piece ways more) same.first
+    (subst (λ (steps : List Step). AddsWays task used old.borders.items steps new.first piece ways more) same.steps
+    (subst (λ (borders : List ℕ). AddsWays task used borders new.steps.items new.first piece ways more) same.borders adds))
+
+pub same_both : (old middle new : Path) → IsSamePath old middle → IsSamePath middle new → IsSamePath old new
+same_both old middle new first second =
+    record { first = second.first ∙ first.first; borders = second.borders ∙ first.borders; steps = second.steps ∙ first.steps }
+
+-- what was put behind some is taken away
+pub went_back : {A : Type 0} (some more both back : List A) (count : ℕ) → count ≡ length some → both ≡ some ++ more → back ≡ take count both → back ≡ some
+went_back some more both back count long are taken =
+    taken ∙ (ap (take count) are ∙ take_at some more count (sym long))
 
 -- the ways from a stop, piece by piece
 pub from_none : (task : Task) (stop : ℕ) → AreWaysFrom task stop 0 []

@@ -76,6 +76,17 @@ pub record IsLonger (path : Path) (piece : Piece) (longer : Path) : Type 0 where
   pub borders : longer.borders.items ≡ path.borders.items ++ piece.borders.items
   pub steps : longer.steps.items ≡ path.steps.items ++ piece.step ∷ []
 
+-- no piece of a path yet
+pub record IsNoPath (path : Path) : Type 0 where
+  pub borders : path.borders.items ≡ []
+  pub steps : path.steps.items ≡ []
+
+-- the same path
+pub record IsSamePath (old new : Path) : Type 0 where
+  pub first : new.first ≡ old.first
+  pub borders : new.borders.items ≡ old.borders.items
+  pub steps : new.steps.items ≡ old.steps.items
+
 -- those by the pieces from a spot before one of them, after a piece that led there
 pub record AddsBelow (task : Task) (used : List Bool) (path : List ℕ) (walked : List Step) (place : ℕ) (spot most : ℕ) (old new : List Way) : Type 0 where
   pub kept : (way : Way) → IsAmong way old → IsAmong way new

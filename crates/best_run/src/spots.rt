@@ -3,7 +3,7 @@ ghost use Rattle.std.specs.Prelude.{◌≡◌, ◌+◌, ◌<◌, ◌≤◌, ◌%
 ghost use Rattle.best_run.specs.Described.{Adds, AreNumbered, AreSteps, Describes, IsNumbered, IsPieceOf, IsSideNode, IsStopNode, TakesPiece, TakesStep, code_before, most_of, most_of_all, number_before};
 ghost use Rattle.best_run.specs.Fit.{IsFit};
 ghost use Rattle.best_run.specs.Ways.{AreReady};
-ghost use Rattle.certificate.specs.Legal.{border_of};
+ghost use Rattle.certificate.specs.Legal.{border_at, border_of};
 ghost use Rattle.map_tables.specs.Hex.{index_of};
 ghost use Rattle.map_tables.specs.Place.{stop_index_of};
 ghost use Rattle.map_tables.specs.declared.track.Link.{Link};
@@ -71,20 +71,25 @@ fn border(hex: Hex, side: Side) -> usize
     }
 }
 
-/// The piece of a step.
-fn piece_of(alloc: Global, step: Step) -> Result<Piece, AllocError>
-    ensures { IfOk result (IsPieceOf step) }
+/// The border that is crossed where a hex is entered at a spot; none at a stop.
+fn crossing_at(alloc: Global, spot: Spot) -> Crossing
+    ensures { result.items ≡ border_at spot.hex spot.end }
 {
-    let spot = step.entered();
-    let mut borders = Vec::new(alloc);
-    if let End::Side(side) = spot.end {
-        borders.push(border(spot.hex, side))?;
+    match spot.end {
+        End::Side(side) => Crossing::over(alloc, border(spot.hex, side)),
+        End::Stop(_) => Crossing::of(Vec::new(alloc)),
     }
-    Ok(Piece {
+}
+
+/// The piece of a step.
+fn piece_of(alloc: Global, step: Step) -> Piece
+    ensures { IsPieceOf step result }
+{
+    Piece {
         to: number_of(step.left()),
         step,
-        borders: Crossing::of(borders),
-    })
+        borders: crossing_at(alloc, step.entered()),
+    }
 }
 
 /// The hex at a place in the order of the map.
@@ -96,13 +101,16 @@ fn hex_at(index: usize) -> Hex
     all[index]
 }
 
+/// How many steps there is room for at first.
+const STEPS: usize = 512;
+
 /// All steps of a position, each link in both directions.
 pub(crate) fn all_steps<N: Network>(alloc: Global, network: &N) -> Result<Vec<Step>, AllocError>
     requires { IsLawful (N.position network.now) }
     ensures { let position = N.position network.now in
         IfOk result (λ steps. AreSteps position steps.items) }
 {
-    let mut steps = Vec::new(alloc);
+    let mut steps = Vec::with_capacity(alloc, STEPS)?;
     for index in 0..HEXES {
         push_steps(network, hex_at(index), &mut steps)?;
     }
@@ -226,7 +234,7 @@ fn bare_spots<N: Network>(
     ensures { let position = N.position network.now in
         IfOk result (λ nodes. AreNumbered position company [] 744 nodes.items) }
 {
-    let mut nodes = Vec::new(alloc);
+    let mut nodes = Vec::with_capacity(alloc, SPOTS)?;
     for number in 0..SPOTS {
         nodes.push(bare_node(alloc, network, company, number))?;
     }
@@ -249,7 +257,7 @@ fn add_step(alloc: Global, step: Step, nodes: &mut Vec<Node>) -> Result<(), Allo
 {
     let number = code_before(step);
     if number < SPOTS {
-        let piece = piece_of(alloc, step)?;
+        let piece = piece_of(alloc, step);
         add_piece(&mut nodes[number], piece)?;
     }
     Ok(())
@@ -286,7 +294,7 @@ fn most_of(kind: Kind) -> usize
 fn most_of_all(alloc: Global, kinds: &[Kind]) -> Result<Vec<usize>, AllocError>
     ensures { IfOk result (λ most. most.items ≡ most_of_all kinds.now) }
 {
-    let mut most = Vec::new(alloc);
+    let mut most = Vec::with_capacity(alloc, kinds.len())?;
     for kind in kinds {
         most.push(most_of(*kind))?;
     }

@@ -14,7 +14,7 @@ returns-in_ok-add_piece c =
     let at : slice_get nodes number ≡ Some node = slice_get_read nodes (length nodes) number node refl (omega arith) c.index_mut.ensures.value in
     let few : code_before step < 744 = omega (arith, c.code_before-number.ensures, c.if-number-lt-SPOTS.true) in
     subst (λ (n : ℕ). TakesStep step nodes (slice_set nodes n c.add_piece.new.node)) (sym c.code_before-number.ensures)
-    (takes_piece step nodes node c.add_piece.new.node c.in_ok-piece.piece few (ap (λ (n : ℕ). slice_get nodes n) (sym c.code_before-number.ensures) ∙ at) c.in_ok-piece.ensures c.in_ok-add_piece.ensures)
+    (takes_piece step nodes node c.add_piece.new.node c.piece_of-piece.result few (ap (λ (n : ℕ). slice_get nodes n) (sym c.code_before-number.ensures) ∙ at) c.piece_of-piece.ensures c.in_ok-add_piece.ensures)
 
 pub returns-else-number-lt-SPOTS : goal.returns-else-number-lt-SPOTS
 returns-else-number-lt-SPOTS c =
