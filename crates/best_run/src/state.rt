@@ -1,7 +1,7 @@
-ghost use Rattle.std.specs.Prelude.{◌≡◌, ◌+◌, ◌-◌, ◌*◌, ◌^◌, ◌<◌, ◌≤◌, IsTrue, false, length};
+ghost use Rattle.std.specs.Prelude.{◌≡◌, ◌+◌, ◌-◌, ◌*◌, ◌^◌, ◌<◌, ◌≤◌, IsTrue, false, length, true};
 ghost use Rattle.best_run.specs.Fit.{BordersFit, IsFit};
 ghost use Rattle.best_run.specs.Kept.{Covers, Freer};
-ghost use Rattle.best_run.specs.Moves.{along, begun, begun_by, can_take, left_after, marked_all, may_come, may_earn, may_settle, misses, own_before, passed, settling, turned_back, using};
+ghost use Rattle.best_run.specs.Moves.{along, begun, begun_by, can_take, left_after, marked_all, may_come, may_earn, may_settle, misses, node_at, own_before, passed, settling, stop_in, turned_back, using};
 
 use crate::bits::{Borders, Spots};
 use crate::task::{Piece, Task};
@@ -161,16 +161,12 @@ impl Standing {
         }
     }
 
-    /// Whether the run may come to a spot, which may be a stop.
-    fn may_come(&self, stop: bool, spot: usize) -> bool
-        requires { spot < 744 }
-        ensures { result ≡ may_come stop self.now spot }
+    /// Whether the run may come to a stop.
+    fn may_come(&self, stop: usize) -> bool
+        requires { stop < 744 }
+        ensures { result ≡ may_come true self.now stop }
     {
-        if stop {
-            self.left > 0 && !self.visited.has(spot)
-        } else {
-            true
-        }
+        self.left > 0 && !self.visited.has(stop)
     }
 }
 
@@ -182,13 +178,13 @@ fn left_after(stop: bool, left: usize) -> usize
 }
 
 impl Task {
-    /// Whether a run may take a piece.
+    /// Whether a run may take a piece to a stop.
     pub(crate) fn can_take(&self, run: &Standing, settled: &Settled, piece: &Piece) -> bool
-        requires fit { IsFit self.now }
         requires to { piece.now.to < 744 }
+        requires stop { stop_in (node_at self.now piece.now.to) ≡ true }
         ensures { result ≡ can_take self.now run.now settled.now.used piece.now }
     {
-        run.may_come(self.spots[piece.to].stop, piece.to) && piece.borders.misses(&settled.used)
+        run.may_come(piece.to) && piece.borders.misses(&settled.used)
     }
 
     /// Marks a spot behind those before it, if the company has a token there.
