@@ -30,3 +30,4 @@ pub mod Laid
 pub mod Described
 pub mod Along
 pub mod Likened
+pub mod Homes

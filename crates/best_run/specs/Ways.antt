@@ -1,6 +1,6 @@
 -- Ways of plain track: from a stop by a piece, and over sides by others, to the next stop, over no border twice. A run goes
 -- over a way at once.
-use Rattle.std.specs.Prelude.{◌≡◌, ℕ, ◌<◌, ◌≤◌, Bool, true, false, ◌⊎◌, Option, Some, None, List, [], ◌∷◌, ◌++◌, length, replicate, slice_get}
+use Rattle.std.specs.Prelude.{◌≡◌, ℕ, ◌+◌, ◌<◌, ◌≤◌, Bool, true, false, ◌⊎◌, Option, Some, None, List, [], ◌∷◌, ◌++◌, length, replicate, slice_get}
 use Rattle.reach.specs.Position.{IsAmong}
 use Rattle.reach.specs.declared.walk.Step.{Step}
 use Rattle.best_run.specs.declared.task.Departures.{Departures}
@@ -11,7 +11,7 @@ use Rattle.best_run.specs.declared.ways.Path.{Path}
 use Rattle.best_run.specs.declared.explored.Found.{Found}
 use Rattle.best_run.specs.declared.state.Settled.{Settled}
 use Rattle.best_run.specs.declared.state.Standing.{Standing}
-use Rattle.best_run.specs.Moves.{AreExplored, Completes, IsTraced, LeadsFrom, Move, State, along, can_take, ends_in, marked_all, misses, node_at, standing, stop_in, total_after, using}
+use Rattle.best_run.specs.Moves.{AreExplored, Completes, IsTraced, LeadsFrom, Move, State, along, can_take, ends_in, marked_all, misses, node_at, own_in, standing, stop_in, total_after, using}
 
 -- a piece, with its place among those that lead from a spot
 pub record Hop : Type 0 where
@@ -133,11 +133,22 @@ pub record AreStops (task : Task) (count : ℕ) (stops : List ℕ) : Type 0 wher
   pub each : (stop : ℕ) → stop < count → stop_in (node_at task stop) ≡ true → (ways_at task stop ≡ []) ⊎ IsListed stops (length stops) stop
   pub only : (place stop : ℕ) → slice_get stops place ≡ Some stop → IsStop task stop
 
--- the ways from each stop are known, and the stops from which they lead
+-- the company has no token from one spot on before another
+abbrev pub HasNoHome : Task → ℕ → ℕ → Type 0
+HasNoHome task from to = (spot : ℕ) → from ≤ spot → spot < to → own_in (node_at task spot) ≡ false
+
+-- the spots from one on before another where it has tokens, in order
+abbrev pub AreHomes : Task → ℕ → ℕ → List ℕ → Type 0
+AreHomes task from to [] = HasNoHome task from to
+AreHomes task from to (home ∷ homes) =
+    (from ≤ home) × (home < to) × (own_in (node_at task home) ≡ true) × HasNoHome task from home × AreHomes task (home + 1) to homes
+
+-- the ways from each stop are known, and the stops from which they lead, and where the company has tokens
 pub record AreReady (task : Task) : Type 0 where
   pub long : length task.departures.items ≡ 744
   pub each : (stop : ℕ) (from : Departures) → slice_get task.departures.items stop ≡ Some from → stop_in (node_at task stop) ≡ true → AreWaysOf task stop from.ways.items
   pub stops : AreStops task 744 task.stops.items
+  pub homes : AreHomes task 0 744 task.homes.items
 
 -- a way stands among some before a place
 abbrev pub StandsBefore : List Way → ℕ → Way → Type 0

@@ -127,9 +127,10 @@ impl Task {
         ensures { Tries self.now (between settled.now) (IsBegin Any) best.old best.new }
     {
         let mut before = Spots::none();
-        for stop in 0..self.spots.len() {
+        for place in 0..self.homes.len() {
+            let stop = self.homes[place];
             let node = &self.spots[stop];
-            if node.stop && node.own {
+            if node.stop {
                 self.begin_at(settled, stop, &before, bounds, best);
             }
             self.mark_own(stop, &mut before);

@@ -2,7 +2,7 @@
 ghost use Rattle.std.specs.Prelude.{◌≡◌, ◌+◌, ◌<◌, ◌≤◌, ◌%◌, ◌↔◌, [], length, IfOk, IsTrue, OnOk, Some};
 ghost use Rattle.best_run.specs.Described.{Adds, AreNumbered, AreSteps, Describes, IsNumbered, IsPieceOf, IsSideNode, IsStopNode, TakesPiece, TakesStep, code_before, most_of, most_of_all, number_before};
 ghost use Rattle.best_run.specs.Fit.{IsFit};
-ghost use Rattle.best_run.specs.Ways.{AreReady};
+ghost use Rattle.best_run.specs.Ways.{AreHomes, AreReady};
 ghost use Rattle.certificate.specs.Legal.{border_at, border_of};
 ghost use Rattle.map_tables.specs.Hex.{index_of};
 ghost use Rattle.map_tables.specs.Place.{stop_index_of};
@@ -302,6 +302,20 @@ fn most_of_all(alloc: Global, kinds: &[Kind]) -> Result<Vec<usize>, AllocError>
 }
 
 impl Task {
+    /// The spots where the company has tokens, by their numbers, in order. The only error is want of memory.
+    fn all_homes(&self, alloc: Global) -> Result<Vec<usize>, AllocError>
+        requires { IsFit self.now }
+        ensures { IfOk result (λ homes. AreHomes self.now 0 744 homes.items) }
+    {
+        let mut homes = Vec::new(alloc);
+        for spot in 0..SPOTS {
+            if self.spots[spot].own {
+                homes.push(spot)?;
+            }
+        }
+        Ok(homes)
+    }
+
     /// What is searched for the trains of a company. The only error is want of memory.
     pub(crate) fn of<N: Network>(
         alloc: Global,
@@ -322,12 +336,15 @@ impl Task {
             spots,
             departures: Vec::new(alloc),
             stops: Vec::new(alloc),
+            homes: Vec::new(alloc),
             trains,
         };
         let departures = task.all_departures(alloc)?;
         task.departures = departures;
         let stops = task.all_stops(alloc)?;
         task.stops = stops;
+        let homes = task.all_homes(alloc)?;
+        task.homes = homes;
         Ok(task)
     }
 }

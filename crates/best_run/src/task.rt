@@ -57,6 +57,8 @@ pub(crate) struct Task {
     pub(crate) departures: Vec<Departures>,
     /// The stops from which ways lead, by their numbers.
     pub(crate) stops: Vec<usize>,
+    /// The spots where the company has tokens, by their numbers, in order.
+    pub(crate) homes: Vec<usize>,
     /// For each train, the most stops of a run.
     pub(crate) trains: Vec<usize>,
 }

@@ -1,13 +1,15 @@
 -- Each loop adds the next ways to those tried, and together they are all moves of the state.
-use Rattle.std.proofs.Common.{◌≡◌, ◌+◌, true, false, inl, inr, Some, List, [], ◌∷◌, length, slice_get, refl, sym, ap, subst, ◌∙◌, arith}
+use Rattle.std.proofs.Common.{◌≡◌, ℕ, ◌+◌, ◌<◌, Bool, List, [], ◌∷◌, true, false, inl, Some, drop, get_or, length, slice_get, refl, sym, ap, subst, ◌∙◌, arith}
+use Rattle.std.proofs.lemmas.List.{drop_all, drop_more}
 use Rattle.std.proofs.lemmas.Option.{slice_get_read}
 use Rattle.best_run.specs.declared.explored.Found.{Found}
 use Rattle.best_run.specs.declared.state.Settled.{Settled}
 use Rattle.best_run.specs.declared.state.Standing.{Standing}
+use Rattle.best_run.specs.declared.task.Task.{Task}
 use Rattle.best_run.specs.declared.trail.Mark.TheVariants.{Pass, Turn, Settle}
 use Rattle.reach.specs.declared.walk.Step.{Step}
 use Rattle.best_run.specs.Trail.{go_along}
-use Rattle.best_run.specs.Moves.{Below, Explores, IsBegin, Takes, Traces, Tries, begun, begun_by, between, can_take, ends_in, node_at, own_in, passed, settling, standing, stop_in, turned_back}
+use Rattle.best_run.specs.Moves.{Explores, Takes, Traces, begun, begun_by, between, can_take, ends_in, node_at, passed, settling, standing, stop_in, turned_back}
 use Rattle.best_run.specs.Ways.{AreWaysOf, StandsBefore, TriesWays}
 use Rattle.best_run.proofs.Likened.{low_alike, low_back}
 use Rattle.best_run.proofs.Along.{AnyWay, IsLater, begin_by_ways, go_by_ways, leads_begin, leads_go, leads_turn, turn_by_ways, way_fits, ways_more, ways_none, ways_skip}
@@ -15,14 +17,15 @@ use Rattle.best_run.proofs.Departing.{departs_from}
 use Rattle.best_run.proofs.Described.{among_place}
 use Rattle.best_run.proofs.Eased.{falls_short}
 use Rattle.best_run.proofs.Equal.{explores_capped}
+use Rattle.best_run.proofs.Homes.{TriesHomes, home_before, home_first, home_last, home_more}
 use Rattle.best_run.proofs.Hopeless.{explores_hopeless}
 use Rattle.best_run.proofs.Kept.{explores_covered, explores_kept}
 use Rattle.best_run.proofs.Places.{less_by, node_is, one_at_side, one_low, one_of, room_by, take_free, value_low}
 use Rattle.best_run.proofs.Reached.{explores_reached}
 use Rattle.best_run.proofs.Traced.{explores_from, takes_from, traces_both}
-use Rattle.best_run.proofs.Tried.{begin_every, begin_first, begin_more, begin_none, explores_between, explores_on, explores_standing, leads_pass, leads_settle, over_better, over_no_better, tries_on}
+use Rattle.best_run.proofs.Tried.{begin_none, explores_between, explores_on, explores_standing, leads_pass, leads_settle, over_better, over_no_better, tries_on}
 use Rattle.best_run.proofs.task.Task.+explore.Goals as goal
-use Rattle.best_run.proofs.task.Task.+explore.Goals.{begin_runs-then-node+then-node-2, begin_runs-else-node, begin_runs-else-node-via-then-node+else-node-2, begin_runs-else-node-via-else-node, turn_back-then-run-way, turn_back-else-run-way}
+use Rattle.best_run.proofs.task.Task.+explore.Goals.{begin_runs-then-node, begin_runs-else-node, turn_back-then-run-way, turn_back-else-run-way}
 
 pub begin_at-loop-index-init : goal.begin_at-loop-index-init
 begin_at-loop-index-init t c =
@@ -217,33 +220,61 @@ go_on-take-requires t c =
     let fits = way_fits task c.requires.fit run.head ways are c.requires.stands way (among_place ways index way at) in
     (omega arith, (c.requires.fit, (c.requires.ready, (c.requires.bounds, (c.requires.next, (fits.0, (fits.1, (c.requires.home, (c.requires.begun, omega arith)))))))))
 
-pub begin_runs-loop-stop-init : goal.begin_runs-loop-stop-init
-begin_runs-loop-stop-init t c = (begin_first c.args.self.now c.args.settled.now c.args.best.now, c.none-before.ensures)
+pub begin_runs-loop-place-init : goal.begin_runs-loop-place-init
+begin_runs-loop-place-init t c = home_first c.args.self.now c.args.settled.now c.args.self.now.homes.items c.none-before.result c.args.best.now c.none-before.ensures c.requires.ready.homes
 
-pub begin_runs-loop-stop-preserved : goal.begin_runs-loop-stop-preserved
-begin_runs-loop-stop-preserved t c =
+next_home :
+    (task : Task) (settled : Settled) (place home : ℕ) (before : List Bool) (old new : Found) → place < length task.homes.items → home ≡ get_or task.homes.items place home →
+    TriesHomes task settled (drop place task.homes.items) before old new → TriesHomes task settled (home ∷ drop (place + 1) task.homes.items) before old new
+next_home task settled place home before old new low is tries =
+    subst (λ (homes : List ℕ). TriesHomes task settled homes before old new)
+    (drop_more task.homes.items place home low ∙ ap (λ (h : ℕ). h ∷ drop (place + 1) task.homes.items) (sym is)) tries
+
+pub begin_runs-index-node-requires : goal.begin_runs-index-node-requires
+begin_runs-index-node-requires t c =
+    let next = next_home c.args.self.now c.args.settled.now c.loop-place.place c.index-stop.result.now _ _ _ (omega arith) c.index-stop.ensures c.loop-place.invariant in
+    let low = next.rest.1 in
+    omega (arith, low, c.requires.fit.all)
+
+pub begin_runs-begin_at-requires : goal.begin_runs-begin_at-requires
+begin_runs-begin_at-requires t c =
     let task = c.args.self.now in
-    let stop = c.loop-stop.stop in
-    let node = c.index-node.result.now in
-    let there : node_at task stop ≡ Some node = node_is task c.requires.fit stop node (omega (arith, c.requires.fit.all)) c.index-node.ensures in (
-      elim c.if-node.branch [
-        | begin_runs-then-node+then-node-2 w ↦
-            subst (λ (b : Found). Tries task (between c.args.settled.now) (IsBegin (Below (stop + 1))) c.args.best.now b) (sym w.best-is)
-            (begin_more task c.args.settled.now stop _ _ _ c.loop-stop.invariant.0 w.begin_at.ensures)
-        | begin_runs-else-node w ↦
-            subst (λ (b : Found). Tries task (between c.args.settled.now) (IsBegin (Below (stop + 1))) c.args.best.now b) (sym w.best-is)
-            (begin_more task c.args.settled.now stop _ _ _ c.loop-stop.invariant.0
-            (begin_none task c.args.settled.now stop _ (elim w.else-node.branch [
-              | begin_runs-else-node-via-then-node+else-node-2 v ↦ inr (ap own_in there ∙ v.if-node-2.false)
-              | begin_runs-else-node-via-else-node v ↦ inl (ap stop_in there ∙ v.if-node.false)
-            ])))
-      ],
-      c.mark_own.ensures,
-    )
+    let stop = c.index-stop.result.now in
+    let next = next_home task c.args.settled.now c.loop-place.place stop _ _ _ (omega arith) c.index-stop.ensures c.loop-place.invariant in
+    let there : node_at task stop ≡ Some c.index-node.result.now = node_is task c.requires.fit stop c.index-node.result.now next.rest.1 c.index-node.ensures in
+    (omega arith, (c.requires.fit, (c.requires.ready, (c.requires.bounds, (c.requires.next, (c.requires.room, (next.rest.1, (ap stop_in there ∙ c.if-node.true, (next.rest.2, home_before task c.args.settled.now stop _ _ _ _ next)))))))))
+
+pub begin_runs-mark_own-requires : goal.begin_runs-mark_own-requires
+begin_runs-mark_own-requires t c =
+    let task = c.args.self.now in
+    let stop = c.index-stop.result.now in
+    let next = next_home task c.args.settled.now c.loop-place.place stop _ _ _ (omega arith) c.index-stop.ensures c.loop-place.invariant in
+    record { fit = c.requires.fit; number = next.rest.1; before = home_before task c.args.settled.now stop _ _ _ _ next }
+
+pub begin_runs-loop-place-preserved : goal.begin_runs-loop-place-preserved
+begin_runs-loop-place-preserved t c =
+    let task = c.args.self.now in
+    let settled = c.args.settled.now in
+    let stop = c.index-stop.result.now in
+    let before = c.loop-place.before in
+    let next = next_home task settled c.loop-place.place stop before c.args.best.now c.loop-place.best (omega arith) c.index-stop.ensures c.loop-place.invariant in
+    let there : node_at task stop ≡ Some c.index-node.result.now = node_is task c.requires.fit stop c.index-node.result.now next.rest.1 c.index-node.ensures in
+    let homes = drop (c.loop-place.place + 1) task.homes.items in
+    elim c.if-node.branch [
+      | begin_runs-then-node w ↦
+          subst (λ (b : Found). TriesHomes task settled homes c.mark_own.new.marks c.args.best.now b) (sym w.best-is)
+          (home_more task settled stop homes before c.mark_own.new.marks c.args.best.now c.loop-place.best _ next w.begin_at.ensures c.mark_own.ensures)
+      | begin_runs-else-node w ↦
+          subst (λ (b : Found). TriesHomes task settled homes c.mark_own.new.marks c.args.best.now b) (sym w.best-is)
+          (home_more task settled stop homes before c.mark_own.new.marks c.args.best.now c.loop-place.best _ next
+          (begin_none task settled stop _ (inl (ap stop_in there ∙ w.if-node.false))) c.mark_own.ensures)
+    ]
 
 pub begin_runs-returns : goal.begin_runs-returns
 begin_runs-returns t c =
-    begin_every c.args.self.now c.args.settled.now c.loop-stop.stop _ _ (omega arith) c.loop-stop.invariant.0
+    home_last c.args.self.now c.args.settled.now c.loop-place.before c.args.best.now c.loop-place.best (omega (arith, c.requires.fit.all))
+    (subst (λ (homes : List ℕ). TriesHomes c.args.self.now c.args.settled.now homes c.loop-place.before c.args.best.now c.loop-place.best)
+    (drop_all c.loop-place.place c.args.self.now.homes.items (omega arith)) c.loop-place.invariant)
 
 pub turn_back-take-requires : goal.turn_back-take-requires
 turn_back-take-requires t c =

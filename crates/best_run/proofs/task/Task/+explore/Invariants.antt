@@ -1,10 +1,11 @@
 -- The search ends: each call has fewer trains left, or fewer stops for the run begun. What has been tried grows with
 -- each token and each way.
-use Rattle.std.proofs.Common.{◌≡◌, ◌+◌, ◌-◌, ◌*◌, length}
-use Rattle.best_run.specs.Moves.{Below, IsBegin, Tries, begun, between, node_at, own_before, standing, stop_in, turned_back}
+use Rattle.std.proofs.Common.{◌+◌, ◌-◌, ◌*◌, drop, length}
+use Rattle.best_run.specs.Moves.{begun, between, node_at, standing, stop_in, turned_back}
 use Rattle.best_run.specs.Ways.{StandsBefore, TriesWays}
 use Rattle.best_run.proofs.Along.{AnyWay, IsLater}
 use Rattle.best_run.specs.Fit.{unused}
+use Rattle.best_run.proofs.Homes.{TriesHomes}
 use Rattle.best_run.proofs.Places.{one_if}
 use Rattle.best_run.proofs.task.Task.+explore.Given as goal
 
@@ -26,9 +27,9 @@ decreases-stand l = 4000 * (length l.self.now.trains.items - l.settled.now.next 
 abbrev pub decreases-go_on : goal.decreases-go_on
 decreases-go_on l = 4000 * (length l.self.now.trains.items - l.settled.now.next - 1) + 4 * (3 * unused l.settled.now.used + one_if (stop_in (node_at l.self.now l.run.now.head))) + 2
 
-abbrev pub invariant-begin_runs-loop-stop : goal.invariant-begin_runs-loop-stop
-invariant-begin_runs-loop-stop l =
-    Tries l.self (between l.settled) (IsBegin (Below l.stop)) l.initial.best l.best × (l.before ≡ own_before l.self l.stop)
+abbrev pub invariant-begin_runs-loop-place : goal.invariant-begin_runs-loop-place
+invariant-begin_runs-loop-place l =
+    TriesHomes l.self l.settled (drop l.place l.self.homes.items) l.before l.initial.best l.best
 
 abbrev pub invariant-begin_at-loop-index : goal.invariant-begin_at-loop-index
 invariant-begin_at-loop-index l =

@@ -25,11 +25,17 @@ all_stops-requires-clause-ways g c = departs_same _ _ refl 744 c.in_ok-departure
 pub returns : goal.returns
 returns g c =
     let position = g.N.Network.position c.args.network.now in
-    let task : Task = record { spots = c.in_ok-spots.spots; departures = c.in_ok-departures.departures; stops = c.in_ok-stops.stops; trains = c.in_ok-trains.trains } in
+    let task : Task = record { spots = c.in_ok-spots.spots; departures = c.in_ok-departures.departures; stops = c.in_ok-stops.stops; homes = c.in_ok-homes.homes; trains = c.in_ok-trains.trains } in
     let steps : AreSteps position c.deref.result.now = subst (AreSteps position) (sym c.deref.ensures.value) c.in_ok-steps.ensures in
     let ways : AreDepartures task 744 c.in_ok-departures.departures.items = departs_same _ task refl 744 c.in_ok-departures.departures.items c.in_ok-departures.ensures in
     record {
       described = describes_it position c.args.company c.requires c.args.kinds.now c.deref.result.now steps task c.in_ok-spots.ensures c.in_ok-trains.ensures;
       fit = fits_it position c.args.company c.requires c.args.kinds.now c.deref.result.now steps task c.in_ok-spots.ensures;
-      ways = record { long = ways.long; each = ways.each; stops = record { each = c.in_ok-stops.ensures.each; only = c.in_ok-stops.ensures.only } };
+      ways = record { long = ways.long; each = ways.each; stops = record { each = c.in_ok-stops.ensures.each; only = c.in_ok-stops.ensures.only }; homes = c.in_ok-homes.ensures };
     }
+
+pub all_homes-requires : goal.all_homes-requires
+all_homes-requires g c =
+    let position = g.N.Network.position c.args.network.now in
+    let steps : AreSteps position c.deref.result.now = subst (AreSteps position) (sym c.deref.ensures.value) c.in_ok-steps.ensures in
+    fits_it position c.args.company c.requires c.args.kinds.now c.deref.result.now steps _ c.in_ok-spots.ensures
