@@ -229,12 +229,7 @@ pub(crate) fn read_order(words: &Words, order: &mut Order) -> Result<(), Fault>
 }
 
 /// The same by some forms: what comes nearest over them.
-fn read_nearest(
-    forms: &[Form],
-    first: &[u8],
-    rest: &Words,
-    order: &mut Order,
-) -> Result<(), Fault>
+fn read_nearest(forms: &[Form], first: &[u8], rest: &Words, order: &mut Order) -> Result<(), Fault>
     requires { IsTrue (list_all is_short (map row_of forms.now)) }
     ensures { put_reading result order.new
         ≡ rows_reading (map row_of forms.now) (raised first.now) (texts_of rest.now) }

@@ -399,7 +399,9 @@ pub(crate) fn put_plain(keyword: Keyword, values: &[Value], order: &mut Order) -
         Keyword::Offer => put_offer(values, order),
         Keyword::Exchange | Keyword::Token | Keyword::Run => put_one(keyword, values, order),
         Keyword::Lay => put_lay(values, order),
-        Keyword::Pay | Keyword::Withhold | Keyword::Discard => put_revenue_or_discard(keyword, values, order),
+        Keyword::Pay | Keyword::Withhold | Keyword::Discard => put_revenue_or_discard(
+            keyword, values, order,
+        ),
         Keyword::Train => put_train(values, order),
         Keyword::Players | Keyword::Best => false,
         Keyword::InitialOffering | Keyword::Pool | Keyword::Mohawk | Keyword::Swap => false,

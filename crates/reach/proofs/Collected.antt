@@ -1,5 +1,5 @@
 -- Marking tokens, stop by stop, and collecting the stops that are marked.
-use Rattle.std.proofs.Common.{◌≡◌, ℕ, zero, suc, ◌+◌, ◌*◌, ◌<◌, ◌≤◌, Bool, true, false, Some, None, inl, inr, List, [], ◌∷◌, ◌++◌, length, get_or, set, replicate, refl, ap, sym, ◌∙◌, subst, arith, get_or-set_same}
+use Rattle.std.proofs.Common.{◌≡◌, ℕ, zero, suc, ◌+◌, ◌*◌, ◌<◌, ◌≤◌, Bool, true, false, Some, None, ◌⊎◌, inl, inr, List, [], ◌∷◌, ◌++◌, length, get_or, set, replicate, refl, ap, sym, ◌∙◌, subst, arith, get_or-set_same}
 use Rattle.std.specs.List.{AllByRecursion}
 use Rattle.std.proofs.lemmas.Bool.{cases_eq}
 use Rattle.map_tables.specs.Hex.{index_of}
@@ -17,6 +17,7 @@ use Rattle.reach.specs.Reached.{StandInOrder, stop_order}
 use Rattle.reach.specs.Search.{spot_number, IsMarked, IsMarkedStop, IsTokenMarked, IsPushed, AllArrive, AllWait, HasAllTokens}
 use Rattle.reach.specs.Walk.{spot_at, stop_at_end}
 use Rattle.reach.specs.declared.walk.Spot.{Spot}
+use Rattle.reach.proofs.Hexes.{same_index}
 use Rattle.reach.proofs.Lists.{among_end, among_before, among_cases, all_push, order_push}
 use Rattle.reach.proofs.Marking.{marks_set, set_cases, set_keeps, wait_on}
 use Rattle.reach.proofs.Spots.{are_one, same_order, order_low, stop_number}
@@ -154,6 +155,14 @@ module _ (marks : List Bool) (stops : List Stop) (stop : Stop) (place : ℕ) (he
           | inr different ↦ so_far.all other (omega arith) other_named other_marked
         ];
       }
+
+-- a link of the first hexes and one more is of those hexes, or of that hex
+pub hexes_more : (position : Position) (hex : Hex) (index : ℕ) → index_of hex ≡ index → (link : Link) → index_of link.hex < index + 1 → IsAmong link (links_of position link.hex) → (index_of link.hex < index) ⊎ IsAmong link (links_of position hex)
+hexes_more position hex index is link low track =
+    elim (cases_eq (index_of link.hex) index) [
+      | inl same ↦ inr (subst (λ h. IsAmong link (links_of position h)) (same_index link.hex hex (same ∙ sym is)) track)
+      | inr different ↦ inl (omega arith)
+    ]
 
 -- each of the links that lie in a hex lies there
 pub lies_there : (hex : Hex) (links : List Link) (link : Link) → LieIn hex links → IsAmong link links → link.hex ≡ hex
