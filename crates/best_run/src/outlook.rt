@@ -56,6 +56,7 @@ impl Task {
 
     /// Whether a run may come by a piece to a stop that does not lie ahead so far.
     fn leads_on(&self, settled: &Settled, run: &Standing, piece: &Piece, outlook: &Outlook) -> bool
+        requires fit { IsFit self.now }
         requires to { piece.now.to < 744 }
         requires stop { stop_in (node_at self.now piece.now.to) ≡ true }
         ensures { result ≡ leads_on self.now settled.now run.now outlook.now.ahead piece.now }

@@ -40,7 +40,7 @@ look_from-leads_on-requires t c =
     let are : AreWaysOf task c.args.spot ways = departs_from task c.requires.ready c.args.spot from c.requires.spot c.index-from.ensures c.requires.stop in
     let at : slice_get ways c.loop-index.index ≡ Some way = slice_get_read ways (length ways) c.loop-index.index way refl (omega arith) c.index-way.ensures in
     let fits = way_fits task c.requires.fit c.args.spot ways are c.requires.stop way (among_place ways c.loop-index.index way at) in
-    record { to = fits.0.to; stop = fits.1 }
+    record { fit = c.requires.fit; to = fits.0.to; stop = fits.1 }
 
 pub look_from-look_past-requires : goal.look_from-look_past-requires
 look_from-look_past-requires t c =
