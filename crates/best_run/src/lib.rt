@@ -5,7 +5,8 @@
 //! `certificate`. Those of this crate, in `specs/`, are of the search alone: `Moves` says what it goes
 //! over, move by move, `Trail` how these are written down and which runs are read from that,
 //! `Described` how a position is laid out for it, `Ways` how pieces of plain track make ways from
-//! stop to stop, and where runs may begin, `Fit` what keeps its numbers within their bounds, `Suffix` what the last trains earn
+//! stop to stop, and where runs may begin, `Fit` what keeps its numbers within their bounds,
+//! `Suffix` what the last trains earn
 //! by themselves, and equal trains one after another, which bounds what they earn behind others,
 //! `Ahead` what may lie ahead of a run, which bounds what it may still earn, `Kept` which states between
 //! runs need not be explored since another one was, `Alike` which of them are alike to the trains left,
