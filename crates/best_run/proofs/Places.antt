@@ -1,5 +1,5 @@
 -- Stops and pieces by their places, and what a piece leaves to be earned.
-use Rattle.std.proofs.Common.{◌≡◌, ℕ, zero, suc, ◌+◌, ◌*◌, ◌<◌, ◌≤◌, Bool, true, false, ◌&&◌, ◌⊎◌, inl, inr, Option, Some, None, List, [], length, get_or, slice_get, refl, sym, ap, ◌∙◌, arith}
+use Rattle.std.proofs.Common.{◌≡◌, ℕ, zero, suc, ◌+◌, ◌*◌, ◌<◌, ◌≤◌, Bool, true, false, ◌&&◌, ◌⊎◌, inl, inr, Option, Some, None, List, [], length, get_or, slice_get, refl, sym, ap, subst, ◌∙◌, arith}
 use Rattle.std.proofs.lemmas.Option.{slice_get_read, slice_get_within}
 use Rattle.best_run.specs.declared.task.Node.{Node}
 use Rattle.best_run.specs.declared.task.Piece.{Piece}
@@ -13,6 +13,10 @@ use Rattle.best_run.proofs.Marks.{marked_fewer, marked_most}
 -- the stop at a number
 pub node_is : (task : Task) → IsFit task → (stop : ℕ) (node : Node) → stop < 744 → node ≡ get_or task.spots.items stop node → node_at task stop ≡ Some node
 node_is task fit stop node low is = slice_get_read task.spots.items 744 stop node (sym fit.all) low is
+
+-- a node that is read where a piece leads is the one there
+pub came : (task : Task) (to read : ℕ) (node : Node) → read ≡ to → node ≡ get_or task.spots.items read node → node ≡ get_or task.spots.items to node
+came task to read node same is = subst (λ (n : ℕ). node ≡ get_or task.spots.items n node) same is
 
 -- the piece at a place leads from the stop
 pub leads_at : (task : Task) (stop : ℕ) (node : Node) → node_at task stop ≡ Some node → (index : ℕ) (piece : Piece) → index < length node.pieces.items → piece ≡ get_or node.pieces.items index piece → LeadsFrom task stop index piece

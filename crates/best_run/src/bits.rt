@@ -104,6 +104,14 @@ impl Borders {
         self.words[border / BITS] |= 1 << (border % BITS);
     }
 
+    /// Whether a border is marked.
+    pub(crate) fn has(&self, border: usize) -> bool
+        requires { border < 279 }
+        ensures { result ≡ get_or self.now border false }
+    {
+        self.words[border / BITS] >> (border % BITS) & 1 == 1
+    }
+
     /// Whether no border is marked in both.
     pub(crate) fn is_apart_from(&self, other: &Borders) -> bool
         ensures apart { IsTrue result → AreApart self.now other.now }

@@ -14,8 +14,8 @@
 //!
 //! Reading order: `revenue` (the public call), `answer`, `trains` (their order), `spots` (the spots of a position
 //! with the pieces of track between them), `ways` (from stop to stop), `task`, `bits` (marks of borders and
-//! spots, a bit each), `crossing` (the borders of a piece, and the set of them), `state` (the trains settled
-//! so far, and the run begun), `outlook` (what lies ahead of that run) with `worth` (what that is worth), `trail`
+//! spots, a bit each), `stretch` (a piece of track), `crossing` (the borders of a way, and the set of them), `state`
+//! (the trains settled so far, and the run begun), `outlook` (what lies ahead of that run) with `worth` (what that is worth), `trail`
 //! (the moves that earn what has been found), `explored` (what has been found, and what need not be explored
 //! again), `alike` (states between runs that are alike), `search`, `claimed` (the runs that a trail tells),
 //! `runner`.
@@ -33,6 +33,7 @@ mod runner;
 mod search;
 mod spots;
 mod state;
+mod stretch;
 mod task;
 mod trail;
 mod trains;

@@ -1,7 +1,7 @@
 //! The spots of a position, with the pieces of track that lead from them.
-ghost use Rattle.std.specs.Prelude.{◌≡◌, ◌+◌, ◌<◌, ◌≤◌, ◌%◌, ◌↔◌, [], length, IfOk, IsTrue, OnOk, Some};
+ghost use Rattle.std.specs.Prelude.{◌≡◌, ◌+◌, ◌<◌, ◌≤◌, ◌%◌, ◌↔◌, [], length, IfOk, IsTrue, OnOk, Some, option_to_list};
 ghost use Rattle.best_run.specs.Described.{Adds, AreNumbered, AreSteps, Describes, IsNumbered, IsPieceOf, IsSideNode, IsStopNode, TakesPiece, TakesStep, code_before, most_of, most_of_all, number_before};
-ghost use Rattle.best_run.specs.Fit.{IsFit};
+ghost use Rattle.best_run.specs.Fit.{BordersFit, IsFit};
 ghost use Rattle.best_run.specs.Ways.{AreHomes, AreReady};
 ghost use Rattle.certificate.specs.Legal.{border_at, border_of};
 ghost use Rattle.map_tables.specs.Hex.{index_of};
@@ -12,8 +12,8 @@ ghost use Rattle.reach.specs.Position.{IsAmong, links_of};
 ghost use Rattle.reach.specs.Search.{spot_number};
 ghost use Rattle.tables.specs.Train.{stops_of};
 
-use crate::crossing::Crossing;
-use crate::task::{Node, Piece, Task};
+use crate::stretch::Stretch;
+use crate::task::{Node, Task};
 use map_tables::{End, HEXES, Hex, Link, Side, Stop, StopNumber, joined_stop, neighbour};
 use reach::{Network, Spot, Step};
 use std::alloc::{AllocError, Global};
@@ -72,24 +72,21 @@ fn border(hex: Hex, side: Side) -> usize
 }
 
 /// The border that is crossed where a hex is entered at a spot; none at a stop.
-fn crossing_at(alloc: Global, spot: Spot) -> Crossing
-    ensures { result.items ≡ border_at spot.hex spot.end }
+fn border_over(spot: Spot) -> Option<usize>
+    ensures border { option_to_list result ≡ border_at spot.hex spot.end }
+    ensures fits { BordersFit (option_to_list result) }
 {
     match spot.end {
-        End::Side(side) => Crossing::over(alloc, border(spot.hex, side)),
-        End::Stop(_) => Crossing::of(Vec::new(alloc)),
+        End::Side(side) => Some(border(spot.hex, side)),
+        End::Stop(_) => None,
     }
 }
 
 /// The piece of a step.
-fn piece_of(alloc: Global, step: Step) -> Piece
+fn piece_of(step: Step) -> Stretch
     ensures { IsPieceOf step result }
 {
-    Piece {
-        to: number_of(step.left()),
-        step,
-        borders: crossing_at(alloc, step.entered()),
-    }
+    Stretch::of(number_of(step.left()), step, border_over(step.entered()))
 }
 
 /// The hex at a place in the order of the map.
@@ -152,7 +149,7 @@ fn code_before(step: Step) -> usize
 }
 
 /// A side, which is nothing to a company.
-fn side_node(pieces: Vec<Piece>) -> Node
+fn side_node(pieces: Vec<Stretch>) -> Node
     ensures node { IsSideNode (Some result) }
     ensures pieces { result.pieces.items ≡ pieces.items }
     ensures value { result.value ≤ 80 }
@@ -167,7 +164,7 @@ fn side_node(pieces: Vec<Piece>) -> Node
 }
 
 /// What a stop is to a company.
-fn stop_node<N: Network>(network: &N, company: Company, stop: Stop, pieces: Vec<Piece>) -> Node
+fn stop_node<N: Network>(network: &N, company: Company, stop: Stop, pieces: Vec<Stretch>) -> Node
     ensures node { IsStopNode (N.position network.now) company stop (Some result) }
     ensures pieces { result.pieces.items ≡ pieces.items }
     ensures value { result.value ≤ 80 }
@@ -242,7 +239,7 @@ fn bare_spots<N: Network>(
 }
 
 /// Appends a piece to those that lead from a spot. The only error is want of memory.
-fn add_piece(node: &mut Node, piece: Piece) -> Result<(), AllocError>
+fn add_piece(node: &mut Node, piece: Stretch) -> Result<(), AllocError>
     ensures { OnOk result (TakesPiece piece node.old node.new) }
 {
     node.pieces.push(piece)?;
@@ -251,13 +248,13 @@ fn add_piece(node: &mut Node, piece: Piece) -> Result<(), AllocError>
 
 /// Adds the piece of a step to those of the spot from which it may be taken, if there is one. The only
 /// error is want of memory.
-fn add_step(alloc: Global, step: Step, nodes: &mut Vec<Node>) -> Result<(), AllocError>
+fn add_step(step: Step, nodes: &mut Vec<Node>) -> Result<(), AllocError>
     requires { length nodes.old.items ≡ 744 }
     ensures { OnOk result (TakesStep step nodes.old.items nodes.new.items) }
 {
     let number = code_before(step);
     if number < SPOTS {
-        let piece = piece_of(alloc, step);
+        let piece = piece_of(step);
         add_piece(&mut nodes[number], piece)?;
     }
     Ok(())
@@ -275,7 +272,7 @@ fn all_spots<N: Network>(
 {
     let mut nodes = bare_spots(alloc, network, company)?;
     for step in steps {
-        add_step(alloc, *step, &mut nodes)?;
+        add_step(*step, &mut nodes)?;
     }
     Ok(nodes)
 }

@@ -1,15 +1,16 @@
 ghost use Rattle.std.specs.Prelude.{◌≡◌};
 
 use crate::crossing::Crossing;
+use crate::stretch::Stretch;
 use reach::Step;
 use tables::Amount;
 
-/// A piece of track that leads from a spot to the next one.
+/// Track that leads from a spot to another: what a way comes to, and what each `Stretch` is to the contracts.
 #[derive(Drop)]
 pub(crate) struct Piece {
     /// The spot to which it leads, by its number.
     pub(crate) to: usize,
-    /// The step that it is; of the last piece, where it stands for a way.
+    /// The step that it is; the last one of a way.
     pub(crate) step: Step,
     /// The borders that it crosses, by their numbers.
     pub(crate) borders: Crossing,
@@ -27,7 +28,7 @@ pub(crate) struct Node {
     /// No run passes it: it is red, or full for the company.
     pub(crate) ends: bool,
     /// The pieces of track that lead from it.
-    pub(crate) pieces: Vec<Piece>,
+    pub(crate) pieces: Vec<Stretch>,
 }
 
 /// A way of plain track from a stop to the next one.

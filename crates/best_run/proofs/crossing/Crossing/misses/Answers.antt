@@ -1,9 +1,8 @@
 -- The sets are apart.
-use Rattle.std.proofs.Common.{◌++◌, option_to_list}
 use Rattle.best_run.proofs.Crossings.{set_misses}
 use Rattle.best_run.proofs.crossing.Crossing.misses.Goals as goal
 
 pub returns : goal.returns
 returns c =
     rw (← c.self.view_is)
-    (set_misses c.args.used.now c.self.inside.set (option_to_list c.self.inside.one ++ c.self.inside.more.items) c.self.invariant.0 c.self.invariant.1 c.is_apart_from.result c.is_apart_from.ensures.apart c.is_apart_from.ensures.meet)
+    (set_misses c.args.used.now c.self.inside.set c.self.inside.borders.items c.self.invariant.0 c.self.invariant.1 c.is_apart_from.result c.is_apart_from.ensures.apart c.is_apart_from.ensures.meet)
