@@ -238,24 +238,30 @@ fn bare_spots<N: Network>(
     Ok(nodes)
 }
 
+/// How many pieces from a spot there is room for at first.
+const PIECES: usize = 3;
+
 /// Appends a piece to those that lead from a spot. The only error is want of memory.
-fn add_piece(node: &mut Node, piece: Stretch) -> Result<(), AllocError>
+fn add_piece(alloc: Global, node: &mut Node, piece: Stretch) -> Result<(), AllocError>
     ensures { OnOk result (TakesPiece piece node.old node.new) }
 {
+    if node.pieces.is_empty() {
+        node.pieces = Vec::with_capacity(alloc, PIECES)?;
+    }
     node.pieces.push(piece)?;
     Ok(())
 }
 
 /// Adds the piece of a step to those of the spot from which it may be taken, if there is one. The only
 /// error is want of memory.
-fn add_step(step: Step, nodes: &mut Vec<Node>) -> Result<(), AllocError>
+fn add_step(alloc: Global, step: Step, nodes: &mut Vec<Node>) -> Result<(), AllocError>
     requires { length nodes.old.items ≡ 744 }
     ensures { OnOk result (TakesStep step nodes.old.items nodes.new.items) }
 {
     let number = code_before(step);
     if number < SPOTS {
         let piece = piece_of(step);
-        add_piece(&mut nodes[number], piece)?;
+        add_piece(alloc, &mut nodes[number], piece)?;
     }
     Ok(())
 }
@@ -272,7 +278,7 @@ fn all_spots<N: Network>(
 {
     let mut nodes = bare_spots(alloc, network, company)?;
     for step in steps {
-        add_step(*step, &mut nodes)?;
+        add_step(alloc, *step, &mut nodes)?;
     }
     Ok(nodes)
 }
