@@ -24,7 +24,7 @@ use Rattle.tables.specs.declared.rolling_stock.Kind.{Kind}
 use Rattle.tables.specs.declared.roster.Company.{Company}
 use Rattle.best_run.specs.declared.task.Node.{Node}
 use Rattle.best_run.specs.declared.task.Piece.{Piece}
-use Rattle.best_run.specs.Described.{Adds, AreNumbered, ArePiecesFrom, ComesFrom, IsNodeAt, IsNumbered, IsPieceOf, TakesPiece, TakesStep, code_before, most_of, most_of_all, number_before, number_or_none}
+use Rattle.best_run.specs.Described.{Adds, AreLaid, AreNumbered, ArePiecesFrom, ComesFrom, IsNodeAt, IsNumbered, IsPieceOf, LaidBefore, StepsBefore, TakesPiece, TakesStep, code_before, most_of, most_of_all, number_before, number_or_none}
 
 -- a link taken in a direction
 abbrev pub taking : Link → Bool → Step
@@ -87,11 +87,7 @@ adds_next first steps new links i d low before adds =
 pub adds_all : (first steps : List Step) (links : List Link) (i : ℕ) → length links ≤ i → Adds (λ link. IsAmong link (take i links)) first steps → Adds (λ link. IsAmong link links) first steps
 adds_all first steps links i all adds = subst (λ ls. Adds (λ link. IsAmong link ls) first steps) (take_all i links all) adds
 
--- the steps of the first hexes
-pub record StepsBefore (position : Position) (steps : List Step) (index : ℕ) : Type 0 where
-  pub added : (step : Step) → index_of step.link.hex < index → IsTrack position step → IsAmong step steps
-  pub only : (step : Step) → IsAmong step steps → IsTrack position step
-
+-- the steps of one more hex
 pub steps_more : (position : Position) → IsLawful position → (hex : Hex) (index : ℕ) → index_of hex ≡ index → (old new : List Step) → StepsBefore position old index → Adds (λ link. IsAmong link (links_of position hex)) old new → StepsBefore position new (index + 1)
 steps_more position lawful hex index is old new before adds =
     record {
@@ -108,6 +104,51 @@ steps_more position lawful hex index is old new before adds =
 pub steps_all : (position : Position) (steps : List Step) (index : ℕ) → 93 ≤ index → StepsBefore position steps index → (step : Step) → IsAmong step steps ↔ IsTrack position step
 steps_all position steps index all before step =
     (before.only step, λ track. before.added step (omega (arith, index_low step.link.hex)) track)
+
+-- no hex has come
+pub laid_none : (position : Position) (company : Company) (nodes : List Node) → AreNumbered position company [] 744 nodes → LaidBefore position company 0 nodes
+laid_none position company nodes numbered =
+    record {
+      steps = [];
+      before = record { added = λ step low track. absurd (omega (arith, low)); only = λ step none. absurd none };
+      numbered = numbered;
+    }
+
+-- the steps of the first links of a hex have come, after those of the hexes before it
+pub record LaidIn (position : Position) (company : Company) (index : ℕ) (links : List Link) (nodes : List Node) : Type 0 where
+  pub first : List Step
+  pub before : StepsBefore position first index
+  pub steps : List Step
+  pub adds : Adds (λ link. IsAmong link links) first steps
+  pub numbered : AreNumbered position company steps 744 nodes
+
+pub laid_in : (position : Position) (company : Company) (index : ℕ) (links : List Link) (nodes : List Node) → LaidBefore position company index nodes → LaidIn position company index (take 0 links) nodes
+laid_in position company index links nodes laid =
+    record { first = laid.steps; before = laid.before; steps = laid.steps; adds = adds_none laid.steps links; numbered = laid.numbered }
+
+pub laid_next : (position : Position) (company : Company) (index : ℕ) (here links : List Link) → here ≡ links → (i : ℕ) (d : Link) (old middle new : List Node) → i < length here → LaidIn position company index (take i links) old → TakesStep (taking (get_or here i d) false) old middle → TakesStep (taking (get_or here i d) true) middle new → LaidIn position company index (take (i + 1) links) new
+laid_next position company index here links is i d old middle new low laid forward back =
+    let link = get_or here i d in
+    let before : Adds (λ l. IsAmong l (take i here)) laid.first laid.steps = subst (λ ls. Adds (λ l. IsAmong l (take i ls)) laid.first laid.steps) (sym is) laid.adds in
+    let more = (laid.steps ++ taking link false ∷ []) ++ taking link true ∷ [] in
+    record {
+      first = laid.first;
+      before = laid.before;
+      steps = more;
+      adds = subst (λ ls. Adds (λ l. IsAmong l (take (i + 1) ls)) laid.first more) is (adds_next laid.first laid.steps more here i d low before (both_added link laid.steps));
+      numbered = back position company (laid.steps ++ taking link false ∷ []) (forward position company laid.steps laid.numbered);
+    }
+
+pub laid_hex : (position : Position) → IsLawful position → (company : Company) (hex : Hex) (index : ℕ) → index_of hex ≡ index → (here : List Link) → here ≡ links_of position hex → (i : ℕ) (nodes : List Node) → length here ≤ i → LaidIn position company index (take i (links_of position hex)) nodes → LaidBefore position company (index + 1) nodes
+laid_hex position lawful company hex index is here same i nodes all laid =
+    let links : List Link = links_of position hex in
+    let adds : Adds (λ l. IsAmong l links) laid.first laid.steps = adds_all laid.first laid.steps links i (subst (λ (ls : List Link). length ls ≤ i) same all) laid.adds in
+    record { steps = laid.steps; before = steps_more position lawful hex index is laid.first laid.steps laid.before adds; numbered = laid.numbered }
+
+-- all hexes have come
+pub laid_all : (position : Position) (company : Company) (index : ℕ) (nodes : List Node) → 93 ≤ index → LaidBefore position company index nodes → AreLaid position company nodes
+laid_all position company index nodes all laid =
+    record { steps = laid.steps; all = steps_all position laid.steps index all laid.before; numbered = laid.numbered }
 
 -- a step comes from a spot exactly where its code is the spot's number
 code_comes : (number : ℕ) (found : Option ℕ) → number < 744 → (number_or_none found ≡ number) ↔ (found ≡ Some number)
@@ -261,15 +302,6 @@ takes_piece step nodes old new piece few there piece_is takes position company s
           pieces = subst (ArePiecesFrom number (steps ++ step ∷ [])) (sym takes.more)
               (pieces_more number steps old.pieces.items step ((comes_by_code number step (omega (arith, few, same))).0 (sym same)) piece piece_is is.pieces);
         }
-
--- the piece of one more step has come, and those of all steps
-pub numbered_next : (position : Position) (company : Company) (steps : List Step) (i : ℕ) (d : Step) (old new : List Node) → i < length steps → AreNumbered position company (take i steps) 744 old → TakesStep (get_or steps i d) old new → AreNumbered position company (take (i + 1) steps) 744 new
-numbered_next position company steps i d old new low before takes =
-    subst (λ ss. AreNumbered position company ss 744 new) (sym (take_more steps i d low)) (takes position company (take i steps) before)
-
-pub numbered_all : (position : Position) (company : Company) (steps : List Step) (i : ℕ) (nodes : List Node) → length steps ≤ i → AreNumbered position company (take i steps) 744 nodes → AreNumbered position company steps 744 nodes
-numbered_all position company steps i nodes all before =
-    subst (λ ss. AreNumbered position company ss 744 nodes) (take_all i steps all) before
 
 -- one more train
 pub most_more : (kinds : List Kind) (i : ℕ) (d : Kind) → i < length kinds → most_of_all (take (i + 1) kinds) ≡ most_of_all (take i kinds) ++ most_of (stops_of (get_or kinds i d)) ∷ []

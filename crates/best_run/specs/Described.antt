@@ -1,6 +1,7 @@
 -- What a search goes over, on a position: its spots are the ends of the hexes, by their numbers, with what the stops
 -- are to a company; the pieces that lead from a spot are the steps of walks that may be taken from there.
-use Rattle.std.specs.Prelude.{◌≡◌, ◌↔◌, ℕ, ◌≤◌, true, false, ◌⊎◌, Option, Some, None, option_map, List, [], ◌∷◌, ◌++◌, length, slice_get}
+use Rattle.std.specs.Prelude.{◌≡◌, ◌↔◌, ℕ, ◌<◌, ◌≤◌, true, false, ◌⊎◌, Option, Some, None, option_map, List, [], ◌∷◌, ◌++◌, length, slice_get}
+use Rattle.map_tables.specs.Hex.{index_of}
 use Rattle.map_tables.specs.declared.hex.Hex.{Hex}
 use Rattle.map_tables.specs.declared.place.Stop.{Stop}
 use Rattle.map_tables.specs.declared.track.End.{End}
@@ -101,6 +102,11 @@ code_before step = number_or_none (number_before (entered_at step).hex (entered_
 abbrev pub AreSteps : Position → List Step → Type 0
 AreSteps position steps = (step : Step) → IsAmong step steps ↔ IsTrack position step
 
+-- these are steps of a position, and all that lie in its first hexes
+pub record StepsBefore (position : Position) (steps : List Step) (index : ℕ) : Type 0 where
+  pub added : (step : Step) → index_of step.link.hex < index → IsTrack position step → IsAmong step steps
+  pub only : (step : Step) → IsAmong step steps → IsTrack position step
+
 -- the steps of such links are added
 pub record Adds (P : Link → Type 0) (old new : List Step) : Type 0 where
   pub kept : (step : Step) → IsAmong step old → IsAmong step new
@@ -146,3 +152,15 @@ pub record TakesPiece (piece : Piece) (old new : Node) : Type 0 where
 abbrev pub TakesStep : Step → List Node → List Node → Type 0
 TakesStep step old new =
     (position : Position) (company : Company) (steps : List Step) → AreNumbered position company steps 744 old → AreNumbered position company (steps ++ step ∷ []) 744 new
+
+-- all spots stand at their numbers with the pieces of steps of a position, among these all that lie in its first hexes
+pub record LaidBefore (position : Position) (company : Company) (index : ℕ) (nodes : List Node) : Type 0 where
+  pub steps : List Step
+  pub before : StepsBefore position steps index
+  pub numbered : AreNumbered position company steps 744 nodes
+
+-- all spots stand at their numbers with the pieces of all steps of a position
+pub record AreLaid (position : Position) (company : Company) (nodes : List Node) : Type 0 where
+  pub steps : List Step
+  pub all : AreSteps position steps
+  pub numbered : AreNumbered position company steps 744 nodes

@@ -1,20 +1,18 @@
 //! The spots of a position, with the pieces of track that lead from them.
 ghost use Rattle.std.specs.Prelude.{◌≡◌, ◌+◌, ◌<◌, ◌≤◌, ◌%◌, ◌↔◌, [], length, IfOk, IsTrue, OnOk, Some, option_to_list};
-ghost use Rattle.best_run.specs.Described.{Adds, AreNumbered, AreSteps, Describes, IsNumbered, IsPieceOf, IsSideNode, IsStopNode, TakesPiece, TakesStep, code_before, most_of, most_of_all, number_before};
+ghost use Rattle.best_run.specs.Described.{AreLaid, AreNumbered, Describes, IsNumbered, IsPieceOf, IsSideNode, IsStopNode, LaidBefore, TakesPiece, TakesStep, code_before, most_of, most_of_all, number_before};
 ghost use Rattle.best_run.specs.Fit.{BordersFit, IsFit};
 ghost use Rattle.best_run.specs.Ways.{AreHomes, AreReady};
 ghost use Rattle.certificate.specs.Legal.{border_at, border_of};
 ghost use Rattle.map_tables.specs.Hex.{index_of};
 ghost use Rattle.map_tables.specs.Place.{stop_index_of};
-ghost use Rattle.map_tables.specs.declared.track.Link.{Link};
 ghost use Rattle.reach.specs.Lawful.{IsLawful};
-ghost use Rattle.reach.specs.Position.{IsAmong, links_of};
 ghost use Rattle.reach.specs.Search.{spot_number};
 ghost use Rattle.tables.specs.Train.{stops_of};
 
 use crate::stretch::Stretch;
 use crate::task::{Node, Task};
-use map_tables::{End, HEXES, Hex, Link, Side, Stop, StopNumber, joined_stop, neighbour};
+use map_tables::{End, HEXES, Hex, Side, Stop, StopNumber, joined_stop, neighbour};
 use reach::{Network, Spot, Step};
 use std::alloc::{AllocError, Global};
 use tables::{Company, Kind};
@@ -96,46 +94,6 @@ fn hex_at(index: usize) -> Hex
 {
     let all = &Hex::ALL;
     all[index]
-}
-
-/// How many steps there is room for at first.
-const STEPS: usize = 512;
-
-/// All steps of a position, each link in both directions.
-pub(crate) fn all_steps<N: Network>(alloc: Global, network: &N) -> Result<Vec<Step>, AllocError>
-    requires { IsLawful (N.position network.now) }
-    ensures { let position = N.position network.now in
-        IfOk result (λ steps. AreSteps position steps.items) }
-{
-    let mut steps = Vec::with_capacity(alloc, STEPS)?;
-    for index in 0..HEXES {
-        push_steps(network, hex_at(index), &mut steps)?;
-    }
-    Ok(steps)
-}
-
-/// Appends the steps of a hex.
-fn push_steps<N: Network>(network: &N, hex: Hex, steps: &mut Vec<Step>) -> Result<(), AllocError>
-    ensures { let here = λ (link : Link). IsAmong link (links_of (N.position network.now) hex) in
-        OnOk result (Adds here steps.old.items steps.new.items) }
-{
-    let links = network.links(hex);
-    for link in links.as_slice() {
-        push_both(*link, steps)?;
-    }
-    Ok(())
-}
-
-/// Appends the two steps of a link.
-fn push_both(link: Link, steps: &mut Vec<Step>) -> Result<(), AllocError>
-    ensures { OnOk result (Adds (λ other. other ≡ link) steps.old.items steps.new.items) }
-{
-    steps.push(Step {
-        link,
-        turned: false,
-    })?;
-    steps.push(Step { link, turned: true })?;
-    Ok(())
 }
 
 /// The number of the spot from which a step may be taken; `SPOTS` where there is none.
@@ -266,19 +224,41 @@ fn add_step(alloc: Global, step: Step, nodes: &mut Vec<Node>) -> Result<(), Allo
     Ok(())
 }
 
+/// Adds the pieces of the steps in a hex: each link in both directions. The only error is want of memory.
+fn add_steps<N: Network>(
+    alloc: Global,
+    network: &N,
+    company: Company,
+    hex: Hex,
+    nodes: &mut Vec<Node>,
+) -> Result<(), AllocError>
+    requires lawful { IsLawful (N.position network.now) }
+    requires laid { LaidBefore (N.position network.now) company (index_of hex) nodes.old.items }
+    ensures { let position = N.position network.now in
+        OnOk result (LaidBefore position company (index_of hex + 1) nodes.new.items) }
+{
+    let links = network.links(hex);
+    for link in links.as_slice() {
+        let link = *link;
+        add_step(alloc, Step { link, turned: false }, nodes)?;
+        add_step(alloc, Step { link, turned: true }, nodes)?;
+    }
+    Ok(())
+}
+
 /// All spots, by their numbers, with the pieces from each of them.
 fn all_spots<N: Network>(
     alloc: Global,
     network: &N,
     company: Company,
-    steps: &[Step],
 ) -> Result<Vec<Node>, AllocError>
+    requires { IsLawful (N.position network.now) }
     ensures { let position = N.position network.now in
-        IfOk result (λ nodes. AreNumbered position company steps.now 744 nodes.items) }
+        IfOk result (λ nodes. AreLaid position company nodes.items) }
 {
     let mut nodes = bare_spots(alloc, network, company)?;
-    for step in steps {
-        add_step(alloc, *step, &mut nodes)?;
+    for index in 0..HEXES {
+        add_steps(alloc, network, company, hex_at(index), &mut nodes)?;
     }
     Ok(nodes)
 }
@@ -332,8 +312,7 @@ impl Task {
         ensures fit { IfOk result IsFit }
         ensures ways { IfOk result AreReady }
     {
-        let steps = all_steps(alloc, network)?;
-        let spots = all_spots(alloc, network, company, &steps)?;
+        let spots = all_spots(alloc, network, company)?;
         let trains = most_of_all(alloc, kinds)?;
         let mut task = Task {
             spots,

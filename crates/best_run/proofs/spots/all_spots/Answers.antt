@@ -1,15 +1,20 @@
--- The piece of the step in hand is added to those of the steps before it.
-use Rattle.best_run.proofs.Laid.{numbered_all, numbered_next}
+-- The steps in the hex in hand are added to those in the hexes before it.
+use Rattle.std.proofs.Common.{ℕ, ◌+◌, sym, subst, arith}
+use Rattle.best_run.specs.Described.{LaidBefore}
+use Rattle.best_run.proofs.Laid.{laid_all, laid_none}
 use Rattle.best_run.proofs.spots.all_spots.Goals as goal
 
-pub add_step-requires : goal.add_step-requires
-add_step-requires g c = c.loop-step.invariant.all
+pub loop-index-init : goal.loop-index-init
+loop-index-init g c = laid_none (g.N.Network.position c.args.network.now) c.args.company _ c.in_ok-nodes.ensures
 
-pub loop-step-preserved : goal.loop-step-preserved
-loop-step-preserved g c =
-    numbered_next (g.N.Network.position c.args.network.now) c.args.company c.args.steps.now c.loop-step.step-index _ _ _ c.loop-step-test.true
-    c.loop-step.invariant c.in_ok-add_step.ensures
+pub add_steps-requires-clause-laid : goal.add_steps-requires-clause-laid
+add_steps-requires-clause-laid g c =
+    subst (λ (n : ℕ). LaidBefore (g.N.Network.position c.args.network.now) c.args.company n c.loop-index.nodes.items) (sym c.hex_at.ensures) c.loop-index.invariant
+
+pub loop-index-preserved : goal.loop-index-preserved
+loop-index-preserved g c =
+    subst (λ (n : ℕ). LaidBefore (g.N.Network.position c.args.network.now) c.args.company (n + 1) c.add_steps.new.nodes.items) c.hex_at.ensures c.in_ok-add_steps.ensures
 
 pub returns : goal.returns
 returns g c =
-    numbered_all (g.N.Network.position c.args.network.now) c.args.company c.args.steps.now c.loop-step.step-index _ c.loop-step-test.false c.loop-step.invariant
+    laid_all (g.N.Network.position c.args.network.now) c.args.company c.loop-index.index _ (omega (arith, c.loop-index-test.false)) c.loop-index.invariant

@@ -1,7 +1,6 @@
--- The spots have the pieces of the steps before the next one.
-use Rattle.std.proofs.Common.{take}
-use Rattle.best_run.specs.Described.{AreNumbered}
+-- The spots have the pieces of the steps in the hexes before the next one.
+use Rattle.best_run.specs.Described.{LaidBefore}
 use Rattle.best_run.proofs.spots.all_spots.Given as goal
 
-abbrev pub invariant-loop-step : goal.invariant-loop-step
-invariant-loop-step g l = AreNumbered (g.N.Network.position l.network) l.fn.company (take l.step-index l.steps) 744 l.nodes.items
+abbrev pub invariant-loop-index : goal.invariant-loop-index
+invariant-loop-index g l = LaidBefore (g.N.Network.position l.network) l.company l.index l.nodes.items

@@ -1,6 +1,5 @@
 -- What has been laid out is the position.
-use Rattle.std.proofs.Common.{refl, sym, subst}
-use Rattle.best_run.specs.Described.{AreSteps}
+use Rattle.std.proofs.Common.{refl}
 use Rattle.best_run.specs.Ways.{AreDepartures}
 use Rattle.best_run.specs.declared.task.Task.{Task}
 use Rattle.best_run.proofs.Departing.{departs_same}
@@ -10,14 +9,14 @@ use Rattle.best_run.proofs.task.Task.of.Goals as goal
 pub all_departures-requires : goal.all_departures-requires
 all_departures-requires g c =
     let position = g.N.Network.position c.args.network.now in
-    let steps : AreSteps position c.deref.result.now = subst (AreSteps position) (sym c.deref.ensures.value) c.in_ok-steps.ensures in
-    fits_it position c.args.company c.requires c.args.kinds.now c.deref.result.now steps _ c.in_ok-spots.ensures
+    let laid = c.in_ok-spots.ensures in
+    fits_it position c.args.company c.requires c.args.kinds.now laid.steps laid.all _ laid.numbered
 
 pub all_stops-requires-clause-fit : goal.all_stops-requires-clause-fit
 all_stops-requires-clause-fit g c =
     let position = g.N.Network.position c.args.network.now in
-    let steps : AreSteps position c.deref.result.now = subst (AreSteps position) (sym c.deref.ensures.value) c.in_ok-steps.ensures in
-    fits_it position c.args.company c.requires c.args.kinds.now c.deref.result.now steps _ c.in_ok-spots.ensures
+    let laid = c.in_ok-spots.ensures in
+    fits_it position c.args.company c.requires c.args.kinds.now laid.steps laid.all _ laid.numbered
 
 pub all_stops-requires-clause-ways : goal.all_stops-requires-clause-ways
 all_stops-requires-clause-ways g c = departs_same _ _ refl 744 c.in_ok-departures.departures.items c.in_ok-departures.ensures
@@ -26,16 +25,16 @@ pub returns : goal.returns
 returns g c =
     let position = g.N.Network.position c.args.network.now in
     let task : Task = record { spots = c.in_ok-spots.spots; departures = c.in_ok-departures.departures; stops = c.in_ok-stops.stops; homes = c.in_ok-homes.homes; trains = c.in_ok-trains.trains } in
-    let steps : AreSteps position c.deref.result.now = subst (AreSteps position) (sym c.deref.ensures.value) c.in_ok-steps.ensures in
+    let laid = c.in_ok-spots.ensures in
     let ways : AreDepartures task 744 c.in_ok-departures.departures.items = departs_same _ task refl 744 c.in_ok-departures.departures.items c.in_ok-departures.ensures in
     record {
-      described = describes_it position c.args.company c.requires c.args.kinds.now c.deref.result.now steps task c.in_ok-spots.ensures c.in_ok-trains.ensures;
-      fit = fits_it position c.args.company c.requires c.args.kinds.now c.deref.result.now steps task c.in_ok-spots.ensures;
+      described = describes_it position c.args.company c.requires c.args.kinds.now laid.steps laid.all task laid.numbered c.in_ok-trains.ensures;
+      fit = fits_it position c.args.company c.requires c.args.kinds.now laid.steps laid.all task laid.numbered;
       ways = record { long = ways.long; each = ways.each; stops = record { each = c.in_ok-stops.ensures.each; only = c.in_ok-stops.ensures.only }; homes = c.in_ok-homes.ensures };
     }
 
 pub all_homes-requires : goal.all_homes-requires
 all_homes-requires g c =
     let position = g.N.Network.position c.args.network.now in
-    let steps : AreSteps position c.deref.result.now = subst (AreSteps position) (sym c.deref.ensures.value) c.in_ok-steps.ensures in
-    fits_it position c.args.company c.requires c.args.kinds.now c.deref.result.now steps _ c.in_ok-spots.ensures
+    let laid = c.in_ok-spots.ensures in
+    fits_it position c.args.company c.requires c.args.kinds.now laid.steps laid.all _ laid.numbered
