@@ -158,6 +158,10 @@ code_comes number (Some other) low = (λ is. ap (λ (n : ℕ). Some n) is, λ is
 comes_by_code : (number : ℕ) (step : Step) → number < 744 → (code_before step ≡ number) ↔ ComesFrom number step
 comes_by_code number step few = code_comes number (number_before (entered_at step).hex (entered_at step).end) few
 
+-- the code of a step is told by the spot at which it is entered
+pub code_is : (number : ℕ) (spot : Spot) (step : Step) → spot ≡ entered_at step → number ≡ number_or_none (number_before spot.hex spot.end) → number ≡ code_before step
+code_is number spot step same is = is ∙ ap (λ (s : Spot). number_or_none (number_before s.hex s.end)) same
+
 -- no step has come
 pub pieces_none : (number : ℕ) → ArePiecesFrom number [] []
 pieces_none number =

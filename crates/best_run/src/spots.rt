@@ -1,13 +1,15 @@
 //! The spots of a position, with the pieces of track that lead from them.
 ghost use Rattle.std.specs.Prelude.{◌≡◌, ◌+◌, ◌<◌, ◌≤◌, ◌%◌, ◌↔◌, [], length, IfOk, IsTrue, OnOk, Some, option_to_list};
-ghost use Rattle.best_run.specs.Described.{AreLaid, AreNumbered, Describes, IsNumbered, IsPieceOf, IsSideNode, IsStopNode, LaidBefore, TakesPiece, TakesStep, code_before, most_of, most_of_all, number_before};
-ghost use Rattle.best_run.specs.Fit.{BordersFit, IsFit};
+ghost use Rattle.best_run.specs.Described.{AreLaid, AreNumbered, Describes, IsNumbered, IsPieceOf, IsSideNode, IsStopNode, LaidBefore, TakesPiece, TakesStep, most_of, most_of_all, number_before, number_or_none};
+ghost use Rattle.best_run.specs.Fit.{IsFit};
 ghost use Rattle.best_run.specs.Ways.{AreHomes, AreReady};
 ghost use Rattle.certificate.specs.Legal.{border_at, border_of};
+ghost use Rattle.map_tables.specs.Border.{neighbour_of};
 ghost use Rattle.map_tables.specs.Hex.{index_of};
 ghost use Rattle.map_tables.specs.Place.{stop_index_of};
 ghost use Rattle.reach.specs.Lawful.{IsLawful};
 ghost use Rattle.reach.specs.Search.{spot_number};
+ghost use Rattle.reach.specs.Walk.{entered_at};
 ghost use Rattle.tables.specs.Train.{stops_of};
 
 use crate::stretch::Stretch;
@@ -37,54 +39,62 @@ fn number_of(spot: Spot) -> usize
     }
 }
 
-/// The number of the spot from which a step that is entered at a spot may be taken: the stop
-/// there, or the other side of the border.
-fn number_before(spot: Spot) -> Option<usize>
-    ensures { result ≡ number_before spot.hex spot.end }
-{
-    match spot.end {
-        End::Side(_) => {
-            let from = spot.across()?;
-            Some(number_of(from))
-        }
-        End::Stop(_) => Some(number_of(spot)),
-    }
-}
-
 /// How many of its borders a hex numbers: those at its sides 0, 1 and 2.
 const NUMBERED: usize = 3;
 
-/// The number of the border at a side of a hex.
+/// The number of the border at a side of a hex, with the hex beyond it.
 #[tactic(auto, unfolding(certificate::specs::Legal::border_of))]
-fn border(hex: Hex, side: Side) -> usize
+fn border(hex: Hex, side: Side, beyond: Option<Hex>) -> usize
+    requires { beyond ≡ neighbour_of hex side }
     ensures { result ≡ border_of hex side }
 {
     let number = side.number();
     if number < NUMBERED {
         return NUMBERED * hex.index() + number;
     }
-    match neighbour(hex, side) {
+    match beyond {
         Some(other) => NUMBERED * other.index() + (number - NUMBERED),
         None => number - NUMBERED,
     }
 }
 
-/// The border that is crossed where a hex is entered at a spot; none at a stop.
-fn border_over(spot: Spot) -> Option<usize>
-    ensures border { option_to_list result ≡ border_at spot.hex spot.end }
-    ensures fits { BordersFit (option_to_list result) }
+/// From where a step may be taken.
+#[derive(Clone, Copy)]
+struct Origin {
+    /// The number of the spot: the stop where the step is entered, or the other side of the border; `SPOTS` where
+    /// there is none.
+    number: usize,
+    /// The border that is crossed then; none at a stop.
+    border: Option<usize>,
+}
+
+/// From where a step may be taken that is entered at a spot.
+fn origin_of(spot: Spot) -> Origin
+    ensures number { result.number ≡ number_or_none (number_before spot.hex spot.end) }
+    ensures border { option_to_list result.border ≡ border_at spot.hex spot.end }
 {
     match spot.end {
-        End::Side(side) => Some(border(spot.hex, side)),
-        End::Stop(_) => None,
+        End::Stop(_) => Origin { number: number_of(spot), border: None },
+        End::Side(side) => {
+            let beyond = neighbour(spot.hex, side);
+            let border = Some(border(spot.hex, side, beyond));
+            match beyond {
+                Some(hex) => {
+                    let end = End::Side(side.facing());
+                    Origin { number: number_of(Spot { hex, end }), border }
+                }
+                None => Origin { number: SPOTS, border },
+            }
+        }
     }
 }
 
-/// The piece of a step.
-fn piece_of(step: Step) -> Stretch
+/// The piece of a step, over the border at which it is entered.
+fn piece_of(step: Step, border: Option<usize>) -> Stretch
+    requires { let entered = entered_at step in option_to_list border ≡ border_at entered.hex entered.end }
     ensures { IsPieceOf step result }
 {
-    Stretch::of(number_of(step.left()), step, border_over(step.entered()))
+    Stretch::of(number_of(step.left()), step, border)
 }
 
 /// The hex at a place in the order of the map.
@@ -94,16 +104,6 @@ fn hex_at(index: usize) -> Hex
 {
     let all = &Hex::ALL;
     all[index]
-}
-
-/// The number of the spot from which a step may be taken; `SPOTS` where there is none.
-fn code_before(step: Step) -> usize
-    ensures { result ≡ code_before step }
-{
-    match number_before(step.entered()) {
-        Some(number) => number,
-        None => SPOTS,
-    }
 }
 
 /// A side, which is nothing to a company.
@@ -216,9 +216,10 @@ fn add_step(alloc: Global, step: Step, nodes: &mut Vec<Node>) -> Result<(), Allo
     requires { length nodes.old.items ≡ 744 }
     ensures { OnOk result (TakesStep step nodes.old.items nodes.new.items) }
 {
-    let number = code_before(step);
+    let from = origin_of(step.entered());
+    let number = from.number;
     if number < SPOTS {
-        let piece = piece_of(step);
+        let piece = piece_of(step, from.border);
         add_piece(alloc, &mut nodes[number], piece)?;
     }
     Ok(())
