@@ -74,16 +74,25 @@ fn origin_of(spot: Spot) -> Origin
     ensures border { option_to_list result.border ≡ border_at spot.hex spot.end }
 {
     match spot.end {
-        End::Stop(_) => Origin { number: number_of(spot), border: None },
+        End::Stop(_) => Origin {
+            number: number_of(spot),
+            border: None,
+        },
         End::Side(side) => {
             let beyond = neighbour(spot.hex, side);
             let border = Some(border(spot.hex, side, beyond));
             match beyond {
                 Some(hex) => {
                     let end = End::Side(side.facing());
-                    Origin { number: number_of(Spot { hex, end }), border }
+                    Origin {
+                        number: number_of(Spot { hex, end }),
+                        border,
+                    }
                 }
-                None => Origin { number: SPOTS, border },
+                None => Origin {
+                    number: SPOTS,
+                    border,
+                },
             }
         }
     }
@@ -241,7 +250,14 @@ fn add_steps<N: Network>(
     let links = network.links(hex);
     for link in links.as_slice() {
         let link = *link;
-        add_step(alloc, Step { link, turned: false }, nodes)?;
+        add_step(
+            alloc,
+            Step {
+                link,
+                turned: false,
+            },
+            nodes,
+        )?;
         add_step(alloc, Step { link, turned: true }, nodes)?;
     }
     Ok(())

@@ -25,9 +25,9 @@ impl Model for Stretch {
     ghost use Rattle.best_run.specs.Fit.{BordersFit};
 
     ghost view = { λ piece. record {
-        to = piece.to;
-        step = piece.step;
-        borders = record { items = option_to_list piece.border };
+      to = piece.to;
+      step = piece.step;
+      borders = record { items = option_to_list piece.border };
     } };
 
     ghost invariant = { λ piece. BordersFit (option_to_list piece.border) };
