@@ -20,11 +20,11 @@ use Rattle.map_tables.specs.declared.track.Link.{Link}
 use Rattle.reach.proofs.Collected.{all_tokens, none_marked, own_hex, spot_of, token_arrives}
 use Rattle.reach.proofs.Hexes.{hexes_at, index_low, same_index, side_low, stop_index_low}
 use Rattle.reach.proofs.Lists.{among_found, found_among}
-use Rattle.reach.proofs.Marking.{spreads_new}
+use Rattle.reach.proofs.Marking.{spreads_followed}
 use Rattle.reach.specs.Lawful.{IsLawful}
 use Rattle.reach.specs.Position.{HasToken, IsAmong, IsFull, Position, at_stop, links_of}
 use Rattle.reach.specs.Reached.{stop_order}
-use Rattle.reach.specs.Search.{AllArrive, CanEnter, CanEnterAt, HasAllTokens, IsClosed, IsMarked, marked, number_at, spot_number}
+use Rattle.reach.specs.Search.{AllArrive, CanEnter, CanEnterAt, HasAllTokens, IsClosed, IsMarked, IsMarking, marked, number_at, spot_number}
 use Rattle.reach.specs.Walk.{IsTrack, across_end, entered_at, left_at, spot_at}
 use Rattle.reach.specs.declared.walk.Spot.{Spot}
 use Rattle.reach.specs.declared.walk.Step.{Step}
@@ -257,7 +257,11 @@ module _ (position : Position) (company : Company) (lawful : IsLawful position) 
       let number : ℕ = spot_number (left_at step) in
       let low : number < length old = omega (arith, long, number_low (left_at step).hex (left_at step).end) in
       let off = unmarked (get_or old number false) is.1 in
-      let spreads = spreads_new position company lawful step track old [] low is.0 off in
+      let marking : IsMarking (left_at step) old [] (set old number true) (left_at step ∷ []) =
+      record { low = low; marks = rw off refl; waits = rw off refl } in
+      let spreads =
+      spreads_followed position company lawful step track (entered_at step) old [] [] (set old number true) (left_at step ∷ []) (step.link ∷ []) is.0
+      (record { entered = λ same. marking; link = λ same. refl; other = λ apart. absurd (apart refl) }) in
       record { new = set old number true; long = spreads.length_kept ∙ long; arrive = spreads.arrive arrive; more = one_more old number low off }
 
   by_link : (old : List Bool) → length old ≡ 744 → AllArrive position company old → (link : Link) → IsAmong link (links_of position link.hex) →
