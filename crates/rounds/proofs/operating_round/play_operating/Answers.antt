@@ -1,4 +1,4 @@
-use Rattle.std.proofs.Common.{◌≡◌, [], Result, Err, refl, sym, ap, subst, ◌∙◌}
+use Rattle.std.proofs.Common.{◌≡◌, [], Result, Err, inl, refl, sym, ap, subst, ◌∙◌}
 use Rattle.std.proofs.lemmas.Result.{err_from_is_err_and}
 use Rattle.history.specs.LookBack.{Game}
 use Rattle.operating.proofs.Calls.{broken_off}
@@ -14,6 +14,13 @@ pub returns-clause-round : goal.returns-clause-round
 returns-clause-round g c =
     let is = round_opened c.args.sheets.now c.args.round c.args.history c.begin.new.history c.rule_standing_lines.new.history c.tell_revenues.new.self c.requires.seats c.in_ok-begin.ensures.event c.in_ok-rule_standing_lines.ensures.seats c.in_ok-rule_standing_lines.ensures.events c.in_ok-tell_revenues.ensures.ok in
     whole_round c.args.sheets.now c.args.round c.args.history c.tell_revenues.new.self c.in_ok-history.history c.tell_all_left.new.history c.requires.seats is c.in_ok-history.ensures.turns c.in_ok-history.ensures.seats c.in_ok-tell_all_left.ensures.seats c.in_ok-tell_all_left.ensures.events
+
+pub returns-in_err-tell_revenues-clause-calls : goal.returns-in_err-tell_revenues-clause-calls
+returns-in_err-tell_revenues-clause-calls g c =
+    let told = err_from_is_err_and c.from_residual-in_err-tell_revenues.result c.from_residual-in_err-tell_revenues.ensures.1 in
+    let is_fault : c.from_residual-in_err-tell_revenues.result ≡ Err Memory = told.1 ∙ ap Err told.2 in
+    subst (λ (met : Result Game PlayFault). Makes g.R.Runner.earns c.args.runner.now (OperatingCalls c.args.sheets.now c.args.round c.args.history met) c.args.runner.now) (sym is_fault)
+    ([], inl (refl, refl), refl)
 
 pub returns-in_err-tell_all_left-clause-calls : goal.returns-in_err-tell_all_left-clause-calls
 returns-in_err-tell_all_left-clause-calls g c =
