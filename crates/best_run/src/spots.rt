@@ -106,15 +106,6 @@ fn piece_of(step: Step, border: Option<usize>) -> Stretch
     Stretch::of(number_of(step.left()), step, border)
 }
 
-/// The hex at a place in the order of the map.
-fn hex_at(index: usize) -> Hex
-    requires { index < 93 }
-    ensures { index_of result ≡ index }
-{
-    let all = &Hex::ALL;
-    all[index]
-}
-
 /// A side, which is nothing to a company.
 fn side_node(pieces: Vec<Stretch>) -> Node
     ensures node { IsSideNode (Some result) }
@@ -183,7 +174,7 @@ fn bare_node<N: Network>(alloc: Global, network: &N, company: Company, number: u
         return side_node(pieces);
     }
     let stop = Stop {
-        hex: hex_at(number / ENDS),
+        hex: Hex::at_index(number / ENDS),
         number: stop_numbered(number % ENDS),
     };
     stop_node(network, company, stop, pieces)
@@ -275,7 +266,7 @@ fn all_spots<N: Network>(
 {
     let mut nodes = bare_spots(alloc, network, company)?;
     for index in 0..HEXES {
-        add_steps(alloc, network, company, hex_at(index), &mut nodes)?;
+        add_steps(alloc, network, company, Hex::at_index(index), &mut nodes)?;
     }
     Ok(nodes)
 }

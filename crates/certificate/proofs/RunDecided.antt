@@ -11,7 +11,8 @@ use Rattle.map_tables.specs.declared.track.End.{End}
 use Rattle.map_tables.specs.declared.track.End.TheVariants.{Side as AtSide, Stop as AtStop}
 use Rattle.map_tables.specs.declared.track.Link.{Link}
 use Rattle.reach.proofs.Collected.{hexes_more, lies_there, own_hex}
-use Rattle.reach.proofs.Hexes.{hexes_at, index_low, same_index}
+use Rattle.map_tables.proofs.HexTables.{hexes_at}
+use Rattle.reach.proofs.Hexes.{index_low, same_index}
 use Rattle.reach.proofs.Spots.{same_order}
 use Rattle.reach.specs.Lawful.{IsLawful}
 use Rattle.reach.specs.Position.{HasToken, IsAmong, Position, links_of}

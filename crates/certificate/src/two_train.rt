@@ -21,19 +21,11 @@ pub fn can_run<N: Network>(network: &N, company: Company) -> bool
 {
     network.keeps_laws();
     for index in 0..HEXES {
-        if leaves_in(network, company, hex_at(index)) {
+        if leaves_in(network, company, Hex::at_index(index)) {
             return true;
         }
     }
     false
-}
-
-/// The hex at a place in the order of the map.
-fn hex_at(index: usize) -> Hex
-    requires { index < 93 }
-    ensures { index_of result ≡ index }
-{
-    Hex::ALL[index]
 }
 
 /// Whether such a run leaves its first stop by a link of a hex.

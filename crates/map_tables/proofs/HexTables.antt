@@ -1,6 +1,8 @@
 -- The tables of the code, hex by hex and tile by tile, are the tables of the definitions.
-use Rattle.std.proofs.Common.{◌≡◌, ◌≤◌, true, leb, get_or, refl, ap, ◌∙◌, sym}
+use Rattle.std.proofs.Common.{◌≡◌, ℕ, ◌<◌, ◌≤◌, true, leb, get_or, refl, ap, ◌∙◌, sym, arith}
 use Rattle.std.proofs.lemmas.Bool.{leb-true, eqb-true, eq-eqb}
+use Rattle.std.proofs.lemmas.List.{get_or-map}
+use Rattle.std.proofs.lemmas.List.FromFn.{get_or-range_with_len}
 use Rattle.map_tables.specs.declared.hex.Hex.{Hex}
 use Rattle.map_tables.specs.declared.hex.Hex.TheVariants.{A9}
 use Rattle.map_tables.specs.declared.hex.TheConstants.{ROWS, COLUMNS}
@@ -50,6 +52,12 @@ pub hex_at_index : (hex : Hex) → get_or hexes (index_of hex) A9 ≡ hex
 unfolding hexes index_of
 hex_at_index A9 = refl
 hex_at_index _ = refl
+
+-- and each place is that of the hex there
+pub hexes_at : (index : ℕ) (d : Hex) → index < 93 → index_of (get_or hexes index d) ≡ index
+unfolding hexes index_of
+hexes_at index d low =
+    sym (get_or-map index_of hexes index d 0 low) ∙ get_or-range_with_len 0 93 index 0 low ∙ omega arith
 
 -- hexes with one place are one
 pub same_hex-true : (a b : Hex) → same_hex a b ≡ true → a ≡ b

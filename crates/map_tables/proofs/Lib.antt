@@ -1,7 +1,7 @@
 mod BordersPair
 mod FewPieces
 mod HexAt
-mod HexTables
+pub mod HexTables
 mod LinksInOrder
 mod Ordering
 mod SamePrint

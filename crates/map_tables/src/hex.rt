@@ -222,6 +222,15 @@ impl Hex {
         self as usize
     }
 
+    /// The hex at a place in the order of the hexes, from 0 up to 92.
+    pub fn at_index(index: usize) -> Hex
+        requires { index < 93 }
+        ensures { index_of result ≡ index }
+    {
+        let all = &Hex::ALL;
+        all[index]
+    }
+
     /// Whether it is the same hex.
     pub(crate) fn is(self, other: Hex) -> bool
         ensures { result ≡ same_hex self other }

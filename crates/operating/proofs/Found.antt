@@ -7,6 +7,7 @@ use Rattle.std.proofs.lemmas.Bool.Decides.{nat_tests}
 use Rattle.std.proofs.lemmas.List.{length-replicate, length-set}
 use Rattle.std.proofs.lemmas.List.Sums.{count_by-le-length, sum_by-set}
 use Rattle.std.specs.List.{list_any}
+use Rattle.map_tables.proofs.HexTables.{hexes_at}
 use Rattle.map_tables.specs.Hex.{hexes, index_of}
 use Rattle.map_tables.specs.Place.{joined_stop_of, stop_at}
 use Rattle.map_tables.specs.declared.hex.Hex.{Hex}
@@ -18,7 +19,7 @@ use Rattle.map_tables.specs.declared.track.End.{End}
 use Rattle.map_tables.specs.declared.track.End.TheVariants.{Side as AtSide, Stop as AtStop}
 use Rattle.map_tables.specs.declared.track.Link.{Link}
 use Rattle.reach.proofs.Collected.{all_tokens, none_marked, own_hex, spot_of, token_arrives}
-use Rattle.reach.proofs.Hexes.{hexes_at, index_low, same_index, side_low, stop_index_low}
+use Rattle.reach.proofs.Hexes.{index_low, same_index, side_low, stop_index_low}
 use Rattle.reach.proofs.Lists.{among_found, found_among}
 use Rattle.reach.proofs.Marking.{spreads_followed}
 use Rattle.reach.specs.Lawful.{IsLawful}

@@ -1,7 +1,6 @@
 -- The numbers of hexes: each hex has its own, under 93.
 use Rattle.std.proofs.Common.{◌≡◌, ℕ, ◌<◌, get_or, refl, ap, sym, ◌∙◌, arith, lit<}
-use Rattle.std.proofs.lemmas.List.{get_or-map}
-use Rattle.std.proofs.lemmas.List.FromFn.{get_or-range_with_len}
+use Rattle.map_tables.proofs.HexTables.{hex_at_index}
 use Rattle.map_tables.specs.Hex.{hexes, index_of}
 use Rattle.map_tables.specs.Place.{joined_hex, joined_stop_of, stop_index_of}
 use Rattle.map_tables.specs.Side.{sides, number_of, facing_of}
@@ -13,21 +12,9 @@ use Rattle.map_tables.specs.declared.place.StopNumber.TheVariants.{First, Second
 use Rattle.map_tables.specs.declared.side.Side.{Side}
 use Rattle.map_tables.specs.declared.side.Side.TheVariants.{SouthWest}
 
--- the hex of each number
-pub hexes_at : (index : ℕ) (d : Hex) → index < 93 → index_of (get_or hexes index d) ≡ index
-unfolding hexes index_of
-hexes_at index d low =
-    sym (get_or-map index_of hexes index d 0 low) ∙ get_or-range_with_len 0 93 index 0 low ∙ omega arith
-
--- a hex stands at its number
-at_index : (hex : Hex) → get_or hexes (index_of hex) A9 ≡ hex
-unfolding hexes index_of
-at_index A9 = refl
-at_index hex = refl
-
 -- hexes with one number are one
 pub same_index : (a b : Hex) → index_of a ≡ index_of b → a ≡ b
-same_index a b same = sym (at_index a) ∙ ap (λ n. get_or hexes n A9) same ∙ at_index b
+same_index a b same = sym (hex_at_index a) ∙ ap (λ n. get_or hexes n A9) same ∙ hex_at_index b
 
 -- each number is under 93
 pub index_low : (hex : Hex) → index_of hex < 93

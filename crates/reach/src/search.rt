@@ -103,15 +103,6 @@ fn number_of(spot: Spot) -> usize
     }
 }
 
-/// The hex at a place in the order of the map.
-fn hex_at(index: usize) -> Hex
-    requires { index < 93 }
-    ensures { index_of result ≡ index }
-{
-    let all = &Hex::ALL;
-    all[index]
-}
-
 /// The other hex in which the stop of a hex lies, if there is one.
 fn twin(hex: Hex) -> Option<Hex>
     ensures { result ≡ twin_of hex }
@@ -291,7 +282,7 @@ fn mark_tokens<N: Network>(
 {
     let mut marks = Marks::none(alloc)?;
     for index in 0..HEXES {
-        let hex = hex_at(index);
+        let hex = Hex::at_index(index);
         let first = StopNumber::First;
         let second = StopNumber::Second;
         mark_token(network, company, Stop { hex, number: first }, &mut marks)?;
@@ -358,7 +349,7 @@ pub(crate) fn reached_stops(alloc: Global, marks: &Marks) -> Result<Vec<Stop>, A
 {
     let mut stops = Vec::with_capacity(alloc, STOPS_ROOM)?;
     for index in 0..HEXES {
-        let hex = hex_at(index);
+        let hex = Hex::at_index(index);
         let first = StopNumber::First;
         let second = StopNumber::Second;
         push_stop(marks, Stop { hex, number: first }, &mut stops)?;

@@ -9,11 +9,11 @@ loop-index-init g c = laid_none (g.N.Network.position c.args.network.now) c.args
 
 pub add_steps-requires-clause-laid : goal.add_steps-requires-clause-laid
 add_steps-requires-clause-laid g c =
-    subst (λ (n : ℕ). LaidBefore (g.N.Network.position c.args.network.now) c.args.company n c.loop-index.nodes.items) (sym c.hex_at.ensures) c.loop-index.invariant
+    subst (λ (n : ℕ). LaidBefore (g.N.Network.position c.args.network.now) c.args.company n c.loop-index.nodes.items) (sym c.at_index.ensures) c.loop-index.invariant
 
 pub loop-index-preserved : goal.loop-index-preserved
 loop-index-preserved g c =
-    subst (λ (n : ℕ). LaidBefore (g.N.Network.position c.args.network.now) c.args.company (n + 1) c.add_steps.new.nodes.items) c.hex_at.ensures c.in_ok-add_steps.ensures
+    subst (λ (n : ℕ). LaidBefore (g.N.Network.position c.args.network.now) c.args.company (n + 1) c.add_steps.new.nodes.items) c.at_index.ensures c.in_ok-add_steps.ensures
 
 pub returns : goal.returns
 returns g c =

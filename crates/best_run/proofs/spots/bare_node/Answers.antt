@@ -20,9 +20,9 @@ pub returns : goal.returns
 returns g c =
     let position = g.N.Network.position c.args.network.now in
     let low : 6 ≤ c.args.number % 8 = omega (arith, c.stop_numbered.ensures) in
-    let stop : Stop = record { hex = c.hex_at.result; number = c.stop_numbered.result } in
+    let stop : Stop = record { hex = c.at_index.result; number = c.stop_numbered.result } in
     record {
-      spot = λ spot is. subst (λ o. IsNodeAt position c.args.company o (Some c.stop_node.result)) (sym (spot_stop c.args.number spot is low stop c.hex_at.ensures c.stop_numbered.ensures)) c.stop_node.ensures.node;
+      spot = λ spot is. subst (λ o. IsNodeAt position c.args.company o (Some c.stop_node.result)) (sym (spot_stop c.args.number spot is low stop c.at_index.ensures c.stop_numbered.ensures)) c.stop_node.ensures.node;
       value = c.stop_node.ensures.value;
       side = λ side. let wrong : true ≡ false = sym c.stop_node.ensures.node.stops ∙ side in absurd cc;
       pieces = subst (ArePiecesFrom c.args.number []) (sym (c.stop_node.ensures.pieces ∙ c.new-pieces.ensures.items)) (pieces_none c.args.number);

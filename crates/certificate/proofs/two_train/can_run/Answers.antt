@@ -10,13 +10,13 @@ pub returns-then-leaves_in : goal.returns-then-leaves_in
 returns-then-leaves_in g c =
     let position : Position = g.N.Network.position c.args.network.now in
     let found = c.leaves_in.ensures.0 c.if-leaves_in.true in
-    (λ yes. run_found position c.args.company found.0 (own_hex position c.keeps_laws.ensures c.hex_at.result found.0.link found.1) found.2, λ can. refl)
+    (λ yes. run_found position c.args.company found.0 (own_hex position c.keeps_laws.ensures c.at_index.result found.0.link found.1) found.2, λ can. refl)
 
 pub loop-index-preserved : goal.loop-index-preserved
 loop-index-preserved g c =
     let position : Position = g.N.Network.position c.args.network.now in
     λ step low track leaves.
-    elim (hexes_more position c.hex_at.result c.loop-index.index c.hex_at.ensures step.link low track) [
+    elim (hexes_more position c.at_index.result c.loop-index.index c.at_index.ensures step.link low track) [
       | inl before ↦ c.loop-index.invariant step before track leaves
       | inr here ↦ let wrong : true ≡ false = sym (c.leaves_in.ensures.1 (step, here, leaves)) ∙ c.if-leaves_in.false in cc
     ]

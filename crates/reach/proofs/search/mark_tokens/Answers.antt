@@ -26,7 +26,7 @@ loop-index-init g c =
 pub loop-index-preserved : goal.loop-index-preserved
 loop-index-preserved g c =
     record {
-      tokens = tokens_added (g.N.Network.position c.args.network.now) c.args.company _ _ c.hex_at-hex.result c.loop-index.index c.hex_at-hex.ensures c.loop-index.invariant.tokens _ _ c.in_ok-mark_token.ensures.marking _ _ c.in_ok-mark_token-2.ensures.marking;
+      tokens = tokens_added (g.N.Network.position c.args.network.now) c.args.company _ _ c.at_index-hex.result c.loop-index.index c.at_index-hex.ensures c.loop-index.invariant.tokens _ _ c.in_ok-mark_token.ensures.marking _ _ c.in_ok-mark_token-2.ensures.marking;
       links = c.in_ok-mark_token-2.ensures.links ∙ c.in_ok-mark_token.ensures.links ∙ c.loop-index.invariant.links;
     }
 

@@ -4,4 +4,4 @@ use Rattle.reach.proofs.search.reached_stops.Goals as goal
 
 pub loop-index-preserved : goal.loop-index-preserved
 loop-index-preserved c =
-    stops_added c.args.marks.now.marks _ c.hex_at-hex.result c.loop-index.index c.hex_at-hex.ensures c.loop-index.invariant _ c.in_ok-push_stop.ensures _ c.in_ok-push_stop-2.ensures
+    stops_added c.args.marks.now.marks _ c.at_index-hex.result c.loop-index.index c.at_index-hex.ensures c.loop-index.invariant _ c.in_ok-push_stop.ensures _ c.in_ok-push_stop-2.ensures

@@ -1,7 +1,7 @@
 -- The hexes stand in the order of their numbers.
 use Rattle.map_tables.specs.Hex.{hexes}
-use Rattle.reach.proofs.Hexes.{hexes_at}
-use Rattle.reach.proofs.search.hex_at.Goals as goal
+use Rattle.map_tables.proofs.HexTables.{hexes_at}
+use Rattle.map_tables.proofs.hex.Hex.at_index.Goals as goal
 
 pub returns : goal.returns
 unfolding hexes
