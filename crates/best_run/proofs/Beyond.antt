@@ -65,7 +65,10 @@ two_more level (first ∷ nodes) (false ∷ ahead) (suc n) node at = two_more le
 pub worth_passed : (nodes : List Node) (ahead : List Bool) (n : ℕ) (node : Node) (old new : Worth) → slice_get nodes n ≡ Some node → node.ends ≡ false → get_or ahead n false ≡ false → n < length ahead → HasPassed node.value old new → IsWorth nodes ahead old → IsWorth nodes (set ahead n true) new
 worth_passed nodes ahead n node old new at passed free low has known =
     record {
-      passed = λ place small.
+      levels = omega (arith, known.levels, has.levels);
+      few = omega (arith, known.few, has.levels);
+      passed = λ place less.
+          let small : place < old.levels = omega (arith, less, has.levels) in
           let more = beyond_more (10 * place) nodes ahead n node at free low in
           let adds : passes (10 * place) node ≡ node.value - 10 * place = ap (λ (b : Bool). if_passed b (node.value - 10 * place)) passed in
           omega (arith, more, adds, has.each place small, known.passed place small);
@@ -83,7 +86,10 @@ worth_passed nodes ahead n node old new at passed free low has known =
 pub worth_ended : (nodes : List Node) (ahead : List Bool) (n : ℕ) (node : Node) (old new : Worth) → slice_get nodes n ≡ Some node → node.ends ≡ true → node.value ≤ 80 → get_or ahead n false ≡ false → n < length ahead → HasRanked node.value old new → IsWorth nodes ahead old → IsWorth nodes (set ahead n true) new
 worth_ended nodes ahead n node old new at ending value free low has known =
     record {
-      passed = λ place small.
+      levels = omega (arith, known.levels, has.levels);
+      few = omega (arith, known.few, has.levels);
+      passed = λ place less.
+          let small : place < old.levels = omega (arith, less, has.levels) in
           let more = beyond_more (10 * place) nodes ahead n node at free low in
           let none : passes (10 * place) node ≡ 0 = ap (λ (b : Bool). if_passed b (node.value - 10 * place)) ending in
           let same : get_or new.beyond place 0 ≡ get_or old.beyond place 0 = ap (λ (xs : List ℕ). get_or xs place 0) has.same in
@@ -114,9 +120,11 @@ two_nothing level [] n = refl
 two_nothing level (node ∷ nodes) zero = refl
 two_nothing level (node ∷ nodes) (suc n) = two_nothing level nodes n
 
-pub worth_nothing : (nodes : List Node) (count : ℕ) (worth : Worth) → ((place : ℕ) → get_or worth.beyond place 0 ≡ 0) → worth.first ≡ 0 → worth.second ≡ 0 → IsWorth nodes (replicate count false) worth
-worth_nothing nodes count worth each first second =
+pub worth_nothing : (nodes : List Node) (count : ℕ) (worth : Worth) → 0 < worth.levels → worth.levels ≤ 9 → ((place : ℕ) → get_or worth.beyond place 0 ≡ 0) → worth.first ≡ 0 → worth.second ≡ 0 → IsWorth nodes (replicate count false) worth
+worth_nothing nodes count worth levels few each first second =
     record {
+      levels = levels;
+      few = few;
       passed = λ place small. each place ∙ sym (beyond_nothing (10 * place) nodes count);
       one = λ level. omega (arith, one_nothing level nodes count);
       two = λ level. omega (arith, two_nothing level nodes count);
@@ -137,7 +145,7 @@ most_of level (node ∷ nodes) (true ∷ ahead) low =
 most_of level (node ∷ nodes) (false ∷ ahead) low =
     omega (arith, most_of level nodes ahead (λ n other at. low (suc n) other at))
 
-pub worth_most : (task : Task) → IsFit task → (ahead : List Bool) (worth : Worth) → IsWorth task.spots.items ahead worth → (place : ℕ) → place < 9 → get_or worth.beyond place 0 ≤ 59520
+pub worth_most : (task : Task) → IsFit task → (ahead : List Bool) (worth : Worth) → IsWorth task.spots.items ahead worth → (place : ℕ) → place < worth.levels → get_or worth.beyond place 0 ≤ 59520
 worth_most task fit ahead worth known place small =
     omega (arith, fit.all, known.passed place small, most_of (10 * place) task.spots.items ahead (λ n node at. (fit.nodes n node at).value))
 

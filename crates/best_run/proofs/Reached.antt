@@ -154,7 +154,7 @@ module _ (task : Task) (fit : IsFit task) (ready : AreReady task) (reach : List 
   reach_low (settle ∷ moves) settled reaches held whole (suc count) equal rest completes = absurd completes.0
 
 -- what lies in reach is worth too little
-worth_low : (task : Task) (reach : List Bool) (worth : Worth) (most cap place : ℕ) → IsWorth task.spots.items reach worth → place < 9 → (most * (10 * place) + get_or worth.beyond place 0) + ((worth.first - 10 * place) + (worth.second - 10 * place)) ≤ cap → (most * (10 * place) + beyond (10 * place) task.spots.items reach) + two_ends (10 * place) task.spots.items reach ≤ cap
+worth_low : (task : Task) (reach : List Bool) (worth : Worth) (most cap place : ℕ) → IsWorth task.spots.items reach worth → place < worth.levels → (most * (10 * place) + get_or worth.beyond place 0) + ((worth.first - 10 * place) + (worth.second - 10 * place)) ≤ cap → (most * (10 * place) + beyond (10 * place) task.spots.items reach) + two_ends (10 * place) task.spots.items reach ≤ cap
 worth_low task reach worth most cap place known low least =
     omega (arith, known.passed place low, known.two (10 * place), least)
 

@@ -130,7 +130,9 @@ EarnsAhead task run ahead most = (level : ℕ) × (most_ahead level task run ahe
 
 -- it is known what the stops ahead are worth
 pub record IsWorth (nodes : List Node) (ahead : List Bool) (worth : Worth) : Type 0 where
-  pub passed : (place : ℕ) → place < 9 → get_or worth.beyond place 0 ≡ beyond (10 * place) nodes ahead
+  pub levels : 0 < worth.levels
+  pub few : worth.levels ≤ 9
+  pub passed : (place : ℕ) → place < worth.levels → get_or worth.beyond place 0 ≡ beyond (10 * place) nodes ahead
   pub one : (level : ℕ) → one_end level nodes ahead ≤ worth.first - level
   pub two : (level : ℕ) → two_ends level nodes ahead ≤ (worth.first - level) + (worth.second - level)
   pub order : worth.second ≤ worth.first
@@ -138,12 +140,14 @@ pub record IsWorth (nodes : List Node) (ahead : List Bool) (worth : Worth) : Typ
 
 -- a stop that may be passed is added
 pub record HasPassed (value : ℕ) (old new : Worth) : Type 0 where
-  pub each : (place : ℕ) → place < 9 → get_or new.beyond place 0 ≡ get_or old.beyond place 0 + (value - 10 * place)
+  pub levels : new.levels ≡ old.levels
+  pub each : (place : ℕ) → place < old.levels → get_or new.beyond place 0 ≡ get_or old.beyond place 0 + (value - 10 * place)
   pub first : new.first ≡ old.first
   pub second : new.second ≡ old.second
 
 -- a stop at which runs end is added
 pub record HasRanked (value : ℕ) (old new : Worth) : Type 0 where
+  pub levels : new.levels ≡ old.levels
   pub same : new.beyond ≡ old.beyond
   pub one : (level : ℕ) → (old.first - level ≤ new.first - level) × (value - level ≤ new.first - level)
   pub two : (level : ℕ) → ((old.first - level) + (old.second - level) ≤ (new.first - level) + (new.second - level)) × ((value - level) + (old.first - level) ≤ (new.first - level) + (new.second - level))
@@ -158,7 +162,7 @@ at_level worth place left on back =
 
 -- so much is no less than what it may earn by some level
 abbrev pub IsLeast : Worth → ℕ → Bool → Bool → ℕ → Type 0
-IsLeast worth left on back least = (place : ℕ) × (place < 9) × (at_level worth place left on back ≤ least)
+IsLeast worth left on back least = (place : ℕ) × (place < worth.levels) × (at_level worth place left on back ≤ least)
 
 -- all ways on from a run earn at most so much
 abbrev pub EndsAtMost : Task → Settled → Standing → ℕ → Type 0

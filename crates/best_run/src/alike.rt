@@ -68,11 +68,13 @@ impl Task {
     pub(crate) fn reach(&self, settled: &Settled) -> Outlook
         requires fit { IsFit self.now }
         requires ready { AreReady self.now }
+        requires next { settled.now.next < length self.now.trains.items }
         ensures reaches { IsInReach self.now settled.now.used result.ahead }
         ensures held { AreHeld self.now settled.now.used result.ahead }
         ensures known { IsWorth self.now.spots.items result.ahead result.worth }
     {
-        let mut reach = Outlook::nothing();
+        let most = self.trains[settled.next];
+        let mut reach = self.nothing_ahead(most);
         for place in 0..self.stops.len() {
             let stop = self.stops[place];
             if self.spots[stop].own {

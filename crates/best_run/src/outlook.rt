@@ -9,7 +9,7 @@ ghost use Rattle.best_run.specs.Ways.{AreReady, IsStop};
 use crate::bits::{SPOTS, Spots};
 use crate::state::{Settled, Standing};
 use crate::task::{Piece, Task};
-use crate::worth::Worth;
+use crate::worth::{LEVELS, Worth};
 use tables::Amount;
 
 /// What lies ahead of a run.
@@ -22,19 +22,30 @@ pub(crate) struct Outlook {
 }
 
 impl Outlook {
-    /// Nothing lies ahead.
-    pub(crate) fn nothing() -> Outlook
+    /// Nothing lies ahead. So many levels are looked at of what will.
+    fn nothing(levels: usize) -> Outlook
+        requires levels { 0 < levels }
+        requires few { levels ≤ 9 }
         ensures ahead { result.ahead ≡ replicate 744 false }
         ensures known { (nodes : List Node) → IsWorth nodes (replicate 744 false) result.worth }
     {
         Outlook {
             ahead: Spots::none(),
-            worth: Worth::nothing(),
+            worth: Worth::nothing(levels),
         }
     }
 }
 
 impl Task {
+    /// Nothing lies ahead of a run that may visit so many stops more. Where it may visit all, it earns least by the
+    /// first level.
+    pub(crate) fn nothing_ahead(&self, left: usize) -> Outlook
+        ensures ahead { result.ahead ≡ replicate 744 false }
+        ensures known { (nodes : List Node) → IsWorth nodes (replicate 744 false) result.worth }
+    {
+        Outlook::nothing(if left >= self.stops.len() { 1 } else { LEVELS })
+    }
+
     /// One stop more lies ahead.
     pub(crate) fn add(&self, spot: usize, outlook: &mut Outlook)
         requires fit { IsFit self.now }
@@ -163,7 +174,7 @@ impl Task {
     {
         settled.marks_all_borders();
         run.visited.is_whole();
-        let mut outlook = Outlook::nothing();
+        let mut outlook = self.nothing_ahead(run.left);
         self.look_from(settled, run, run.head, &mut outlook);
         if !run.turned {
             self.look_back(settled, run, &mut outlook);

@@ -13,6 +13,8 @@ const STEP: Amount = 10;
 /// What some stops are worth, in dollars.
 #[derive(Clone, Copy)]
 pub(crate) struct Worth {
+    /// How many of the levels are looked at: at least one. A run that may visit all stops earns least by the first.
+    pub(crate) levels: usize,
     /// For each level, what those that may be passed are worth beyond it.
     pub(crate) beyond: [Amount; LEVELS],
     /// What the one is worth that is worth most of those at which runs end; 0 where there is none.
@@ -22,13 +24,15 @@ pub(crate) struct Worth {
 }
 
 impl Worth {
-    /// That of no stop.
-    pub(crate) fn nothing() -> Worth
+    /// That of no stop, for so many levels.
+    pub(crate) fn nothing(levels: usize) -> Worth
+        ensures levels { result.levels ≡ levels }
         ensures beyond { (place : ℕ) → get_or result.beyond place 0 ≡ 0 }
         ensures first { result.first ≡ 0 }
         ensures second { result.second ≡ 0 }
     {
         Worth {
+            levels,
             beyond: [0; LEVELS],
             first: 0,
             second: 0,
@@ -38,10 +42,11 @@ impl Worth {
     /// Adds a stop that may be passed.
     pub(crate) fn pass(&mut self, value: Amount)
         requires value { value ≤ 80 }
-        requires room { (place : ℕ) → place < 9 → get_or self.old.beyond place 0 ≤ 59520 }
+        requires few { self.old.levels ≤ 9 }
+        requires room { (place : ℕ) → place < self.old.levels → get_or self.old.beyond place 0 ≤ 59520 }
         ensures { HasPassed value self.old self.new }
     {
-        for place in 0..LEVELS {
+        for place in 0..self.levels {
             self.beyond[place] += value.saturating_sub(STEP * place as Amount);
         }
     }
@@ -78,9 +83,10 @@ impl Worth {
     /// What a run may earn at most by the level at a place, in dollars: with so many stops left, if it may go on from
     /// where it stands, and from where it began.
     fn at_level(&self, place: usize, left: Amount, on: bool, back: bool) -> Amount
-        requires place { place < 9 }
+        requires place { place < self.now.levels }
+        requires few { self.now.levels ≤ 9 }
         requires left { left ≤ 744 }
-        requires room { (each : ℕ) → each < 9 → get_or self.now.beyond each 0 ≤ 59520 }
+        requires room { (each : ℕ) → each < self.now.levels → get_or self.now.beyond each 0 ≤ 59520 }
         requires first { self.now.first ≤ 80 }
         requires second { self.now.second ≤ self.now.first }
         ensures value { result ≡ at_level self.now place left on back }
@@ -92,15 +98,17 @@ impl Worth {
 
     /// The least of these.
     pub(crate) fn least(&self, left: Amount, on: bool, back: bool) -> Amount
+        requires levels { 0 < self.now.levels }
+        requires few { self.now.levels ≤ 9 }
         requires left { left ≤ 744 }
-        requires room { (each : ℕ) → each < 9 → get_or self.now.beyond each 0 ≤ 59520 }
+        requires room { (each : ℕ) → each < self.now.levels → get_or self.now.beyond each 0 ≤ 59520 }
         requires first { self.now.first ≤ 80 }
         requires second { self.now.second ≤ self.now.first }
         ensures least { IsLeast self.now left on back result }
         ensures bound { result ≤ 119200 }
     {
         let mut least = self.at_level(0, left, on, back);
-        for place in 1..LEVELS {
+        for place in 1..self.levels {
             let here = self.at_level(place, left, on, back);
             if here < least {
                 least = here;

@@ -6,14 +6,14 @@ use Rattle.best_run.proofs.task.Task.outlook.Goals as goal
 
 pub look_from-requires-clause-known : goal.look_from-requires-clause-known
 look_from-requires-clause-known c =
-    rw c.nothing-outlook.ensures.ahead (c.nothing-outlook.ensures.known c.args.self.now.spots.items)
+    rw c.nothing_ahead-outlook.ensures.ahead (c.nothing_ahead-outlook.ensures.known c.args.self.now.spots.items)
 
 pub returns-then-not-run-clause-outlook : goal.returns-then-not-run-clause-outlook
 returns-then-not-run-clause-outlook c =
-    let first : WidensFrom c.args.self.now c.args.settled.now c.args.run.now c.args.run.now.head (replicate 744 false) c.look_from.new.outlook.ahead = subst (λ (ms : List Bool). WidensFrom c.args.self.now c.args.settled.now c.args.run.now c.args.run.now.head ms c.look_from.new.outlook.ahead) c.nothing-outlook.ensures.ahead c.look_from.ensures.widens in
+    let first : WidensFrom c.args.self.now c.args.settled.now c.args.run.now c.args.run.now.head (replicate 744 false) c.look_from.new.outlook.ahead = subst (λ (ms : List Bool). WidensFrom c.args.self.now c.args.settled.now c.args.run.now c.args.run.now.head ms c.look_from.new.outlook.ahead) c.nothing_ahead-outlook.ensures.ahead c.look_from.ensures.widens in
     outlook_both c.args.self.now c.args.settled.now c.args.run.now _ _ first c.look_back.ensures.widens
 
 pub returns-else-not-run-clause-outlook : goal.returns-else-not-run-clause-outlook
 returns-else-not-run-clause-outlook c =
-    let first : WidensFrom c.args.self.now c.args.settled.now c.args.run.now c.args.run.now.head (replicate 744 false) c.look_from.new.outlook.ahead = subst (λ (ms : List Bool). WidensFrom c.args.self.now c.args.settled.now c.args.run.now c.args.run.now.head ms c.look_from.new.outlook.ahead) c.nothing-outlook.ensures.ahead c.look_from.ensures.widens in
+    let first : WidensFrom c.args.self.now c.args.settled.now c.args.run.now c.args.run.now.head (replicate 744 false) c.look_from.new.outlook.ahead = subst (λ (ms : List Bool). WidensFrom c.args.self.now c.args.settled.now c.args.run.now c.args.run.now.head ms c.look_from.new.outlook.ahead) c.nothing_ahead-outlook.ensures.ahead c.look_from.ensures.widens in
     outlook_from c.args.self.now c.args.settled.now c.args.run.now _ c.if-not-run.false first

@@ -13,7 +13,7 @@ use Rattle.best_run.proofs.task.Task.reach.Goals.{then-index, else-index}
 
 pub loop-place-init : goal.loop-place-init
 loop-place-init c =
-    rw c.nothing-reach.ensures.ahead (reach_none c.args.self.now c.args.settled.now.used, c.nothing-reach.ensures.known c.args.self.now.spots.items)
+    rw c.nothing_ahead-reach.ensures.ahead (reach_none c.args.self.now c.args.settled.now.used, c.nothing_ahead-reach.ensures.known c.args.self.now.spots.items)
 
 pub index-requires : goal.index-requires
 index-requires c =
