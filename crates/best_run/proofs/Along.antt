@@ -14,13 +14,15 @@ use Rattle.best_run.specs.declared.state.Standing.{Standing}
 use Rattle.best_run.specs.declared.trail.Mark.{Mark}
 use Rattle.best_run.specs.declared.trail.Mark.TheVariants.{Go, Turn}
 use Rattle.best_run.specs.Trail.{go_along}
+use Rattle.best_run.specs.Crossed.{numbers_in}
 use Rattle.best_run.specs.Fit.{BordersFit, IsFit, PieceFits}
-use Rattle.best_run.specs.Moves.{Any, AreExplored, Completes, IsBeginAt, IsGo, IsTurn, LeadsFrom, Move, State, Tries, along, begin, begun, between, can_take, ends_in, go, marks_of, may_come, misses, node_at, own_in, pass, pieces_in, settle, standing, stop_in, total_after, turn, turned_back, using}
+use Rattle.best_run.specs.Moves.{Any, AreExplored, Completes, IsBeginAt, IsGo, IsTurn, LeadsFrom, Move, State, Tries, along, begin, begun, between, can_take, ends_in, go, marked_all, marks_of, may_come, misses, node_at, own_in, pass, pieces_in, settle, standing, stop_in, total_after, turn, turned_back, using}
 use Rattle.best_run.specs.Ways.{AreFree, AreWaysOf, HasWay, Hop, IsMadeOf, LeadsTo, StandsBefore, TriesWays, borders_by, none_used}
 use Rattle.best_run.proofs.Chunks.{Back, Chunk, arrived, chunk_back, chunk_of, fits_by, free_all, free_freer, free_used, over}
 use Rattle.best_run.proofs.Described.{among_place, place_among}
 use Rattle.best_run.specs.Kept.{Freer}
 use Rattle.best_run.proofs.Eased.{freer_none}
+use Rattle.best_run.proofs.Numbers.{crossed_fit, crossed_marks, crossed_misses, crossed_some}
 use Rattle.best_run.proofs.Places.{below_next}
 use Rattle.best_run.proofs.Traced.{Leads, TakesFrom, traced_both, traced_none}
 
@@ -72,21 +74,22 @@ way_fits task fit stop ways are stops way among =
     let found = are.sound way among in
     let piece = found.0 in
     let hops = found.2.0 in
-    let made : IsMadeOf task none_used [] [] way.first piece hops way = found.2.1 in
+    let made : IsMadeOf task none_used [] way.first piece hops way = found.2.1 in
     let first : PieceFits task true piece = fits_at task fit stop way.first piece true stops found.1 in (
       record {
         to = leads_low task fit hops piece way.piece.to first.to made.leads;
-        borders = subst BordersFit (sym made.borders) (fits_by task fit piece hops way.piece.to first.borders made.leads);
+        borders = subst BordersFit (sym made.borders) (crossed_fit (borders_by piece hops));
         to_side = λ wrong. absurd (let w : false ≡ true = wrong in cc);
-        over = λ side. subst (λ (bs : List ℕ). 0 < length bs) (sym made.borders) (over_one task fit hops piece way.piece.to (first.to_side refl) made.leads);
+        over = λ side. subst (λ (bs : List ℕ). 0 < length bs) (sym made.borders)
+            (crossed_some (borders_by piece hops) (fits_by task fit piece hops way.piece.to first.borders made.leads) (over_one task fit hops piece way.piece.to (first.to_side refl) made.leads));
       },
       leads_stop task hops piece way.piece.to made.leads,
     )
 
 -- after a way one is where its pieces lead
-there_by : (task : Task) (settled : Settled) (run : Standing) (piece : Piece) (borders : List ℕ) (to : ℕ) → piece.borders.items ≡ borders → piece.to ≡ to → standing (using settled piece) (along task run piece) ≡ standing (over settled borders) (arrived task run to)
-there_by task settled run piece borders to same is =
-    ap (λ (bs : List ℕ). standing (over settled bs) (arrived task run piece.to)) same
+there_by : (task : Task) (settled : Settled) (run : Standing) (piece : Piece) (borders : List ℕ) (to : ℕ) → BordersFit borders → piece.borders.items ≡ numbers_in (marked_all none_used borders) → piece.to ≡ to → standing (using settled piece) (along task run piece) ≡ standing (over settled borders) (arrived task run to)
+there_by task settled run piece borders to fit same is =
+    ap (λ (u : List Bool). standing (record settled { used = u }) (arrived task run piece.to)) (ap (marked_all settled.used) same ∙ crossed_marks settled.used borders fit)
     ∙ ap (λ (n : ℕ). standing (over settled borders) (arrived task run n)) is
 
 module _ (task : Task) (fit : IsFit task) (stop : ℕ) (stops : stop_in (node_at task stop) ≡ true) (ways : List Way) (are : AreWaysOf task stop ways) where
@@ -105,14 +108,14 @@ module _ (task : Task) (fit : IsFit task) (stop : ℕ) (stops : stop_in (node_at
       let found = are.sound way among in
       let piece = found.0 in
       let hops = found.2.0 in
-      let made : IsMadeOf task none_used [] [] way.first piece hops way = found.2.1 in
+      let made : IsMadeOf task none_used [] way.first piece hops way = found.2.1 in
       let first : PieceFits task true piece = fits_at task fit stop way.first piece true stops found.1 in
-      let borders : way.piece.borders.items ≡ borders_by piece hops = made.borders in
-      let here = there_by task settled run way.piece (borders_by piece hops) way.piece.to borders refl in
+      let fits : BordersFit (borders_by piece hops) = fits_by task fit piece hops way.piece.to first.borders made.leads in
+      let here = there_by task settled run way.piece (borders_by piece hops) way.piece.to fits made.borders refl in
       let to_stop : stop_in (node_at task way.piece.to) ≡ true = leads_stop task hops piece way.piece.to made.leads in
       let come : may_come true run way.piece.to ≡ true = sym (ap (λ b. may_come b run way.piece.to) to_stop) ∙ both_first (may_come (stop_in (node_at task way.piece.to)) run way.piece.to) (misses settled.used way.piece.borders.items) can in
-      let missed : misses settled.used (borders_by piece hops) ≡ true = subst (λ (bs : List ℕ). misses settled.used bs ≡ true) borders (both_second (may_come (stop_in (node_at task way.piece.to)) run way.piece.to) (misses settled.used way.piece.borders.items) can) in
-      let free : AreFree settled.used piece hops = free_used piece hops settled.used (fits_by task fit piece hops way.piece.to first.borders made.leads) made.free missed in
+      let missed : misses settled.used (borders_by piece hops) ≡ true = sym (crossed_misses settled.used (borders_by piece hops) fits) ∙ (sym (ap (misses settled.used) made.borders) ∙ both_second (may_come (stop_in (node_at task way.piece.to)) run way.piece.to) (misses settled.used way.piece.borders.items) can) in
+      let free : AreFree settled.used piece hops = free_used piece hops settled.used fits made.free missed in
       let back : Back task fit settled run piece hops way.piece.to later = chunk_back task fit hops settled run piece way.piece.to later made.leads free come (subst (λ s. Completes task s later) here completes) in
       record {
         piece = piece;
@@ -140,11 +143,12 @@ module _ (task : Task) (fit : IsFit task) (stop : ℕ) (stops : stop_in (node_at
   by_way settled run whole place piece moves leads can completes =
       let chunk : Chunk task fit settled run piece moves = chunk_of task fit moves settled run piece (stop_in (node_at task piece.to)) refl can completes in
       let freer : Freer settled.used none_used = subst (λ (n : ℕ). Freer settled.used (replicate n false)) whole (freer_none settled.used) in
-      let has : HasWay task none_used [] [] place piece chunk.hops chunk.to ways = are.complete place piece chunk.hops chunk.to leads chunk.leads (free_freer piece chunk.hops settled.used none_used freer chunk.free) in
+      let has : HasWay task none_used [] place piece chunk.hops chunk.to ways = are.complete place piece chunk.hops chunk.to leads chunk.leads (free_freer piece chunk.hops settled.used none_used freer chunk.free) in
       let way = has.way in
       let at = place_among ways way has.among in
-      let borders : way.piece.borders.items ≡ borders_by piece chunk.hops = has.made.borders in
-      let here = there_by task settled run way.piece (borders_by piece chunk.hops) chunk.to borders has.to_is in
+      let first : PieceFits task true piece = fits_at task fit stop place piece true stops leads in
+      let fits : BordersFit (borders_by piece chunk.hops) = fits_by task fit piece chunk.hops chunk.to first.borders chunk.leads in
+      let here = there_by task settled run way.piece (borders_by piece chunk.hops) chunk.to fits has.made.borders has.to_is in
       let to_stop : stop_in (node_at task way.piece.to) ≡ true = leads_stop task chunk.hops piece way.piece.to has.made.leads in
       record {
         way = way;
@@ -153,7 +157,7 @@ module _ (task : Task) (fit : IsFit task) (stop : ℕ) (stops : stop_in (node_at
         first = has.made.place_is;
         can = both_are (may_come (stop_in (node_at task way.piece.to)) run way.piece.to) (misses settled.used way.piece.borders.items)
             (ap (λ b. may_come b run way.piece.to) to_stop ∙ (ap (λ (n : ℕ). may_come true run n) has.to_is ∙ chunk.come))
-            (subst (λ (bs : List ℕ). misses settled.used bs ≡ true) (sym borders) (free_all piece chunk.hops settled.used chunk.free));
+            (ap (misses settled.used) has.made.borders ∙ (crossed_misses settled.used (borders_by piece chunk.hops) fits ∙ free_all piece chunk.hops settled.used chunk.free));
         later = chunk.later;
         shorter = chunk.shorter;
         completes = subst (λ s. Completes task s chunk.later) (sym here) chunk.completes;

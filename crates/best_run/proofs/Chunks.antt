@@ -41,7 +41,7 @@ set_stays (mark ∷ marks) zero (suc m) is = is
 set_stays (mark ∷ marks) (suc n) zero is = is
 set_stays (mark ∷ marks) (suc n) (suc m) is = set_stays marks n m is
 
-marked_stays : (marks : List Bool) (borders : List ℕ) (m : ℕ) → IsMarked marks m → IsMarked (marked_all marks borders) m
+pub marked_stays : (marks : List Bool) (borders : List ℕ) (m : ℕ) → IsMarked marks m → IsMarked (marked_all marks borders) m
 marked_stays marks [] m is = is
 marked_stays marks (border ∷ borders) m is = marked_stays (set marks border true) borders m (set_stays marks border m is)
 

@@ -1,28 +1,15 @@
 -- What is done with the set of some borders is done with each of them.
-use Rattle.std.proofs.Common.{◌≡◌, ◌↔◌, ℕ, zero, suc, Bool, true, false, ◌⊎◌, inl, inr, List, [], ◌∷◌, length, get_or, set, replicate, refl, sym, ap, subst, ◌∙◌, length-set}
-use Rattle.reach.proofs.Collected.{none_marked}
+use Rattle.std.proofs.Common.{◌≡◌, ◌↔◌, ℕ, zero, suc, Bool, true, false, ◌⊎◌, inl, inr, List, [], ◌∷◌, length, set, refl, sym, ap, ◌∙◌, length-set}
 use Rattle.reach.specs.Position.{IsAmong}
 use Rattle.best_run.specs.Alike.{cleared_all}
-use Rattle.best_run.specs.Fit.{BordersFit}
+use Rattle.best_run.specs.Crossed.{numbers_in}
 use Rattle.best_run.specs.Marks.{AreApart, AreBoth, AreOnly, IsMarked}
 use Rattle.best_run.specs.Moves.{marked_all, misses}
 use Rattle.best_run.proofs.Advance.{free_misses, marks_more, misses_free}
-use Rattle.best_run.proofs.Ahead.{falsely}
-use Rattle.best_run.proofs.Few.{length_replicate}
 use Rattle.best_run.proofs.Likened.{cleared_fewer, cleared_here}
 use Rattle.best_run.proofs.Marks.{length_marked}
+use Rattle.best_run.proofs.Numbers.{in_set, numbers_fit}
 use Rattle.best_run.proofs.Words.{same_marks}
-
--- the borders of a set
-in_set : (borders : List ℕ) → BordersFit borders → (marks : List Bool) → marks ≡ marked_all (replicate 279 false) borders → (border : ℕ) → IsMarked marks border ↔ IsAmong border borders
-in_set borders fit marks is border =
-    let of : IsMarked (marked_all (replicate 279 false) borders) border ↔ (IsAmong border borders ⊎ IsMarked (replicate 279 false) border) = marks_more (replicate 279 false) borders fit (length_replicate 279 false) border in (
-      λ marked. elim (of.0 (subst (λ (m : List Bool). IsMarked m border) is marked)) [
-        | inl among ↦ among
-        | inr none ↦ absurd (falsely (get_or (replicate 279 false) border false) none (none_marked 279 border))
-      ],
-      λ among. subst (λ (m : List Bool). IsMarked m border) (sym is) (of.1 (inl among)),
-    )
 
 same_test : (a b : Bool) → (a ≡ true → b ≡ true) → (b ≡ true → a ≡ true) → a ≡ b
 same_test true b there back = sym (there refl)
@@ -34,19 +21,20 @@ true_or true none = refl
 true_or false none = absurd (none refl)
 
 -- none of them is used
-pub set_misses : (used marks : List Bool) (borders : List ℕ) → BordersFit borders → marks ≡ marked_all (replicate 279 false) borders → (apart : Bool) → (apart ≡ true → AreApart used marks) → (apart ≡ false → AreApart used marks → ⊥) → apart ≡ misses used borders
-set_misses used marks borders fit is apart are meet =
-    same_test apart (misses used borders)
-    (λ told. free_misses used borders (λ border among marked. are told border marked ((in_set borders fit marks is border).1 among)))
-    (λ free. true_or apart (λ none. meet none (λ border first second. misses_free used borders free border ((in_set borders fit marks is border).0 second) first)))
+pub set_misses : (used marks : List Bool) (apart : Bool) → (apart ≡ true → AreApart used marks) → (apart ≡ false → AreApart used marks → ⊥) → apart ≡ misses used (numbers_in marks)
+set_misses used marks apart are meet =
+    same_test apart (misses used (numbers_in marks))
+    (λ told. free_misses used (numbers_in marks) (λ border among marked. are told border marked ((in_set marks border).1 among)))
+    (λ free. true_or apart (λ none. meet none (λ border first second. misses_free used (numbers_in marks) free border ((in_set marks border).0 second) first)))
 
 -- they are used as well
-pub set_marked : (used marks both : List Bool) (borders : List ℕ) → BordersFit borders → marks ≡ marked_all (replicate 279 false) borders → length used ≡ 279 → AreBoth used marks both → both ≡ marked_all used borders
-set_marked used marks both borders fit is whole are =
+pub set_marked : (used marks both : List Bool) → length marks ≡ 279 → length used ≡ 279 → AreBoth used marks both → both ≡ marked_all used (numbers_in marks)
+set_marked used marks both all whole are =
+    let borders : List ℕ = numbers_in marks in
     same_marks both (marked_all used borders) (are.whole ∙ sym (length_marked used borders)) (λ border.
-    let of : IsMarked (marked_all used borders) border ↔ (IsAmong border borders ⊎ IsMarked used border) = marks_more used borders fit whole border in (
-      λ marked. of.1 (elim ((are.each border).0 marked) [ inl before ↦ inr before | inr new ↦ inl ((in_set borders fit marks is border).0 new) ]),
-      λ marked. (are.each border).1 (elim (of.0 marked) [ inl among ↦ inr ((in_set borders fit marks is border).1 among) | inr before ↦ inl before ]),
+    let of : IsMarked (marked_all used borders) border ↔ (IsAmong border borders ⊎ IsMarked used border) = marks_more used borders (numbers_fit marks all) whole border in (
+      λ marked. of.1 (elim ((are.each border).0 marked) [ inl before ↦ inr before | inr new ↦ inl ((in_set marks border).0 new) ]),
+      λ marked. (are.each border).1 (elim (of.0 marked) [ inl among ↦ inr ((in_set marks border).1 among) | inr before ↦ inl before ]),
     ))
 
 length_cleared : (borders : List ℕ) (marks : List Bool) → length (cleared_all marks borders) ≡ length marks
@@ -67,10 +55,11 @@ cleared_other (first ∷ borders) marks border none is =
     cleared_other borders (set marks first false) border (λ among. none (inr among)) (unset_other marks first border (λ same. none (inl same)) is)
 
 -- their marks are taken away
-pub set_cleared : (old marks new : List Bool) (borders : List ℕ) → BordersFit borders → marks ≡ marked_all (replicate 279 false) borders → AreOnly old marks new → new ≡ cleared_all old borders
-set_cleared old marks new borders fit is only =
+pub set_cleared : (old marks new : List Bool) → AreOnly old marks new → new ≡ cleared_all old (numbers_in marks)
+set_cleared old marks new only =
+    let borders : List ℕ = numbers_in marks in
     same_marks new (cleared_all old borders) (only.whole ∙ sym (length_cleared borders old)) (λ border. (
       λ marked. let left = (only.each border).0 marked in
-          cleared_other borders old border (λ among. left.1 ((in_set borders fit marks is border).1 among)) left.0,
-      λ marked. (only.each border).1 (cleared_fewer borders old border marked, λ other. cleared_here borders old border ((in_set borders fit marks is border).0 other) marked),
+          cleared_other borders old border (λ among. left.1 ((in_set marks border).1 among)) left.0,
+      λ marked. (only.each border).1 (cleared_fewer borders old border marked, λ other. cleared_here borders old border ((in_set marks border).0 other) marked),
     ))

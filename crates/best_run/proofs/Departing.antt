@@ -12,9 +12,11 @@ use Rattle.best_run.specs.declared.task.Piece.{Piece}
 use Rattle.best_run.specs.declared.task.Task.{Task}
 use Rattle.best_run.specs.declared.task.Way.{Way}
 use Rattle.best_run.specs.declared.ways.Path.{Path}
+use Rattle.best_run.specs.Crossed.{numbers_in}
 use Rattle.best_run.specs.Fit.{BordersFit, unused}
 use Rattle.best_run.specs.Moves.{LeadsFrom, ends_in, marked_all, misses, node_at, pieces_in, stop_in}
 use Rattle.best_run.specs.Ways.{AddsBelow, AddsWays, AreDepartures, AreFree, AreReady, AreStops, AreWaysFrom, AreWaysOf, AddsWaysBy, HasWay, Hop, IsMadeOf, IsSamePath, IsStop, LeadsTo, borders_by, none_used, steps_by, ways_at, ways_in}
+use Rattle.best_run.proofs.Chunks.{marked_append}
 use Rattle.best_run.proofs.Marks.{marked_fewer}
 use Rattle.best_run.proofs.Places.{below_next, place_low}
 use Rattle.best_run.proofs.Split.{append_together}
@@ -42,9 +44,9 @@ free_first used piece (hop ∷ hops) free = free.0
 
 -- a piece whose border is used adds none
 pub adds_none :
-    (task : Task) (used : List Bool) (path : List ℕ) (walked : List Step) (place : ℕ) (piece : Piece) (ways : List Way) →
-    misses used piece.borders.items ≡ false → AddsWays task used path walked place piece ways ways
-adds_none task used path walked place piece ways fails =
+    (task : Task) (used : List Bool) (walked : List Step) (place : ℕ) (piece : Piece) (ways : List Way) →
+    misses used piece.borders.items ≡ false → AddsWays task used walked place piece ways ways
+adds_none task used walked place piece ways fails =
     record {
       kept = λ way among. among;
       sound = λ way among. inl among;
@@ -53,26 +55,26 @@ adds_none task used path walked place piece ways fails =
 
 -- a piece to a stop is a way
 pub adds_stop :
-    (task : Task) (used : List Bool) (path : List ℕ) (walked : List Step) (place : ℕ) (piece : Piece) (ways : List Way) (way : Way) →
+    (task : Task) (used : List Bool) (walked : List Step) (place : ℕ) (piece : Piece) (ways : List Way) (way : Way) →
     misses used piece.borders.items ≡ true → stop_in (node_at task piece.to) ≡ true → way.first ≡ place → way.piece.to ≡ piece.to →
-    way.piece.borders.items ≡ path ++ piece.borders.items → way.steps.items ≡ walked ++ piece.step ∷ [] →
-    AddsWays task used path walked place piece ways (ways ++ way ∷ [])
-adds_stop task used path walked place piece ways way free stops place_is to_is borders steps =
+    way.piece.borders.items ≡ numbers_in (marked_all used piece.borders.items) → way.steps.items ≡ walked ++ piece.step ∷ [] →
+    AddsWays task used walked place piece ways (ways ++ way ∷ [])
+adds_stop task used walked place piece ways way free stops place_is to_is borders steps =
     record {
       kept = λ other among. among_before ways other way among;
       sound = λ other among. elim (among_cases ways other way among) [
         | inl old ↦ inl old
-        | inr new ↦ inr ([], subst (IsMadeOf task used path walked place piece []) new made)
+        | inr new ↦ inr ([], subst (IsMadeOf task used walked place piece []) new made)
       ];
       complete = by_hops;
     }
   where
-    made : IsMadeOf task used path walked place piece [] way
+    made : IsMadeOf task used walked place piece [] way
     made = record { leads = (stops, sym to_is); free = free; place_is = place_is; borders = borders; steps = steps }
 
     by_hops :
         (hops : List Hop) (to : ℕ) → LeadsTo task piece hops to → AreFree used piece hops →
-        HasWay task used path walked place piece hops to (ways ++ way ∷ [])
+        HasWay task used walked place piece hops to (ways ++ way ∷ [])
     by_hops [] to leads are_free =
         record {
           way = way;
@@ -84,20 +86,20 @@ adds_stop task used path walked place piece ways way free stops place_is to_is b
 
 -- nor does one to a side that ends
 pub adds_end :
-    (task : Task) (used : List Bool) (path : List ℕ) (walked : List Step) (place : ℕ) (piece : Piece) (ways : List Way) →
-    stop_in (node_at task piece.to) ≡ false → ends_in (node_at task piece.to) ≡ true → AddsWays task used path walked place piece ways ways
-adds_end task used path walked place piece ways side ends =
+    (task : Task) (used : List Bool) (walked : List Step) (place : ℕ) (piece : Piece) (ways : List Way) →
+    stop_in (node_at task piece.to) ≡ false → ends_in (node_at task piece.to) ≡ true → AddsWays task used walked place piece ways ways
+adds_end task used walked place piece ways side ends =
     record { kept = λ way among. among; sound = λ way among. inl among; complete = by_hops }
   where
-    by_hops : (hops : List Hop) (to : ℕ) → LeadsTo task piece hops to → AreFree used piece hops → HasWay task used path walked place piece hops to ways
+    by_hops : (hops : List Hop) (to : ℕ) → LeadsTo task piece hops to → AreFree used piece hops → HasWay task used walked place piece hops to ways
     by_hops [] to leads free = absurd (let wrong : false ≡ true = sym side ∙ leads.0 in cc)
     by_hops (hop ∷ hops) to leads free = absurd (let wrong : true ≡ false = sym ends ∙ leads.0.1 in cc)
 
 -- the pieces from a side, one by one
 pub below_none :
-    (task : Task) (used : List Bool) (path : List ℕ) (walked : List Step) (place spot : ℕ) (ways : List Way) →
-    AddsBelow task used path walked place spot 0 ways ways
-below_none task used path walked place spot ways =
+    (task : Task) (used : List Bool) (walked : List Step) (place spot : ℕ) (ways : List Way) →
+    AddsBelow task used walked place spot 0 ways ways
+below_none task used walked place spot ways =
     record {
       kept = λ way among. among;
       sound = λ way among. inl among;
@@ -105,10 +107,10 @@ below_none task used path walked place spot ways =
     }
 
 has_kept :
-    (task : Task) (used : List Bool) (path : List ℕ) (walked : List Step) (place : ℕ) (piece : Piece) (hops : List Hop) (to : ℕ) (old new : List Way) →
-    ((way : Way) → IsAmong way old → IsAmong way new) → HasWay task used path walked place piece hops to old →
-    HasWay task used path walked place piece hops to new
-has_kept task used path walked place piece hops to old new kept has =
+    (task : Task) (used : List Bool) (walked : List Step) (place : ℕ) (piece : Piece) (hops : List Hop) (to : ℕ) (old new : List Way) →
+    ((way : Way) → IsAmong way old → IsAmong way new) → HasWay task used walked place piece hops to old →
+    HasWay task used walked place piece hops to new
+has_kept task used walked place piece hops to old new kept has =
     record { way = has.way; among = kept has.way has.among; made = has.made; to_is = has.to_is }
 
 one_piece : (task : Task) (spot place other : ℕ) (piece found : Piece) → LeadsFrom task spot place piece → LeadsFrom task spot other found → other ≡ place → piece ≡ found
@@ -116,10 +118,10 @@ one_piece task spot place other piece found leads finds same =
     let e : Some piece ≡ Some found = sym leads ∙ (ap (λ i. slice_get (pieces_in (node_at task spot)) i) (sym same) ∙ finds) in cc
 
 pub below_more :
-    (task : Task) (used : List Bool) (path : List ℕ) (walked : List Step) (place spot index : ℕ) (piece : Piece) (old middle new : List Way) →
-    LeadsFrom task spot index piece → AddsBelow task used path walked place spot index old middle → AddsWays task used path walked place piece middle new →
-    AddsBelow task used path walked place spot (index + 1) old new
-below_more task used path walked place spot index piece old middle new here before by =
+    (task : Task) (used : List Bool) (walked : List Step) (place spot index : ℕ) (piece : Piece) (old middle new : List Way) →
+    LeadsFrom task spot index piece → AddsBelow task used walked place spot index old middle → AddsWays task used walked place piece middle new →
+    AddsBelow task used walked place spot (index + 1) old new
+below_more task used walked place spot index piece old middle new here before by =
     record {
       kept = λ way among. by.kept way (before.kept way among);
       sound = λ way among. elim (by.sound way among) [
@@ -127,46 +129,46 @@ below_more task used path walked place spot index piece old middle new here befo
         | inr found ↦ inr (record { place = index; piece = piece }, here, found)
       ];
       complete = λ hop hops to low leads there free. elim (below_next hop.place index low) [
-        | inl less ↦ has_kept task used path walked place hop.piece hops to middle new by.kept (before.complete hop hops to less leads there free)
+        | inl less ↦ has_kept task used walked place hop.piece hops to middle new by.kept (before.complete hop hops to less leads there free)
         | inr same ↦
             let one : piece ≡ hop.piece = one_piece task spot index hop.place piece hop.piece here leads same in
-            subst (λ (p : Piece). LeadsTo task p hops to → AreFree used p hops → HasWay task used path walked place p hops to new) one (by.complete hops to) there free
+            subst (λ (p : Piece). LeadsTo task p hops to → AreFree used p hops → HasWay task used walked place p hops to new) one (by.complete hops to) there free
       ];
     }
 
 -- a piece to a side that may be passed
 made_more :
-    (task : Task) (used : List Bool) (path : List ℕ) (walked : List Step) (place : ℕ) (piece : Piece) (hop : Hop) (hops : List Hop) (way : Way) →
+    (task : Task) (used : List Bool) (walked : List Step) (place : ℕ) (piece : Piece) (hop : Hop) (hops : List Hop) (way : Way) →
     misses used piece.borders.items ≡ true → stop_in (node_at task piece.to) ≡ false → ends_in (node_at task piece.to) ≡ false →
     LeadsFrom task piece.to hop.place hop.piece →
-    IsMadeOf task (marked_all used piece.borders.items) (path ++ piece.borders.items) (walked ++ piece.step ∷ []) place hop.piece hops way →
-    IsMadeOf task used path walked place piece (hop ∷ hops) way
-made_more task used path walked place piece hop hops way free side passes leads made =
+    IsMadeOf task (marked_all used piece.borders.items) (walked ++ piece.step ∷ []) place hop.piece hops way →
+    IsMadeOf task used walked place piece (hop ∷ hops) way
+made_more task used walked place piece hop hops way free side passes leads made =
     record {
       leads = ((side, passes), leads, made.leads);
       free = (free, made.free);
       place_is = made.place_is;
-      borders = made.borders ∙ append_together path piece.borders.items (borders_by hop.piece hops);
+      borders = made.borders ∙ ap numbers_in (marked_append used piece.borders.items (borders_by hop.piece hops));
       steps = made.steps ∙ append_together walked (piece.step ∷ []) (steps_by hop.piece hops);
     }
 
 pub adds_side :
-    (task : Task) (used : List Bool) (path : List ℕ) (walked : List Step) (place : ℕ) (piece : Piece) (node : Node) (index : ℕ) (old new : List Way) →
+    (task : Task) (used : List Bool) (walked : List Step) (place : ℕ) (piece : Piece) (node : Node) (index : ℕ) (old new : List Way) →
     misses used piece.borders.items ≡ true → stop_in (node_at task piece.to) ≡ false → ends_in (node_at task piece.to) ≡ false →
     node_at task piece.to ≡ Some node → length node.pieces.items ≤ index →
-    AddsBelow task (marked_all used piece.borders.items) (path ++ piece.borders.items) (walked ++ piece.step ∷ []) place piece.to index old new →
-    AddsWays task used path walked place piece old new
-adds_side task used path walked place piece node index old new free side passes there all below =
+    AddsBelow task (marked_all used piece.borders.items) (walked ++ piece.step ∷ []) place piece.to index old new →
+    AddsWays task used walked place piece old new
+adds_side task used walked place piece node index old new free side passes there all below =
     record {
       kept = below.kept;
       sound = λ way among. elim (below.sound way among) [
         | inl sooner ↦ inl sooner
-        | inr found ↦ inr (found.0 ∷ found.2.0, made_more task used path walked place piece found.0 found.2.0 way free side passes found.1 found.2.1)
+        | inr found ↦ inr (found.0 ∷ found.2.0, made_more task used walked place piece found.0 found.2.0 way free side passes found.1 found.2.1)
       ];
       complete = by_hops;
     }
   where
-    by_hops : (hops : List Hop) (to : ℕ) → LeadsTo task piece hops to → AreFree used piece hops → HasWay task used path walked place piece hops to new
+    by_hops : (hops : List Hop) (to : ℕ) → LeadsTo task piece hops to → AreFree used piece hops → HasWay task used walked place piece hops to new
     by_hops [] to leads are_free = absurd (let wrong : false ≡ true = sym side ∙ leads.0 in cc)
     by_hops (hop ∷ hops) to leads are_free =
         let low : hop.place < index = omega (arith, all, place_low task piece.to node there hop.place hop.piece leads.1) in
@@ -174,20 +176,19 @@ adds_side task used path walked place piece node index old new free side passes 
         record {
           way = has.way;
           among = has.among;
-          made = made_more task used path walked place piece hop hops has.way free side passes leads.1 has.made;
+          made = made_more task used walked place piece hop hops has.way free side passes leads.1 has.made;
           to_is = has.to_is;
         }
 
 -- the ways after a path that is the same are the same
 pub adds_after : (task : Task) (used : List Bool) (old new : Path) (piece : Piece) (ways more : List Way) → IsSamePath old new → AddsWaysBy task used new piece ways more → AddsWaysBy task used old piece ways more
 adds_after task used old new piece ways more same adds =
-    subst (λ (n : ℕ). AddsWays task used old.borders.items old.steps.items n piece ways more) same.first
-    (subst (λ (steps : List Step). AddsWays task used old.borders.items steps new.first piece ways more) same.steps
-    (subst (λ (borders : List ℕ). AddsWays task used borders new.steps.items new.first piece ways more) same.borders adds))
+    subst (λ (n : ℕ). AddsWays task used old.steps.items n piece ways more) same.first
+    (subst (λ (steps : List Step). AddsWays task used steps new.first piece ways more) same.steps adds)
 
 pub same_both : (old middle new : Path) → IsSamePath old middle → IsSamePath middle new → IsSamePath old new
 same_both old middle new first second =
-    record { first = second.first ∙ first.first; borders = second.borders ∙ first.borders; steps = second.steps ∙ first.steps }
+    record { first = second.first ∙ first.first; steps = second.steps ∙ first.steps }
 
 -- what was put behind some is taken away
 pub went_back : {A : Type 0} (some more both back : List A) (count : ℕ) → count ≡ length some → both ≡ some ++ more → back ≡ take count both → back ≡ some
@@ -201,21 +202,21 @@ from_none task stop =
 
 pub from_more :
     (task : Task) (stop index : ℕ) (piece : Piece) (old new : List Way) → LeadsFrom task stop index piece → AreWaysFrom task stop index old →
-    AddsWays task none_used [] [] index piece old new → AreWaysFrom task stop (index + 1) new
+    AddsWays task none_used [] index piece old new → AreWaysFrom task stop (index + 1) new
 from_more task stop index piece old new here before by =
     record {
       sound = λ way among. elim (by.sound way among) [
         | inl sooner ↦ before.sound way sooner
         | inr found ↦
             let place : index ≡ way.first = sym found.1.place_is in
-            (piece, subst (λ (i : ℕ). LeadsFrom task stop i piece) place here, (found.0, subst (λ (i : ℕ). IsMadeOf task none_used [] [] i piece found.0 way) place found.1))
+            (piece, subst (λ (i : ℕ). LeadsFrom task stop i piece) place here, (found.0, subst (λ (i : ℕ). IsMadeOf task none_used [] i piece found.0 way) place found.1))
       ];
       complete = λ place other hops to low leads there free. elim (below_next place index low) [
-        | inl less ↦ has_kept task none_used [] [] place other hops to old new by.kept (before.complete place other hops to less leads there free)
+        | inl less ↦ has_kept task none_used [] place other hops to old new by.kept (before.complete place other hops to less leads there free)
         | inr same ↦
             let one : piece ≡ other = one_piece task stop index place piece other here leads same in
-            subst (λ (i : ℕ). HasWay task none_used [] [] i other hops to new) (sym same)
-            (subst (λ (p : Piece). LeadsTo task p hops to → AreFree none_used p hops → HasWay task none_used [] [] index p hops to new) one (by.complete hops to) there free)
+            subst (λ (i : ℕ). HasWay task none_used [] i other hops to new) (sym same)
+            (subst (λ (p : Piece). LeadsTo task p hops to → AreFree none_used p hops → HasWay task none_used [] index p hops to new) one (by.complete hops to) there free)
       ];
     }
 
@@ -274,9 +275,9 @@ to_same a b same (hop ∷ hops) piece to leads =
 
 made_same :
     (a b : Task) → a.spots.items ≡ b.spots.items →
-    (used : List Bool) (path : List ℕ) (walked : List Step) (place : ℕ) (piece : Piece) (hops : List Hop) (way : Way) →
-    IsMadeOf a used path walked place piece hops way → IsMadeOf b used path walked place piece hops way
-made_same a b same used path walked place piece hops way made =
+    (used : List Bool) (walked : List Step) (place : ℕ) (piece : Piece) (hops : List Hop) (way : Way) →
+    IsMadeOf a used walked place piece hops way → IsMadeOf b used walked place piece hops way
+made_same a b same used walked place piece hops way made =
     record { leads = to_same a b same hops piece way.piece.to made.leads; free = made.free; place_is = made.place_is; borders = made.borders; steps = made.steps }
 
 ways_same : (a b : Task) → a.spots.items ≡ b.spots.items → (stop : ℕ) (ways : List Way) → AreWaysOf a stop ways → AreWaysOf b stop ways
@@ -284,10 +285,10 @@ ways_same a b same stop ways are =
     record {
       sound = λ way among.
           let found = are.sound way among in
-          (found.0, leads_same a b same stop way.first found.0 found.1, (found.2.0, made_same a b same none_used [] [] way.first found.0 found.2.0 way found.2.1));
+          (found.0, leads_same a b same stop way.first found.0 found.1, (found.2.0, made_same a b same none_used [] way.first found.0 found.2.0 way found.2.1));
       complete = λ place piece hops to leads there free.
           let has = are.complete place piece hops to (leads_same b a (sym same) stop place piece leads) (to_same b a (sym same) hops piece to there) free in
-          record { way = has.way; among = has.among; made = made_same a b same none_used [] [] place piece hops has.way has.made; to_is = has.to_is };
+          record { way = has.way; among = has.among; made = made_same a b same none_used [] place piece hops has.way has.made; to_is = has.to_is };
     }
 
 pub departs_same : (a b : Task) → a.spots.items ≡ b.spots.items → (count : ℕ) (all : List Departures) → AreDepartures a count all → AreDepartures b count all

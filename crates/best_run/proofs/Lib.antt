@@ -19,8 +19,9 @@ pub mod Complete
 pub mod Few
 pub mod Split
 pub mod Arms
-pub mod Departing
 pub mod Chunks
+pub mod Numbers
+pub mod Departing
 pub mod Sets
 pub mod Runs
 pub mod Told

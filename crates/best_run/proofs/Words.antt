@@ -57,7 +57,7 @@ marked_bit count words n is =
 pub bit_marked : (count : ℕ) (words : List ℕ) (n : ℕ) → n < count → bit_of words n ≡ 1 → IsMarked (marks_in count words) n
 bit_marked count words n low bit = mark_is count words n low ∙ bit_is words n bit
 
-same_bool : (a b : Bool) → (a ≡ true → b ≡ true) → (b ≡ true → a ≡ true) → a ≡ b
+pub same_bool : (a b : Bool) → (a ≡ true → b ≡ true) → (b ≡ true → a ≡ true) → a ≡ b
 same_bool true b there back = sym (there refl)
 same_bool false true there back = back refl
 same_bool false false there back = refl

@@ -1,5 +1,18 @@
--- Borders that a piece of track crosses, by their numbers in order.
-use Rattle.std.specs.Prelude.{ℕ, List}
+-- Borders that a piece of track crosses, by their numbers, and which numbers are marked in a set.
+use Rattle.std.specs.Prelude.{ℕ, suc, Bool, true, false, List, [], ◌∷◌}
 
 pub record Crossed : Type 0 where
   pub items : List ℕ
+
+-- a number, if it is marked, before others
+abbrev pub before_if : Bool → ℕ → List ℕ → List ℕ
+before_if true number numbers = number ∷ numbers
+before_if false number numbers = numbers
+
+-- the numbers that are marked in a set, in order, where the first mark is that of a number
+abbrev pub numbers_from : ℕ → List Bool → List ℕ
+numbers_from first [] = []
+numbers_from first (mark ∷ marks) = before_if mark first (numbers_from (suc first) marks)
+
+unfoldable pub numbers_in : List Bool → List ℕ
+numbers_in marks = numbers_from 0 marks

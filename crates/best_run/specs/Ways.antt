@@ -11,6 +11,7 @@ use Rattle.best_run.specs.declared.ways.Path.{Path}
 use Rattle.best_run.specs.declared.explored.Found.{Found}
 use Rattle.best_run.specs.declared.state.Settled.{Settled}
 use Rattle.best_run.specs.declared.state.Standing.{Standing}
+use Rattle.best_run.specs.Crossed.{numbers_in}
 use Rattle.best_run.specs.Moves.{AreExplored, Completes, IsTraced, LeadsFrom, Move, State, along, can_take, ends_in, marked_all, misses, node_at, own_in, standing, stop_in, total_after, using}
 
 -- a piece, with its place among those that lead from a spot
@@ -44,54 +45,51 @@ AreFree used piece [] = misses used piece.borders.items ≡ true
 AreFree used piece (hop ∷ hops) =
     (misses used piece.borders.items ≡ true) × AreFree (marked_all used piece.borders.items) hop.piece hops
 
--- a way is made of a piece at a place and of others, after some borders and steps
-pub record IsMadeOf (task : Task) (used : List Bool) (path : List ℕ) (walked : List Step) (place : ℕ) (piece : Piece) (hops : List Hop) (way : Way) : Type 0 where
+-- a way is made of a piece at a place and of others, after some steps over the used borders: it crosses these as well
+pub record IsMadeOf (task : Task) (used : List Bool) (walked : List Step) (place : ℕ) (piece : Piece) (hops : List Hop) (way : Way) : Type 0 where
   pub leads : LeadsTo task piece hops way.piece.to
   pub free : AreFree used piece hops
   pub place_is : way.first ≡ place
-  pub borders : way.piece.borders.items ≡ path ++ borders_by piece hops
+  pub borders : way.piece.borders.items ≡ numbers_in (marked_all used (borders_by piece hops))
   pub steps : way.steps.items ≡ walked ++ steps_by piece hops
 
 -- a way by a piece is among some
-pub record HasWay (task : Task) (used : List Bool) (path : List ℕ) (walked : List Step) (place : ℕ) (piece : Piece) (hops : List Hop) (to : ℕ) (ways : List Way) : Type 0 where
+pub record HasWay (task : Task) (used : List Bool) (walked : List Step) (place : ℕ) (piece : Piece) (hops : List Hop) (to : ℕ) (ways : List Way) : Type 0 where
   pub way : Way
   pub among : IsAmong way ways
-  pub made : IsMadeOf task used path walked place piece hops way
+  pub made : IsMadeOf task used walked place piece hops way
   pub to_is : way.piece.to ≡ to
 
 -- the ways by a piece are added to some
-pub record AddsWays (task : Task) (used : List Bool) (path : List ℕ) (walked : List Step) (place : ℕ) (piece : Piece) (old new : List Way) : Type 0 where
+pub record AddsWays (task : Task) (used : List Bool) (walked : List Step) (place : ℕ) (piece : Piece) (old new : List Way) : Type 0 where
   pub kept : (way : Way) → IsAmong way old → IsAmong way new
-  pub sound : (way : Way) → IsAmong way new → IsAmong way old ⊎ ((hops : List Hop) × IsMadeOf task used path walked place piece hops way)
-  pub complete : (hops : List Hop) (to : ℕ) → LeadsTo task piece hops to → AreFree used piece hops → HasWay task used path walked place piece hops to new
+  pub sound : (way : Way) → IsAmong way new → IsAmong way old ⊎ ((hops : List Hop) × IsMadeOf task used walked place piece hops way)
+  pub complete : (hops : List Hop) (to : ℕ) → LeadsTo task piece hops to → AreFree used piece hops → HasWay task used walked place piece hops to new
 
 -- the ways by a piece after a path are added to some
 abbrev pub AddsWaysBy : Task → List Bool → Path → Piece → List Way → List Way → Type 0
 AddsWaysBy task used path piece old new =
-    AddsWays task used path.borders.items path.steps.items path.first piece old new
+    AddsWays task used path.steps.items path.first piece old new
 
 -- a path is longer by a piece
 pub record IsLonger (path : Path) (piece : Piece) (longer : Path) : Type 0 where
   pub first : longer.first ≡ path.first
-  pub borders : longer.borders.items ≡ path.borders.items ++ piece.borders.items
   pub steps : longer.steps.items ≡ path.steps.items ++ piece.step ∷ []
 
 -- no piece of a path yet
 pub record IsNoPath (path : Path) : Type 0 where
-  pub borders : path.borders.items ≡ []
   pub steps : path.steps.items ≡ []
 
 -- the same path
 pub record IsSamePath (old new : Path) : Type 0 where
   pub first : new.first ≡ old.first
-  pub borders : new.borders.items ≡ old.borders.items
   pub steps : new.steps.items ≡ old.steps.items
 
 -- those by the pieces from a spot before one of them, after a piece that led there
-pub record AddsBelow (task : Task) (used : List Bool) (path : List ℕ) (walked : List Step) (place : ℕ) (spot most : ℕ) (old new : List Way) : Type 0 where
+pub record AddsBelow (task : Task) (used : List Bool) (walked : List Step) (place : ℕ) (spot most : ℕ) (old new : List Way) : Type 0 where
   pub kept : (way : Way) → IsAmong way old → IsAmong way new
-  pub sound : (way : Way) → IsAmong way new → IsAmong way old ⊎ ((hop : Hop) × LeadsFrom task spot hop.place hop.piece × ((hops : List Hop) × IsMadeOf task used path walked place hop.piece hops way))
-  pub complete : (hop : Hop) (hops : List Hop) (to : ℕ) → hop.place < most → LeadsFrom task spot hop.place hop.piece → LeadsTo task hop.piece hops to → AreFree used hop.piece hops → HasWay task used path walked place hop.piece hops to new
+  pub sound : (way : Way) → IsAmong way new → IsAmong way old ⊎ ((hop : Hop) × LeadsFrom task spot hop.place hop.piece × ((hops : List Hop) × IsMadeOf task used walked place hop.piece hops way))
+  pub complete : (hop : Hop) (hops : List Hop) (to : ℕ) → hop.place < most → LeadsFrom task spot hop.place hop.piece → LeadsTo task hop.piece hops to → AreFree used hop.piece hops → HasWay task used walked place hop.piece hops to new
 
 -- no border is used
 abbrev pub none_used : List Bool
@@ -99,13 +97,13 @@ none_used = replicate 279 false
 
 -- the ways from a stop by its pieces before one of them
 pub record AreWaysFrom (task : Task) (stop most : ℕ) (ways : List Way) : Type 0 where
-  pub sound : (way : Way) → IsAmong way ways → (piece : Piece) × LeadsFrom task stop way.first piece × ((hops : List Hop) × IsMadeOf task none_used [] [] way.first piece hops way)
-  pub complete : (place : ℕ) (piece : Piece) (hops : List Hop) (to : ℕ) → place < most → LeadsFrom task stop place piece → LeadsTo task piece hops to → AreFree none_used piece hops → HasWay task none_used [] [] place piece hops to ways
+  pub sound : (way : Way) → IsAmong way ways → (piece : Piece) × LeadsFrom task stop way.first piece × ((hops : List Hop) × IsMadeOf task none_used [] way.first piece hops way)
+  pub complete : (place : ℕ) (piece : Piece) (hops : List Hop) (to : ℕ) → place < most → LeadsFrom task stop place piece → LeadsTo task piece hops to → AreFree none_used piece hops → HasWay task none_used [] place piece hops to ways
 
 -- the ways from a stop
 pub record AreWaysOf (task : Task) (stop : ℕ) (ways : List Way) : Type 0 where
-  pub sound : (way : Way) → IsAmong way ways → (piece : Piece) × LeadsFrom task stop way.first piece × ((hops : List Hop) × IsMadeOf task none_used [] [] way.first piece hops way)
-  pub complete : (place : ℕ) (piece : Piece) (hops : List Hop) (to : ℕ) → LeadsFrom task stop place piece → LeadsTo task piece hops to → AreFree none_used piece hops → HasWay task none_used [] [] place piece hops to ways
+  pub sound : (way : Way) → IsAmong way ways → (piece : Piece) × LeadsFrom task stop way.first piece × ((hops : List Hop) × IsMadeOf task none_used [] way.first piece hops way)
+  pub complete : (place : ℕ) (piece : Piece) (hops : List Hop) (to : ℕ) → LeadsFrom task stop place piece → LeadsTo task piece hops to → AreFree none_used piece hops → HasWay task none_used [] place piece hops to ways
 
 -- those from the first spots, as far as these are stops
 pub record AreDepartures (task : Task) (count : ℕ) (all : List Departures) : Type 0 where

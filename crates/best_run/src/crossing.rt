@@ -1,45 +1,38 @@
-//! Borders that a way crosses: their numbers in order, and the set of them.
-ghost use Rattle.std.specs.Prelude.{◌≡◌};
+//! Borders that a way crosses: the set of them.
+ghost use Rattle.std.specs.Prelude.{◌≡◌, length};
 ghost use Rattle.best_run.specs.Alike.{cleared_all};
-ghost use Rattle.best_run.specs.Fit.{BordersFit};
+ghost use Rattle.best_run.specs.Crossed.{numbers_in};
 ghost use Rattle.best_run.specs.Moves.{marked_all, misses};
 
 use crate::bits::Borders;
 use std::marker::Model;
 
-/// Some borders, by their numbers.
+/// Some borders. The contracts see them by their numbers, in order.
 #[derive(Drop)]
 pub(crate) struct Crossing {
-    borders: Vec<usize>,
     set: Borders,
 }
 
 impl Model for Crossing {
-    ghost use Rattle.std.specs.Prelude.{◌≡◌, false, replicate};
+    ghost use Rattle.std.specs.Prelude.{◌≡◌, length};
     ghost use Rattle.best_run.specs.Crossed.{Crossed};
 
     ghost Value = { Crossed };
 
-    ghost use Rattle.best_run.specs.Fit.{BordersFit};
-    ghost use Rattle.best_run.specs.Moves.{marked_all};
+    ghost use Rattle.best_run.specs.Crossed.{numbers_in};
 
-    ghost view = { λ crossing. record { items = crossing.borders.items } };
+    ghost view = { λ crossing. record { items = numbers_in crossing.set } };
 
-    ghost invariant = { λ crossing. BordersFit crossing.borders.items
-        × (crossing.set ≡ marked_all (replicate 279 false) crossing.borders.items) };
+    ghost invariant = { λ crossing. length crossing.set ≡ 279 };
 }
 
 impl Crossing {
-    /// Of some borders.
-    pub(crate) fn of(borders: Vec<usize>) -> Crossing
-        requires { BordersFit borders.items }
-        ensures { result.items ≡ borders.items }
+    /// Of the borders that are marked.
+    pub(crate) fn of(set: Borders) -> Crossing
+        ensures { result.items ≡ numbers_in set }
     {
-        let mut set = Borders::none();
-        for border in &borders {
-            set.mark(*border);
-        }
-        Crossing { borders, set }
+        set.is_whole();
+        Crossing { set }
     }
 
     /// Whether none of them is used.

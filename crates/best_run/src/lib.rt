@@ -14,7 +14,7 @@
 //!
 //! Reading order: `revenue` (the public call), `answer`, `trains` (their order), `spots` (the spots of a position
 //! with the pieces of track between them), `ways` (from stop to stop), `task`, `bits` (marks of borders and
-//! spots, a bit each), `stretch` (a piece of track), `crossing` (the borders of a way, and the set of them), `state`
+//! spots, a bit each), `stretch` (a piece of track), `crossing` (the borders of a way, a set of them), `state`
 //! (the trains settled so far, and the run begun), `outlook` (what lies ahead of that run) with `worth` (what that is worth), `trail`
 //! (the moves that earn what has been found), `explored` (what has been found, and what need not be explored
 //! again), `alike` (states between runs that are alike), `search`, `claimed` (the runs that a trail tells),

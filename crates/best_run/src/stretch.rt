@@ -1,11 +1,10 @@
 //! A piece of track, as the spot keeps it from which it leads.
-ghost use Rattle.std.specs.Prelude.{◌≡◌, ◌++◌, OnOk, option_to_list};
+ghost use Rattle.std.specs.Prelude.{◌≡◌, option_to_list};
 ghost use Rattle.best_run.specs.Fit.{BordersFit};
 ghost use Rattle.best_run.specs.Moves.{marked_all, misses};
 
 use crate::bits::Borders;
 use reach::Step;
-use std::alloc::AllocError;
 use std::marker::Model;
 
 /// A piece of track that is one step: it crosses one border at most.
@@ -56,16 +55,6 @@ impl Stretch {
         ensures { result ≡ self.now.step }
     {
         self.step
-    }
-
-    /// Appends the border that it crosses, by its number. The only error is want of memory.
-    pub(crate) fn append_to(&self, borders: &mut Vec<usize>) -> Result<(), AllocError>
-        ensures { OnOk result (borders.new.items ≡ borders.old.items ++ self.now.borders.items) }
-    {
-        if let Some(border) = self.border {
-            borders.push(border)?;
-        }
-        Ok(())
     }
 
     /// Whether its border is not used.

@@ -5,4 +5,4 @@ use Rattle.best_run.proofs.crossing.Crossing.clear_in.Goals as goal
 pub returns : goal.returns
 returns c =
     rw (← c.self.view_is)
-    (set_cleared c.args.marks.now c.self.inside.set c.clear.new.self c.self.inside.borders.items c.self.invariant.0 c.self.invariant.1 c.clear.ensures)
+    (set_cleared c.args.marks.now c.self.inside.set c.clear.new.self c.clear.ensures)

@@ -5,4 +5,4 @@ use Rattle.best_run.proofs.crossing.Crossing.marked_in.Goals as goal
 pub returns : goal.returns
 returns c =
     rw (← c.self.view_is)
-    (set_marked c.args.used.now c.self.inside.set c.with.result c.self.inside.borders.items c.self.invariant.0 c.self.invariant.1 c.is_whole.ensures c.with.ensures)
+    (set_marked c.args.used.now c.self.inside.set c.with.result c.self.invariant c.is_whole.ensures c.with.ensures)
