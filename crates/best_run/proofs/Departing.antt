@@ -1,6 +1,7 @@
 -- The ways from a stop, as they are found: by a piece to a stop there is one, by a piece to a side those by the pieces
 -- from there.
 use Rattle.std.proofs.Common.{◌≡◌, ℕ, zero, suc, ◌+◌, ◌*◌, ◌<◌, ◌≤◌, Bool, true, false, ◌⊎◌, inl, inr, Some, None, List, [], ◌∷◌, ◌++◌, length, get_or, slice_get, take, refl, sym, ap, subst, ◌∙◌, arith, length-append}
+use Rattle.std.proofs.lemmas.Bool.{cases_lt}
 use Rattle.std.proofs.lemmas.List.{take_at}
 use Rattle.std.proofs.lemmas.Option.{slice_get_read, slice_get_within}
 use Rattle.reach.specs.Position.{IsAmong}
@@ -13,9 +14,9 @@ use Rattle.best_run.specs.declared.task.Task.{Task}
 use Rattle.best_run.specs.declared.task.Way.{Way}
 use Rattle.best_run.specs.declared.ways.Path.{Path}
 use Rattle.best_run.specs.Crossed.{numbers_in}
-use Rattle.best_run.specs.Fit.{BordersFit, unused}
+use Rattle.best_run.specs.Fit.{BordersFit, IsFit, unused}
 use Rattle.best_run.specs.Moves.{LeadsFrom, ends_in, marked_all, misses, node_at, pieces_in, stop_in}
-use Rattle.best_run.specs.Ways.{AddsBelow, AddsWays, AreDepartures, AreFree, AreReady, AreStops, AreWaysFrom, AreWaysOf, AddsWaysBy, HasWay, Hop, IsMadeOf, IsSamePath, IsStop, LeadsTo, borders_by, none_used, steps_by, ways_at, ways_in}
+use Rattle.best_run.specs.Ways.{AddsBelow, AddsWays, AreDepartures, AreFree, AreReady, AreSides, AreStops, AreWaysFrom, AreWaysOf, AddsWaysBy, HasWay, Hop, IsMadeOf, IsSamePath, IsStop, LeadsTo, borders_by, none_used, steps_by, ways_at, ways_in}
 use Rattle.best_run.proofs.Chunks.{marked_append}
 use Rattle.best_run.proofs.Marks.{marked_fewer}
 use Rattle.best_run.proofs.Places.{below_next, place_low}
@@ -352,6 +353,20 @@ listed_same task count stops why before =
           | inl side ↦ absurd (let wrong : true ≡ false = sym stands ∙ (ap (λ (n : ℕ). stop_in (node_at task n)) same ∙ side) in cc)
           | inr none ↦ inl (ap (λ (n : ℕ). ways_at task n) same ∙ none)
         ]
+      ];
+      only = before.only;
+    }
+
+-- at the sides of a hex there is none
+pub no_stop : (task : Task) → IsFit task → (hex : ℕ) → AreSides task (8 * hex) (8 * hex + 6)
+no_stop task fit hex spot least low = (fit.sides spot (omega (arith, least, low))).0
+
+pub listed_on : (task : Task) (count next : ℕ) (stops : List ℕ) → AreSides task count next → AreStops task count stops → AreStops task next stops
+listed_on task count next stops sides before =
+    record {
+      each = λ stop low stands. elim (cases_lt stop count) [
+        | inl less ↦ before.each stop less stands
+        | inr past ↦ absurd (let wrong : true ≡ false = sym stands ∙ sides stop past low in cc)
       ];
       only = before.only;
     }

@@ -1,5 +1,5 @@
 -- A position as it is laid out: what leads from each spot are the steps of walks, and all numbers are within bounds.
-use Rattle.std.proofs.Common.{◌≡◌, ℕ, zero, suc, ◌<◌, true, false, inl, inr, Option, Some, None, List, [], ◌∷◌, length, slice_get, refl, sym, ap, subst, ◌∙◌, arith, option_map}
+use Rattle.std.proofs.Common.{◌≡◌, ℕ, zero, suc, ◌%◌, ◌<◌, true, false, inl, inr, Option, Some, None, List, [], ◌∷◌, length, slice_get, refl, sym, ap, subst, ◌∙◌, arith, option_map}
 use Rattle.std.proofs.lemmas.Option.{slice_get_within}
 use Rattle.map_tables.specs.Place.{joined_stop_of, stop_at}
 use Rattle.map_tables.specs.declared.hex.Hex.{Hex}
@@ -22,8 +22,8 @@ use Rattle.best_run.specs.declared.task.Node.{Node}
 use Rattle.best_run.specs.declared.task.Piece.{Piece}
 use Rattle.best_run.specs.declared.task.Task.{Task}
 use Rattle.best_run.specs.Described.{AreNumbered, AreSteps, ComesFrom, Describes, GoesFrom, HasPieceOf, IsNodeAt, IsNumbered, IsOfStep, IsSideNode, IsStepFrom, IsStopNode, most_of_all, number_before}
-use Rattle.best_run.specs.Fit.{BordersFit, IsFit, PieceFits}
-use Rattle.best_run.specs.Moves.{LeadsFrom, node_at, pieces_in, stop_in}
+use Rattle.best_run.specs.Fit.{BordersFit, IsFit, IsSide, PieceFits}
+use Rattle.best_run.specs.Moves.{LeadsFrom, node_at, own_in, pieces_in, stop_in}
 use Rattle.best_run.proofs.Advance.{border_fits, one_number, spot_low}
 
 -- what stands at a place is among a list
@@ -174,6 +174,16 @@ module _ (position : Position) (company : Company) (lawful : IsLawful position) 
             subst (λ bs. 0 < length bs) (sym from.piece_is.borders) (over_border (entered_at step).hex (entered_at step).end none);
       }
 
+  -- the sides by their numbers
+  sides_there : (number : ℕ) → number % 8 < 6 → IsSide task number
+  sides_there number first = by_found (node_at task number) refl
+    where
+      by_found : (found : Option Node) → node_at task number ≡ found → (stop_in found ≡ false) × (own_in found ≡ false)
+      by_found None is = (refl, refl)
+      by_found (Some node) is =
+          let side : IsSideNode (Some node) = (numbered.each number node is).first first in
+          (side.stops, side.own)
+
   pub fits_it : IsFit task
   fits_it =
       record {
@@ -183,4 +193,5 @@ module _ (position : Position) (company : Company) (lawful : IsLawful position) 
           side = (numbered.each number node there).side;
           pieces = λ index piece at. piece_fits_there number index node piece there at;
         };
+        sides = sides_there;
       }

@@ -1,8 +1,10 @@
 -- The spots where the company has tokens are all from which runs begin: between them there is nothing to try, and no token.
-use Rattle.std.proofs.Common.{◌≡◌, ℕ, zero, suc, ◌+◌, ◌-◌, ◌≤◌, Bool, true, false, inl, inr, List, [], ◌∷◌, ◌++◌, length, replicate, refl, sym, ap, subst, ◌∙◌, add-one, arith}
+use Rattle.std.proofs.Common.{◌≡◌, ℕ, zero, suc, ◌+◌, ◌-◌, ◌*◌, ◌≤◌, Bool, true, false, inl, inr, List, [], ◌∷◌, ◌++◌, length, replicate, refl, sym, ap, subst, ◌∙◌, add-one, arith}
+use Rattle.std.proofs.lemmas.Bool.{cases_lt}
 use Rattle.best_run.specs.declared.explored.Found.{Found}
 use Rattle.best_run.specs.declared.state.Settled.{Settled}
 use Rattle.best_run.specs.declared.task.Task.{Task}
+use Rattle.best_run.specs.Fit.{IsFit}
 use Rattle.best_run.specs.Moves.{Any, Below, IsBegin, IsBeginAt, Tries, between, marked_if, node_at, own_before, own_in}
 use Rattle.best_run.specs.Ways.{AreHomes, HasNoHome}
 use Rattle.best_run.proofs.Places.{below_next}
@@ -11,6 +13,17 @@ use Rattle.best_run.proofs.Tried.{begin_every, begin_first, begin_more, begin_no
 -- one home more is listed, or one spot more is none
 pub homes_none : (task : Task) → AreHomes task 0 0 []
 homes_none task spot least low = absurd (omega arith)
+
+-- between two numbers there are none
+pub homes_on : (task : Task) (from to next : ℕ) (homes : List ℕ) → to ≤ next → HasNoHome task to next → AreHomes task from to homes → AreHomes task from next homes
+homes_on task from to next [] more none are = λ spot least low.
+    elim (cases_lt spot to) [ inl less ↦ are spot least less | inr past ↦ none spot past low ]
+homes_on task from to next (home ∷ homes) more none are =
+    (are.0, omega (arith, are.1, more), are.2, are.3, homes_on task (home + 1) to next homes more none are.4)
+
+-- there is none at the sides of a hex
+pub no_home : (task : Task) → IsFit task → (hex : ℕ) → HasNoHome task (8 * hex) (8 * hex + 6)
+no_home task fit hex spot least low = (fit.sides spot (omega (arith, least, low))).1
 
 pub homes_listed : (task : Task) (from to : ℕ) (homes : List ℕ) → from ≤ to → own_in (node_at task to) ≡ true → AreHomes task from to homes → AreHomes task from (to + 1) (homes ++ to ∷ [])
 homes_listed task from to [] least own are =

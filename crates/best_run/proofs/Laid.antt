@@ -259,6 +259,7 @@ takes_none step nodes none position company steps before =
             spot = is.spot;
             value = is.value;
             side = is.side;
+            first = is.first;
             pieces = pieces_same number steps node.pieces.items step (λ comes. omega (arith, none, low, (comes_by_code number step low).1 comes)) is.pieces;
           };
     }
@@ -289,6 +290,7 @@ takes_piece step nodes old new piece few there piece_is takes position company s
               spot = is.spot;
               value = is.value;
               side = is.side;
+              first = is.first;
               pieces = pieces_same number steps node.pieces.items step (λ comes. other.0 (sym ((comes_by_code number step low).1 comes))) is.pieces;
             }
       ];
@@ -303,6 +305,7 @@ takes_piece step nodes old new piece few there piece_is takes position company s
           spot = λ spot spot_is. node_same position company (stop_of spot) old new takes.same (is.spot spot spot_is);
           value = omega (arith, value, is.value);
           side = λ side. value ∙ is.side (sym stop ∙ side);
+          first = λ first. node_same position company None old new takes.same (is.first first);
           pieces = subst (ArePiecesFrom number (steps ++ step ∷ [])) (sym takes.more)
               (pieces_more number steps old.pieces.items step ((comes_by_code number step (omega (arith, few, same))).0 (sym same)) piece piece_is is.pieces);
         }

@@ -1,6 +1,6 @@
 -- What a search goes over, on a position: its spots are the ends of the hexes, by their numbers, with what the stops
 -- are to a company; the pieces that lead from a spot are the steps of walks that may be taken from there.
-use Rattle.std.specs.Prelude.{◌≡◌, ◌↔◌, ℕ, ◌<◌, ◌≤◌, true, false, ◌⊎◌, Option, Some, None, option_map, List, [], ◌∷◌, ◌++◌, length, slice_get}
+use Rattle.std.specs.Prelude.{◌≡◌, ◌↔◌, ℕ, ◌%◌, ◌<◌, ◌≤◌, true, false, ◌⊎◌, Option, Some, None, option_map, List, [], ◌∷◌, ◌++◌, length, slice_get}
 use Rattle.map_tables.specs.Hex.{index_of}
 use Rattle.map_tables.specs.declared.hex.Hex.{Hex}
 use Rattle.map_tables.specs.declared.place.Stop.{Stop}
@@ -131,11 +131,12 @@ pub record ArePiecesFrom (number : ℕ) (steps : List Step) (pieces : List Piece
   pub sound : (piece : Piece) → IsAmong piece pieces → IsOfStep number steps piece
   pub complete : (step : Step) → IsAmong step steps → ComesFrom number step → HasIts pieces step
 
--- what stands at a number: the spot with this number, and the pieces from there
+-- what stands at a number: the spot with this number, and the pieces from there; the first six of each hex are its sides
 pub record IsNumbered (position : Position) (company : Company) (steps : List Step) (number : ℕ) (node : Node) : Type 0 where
   pub spot : (spot : Spot) → spot_number spot ≡ number → IsNodeAt position company (stop_of spot) (Some node)
   pub value : node.value ≤ 80
   pub side : node.stop ≡ false → node.value ≡ 0
+  pub first : number % 8 < 6 → IsSideNode (Some node)
   pub pieces : ArePiecesFrom number steps node.pieces.items
 
 -- the first spots by their numbers

@@ -1,11 +1,11 @@
 -- What keeps a search within its bounds: the numbers of stops and borders, and what can be earned by the borders
 -- that are not used.
-use Rattle.std.specs.Prelude.{◌≡◌, ℕ, ◌+◌, ◌*◌, ◌<◌, ◌≤◌, Bool, true, false, Some, List, [], ◌∷◌, length, slice_get}
+use Rattle.std.specs.Prelude.{◌≡◌, ℕ, ◌+◌, ◌*◌, ◌%◌, ◌<◌, ◌≤◌, Bool, true, false, Some, List, [], ◌∷◌, length, slice_get}
 use Rattle.std.specs.List.{AllByRecursion}
 use Rattle.best_run.specs.declared.task.Node.{Node}
 use Rattle.best_run.specs.declared.task.Piece.{Piece}
 use Rattle.best_run.specs.declared.task.Task.{Task}
-use Rattle.best_run.specs.Moves.{node_at, stop_in}
+use Rattle.best_run.specs.Moves.{node_at, own_in, stop_in}
 
 -- borders by their numbers
 abbrev pub BordersFit : List ℕ → Type 0
@@ -24,10 +24,15 @@ pub record NodeFits (task : Task) (node : Node) : Type 0 where
   pub side : node.stop ≡ false → node.value ≡ 0
   pub pieces : (index : ℕ) (piece : Piece) → slice_get node.pieces.items index ≡ Some piece → PieceFits task node.stop piece
 
--- all spots of the map are there, each fit
+-- sides are no stops, and have no tokens
+abbrev pub IsSide : Task → ℕ → Type 0
+IsSide task spot = (stop_in (node_at task spot) ≡ false) × (own_in (node_at task spot) ≡ false)
+
+-- all spots of the map are there, each fit; the first six of each hex are its sides
 pub record IsFit (task : Task) : Type 0 where
   pub all : length task.spots.items ≡ 744
   pub nodes : (spot : ℕ) (node : Node) → slice_get task.spots.items spot ≡ Some node → NodeFits task node
+  pub sides : (spot : ℕ) → spot % 8 < 6 → IsSide task spot
 
 -- a run at a stop has room for one stop less
 abbrev pub credit : Bool → ℕ

@@ -110,6 +110,10 @@ pub record AreDepartures (task : Task) (count : ℕ) (all : List Departures) : T
   pub long : length all ≡ count
   pub each : (stop : ℕ) (from : Departures) → slice_get all stop ≡ Some from → stop_in (node_at task stop) ≡ true → AreWaysOf task stop from.ways.items
 
+-- from one spot on before another there is no stop
+abbrev pub AreSides : Task → ℕ → ℕ → Type 0
+AreSides task from to = (spot : ℕ) → from ≤ spot → spot < to → stop_in (node_at task spot) ≡ false
+
 -- a number is that of a stop
 abbrev pub IsStop : Task → ℕ → Type 0
 IsStop task spot = (spot < 744) × (stop_in (node_at task spot) ≡ true)

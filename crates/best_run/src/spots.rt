@@ -138,10 +138,10 @@ fn stop_node<N: Network>(network: &N, company: Company, stop: Stop, pieces: Vec<
 }
 
 /// How many ends of a hex have numbers of their own.
-const ENDS: usize = 8;
+pub(crate) const ENDS: usize = 8;
 
 /// How many of these are sides.
-const SIDES: usize = 6;
+pub(crate) const SIDES: usize = 6;
 
 /// Whether a number is that of a side.
 fn is_side(number: usize) -> bool
@@ -293,16 +293,29 @@ fn most_of_all(alloc: Global, kinds: &[Kind]) -> Result<Vec<usize>, AllocError>
 }
 
 impl Task {
+    /// Lists the next spot, if the company has a token there. The only error is want of memory.
+    fn list_home(&self, spot: usize, homes: &mut Vec<usize>) -> Result<(), AllocError>
+        requires fit { IsFit self.now }
+        requires spot { spot < 744 }
+        requires before { AreHomes self.now 0 spot homes.old.items }
+        ensures { OnOk result (AreHomes self.now 0 (spot + 1) homes.new.items) }
+    {
+        if self.spots[spot].own {
+            homes.push(spot)?;
+        }
+        Ok(())
+    }
+
     /// The spots where the company has tokens, by their numbers, in order. The only error is want of memory.
     fn all_homes(&self, alloc: Global) -> Result<Vec<usize>, AllocError>
         requires { IsFit self.now }
         ensures { IfOk result (λ homes. AreHomes self.now 0 744 homes.items) }
     {
         let mut homes = Vec::new(alloc);
-        for spot in 0..SPOTS {
-            if self.spots[spot].own {
-                homes.push(spot)?;
-            }
+        for hex in 0..HEXES {
+            let stop = ENDS * hex + SIDES;
+            self.list_home(stop, &mut homes)?;
+            self.list_home(stop + 1, &mut homes)?;
         }
         Ok(homes)
     }

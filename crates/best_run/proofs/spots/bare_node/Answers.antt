@@ -13,6 +13,7 @@ returns-then-is_side g c =
       spot = λ spot is. subst (λ o. IsNodeAt position c.args.company o (Some c.side_node.result)) (sym (spot_side c.args.number spot is low)) c.side_node.ensures.node;
       value = c.side_node.ensures.value;
       side = λ side. c.side_node.ensures.node.value;
+      first = λ first. c.side_node.ensures.node;
       pieces = subst (ArePiecesFrom c.args.number []) (sym (c.side_node.ensures.pieces ∙ c.new-pieces.ensures.items)) (pieces_none c.args.number);
     }
 
@@ -25,5 +26,6 @@ returns g c =
       spot = λ spot is. subst (λ o. IsNodeAt position c.args.company o (Some c.stop_node.result)) (sym (spot_stop c.args.number spot is low stop c.at_index.ensures c.stop_numbered.ensures)) c.stop_node.ensures.node;
       value = c.stop_node.ensures.value;
       side = λ side. let wrong : true ≡ false = sym c.stop_node.ensures.node.stops ∙ side in absurd cc;
+      first = λ first. absurd (omega (arith, first, low));
       pieces = subst (ArePiecesFrom c.args.number []) (sym (c.stop_node.ensures.pieces ∙ c.new-pieces.ensures.items)) (pieces_none c.args.number);
     }

@@ -1,6 +1,7 @@
--- The homes before the next spot are listed.
+-- The homes in the hexes before the next one are listed.
+use Rattle.std.proofs.Common.{◌*◌}
 use Rattle.best_run.specs.Ways.{AreHomes}
 use Rattle.best_run.proofs.task.Task.all_homes.Given as goal
 
-abbrev pub invariant-loop-spot : goal.invariant-loop-spot
-invariant-loop-spot l = AreHomes l.self 0 l.spot l.homes.items
+abbrev pub invariant-loop-hex : goal.invariant-loop-hex
+invariant-loop-hex l = AreHomes l.self 0 (8 * l.hex) l.homes.items
