@@ -1,11 +1,10 @@
 -- Ways that are tried are moves that are tried: what may be done by a piece begins with a way, and whatever comes after a
 -- way comes after its pieces.
-use Rattle.std.proofs.Common.{◌≡◌, ℕ, ◌+◌, ◌<◌, ◌≤◌, Bool, true, false, ◌&&◌, ◌⊎◌, inl, inr, Option, Some, None, List, [], ◌∷◌, ◌++◌, length, slice_get, replicate, refl, sym, ap, subst, ◌∙◌, arith, le_trans, length-append}
+use Rattle.std.proofs.Common.{◌≡◌, ℕ, ◌+◌, ◌<◌, ◌≤◌, Bool, true, false, ◌&&◌, ◌⊎◌, inl, inr, Some, List, [], ◌∷◌, ◌++◌, length, slice_get, replicate, refl, sym, ap, subst, ◌∙◌, arith, le_trans, length-append}
 use Rattle.std.proofs.lemmas.Option.{slice_get_within}
 use Rattle.reach.specs.Position.{IsAmong}
 use Rattle.reach.specs.declared.walk.Step.{Step}
 use Rattle.best_run.specs.declared.explored.Found.{Found}
-use Rattle.best_run.specs.declared.task.Node.{Node}
 use Rattle.best_run.specs.declared.task.Piece.{Piece}
 use Rattle.best_run.specs.declared.task.Task.{Task}
 use Rattle.best_run.specs.declared.task.Way.{Way}
@@ -16,7 +15,7 @@ use Rattle.best_run.specs.declared.trail.Mark.TheVariants.{Go, Turn}
 use Rattle.best_run.specs.Trail.{go_along}
 use Rattle.best_run.specs.Crossed.{numbers_in}
 use Rattle.best_run.specs.Fit.{BordersFit, IsFit, PieceFits}
-use Rattle.best_run.specs.Moves.{Any, AreExplored, Completes, IsBeginAt, IsGo, IsTurn, LeadsFrom, Move, State, Tries, along, begin, begun, between, can_take, ends_in, go, marked_all, marks_of, may_come, misses, node_at, own_in, pass, pieces_in, settle, standing, stop_in, total_after, turn, turned_back, using}
+use Rattle.best_run.specs.Moves.{Any, AreExplored, Completes, IsBeginAt, IsGo, IsTurn, LeadsFrom, Move, State, Tries, along, begin, begun, between, can_take, ends_in, go, marked_all, marks_of, may_come, misses, node_at, own_in, pass, settle, standing, stop_in, total_after, turn, turned_back, using}
 use Rattle.best_run.specs.Ways.{AreFree, AreWaysOf, HasWay, Hop, IsMadeOf, LeadsTo, StandsBefore, TriesWays, borders_by, none_used}
 use Rattle.best_run.proofs.Chunks.{Back, Chunk, arrived, chunk_back, chunk_of, fits_by, free_all, free_freer, free_used, over}
 use Rattle.best_run.proofs.Described.{among_place, place_among}
@@ -40,11 +39,8 @@ both_are false b first second = absurd cc
 
 -- a piece that leads from a spot is fit
 fits_at : (task : Task) → IsFit task → (spot place : ℕ) (piece : Piece) (stop : Bool) → stop_in (node_at task spot) ≡ stop → LeadsFrom task spot place piece → PieceFits task stop piece
-fits_at task fit spot place piece stop is leads = by_node (node_at task spot) refl is leads
-  where
-    by_node : (found : Option Node) → node_at task spot ≡ found → stop_in found ≡ stop → slice_get (pieces_in found) place ≡ Some piece → PieceFits task stop piece
-    by_node None there stops at = absurd (omega (arith, slice_get_within [] place piece at))
-    by_node (Some node) there stops at = subst (λ (b : Bool). PieceFits task b piece) stops ((fit.nodes spot node there).pieces place piece at)
+fits_at task fit spot place piece stop is leads =
+    subst (λ (b : Bool). PieceFits task b piece) is (fit.pieces spot place piece leads)
 
 -- a way comes to a stop
 leads_stop : (task : Task) (hops : List Hop) (piece : Piece) (to : ℕ) → LeadsTo task piece hops to → stop_in (node_at task to) ≡ true

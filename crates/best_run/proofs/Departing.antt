@@ -7,6 +7,7 @@ use Rattle.std.proofs.lemmas.Option.{slice_get_read, slice_get_within}
 use Rattle.reach.specs.Position.{IsAmong}
 use Rattle.reach.specs.declared.walk.Step.{Step}
 use Rattle.reach.proofs.Lists.{among_before, among_cases, among_end}
+use Rattle.best_run.specs.declared.pieces.Entry.{Entry}
 use Rattle.best_run.specs.declared.task.Departures.{Departures}
 use Rattle.best_run.specs.declared.task.Node.{Node}
 use Rattle.best_run.specs.declared.task.Piece.{Piece}
@@ -15,7 +16,8 @@ use Rattle.best_run.specs.declared.task.Way.{Way}
 use Rattle.best_run.specs.declared.ways.Path.{Path}
 use Rattle.best_run.specs.Crossed.{numbers_in}
 use Rattle.best_run.specs.Fit.{BordersFit, IsFit, unused}
-use Rattle.best_run.specs.Moves.{LeadsFrom, ends_in, marked_all, misses, node_at, pieces_in, stop_in}
+use Rattle.best_run.specs.Moves.{LeadsFrom, ends_in, marked_all, misses, node_at, pieces_at, stop_in}
+use Rattle.best_run.specs.Pieces.{pieces_from}
 use Rattle.best_run.specs.Ways.{AddsBelow, AddsWays, AreDepartures, AreFree, AreReady, AreSides, AreStops, AreWaysFrom, AreWaysOf, AddsWaysBy, HasWay, Hop, IsMadeOf, IsSamePath, IsStop, LeadsTo, borders_by, none_used, steps_by, ways_at, ways_in}
 use Rattle.best_run.proofs.Chunks.{marked_append}
 use Rattle.best_run.proofs.Marks.{marked_fewer}
@@ -116,7 +118,7 @@ has_kept task used walked place piece hops to old new kept has =
 
 one_piece : (task : Task) (spot place other : ℕ) (piece found : Piece) → LeadsFrom task spot place piece → LeadsFrom task spot other found → other ≡ place → piece ≡ found
 one_piece task spot place other piece found leads finds same =
-    let e : Some piece ≡ Some found = sym leads ∙ (ap (λ i. slice_get (pieces_in (node_at task spot)) i) (sym same) ∙ finds) in cc
+    let e : Some piece ≡ Some found = sym leads ∙ (ap (λ i. slice_get (pieces_at task spot) i) (sym same) ∙ finds) in cc
 
 pub below_more :
     (task : Task) (used : List Bool) (walked : List Step) (place spot index : ℕ) (piece : Piece) (old middle new : List Way) →
@@ -154,12 +156,12 @@ made_more task used walked place piece hop hops way free side passes leads made 
     }
 
 pub adds_side :
-    (task : Task) (used : List Bool) (walked : List Step) (place : ℕ) (piece : Piece) (node : Node) (index : ℕ) (old new : List Way) →
+    (task : Task) (used : List Bool) (walked : List Step) (place : ℕ) (piece : Piece) (index : ℕ) (old new : List Way) →
     misses used piece.borders.items ≡ true → stop_in (node_at task piece.to) ≡ false → ends_in (node_at task piece.to) ≡ false →
-    node_at task piece.to ≡ Some node → length node.pieces.items ≤ index →
+    length (pieces_at task piece.to) ≤ index →
     AddsBelow task (marked_all used piece.borders.items) (walked ++ piece.step ∷ []) place piece.to index old new →
     AddsWays task used walked place piece old new
-adds_side task used walked place piece node index old new free side passes there all below =
+adds_side task used walked place piece index old new free side passes all below =
     record {
       kept = below.kept;
       sound = λ way among. elim (below.sound way among) [
@@ -172,7 +174,7 @@ adds_side task used walked place piece node index old new free side passes there
     by_hops : (hops : List Hop) (to : ℕ) → LeadsTo task piece hops to → AreFree used piece hops → HasWay task used walked place piece hops to new
     by_hops [] to leads are_free = absurd (let wrong : false ≡ true = sym side ∙ leads.0 in cc)
     by_hops (hop ∷ hops) to leads are_free =
-        let low : hop.place < index = omega (arith, all, place_low task piece.to node there hop.place hop.piece leads.1) in
+        let low : hop.place < index = omega (arith, all, place_low task piece.to hop.place hop.piece leads.1) in
         let has = below.complete hop hops to low leads.1 leads.2 are_free.1 in
         record {
           way = has.way;
@@ -221,11 +223,11 @@ from_more task stop index piece old new here before by =
       ];
     }
 
-pub from_all : (task : Task) (stop : ℕ) (node : Node) (index : ℕ) (ways : List Way) → node_at task stop ≡ Some node → length node.pieces.items ≤ index → AreWaysFrom task stop index ways → AreWaysOf task stop ways
-from_all task stop node index ways there all are =
+pub from_all : (task : Task) (stop index : ℕ) (ways : List Way) → length (pieces_at task stop) ≤ index → AreWaysFrom task stop index ways → AreWaysOf task stop ways
+from_all task stop index ways all are =
     record {
       sound = are.sound;
-      complete = λ place piece hops to leads leads_to free. are.complete place piece hops to (omega (arith, all, place_low task stop node there place piece leads)) leads leads_to free;
+      complete = λ place piece hops to leads leads_to free. are.complete place piece hops to (omega (arith, all, place_low task stop place piece leads)) leads leads_to free;
     }
 
 -- the departures, spot by spot
@@ -261,42 +263,42 @@ departs_from task ready stop from low is stops =
 pub departs_at : (task : Task) → AreReady task → (stop : ℕ) (from : Departures) → stop < 744 → from ≡ get_or task.departures.items stop from → slice_get task.departures.items stop ≡ Some from
 departs_at task ready stop from low is = slice_get_read task.departures.items 744 stop from (sym ready.long) low is
 
--- what is said of ways is said of spots alone
+-- what is said of ways is said of spots and pieces alone
 node_same : (a b : Task) → a.spots.items ≡ b.spots.items → (spot : ℕ) → node_at a spot ≡ node_at b spot
 node_same a b same spot = ap (λ (nodes : List Node). slice_get nodes spot) same
 
-leads_same : (a b : Task) → a.spots.items ≡ b.spots.items → (spot place : ℕ) (piece : Piece) → LeadsFrom a spot place piece → LeadsFrom b spot place piece
-leads_same a b same spot place piece leads = subst (λ node. slice_get (pieces_in node) place ≡ Some piece) (node_same a b same spot) leads
+leads_same : (a b : Task) → a.pieces ≡ b.pieces → (spot place : ℕ) (piece : Piece) → LeadsFrom a spot place piece → LeadsFrom b spot place piece
+leads_same a b same spot place piece leads = subst (λ (entries : List Entry). slice_get (pieces_from spot entries) place ≡ Some piece) same leads
 
-to_same : (a b : Task) → a.spots.items ≡ b.spots.items → (hops : List Hop) (piece : Piece) (to : ℕ) → LeadsTo a piece hops to → LeadsTo b piece hops to
-to_same a b same [] piece to leads = (sym (ap stop_in (node_same a b same piece.to)) ∙ leads.0, leads.1)
-to_same a b same (hop ∷ hops) piece to leads =
+to_same : (a b : Task) → a.spots.items ≡ b.spots.items → a.pieces ≡ b.pieces → (hops : List Hop) (piece : Piece) (to : ℕ) → LeadsTo a piece hops to → LeadsTo b piece hops to
+to_same a b same pieces [] piece to leads = (sym (ap stop_in (node_same a b same piece.to)) ∙ leads.0, leads.1)
+to_same a b same pieces (hop ∷ hops) piece to leads =
     let node = node_same a b same piece.to in
-    ((sym (ap stop_in node) ∙ leads.0.0, sym (ap ends_in node) ∙ leads.0.1), leads_same a b same piece.to hop.place hop.piece leads.1, to_same a b same hops hop.piece to leads.2)
+    ((sym (ap stop_in node) ∙ leads.0.0, sym (ap ends_in node) ∙ leads.0.1), leads_same a b pieces piece.to hop.place hop.piece leads.1, to_same a b same pieces hops hop.piece to leads.2)
 
 made_same :
-    (a b : Task) → a.spots.items ≡ b.spots.items →
+    (a b : Task) → a.spots.items ≡ b.spots.items → a.pieces ≡ b.pieces →
     (used : List Bool) (walked : List Step) (place : ℕ) (piece : Piece) (hops : List Hop) (way : Way) →
     IsMadeOf a used walked place piece hops way → IsMadeOf b used walked place piece hops way
-made_same a b same used walked place piece hops way made =
-    record { leads = to_same a b same hops piece way.piece.to made.leads; free = made.free; place_is = made.place_is; borders = made.borders; steps = made.steps }
+made_same a b same pieces used walked place piece hops way made =
+    record { leads = to_same a b same pieces hops piece way.piece.to made.leads; free = made.free; place_is = made.place_is; borders = made.borders; steps = made.steps }
 
-ways_same : (a b : Task) → a.spots.items ≡ b.spots.items → (stop : ℕ) (ways : List Way) → AreWaysOf a stop ways → AreWaysOf b stop ways
-ways_same a b same stop ways are =
+ways_same : (a b : Task) → a.spots.items ≡ b.spots.items → a.pieces ≡ b.pieces → (stop : ℕ) (ways : List Way) → AreWaysOf a stop ways → AreWaysOf b stop ways
+ways_same a b same pieces stop ways are =
     record {
       sound = λ way among.
           let found = are.sound way among in
-          (found.0, leads_same a b same stop way.first found.0 found.1, (found.2.0, made_same a b same none_used [] way.first found.0 found.2.0 way found.2.1));
+          (found.0, leads_same a b pieces stop way.first found.0 found.1, (found.2.0, made_same a b same pieces none_used [] way.first found.0 found.2.0 way found.2.1));
       complete = λ place piece hops to leads there free.
-          let has = are.complete place piece hops to (leads_same b a (sym same) stop place piece leads) (to_same b a (sym same) hops piece to there) free in
-          record { way = has.way; among = has.among; made = made_same a b same none_used [] place piece hops has.way has.made; to_is = has.to_is };
+          let has = are.complete place piece hops to (leads_same b a (sym pieces) stop place piece leads) (to_same b a (sym same) (sym pieces) hops piece to there) free in
+          record { way = has.way; among = has.among; made = made_same a b same pieces none_used [] place piece hops has.way has.made; to_is = has.to_is };
     }
 
-pub departs_same : (a b : Task) → a.spots.items ≡ b.spots.items → (count : ℕ) (all : List Departures) → AreDepartures a count all → AreDepartures b count all
-departs_same a b same count all are =
+pub departs_same : (a b : Task) → a.spots.items ≡ b.spots.items → a.pieces ≡ b.pieces → (count : ℕ) (all : List Departures) → AreDepartures a count all → AreDepartures b count all
+departs_same a b same pieces count all are =
     record {
       long = are.long;
-      each = λ stop from at stops. ways_same a b same stop from.ways.items (are.each stop from at (ap stop_in (node_same a b same stop) ∙ stops));
+      each = λ stop from at stops. ways_same a b same pieces stop from.ways.items (are.each stop from at (ap stop_in (node_same a b same stop) ∙ stops));
     }
 
 -- no stop is listed, one more is, one need not be, and the lists are for what lies there alone

@@ -21,9 +21,9 @@ use Rattle.certificate.proofs.Written.{ordered, stop_to_stop}
 use Rattle.best_run.specs.declared.task.Node.{Node}
 use Rattle.best_run.specs.declared.task.Piece.{Piece}
 use Rattle.best_run.specs.declared.task.Task.{Task}
-use Rattle.best_run.specs.Described.{AreNumbered, AreSteps, ComesFrom, Describes, GoesFrom, HasPieceOf, IsNodeAt, IsNumbered, IsOfStep, IsSideNode, IsStepFrom, IsStopNode, most_of_all, number_before}
+use Rattle.best_run.specs.Described.{AreNumbered, ArePieces, AreSteps, ComesFrom, Describes, GoesFrom, HasPieceOf, IsNodeAt, IsNumbered, IsOfStep, IsSideNode, IsStepFrom, IsStopNode, most_of_all, number_before}
 use Rattle.best_run.specs.Fit.{BordersFit, IsFit, IsSide, PieceFits}
-use Rattle.best_run.specs.Moves.{LeadsFrom, node_at, own_in, pieces_in, stop_in}
+use Rattle.best_run.specs.Moves.{LeadsFrom, node_at, own_in, pieces_at, stop_in}
 use Rattle.best_run.proofs.Advance.{border_fits, one_number, spot_low}
 
 -- what stands at a place is among a list
@@ -63,9 +63,9 @@ to_end position lawful hex (AtSide side) spot joined =
       | inr over ↦ ap (option_map spot_number) (back position lawful spot (spot_at hex (AtSide side)) over).0
     ]
 
-module _ (position : Position) (company : Company) (lawful : IsLawful position) (kinds : List Kind) (steps : List Step) (are_steps : AreSteps position steps) (task : Task) (numbered : AreNumbered position company steps 744 task.spots.items) where
+module _ (position : Position) (company : Company) (lawful : IsLawful position) (kinds : List Kind) (steps : List Step) (are_steps : AreSteps position steps) (task : Task) (numbered : AreNumbered position company task.spots.items) (pieces : ArePieces steps task.pieces) where
   -- the node at a number, and what it is
-  node_there : (number : ℕ) → number < 744 → (node : Node) × (node_at task number ≡ Some node) × IsNumbered position company steps number node
+  node_there : (number : ℕ) → number < 744 → (node : Node) × (node_at task number ≡ Some node) × IsNumbered position company number node
   node_there number low = by_found (node_at task number) refl
     where
       none_there : (nodes : List Node) (i : ℕ) → i < length nodes → slice_get nodes i ≡ None → ⊥
@@ -73,7 +73,7 @@ module _ (position : Position) (company : Company) (lawful : IsLawful position) 
       none_there (node ∷ nodes) zero less is = cc
       none_there (node ∷ nodes) (suc i) less is = none_there nodes i (omega arith) is
 
-      by_found : (found : Option Node) → node_at task number ≡ found → (node : Node) × (node_at task number ≡ Some node) × IsNumbered position company steps number node
+      by_found : (found : Option Node) → node_at task number ≡ found → (node : Node) × (node_at task number ≡ Some node) × IsNumbered position company number node
       by_found (Some node) is = (node, is, numbered.each number node is)
       by_found None is = absurd (none_there task.spots.items number (omega (arith, numbered.all)) is)
 
@@ -84,30 +84,25 @@ module _ (position : Position) (company : Company) (lawful : IsLawful position) 
       subst (IsNodeAt position company (stop_of spot)) (sym there.1) (there.2.spot spot refl)
 
   sound_there : (number index : ℕ) (piece : Piece) → LeadsFrom task number index piece → IsStepFrom position number piece
-  sound_there number index piece leads = by_found (node_at task number) refl leads
-    where
-      by_found : (found : Option Node) → node_at task number ≡ found → slice_get (pieces_in found) index ≡ Some piece → IsStepFrom position number piece
-      by_found None is at = absurd (omega (arith, slice_get_within [] index piece at))
-      by_found (Some node) is at =
-          let of : IsOfStep number steps piece = (numbered.each number node is).pieces.sound piece (among_place node.pieces.items index piece at) in
-          let from = from_end (entered_at of.step).hex (entered_at of.step).end number of.comes position lawful in
-          record {
-            step = of.step;
-            track = (are_steps of.step).0 of.among;
-            goes = record { spot = from.0; number_is = from.1; joined = from.2 };
-            piece_is = of.piece_is;
-          }
+  sound_there number index piece leads =
+      let of : IsOfStep number steps piece = (pieces number).sound piece (among_place (pieces_at task number) index piece leads) in
+      let from = from_end (entered_at of.step).hex (entered_at of.step).end number of.comes position lawful in
+      record {
+        step = of.step;
+        track = (are_steps of.step).0 of.among;
+        goes = record { spot = from.0; number_is = from.1; joined = from.2 };
+        piece_is = of.piece_is;
+      }
 
   complete_there : (number : ℕ) (step : Step) → IsTrack position step → GoesFrom number step → HasPieceOf task number step
   complete_there number step track goes =
-      let there = node_there number (subst (λ n. n < 744) goes.number_is (spot_low goes.spot)) in
       let comes : ComesFrom number step = to_end position lawful (entered_at step).hex (entered_at step).end goes.spot goes.joined ∙ ap (λ n. Some n) goes.number_is in
-      let has = there.2.pieces.complete step ((are_steps step).1 track) comes in
-      let place = place_among there.0.pieces.items has.piece has.among in
+      let has = (pieces number).complete step ((are_steps step).1 track) comes in
+      let place = place_among (pieces_at task number) has.piece has.among in
       record {
         index = place.0;
         piece = has.piece;
-        leads = ap (λ n. slice_get (pieces_in n) place.0) there.1 ∙ place.1;
+        leads = place.1;
         piece_is = has.piece_is;
       }
 
@@ -157,11 +152,11 @@ module _ (position : Position) (company : Company) (lawful : IsLawful position) 
       across_none hex (AtSide side) to is = refl
       across_none hex (AtStop place) to is = absurd cc
 
-  piece_fits_there : (number index : ℕ) (node : Node) (piece : Piece) → node_at task number ≡ Some node → slice_get node.pieces.items index ≡ Some piece → PieceFits task node.stop piece
-  piece_fits_there number index node piece there at =
-      let from : IsStepFrom position number piece = sound_there number index piece (ap (λ n. slice_get (pieces_in n) index) there ∙ at) in
+  piece_fits_there : (number index : ℕ) (piece : Piece) → LeadsFrom task number index piece → PieceFits task (stop_in (node_at task number)) piece
+  piece_fits_there number index piece leads =
+      let from : IsStepFrom position number piece = sound_there number index piece leads in
       let step = from.step in
-      let node_stop : stop_in (node_at task (spot_number from.goes.spot)) ≡ node.stop = ap (λ (n : ℕ). stop_in (node_at task n)) from.goes.number_is ∙ ap stop_in there in
+      let node_stop : stop_in (node_at task (spot_number from.goes.spot)) ≡ stop_in (node_at task number) = ap (λ (n : ℕ). stop_in (node_at task n)) from.goes.number_is in
       let same : stop_of from.goes.spot ≡ stop_of (entered_at step) = enters from.goes.spot (entered_at step) from.goes.joined in
       record {
         to = subst (λ n. n < 744) (sym from.piece_is.to) (spot_low (left_at step));
@@ -191,7 +186,7 @@ module _ (position : Position) (company : Company) (lawful : IsLawful position) 
         nodes = λ number node there. record {
           value = (numbered.each number node there).value;
           side = (numbered.each number node there).side;
-          pieces = λ index piece at. piece_fits_there number index node piece there at;
         };
+        pieces = piece_fits_there;
         sides = sides_there;
       }

@@ -1,5 +1,6 @@
 -- The steps of a position, and the pieces from its spots, as they are collected.
-use Rattle.std.proofs.Common.{◌≡◌, ◌↔◌, ℕ, zero, suc, ◌+◌, ◌/◌, ◌%◌, ◌<◌, ◌≤◌, Bool, true, false, ◌⊎◌, inl, inr, Option, Some, None, List, [], ◌∷◌, ◌++◌, length, get_or, set, slice_get, take, refl, sym, ap, subst, ◌∙◌, arith, length-append, length-set}
+use Rattle.std.proofs.Common.{◌≡◌, ◌↔◌, ℕ, zero, suc, ◌+◌, ◌*◌, ◌/◌, ◌%◌, ◌<◌, ◌≤◌, Bool, true, false, ◌⊎◌, inl, inr, Option, Some, None, option_map, List, [], ◌∷◌, ◌++◌, length, get_or, replicate, set, slice_get, take, refl, sym, ap, subst, ◌∙◌, arith, length-set}
+use Rattle.std.proofs.lemmas.Bool.{cases_eq, cases_lt}
 use Rattle.std.proofs.lemmas.List.{take_all, take_more}
 use Rattle.std.proofs.lemmas.Option.{slice_get_within}
 use Rattle.map_tables.specs.Hex.{index_of}
@@ -13,7 +14,7 @@ use Rattle.map_tables.specs.declared.track.Link.{Link}
 use Rattle.reach.specs.Lawful.{IsLawful}
 use Rattle.reach.specs.Position.{Position, IsAmong, links_of}
 use Rattle.reach.specs.Search.{number_at, spot_number}
-use Rattle.reach.specs.Walk.{IsTrack, entered_at, stop_at_end, stop_of}
+use Rattle.reach.specs.Walk.{IsTrack, across_end, entered_at, spot_at, stop_at_end, stop_of}
 use Rattle.reach.specs.declared.walk.Spot.{Spot}
 use Rattle.reach.specs.declared.walk.Step.{Step}
 use Rattle.reach.proofs.Collected.{hexes_more, own_hex}
@@ -22,9 +23,14 @@ use Rattle.reach.proofs.Lists.{among_before, among_cases, among_end}
 use Rattle.tables.specs.Train.{stops_of}
 use Rattle.tables.specs.declared.rolling_stock.Kind.{Kind}
 use Rattle.tables.specs.declared.roster.Company.{Company}
+use Rattle.best_run.specs.declared.pieces.Entry.{Entry}
 use Rattle.best_run.specs.declared.task.Node.{Node}
 use Rattle.best_run.specs.declared.task.Piece.{Piece}
-use Rattle.best_run.specs.Described.{Adds, AreLaid, AreNumbered, ArePiecesFrom, ComesFrom, IsNodeAt, IsNumbered, IsPieceOf, LaidBefore, StepsBefore, TakesPiece, TakesStep, code_before, most_of, most_of_all, number_before, number_or_none}
+use Rattle.best_run.specs.Pieces.{AddsPiece, pieces_from}
+use Rattle.best_run.specs.Described.{Adds, AreLaid, AreNumbered, AreNumberedBefore, ArePieces, ArePiecesFrom, ComesFrom, IsNodeAt, IsNumbered, IsPieceOf, IsSideNode, IsStopNode, LaidBefore, StepsBefore, TakesStep, code_before, most_of, most_of_all, number_before, number_or_none}
+use Rattle.best_run.proofs.Advance.{spot_low}
+use Rattle.best_run.proofs.Chained.{from_here, from_other, set_at}
+use Rattle.best_run.proofs.Places.{below_next}
 
 -- a link taken in a direction
 abbrev pub taking : Link → Bool → Step
@@ -105,29 +111,37 @@ pub steps_all : (position : Position) (steps : List Step) (index : ℕ) → 93 �
 steps_all position steps index all before step =
     (before.only step, λ track. before.added step (omega (arith, index_low step.link.hex)) track)
 
+-- no step has come
+pieces_none : ArePieces [] []
+pieces_none number =
+    record {
+      sound = λ piece none. absurd none;
+      complete = λ step none comes. absurd none;
+    }
+
 -- no hex has come
-pub laid_none : (position : Position) (company : Company) (nodes : List Node) → AreNumbered position company [] 744 nodes → LaidBefore position company 0 nodes
-laid_none position company nodes numbered =
+pub laid_none : (position : Position) → LaidBefore position 0 []
+laid_none position =
     record {
       steps = [];
       before = record { added = λ step low track. absurd (omega (arith, low)); only = λ step none. absurd none };
-      numbered = numbered;
+      pieces = pieces_none;
     }
 
 -- the steps of the first links of a hex have come, after those of the hexes before it
-pub record LaidIn (position : Position) (company : Company) (index : ℕ) (links : List Link) (nodes : List Node) : Type 0 where
+pub record LaidIn (position : Position) (index : ℕ) (links : List Link) (entries : List Entry) : Type 0 where
   pub first : List Step
   pub before : StepsBefore position first index
   pub steps : List Step
   pub adds : Adds (λ link. IsAmong link links) first steps
-  pub numbered : AreNumbered position company steps 744 nodes
+  pub pieces : ArePieces steps entries
 
-pub laid_in : (position : Position) (company : Company) (index : ℕ) (links : List Link) (nodes : List Node) → LaidBefore position company index nodes → LaidIn position company index (take 0 links) nodes
-laid_in position company index links nodes laid =
-    record { first = laid.steps; before = laid.before; steps = laid.steps; adds = adds_none laid.steps links; numbered = laid.numbered }
+pub laid_in : (position : Position) (index : ℕ) (links : List Link) (entries : List Entry) → LaidBefore position index entries → LaidIn position index (take 0 links) entries
+laid_in position index links entries laid =
+    record { first = laid.steps; before = laid.before; steps = laid.steps; adds = adds_none laid.steps links; pieces = laid.pieces }
 
-pub laid_next : (position : Position) (company : Company) (index : ℕ) (here links : List Link) → here ≡ links → (i : ℕ) (d : Link) (old middle new : List Node) → i < length here → LaidIn position company index (take i links) old → TakesStep (taking (get_or here i d) false) old middle → TakesStep (taking (get_or here i d) true) middle new → LaidIn position company index (take (i + 1) links) new
-laid_next position company index here links is i d old middle new low laid forward back =
+pub laid_next : (position : Position) (index : ℕ) (here links : List Link) → here ≡ links → (i : ℕ) (d : Link) (old middle new : List Entry) → i < length here → LaidIn position index (take i links) old → TakesStep (taking (get_or here i d) false) old middle → TakesStep (taking (get_or here i d) true) middle new → LaidIn position index (take (i + 1) links) new
+laid_next position index here links is i d old middle new low laid forward back =
     let link = get_or here i d in
     let before : Adds (λ l. IsAmong l (take i here)) laid.first laid.steps = subst (λ ls. Adds (λ l. IsAmong l (take i ls)) laid.first laid.steps) (sym is) laid.adds in
     let more = (laid.steps ++ taking link false ∷ []) ++ taking link true ∷ [] in
@@ -136,19 +150,36 @@ laid_next position company index here links is i d old middle new low laid forwa
       before = laid.before;
       steps = more;
       adds = subst (λ ls. Adds (λ l. IsAmong l (take (i + 1) ls)) laid.first more) is (adds_next laid.first laid.steps more here i d low before (both_added link laid.steps));
-      numbered = back position company (laid.steps ++ taking link false ∷ []) (forward position company laid.steps laid.numbered);
+      pieces = back (laid.steps ++ taking link false ∷ []) (forward laid.steps laid.pieces);
     }
 
-pub laid_hex : (position : Position) → IsLawful position → (company : Company) (hex : Hex) (index : ℕ) → index_of hex ≡ index → (here : List Link) → here ≡ links_of position hex → (i : ℕ) (nodes : List Node) → length here ≤ i → LaidIn position company index (take i (links_of position hex)) nodes → LaidBefore position company (index + 1) nodes
-laid_hex position lawful company hex index is here same i nodes all laid =
+pub laid_hex : (position : Position) → IsLawful position → (hex : Hex) (index : ℕ) → index_of hex ≡ index → (here : List Link) → here ≡ links_of position hex → (i : ℕ) (entries : List Entry) → length here ≤ i → LaidIn position index (take i (links_of position hex)) entries → LaidBefore position (index + 1) entries
+laid_hex position lawful hex index is here same i entries all laid =
     let links : List Link = links_of position hex in
     let adds : Adds (λ l. IsAmong l links) laid.first laid.steps = adds_all laid.first laid.steps links i (subst (λ (ls : List Link). length ls ≤ i) same all) laid.adds in
-    record { steps = laid.steps; before = steps_more position lawful hex index is laid.first laid.steps laid.before adds; numbered = laid.numbered }
+    record { steps = laid.steps; before = steps_more position lawful hex index is laid.first laid.steps laid.before adds; pieces = laid.pieces }
 
 -- all hexes have come
-pub laid_all : (position : Position) (company : Company) (index : ℕ) (nodes : List Node) → 93 ≤ index → LaidBefore position company index nodes → AreLaid position company nodes
-laid_all position company index nodes all laid =
-    record { steps = laid.steps; all = steps_all position laid.steps index all laid.before; numbered = laid.numbered }
+pub laid_all : (position : Position) (index : ℕ) (entries : List Entry) → 93 ≤ index → LaidBefore position index entries → AreLaid position entries
+laid_all position index entries all laid =
+    record { steps = laid.steps; all = steps_all position laid.steps index all laid.before; pieces = laid.pieces }
+
+-- a spot from which a step is taken has a number
+before_low : (hex : Hex) (end : End) (number : ℕ) → number_before hex end ≡ Some number → number < 744
+before_low hex (AtStop place) number is =
+    let same : spot_number (spot_at hex (AtStop place)) ≡ number = cc in
+    subst (λ (n : ℕ). n < 744) same (spot_low (spot_at hex (AtStop place)))
+before_low hex (AtSide side) number is = by_across (across_end hex (AtSide side)) is
+  where
+    by_across : (found : Option Spot) → option_map spot_number found ≡ Some number → number < 744
+    by_across None same = absurd cc
+    by_across (Some from) same =
+        let number_is : spot_number from ≡ number = cc in
+        subst (λ (n : ℕ). n < 744) number_is (spot_low from)
+
+comes_low : (number : ℕ) (step : Step) → ComesFrom number step → (number < 744) × (code_before step ≡ number)
+comes_low number step comes =
+    (before_low (entered_at step).hex (entered_at step).end number comes, ap number_or_none comes)
 
 -- a step comes from a spot exactly where its code is the spot's number
 code_comes : (number : ℕ) (found : Option ℕ) → number < 744 → (number_or_none found ≡ number) ↔ (found ≡ Some number)
@@ -161,14 +192,6 @@ comes_by_code number step few = code_comes number (number_before (entered_at ste
 -- the code of a step is told by the spot at which it is entered
 pub code_is : (number : ℕ) (spot : Spot) (step : Step) → spot ≡ entered_at step → number ≡ number_or_none (number_before spot.hex spot.end) → number ≡ code_before step
 code_is number spot step same is = is ∙ ap (λ (s : Spot). number_or_none (number_before s.hex s.end)) same
-
--- no step has come
-pub pieces_none : (number : ℕ) → ArePiecesFrom number [] []
-pieces_none number =
-    record {
-      sound = λ piece none. absurd none;
-      complete = λ step none comes. absurd none;
-    }
 
 -- the next step may not be taken
 pieces_same : (number : ℕ) (steps : List Step) (pieces : List Piece) (next : Step) → (ComesFrom number next → ⊥) → ArePiecesFrom number steps pieces → ArePiecesFrom number (steps ++ next ∷ []) pieces
@@ -221,94 +244,102 @@ spot_stop number spot is low stop hex_is number_is = by_end spot.hex spot.end is
         let numbers : joined.number ≡ stop.number = same_stop_index joined.number stop.number (omega (arith, stop_index_low place)) in
         ap (λ (h : Hex). Some (stop_at h joined.number)) hexes ∙ ap (λ (n : StopNumber). Some (stop_at stop.hex n)) numbers
 
--- one more spot
-pub numbered_more : (position : Position) (company : Company) (steps : List Step) (count : ℕ) (nodes : List Node) (node : Node) → AreNumbered position company steps count nodes → IsNumbered position company steps count node → AreNumbered position company steps (count + 1) (nodes ++ node ∷ [])
-numbered_more position company steps count nodes node before is =
+-- what stands at the number of a side, and of a stop
+numbered_side : (position : Position) (company : Company) (number : ℕ) (node : Node) → number % 8 < 6 → IsSideNode (Some node) → IsNumbered position company number node
+numbered_side position company number node low is =
     record {
-      all = omega (arith, before.all, length-append nodes (node ∷ []));
-      each = λ number other at. elim (at_end nodes node number other at) [
-        | inl old ↦ before.each number other old
-        | inr last ↦ subst (λ (n : Node). IsNumbered position company steps number n) last.1 (subst (λ (k : ℕ). IsNumbered position company steps k node) (sym (last.0 ∙ before.all)) is)
+      spot = λ spot at. subst (λ o. IsNodeAt position company o (Some node)) (sym (spot_side number spot at low)) is;
+      value = omega (arith, is.value);
+      side = λ side. is.value;
+      first = λ first. is;
+    }
+
+pub numbered_stop :
+    (position : Position) (company : Company) (number : ℕ) (node : Node) (stop : Stop) → 6 ≤ number % 8 → index_of stop.hex ≡ number / 8 →
+    6 + stop_index_of stop.number ≡ number % 8 → IsStopNode position company stop (Some node) → node.value ≤ 80 → IsNumbered position company number node
+numbered_stop position company number node stop low hex_is number_is is value =
+    record {
+      spot = λ spot at. subst (λ o. IsNodeAt position company o (Some node)) (sym (spot_stop number spot at low stop hex_is number_is)) is;
+      value = value;
+      side = λ side. let wrong : true ≡ false = sym is.stops ∙ side in absurd cc;
+      first = λ first. absurd (omega (arith, first, low));
+    }
+
+-- the sides alone, one stop more, the sides of the next hex, and all
+pub numbered_none : (position : Position) (company : Company) (nodes : List Node) (side : Node) → IsSideNode (Some side) → nodes ≡ replicate 744 side → AreNumberedBefore position company 0 nodes
+numbered_none position company nodes side is same =
+    record {
+      all = ap length same ∙ long 744;
+      each = λ number node at which. elim which [
+        | inl low ↦ absurd (omega (arith, low))
+        | inr first ↦
+            let one : side ≡ node = all_same 744 number node (subst (λ ns. slice_get ns number ≡ Some node) same at) in
+            subst (λ (n : Node). IsNumbered position company number n) one (numbered_side position company number side first is)
       ];
     }
   where
-    at_end : (xs : List Node) (x : Node) (i : ℕ) (y : Node) → slice_get (xs ++ x ∷ []) i ≡ Some y → (slice_get xs i ≡ Some y) ⊎ ((i ≡ length xs) × (x ≡ y))
-    at_end [] x zero y at = inr (refl, let same : x ≡ y = cc in same)
-    at_end [] x (suc i) y at = absurd (omega (arith, slice_get_within (x ∷ []) (suc i) y at))
-    at_end (z ∷ zs) x zero y at = inl at
-    at_end (z ∷ zs) x (suc i) y at = elim (at_end zs x i y at) [ inl old ↦ inl old | inr last ↦ inr (ap suc last.0, last.1) ]
+    long : (n : ℕ) → length (replicate n side) ≡ n
+    long zero = refl
+    long (suc n) = ap suc (long n)
 
--- what stands at a number may lead on by other pieces
-node_same : (position : Position) (company : Company) (stop : Option Stop) (old new : Node) → new ≡ record old { pieces = new.pieces } → IsNodeAt position company stop (Some old) → IsNodeAt position company stop (Some new)
-node_same position company stop old new same is =
-    subst (λ (n : Node). IsNodeAt position company stop (Some n)) (sym same) (by_stop stop is)
-  where
-    by_stop : (o : Option Stop) → IsNodeAt position company o (Some old) → IsNodeAt position company o (Some (record old { pieces = new.pieces }))
-    by_stop (Some stop) stands = record { stops = stands.stops; value = stands.value; own = stands.own; passes = stands.passes }
-    by_stop None stands = record { stops = stands.stops; value = stands.value; own = stands.own; passes = stands.passes }
+    all_same : (n i : ℕ) (found : Node) → slice_get (replicate n side) i ≡ Some found → side ≡ found
+    all_same zero i found at = absurd (omega (arith, slice_get_within [] i found at))
+    all_same (suc n) zero found at = let one : side ≡ found = cc in one
+    all_same (suc n) (suc i) found at = all_same n i found at
 
--- the next step may be taken from no spot
-pub takes_none : (step : Step) (nodes : List Node) → 744 ≤ code_before step → TakesStep step nodes nodes
-takes_none step nodes none position company steps before =
+pub numbered_next : (position : Position) (company : Company) (stop : ℕ) (nodes : List Node) (new : Node) → AreNumberedBefore position company stop nodes → IsNumbered position company stop new → AreNumberedBefore position company (stop + 1) (set nodes stop new)
+numbered_next position company stop nodes new before is =
+    record {
+      all = length-set nodes stop new ∙ before.all;
+      each = λ number node at which. elim (set_at nodes stop number new node at) [
+        | inl here ↦
+            subst (λ (n : Node). IsNumbered position company number n) here.1
+            (subst (λ (k : ℕ). IsNumbered position company k new) (sym here.0) is)
+        | inr other ↦ before.each number node other.1 (elim which [
+          | inl low ↦ elim (below_next number stop low) [ inl less ↦ inl less | inr same ↦ absurd (other.0 same) ]
+          | inr first ↦ inr first
+        ])
+      ];
+    }
+
+pub numbered_on : (position : Position) (company : Company) (hex : ℕ) (nodes : List Node) → AreNumberedBefore position company (8 * hex) nodes → AreNumberedBefore position company (8 * hex + 6) nodes
+numbered_on position company hex nodes before =
     record {
       all = before.all;
-      each = λ number node at.
-          let is = before.each number node at in
-          let low : number < 744 = omega (arith, slice_get_within nodes number node at, before.all) in
-          record {
-            spot = is.spot;
-            value = is.value;
-            side = is.side;
-            first = is.first;
-            pieces = pieces_same number steps node.pieces.items step (λ comes. omega (arith, none, low, (comes_by_code number step low).1 comes)) is.pieces;
-          };
+      each = λ number node at which. before.each number node at (elim which [
+        | inl low ↦ elim (cases_lt number (8 * hex)) [ inl less ↦ inl less | inr past ↦ inr (omega (arith, low, past)) ]
+        | inr first ↦ inr first
+      ]);
     }
 
--- what stands at a place of some spots, of which one is changed
-set_at : (nodes : List Node) (place number : ℕ) (new found : Node) → slice_get (set nodes place new) number ≡ Some found → ((number ≡ place) × (new ≡ found)) ⊎ ((number ≡ place → ⊥) × (slice_get nodes number ≡ Some found))
-set_at [] place number new found at = absurd (omega (arith, slice_get_within [] number found at))
-set_at (node ∷ nodes) zero zero new found at = inl (refl, let same : new ≡ found = cc in same)
-set_at (node ∷ nodes) zero (suc number) new found at = inr (λ is. omega (arith, is), at)
-set_at (node ∷ nodes) (suc place) zero new found at = inr (λ is. omega (arith, is), at)
-set_at (node ∷ nodes) (suc place) (suc number) new found at =
-    elim (set_at nodes place number new found at) [
-      | inl here ↦ inl (ap suc here.0, here.1)
-      | inr other ↦ inr (λ is. other.0 (omega (arith, is)), other.1)
-    ]
-
--- its piece is appended to those of the spot from which it may be taken
-pub takes_piece : (step : Step) (nodes : List Node) (old new : Node) (piece : Piece) → code_before step < 744 → slice_get nodes (code_before step) ≡ Some old → IsPieceOf step piece → TakesPiece piece old new → TakesStep step nodes (set nodes (code_before step) new)
-takes_piece step nodes old new piece few there piece_is takes position company steps before =
+pub numbered_all : (position : Position) (company : Company) (hex : ℕ) (nodes : List Node) → 93 ≤ hex → AreNumberedBefore position company (8 * hex) nodes → AreNumbered position company nodes
+numbered_all position company hex nodes all before =
     record {
-      all = length-set nodes (code_before step) new ∙ before.all;
-      each = λ number node at. elim (set_at nodes (code_before step) number new node at) [
-        | inl here ↦ subst (λ (n : Node). IsNumbered position company (steps ++ step ∷ []) number n) here.1 (at_code number here.0)
-        | inr other ↦
-            let is = before.each number node other.1 in
-            let low : number < 744 = omega (arith, slice_get_within nodes number node other.1, before.all) in
-            record {
-              spot = is.spot;
-              value = is.value;
-              side = is.side;
-              first = is.first;
-              pieces = pieces_same number steps node.pieces.items step (λ comes. other.0 (sym ((comes_by_code number step low).1 comes))) is.pieces;
-            }
-      ];
+      all = before.all;
+      each = λ number node at. before.each number node at (inl (omega (arith, all, before.all, slice_get_within nodes number node at)));
     }
-  where
-    at_code : (number : ℕ) → number ≡ code_before step → IsNumbered position company (steps ++ step ∷ []) number new
-    at_code number same =
-        let is = before.each number old (ap (λ (n : ℕ). slice_get nodes n) same ∙ there) in
-        let value : new.value ≡ old.value = ap (λ (n : Node). n.value) takes.same in
-        let stop : new.stop ≡ old.stop = ap (λ (n : Node). n.stop) takes.same in
-        record {
-          spot = λ spot spot_is. node_same position company (stop_of spot) old new takes.same (is.spot spot spot_is);
-          value = omega (arith, value, is.value);
-          side = λ side. value ∙ is.side (sym stop ∙ side);
-          first = λ first. node_same position company None old new takes.same (is.first first);
-          pieces = subst (ArePiecesFrom number (steps ++ step ∷ [])) (sym takes.more)
-              (pieces_more number steps old.pieces.items step ((comes_by_code number step (omega (arith, few, same))).0 (sym same)) piece piece_is is.pieces);
-        }
+
+-- the next step may be taken from no spot
+pub takes_none : (step : Step) (entries : List Entry) → 744 ≤ code_before step → TakesStep step entries entries
+takes_none step entries none steps before number =
+    pieces_same number steps (pieces_from number entries) step
+    (λ comes. let low = comes_low number step comes in omega (arith, none, low.0, low.1)) (before number)
+
+-- its piece is added behind those from the spot from which it may be taken
+pub takes_piece : (step : Step) (old new : List Entry) (piece : Piece) → code_before step < 744 → IsPieceOf step piece → AddsPiece (code_before step) piece old new → TakesStep step old new
+takes_piece step old new piece few is adds steps before number =
+    elim (cases_eq adds.entry.from number) [
+      | inl here ↦
+          let more : pieces_from number new ≡ pieces_from number old ++ adds.entry.piece ∷ [] = ap (pieces_from number) adds.more ∙ from_here number old adds.entry here in
+          let code : code_before step ≡ number = sym adds.from_is ∙ here in
+          let comes : ComesFrom number step = (comes_by_code number step (omega (arith, few, code))).0 code in
+          subst (ArePiecesFrom number (steps ++ step ∷ [])) (sym more)
+          (pieces_more number steps (pieces_from number old) step comes adds.entry.piece (subst (IsPieceOf step) (sym adds.piece_is) is) (before number))
+      | inr apart ↦
+          let same : pieces_from number new ≡ pieces_from number old = ap (pieces_from number) adds.more ∙ from_other number old adds.entry apart in
+          subst (ArePiecesFrom number (steps ++ step ∷ [])) (sym same)
+          (pieces_same number steps (pieces_from number old) step (λ comes. apart (adds.from_is ∙ (comes_low number step comes).1)) (before number))
+    ]
 
 -- one more train
 pub most_more : (kinds : List Kind) (i : ℕ) (d : Kind) → i < length kinds → most_of_all (take (i + 1) kinds) ≡ most_of_all (take i kinds) ++ most_of (stops_of (get_or kinds i d)) ∷ []

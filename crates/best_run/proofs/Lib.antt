@@ -27,6 +27,7 @@ pub mod Runs
 pub mod Told
 pub mod Sound
 pub mod Greatest
+pub mod Chained
 pub mod Laid
 pub mod Described
 pub mod Along

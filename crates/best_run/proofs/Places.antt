@@ -1,5 +1,5 @@
 -- Stops and pieces by their places, and what a piece leaves to be earned.
-use Rattle.std.proofs.Common.{◌≡◌, ℕ, zero, suc, ◌+◌, ◌*◌, ◌<◌, ◌≤◌, Bool, true, false, ◌&&◌, ◌⊎◌, inl, inr, Option, Some, None, List, [], length, get_or, slice_get, refl, sym, ap, subst, ◌∙◌, arith}
+use Rattle.std.proofs.Common.{◌≡◌, ℕ, zero, suc, ◌+◌, ◌*◌, ◌<◌, ◌≤◌, Bool, true, false, ◌&&◌, ◌⊎◌, inl, inr, Option, Some, None, List, length, get_or, slice_get, refl, sym, ap, subst, ◌∙◌, arith}
 use Rattle.std.proofs.lemmas.Option.{slice_get_read, slice_get_within}
 use Rattle.best_run.specs.declared.task.Node.{Node}
 use Rattle.best_run.specs.declared.task.Piece.{Piece}
@@ -7,7 +7,7 @@ use Rattle.best_run.specs.declared.task.Task.{Task}
 use Rattle.best_run.specs.declared.state.Settled.{Settled}
 use Rattle.best_run.specs.declared.state.Standing.{Standing}
 use Rattle.best_run.specs.Fit.{HasRoom, IsFit, PieceFits, credit, unused}
-use Rattle.best_run.specs.Moves.{LeadsFrom, along, can_take, marked_all, may_come, misses, node_at, pieces_in, stop_in, using, value_in}
+use Rattle.best_run.specs.Moves.{LeadsFrom, along, can_take, marked_all, may_come, misses, node_at, pieces_at, stop_in, using, value_in}
 use Rattle.best_run.proofs.Marks.{marked_fewer, marked_most}
 
 -- the stop at a number
@@ -18,20 +18,17 @@ node_is task fit stop node low is = slice_get_read task.spots.items 744 stop nod
 pub came : (task : Task) (to read : ℕ) (node : Node) → read ≡ to → node ≡ get_or task.spots.items read node → node ≡ get_or task.spots.items to node
 came task to read node same is = subst (λ (n : ℕ). node ≡ get_or task.spots.items n node) same is
 
--- the piece at a place leads from the stop
-pub leads_at : (task : Task) (stop : ℕ) (node : Node) → node_at task stop ≡ Some node → (index : ℕ) (piece : Piece) → index < length node.pieces.items → piece ≡ get_or node.pieces.items index piece → LeadsFrom task stop index piece
-leads_at task stop node there index piece low is =
-    ap (λ n. slice_get (pieces_in n) index) there ∙ slice_get_read node.pieces.items (length node.pieces.items) index piece refl low is
+-- a piece that is found from where another leads
+pub from_there : (task : Task) (to read index : ℕ) (piece : Piece) → read ≡ to → slice_get (pieces_at task read) index ≡ Some piece → LeadsFrom task to index piece
+from_there task to read index piece same at = subst (λ (n : ℕ). LeadsFrom task n index piece) same at
 
--- a piece that leads from a stop has a place among its pieces
-pub place_low : (task : Task) (stop : ℕ) (node : Node) → node_at task stop ≡ Some node → (index : ℕ) (piece : Piece) → LeadsFrom task stop index piece → index < length node.pieces.items
-place_low task stop node there index piece leads =
-    slice_get_within node.pieces.items index piece (ap (λ n. slice_get (pieces_in n) index) (sym there) ∙ leads)
+pub all_there : (task : Task) (to read count index : ℕ) → read ≡ to → count ≡ length (pieces_at task read) → count ≤ index → length (pieces_at task to) ≤ index
+all_there task to read count index same is all =
+    subst (λ (n : ℕ). length (pieces_at task n) ≤ index) same (omega (arith, is, all))
 
--- a piece of a fit stop is fit
-pub piece_fits : (task : Task) → IsFit task → (stop : ℕ) (node : Node) → node_at task stop ≡ Some node → (index : ℕ) (piece : Piece) → index < length node.pieces.items → piece ≡ get_or node.pieces.items index piece → PieceFits task node.stop piece
-piece_fits task fit stop node there index piece low is =
-    (fit.nodes stop node there).pieces index piece (slice_get_read node.pieces.items (length node.pieces.items) index piece refl low is)
+-- a piece that leads from a spot has a place among its pieces
+pub place_low : (task : Task) (spot index : ℕ) (piece : Piece) → LeadsFrom task spot index piece → index < length (pieces_at task spot)
+place_low task spot index piece leads = slice_get_within (pieces_at task spot) index piece leads
 
 -- a number below the next one
 pub below_next : (index most : ℕ) → index < most + 1 → (index < most) ⊎ (index ≡ most)
@@ -112,14 +109,6 @@ pub one_at_side : one_if false ≡ 0
 unfolding one_if
 one_at_side = refl
 
-no_such : {A : Type 0} (index : ℕ) (x : A) → slice_get [] index ≡ Some x → ⊥
-no_such zero x is = cc
-no_such (suc index) x is = cc
-
 -- a piece that leads from a spot is fit
 pub leading_fits : (task : Task) → IsFit task → (spot index : ℕ) (piece : Piece) → LeadsFrom task spot index piece → (from : Bool) × PieceFits task from piece
-leading_fits task fit spot index piece leads = by_node (node_at task spot) refl leads
-  where
-    by_node : (found : Option Node) → node_at task spot ≡ found → slice_get (pieces_in found) index ≡ Some piece → (from : Bool) × PieceFits task from piece
-    by_node None is there = absurd (no_such index piece there)
-    by_node (Some node) is there = (node.stop, (fit.nodes spot node is).pieces index piece there)
+leading_fits task fit spot index piece leads = (stop_in (node_at task spot), fit.pieces spot index piece leads)

@@ -16,9 +16,11 @@ use Rattle.tables.specs.Train.{stops_of}
 use Rattle.tables.specs.declared.rolling_stock.Kind.{Kind}
 use Rattle.tables.specs.declared.roster.Company.{Company}
 use Rattle.certificate.specs.Legal.{border_at}
+use Rattle.best_run.specs.declared.pieces.Entry.{Entry}
 use Rattle.best_run.specs.declared.task.Node.{Node}
 use Rattle.best_run.specs.declared.task.Piece.{Piece}
 use Rattle.best_run.specs.declared.task.Task.{Task}
+use Rattle.best_run.specs.Pieces.{pieces_from}
 use Rattle.best_run.specs.Moves.{LeadsFrom, ends_in, node_at, own_in, stop_in, value_in}
 
 -- a step may be taken from a spot, by its number
@@ -131,37 +133,39 @@ pub record ArePiecesFrom (number : ℕ) (steps : List Step) (pieces : List Piece
   pub sound : (piece : Piece) → IsAmong piece pieces → IsOfStep number steps piece
   pub complete : (step : Step) → IsAmong step steps → ComesFrom number step → HasIts pieces step
 
--- what stands at a number: the spot with this number, and the pieces from there; the first six of each hex are its sides
-pub record IsNumbered (position : Position) (company : Company) (steps : List Step) (number : ℕ) (node : Node) : Type 0 where
+-- these are the pieces of those steps that may be taken from each spot
+abbrev pub ArePieces : List Step → List Entry → Type 0
+ArePieces steps entries = (number : ℕ) → ArePiecesFrom number steps (pieces_from number entries)
+
+-- what stands at a number: the spot with this number; the first six of each hex are its sides
+pub record IsNumbered (position : Position) (company : Company) (number : ℕ) (node : Node) : Type 0 where
   pub spot : (spot : Spot) → spot_number spot ≡ number → IsNodeAt position company (stop_of spot) (Some node)
   pub value : node.value ≤ 80
   pub side : node.stop ≡ false → node.value ≡ 0
   pub first : number % 8 < 6 → IsSideNode (Some node)
-  pub pieces : ArePiecesFrom number steps node.pieces.items
 
--- the first spots by their numbers
-pub record AreNumbered (position : Position) (company : Company) (steps : List Step) (count : ℕ) (nodes : List Node) : Type 0 where
-  pub all : length nodes ≡ count
-  pub each : (number : ℕ) (node : Node) → slice_get nodes number ≡ Some node → IsNumbered position company steps number node
+-- all spots by their numbers
+pub record AreNumbered (position : Position) (company : Company) (nodes : List Node) : Type 0 where
+  pub all : length nodes ≡ 744
+  pub each : (number : ℕ) (node : Node) → slice_get nodes number ≡ Some node → IsNumbered position company number node
 
--- a piece is appended to those that lead from a spot
-pub record TakesPiece (piece : Piece) (old new : Node) : Type 0 where
-  pub same : new ≡ record old { pieces = new.pieces }
-  pub more : new.pieces.items ≡ old.pieces.items ++ piece ∷ []
+-- the sides, and the stops before a number
+pub record AreNumberedBefore (position : Position) (company : Company) (most : ℕ) (nodes : List Node) : Type 0 where
+  pub all : length nodes ≡ 744
+  pub each : (number : ℕ) (node : Node) → slice_get nodes number ≡ Some node → (number < most) ⊎ (number % 8 < 6) → IsNumbered position company number node
 
--- spots that stand at their numbers with the pieces of some steps have the piece of one more step
-abbrev pub TakesStep : Step → List Node → List Node → Type 0
-TakesStep step old new =
-    (position : Position) (company : Company) (steps : List Step) → AreNumbered position company steps 744 old → AreNumbered position company (steps ++ step ∷ []) 744 new
+-- to the pieces of some steps that of one more step is added
+abbrev pub TakesStep : Step → List Entry → List Entry → Type 0
+TakesStep step old new = (steps : List Step) → ArePieces steps old → ArePieces (steps ++ step ∷ []) new
 
--- all spots stand at their numbers with the pieces of steps of a position, among these all that lie in its first hexes
-pub record LaidBefore (position : Position) (company : Company) (index : ℕ) (nodes : List Node) : Type 0 where
+-- these are the pieces of steps of a position, among these all that lie in its first hexes
+pub record LaidBefore (position : Position) (index : ℕ) (entries : List Entry) : Type 0 where
   pub steps : List Step
   pub before : StepsBefore position steps index
-  pub numbered : AreNumbered position company steps 744 nodes
+  pub pieces : ArePieces steps entries
 
--- all spots stand at their numbers with the pieces of all steps of a position
-pub record AreLaid (position : Position) (company : Company) (nodes : List Node) : Type 0 where
+-- these are the pieces of all steps of a position
+pub record AreLaid (position : Position) (entries : List Entry) : Type 0 where
   pub steps : List Step
   pub all : AreSteps position steps
-  pub numbered : AreNumbered position company steps 744 nodes
+  pub pieces : ArePieces steps entries

@@ -5,7 +5,7 @@ use Rattle.std.specs.List.{AllByRecursion}
 use Rattle.best_run.specs.declared.task.Node.{Node}
 use Rattle.best_run.specs.declared.task.Piece.{Piece}
 use Rattle.best_run.specs.declared.task.Task.{Task}
-use Rattle.best_run.specs.Moves.{node_at, own_in, stop_in}
+use Rattle.best_run.specs.Moves.{LeadsFrom, node_at, own_in, stop_in}
 
 -- borders by their numbers
 abbrev pub BordersFit : List ℕ → Type 0
@@ -19,10 +19,9 @@ pub record PieceFits (task : Task) (from_stop : Bool) (piece : Piece) : Type 0 w
   pub over : from_stop ≡ false → 0 < length piece.borders.items
 
 -- a stop is worth at most 80 dollars, a side nothing
-pub record NodeFits (task : Task) (node : Node) : Type 0 where
+pub record NodeFits (node : Node) : Type 0 where
   pub value : node.value ≤ 80
   pub side : node.stop ≡ false → node.value ≡ 0
-  pub pieces : (index : ℕ) (piece : Piece) → slice_get node.pieces.items index ≡ Some piece → PieceFits task node.stop piece
 
 -- sides are no stops, and have no tokens
 abbrev pub IsSide : Task → ℕ → Type 0
@@ -31,7 +30,8 @@ IsSide task spot = (stop_in (node_at task spot) ≡ false) × (own_in (node_at t
 -- all spots of the map are there, each fit; the first six of each hex are its sides
 pub record IsFit (task : Task) : Type 0 where
   pub all : length task.spots.items ≡ 744
-  pub nodes : (spot : ℕ) (node : Node) → slice_get task.spots.items spot ≡ Some node → NodeFits task node
+  pub nodes : (spot : ℕ) (node : Node) → slice_get task.spots.items spot ≡ Some node → NodeFits node
+  pub pieces : (spot index : ℕ) (piece : Piece) → LeadsFrom task spot index piece → PieceFits task (stop_in (node_at task spot)) piece
   pub sides : (spot : ℕ) → spot % 8 < 6 → IsSide task spot
 
 -- a run at a stop has room for one stop less

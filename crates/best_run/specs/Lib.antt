@@ -1,6 +1,7 @@
 pub mod Trail
 pub mod Marks
 pub mod Crossed
+pub mod Pieces
 pub mod Moves
 pub mod Fit
 pub mod Described

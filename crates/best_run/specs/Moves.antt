@@ -13,6 +13,7 @@ use Rattle.best_run.specs.declared.state.Settled.{Settled}
 use Rattle.best_run.specs.declared.state.Standing.{Standing}
 use Rattle.best_run.specs.declared.trail.Mark.{Mark}
 use Rattle.best_run.specs.declared.trail.Mark.TheVariants.{Pass, Go, Turn, Settle}
+use Rattle.best_run.specs.Pieces.{pieces_from}
 use Rattle.best_run.specs.Trail.{IsWritten, marks_in}
 
 -- what is known of a spot, by its number
@@ -32,16 +33,16 @@ abbrev pub stop_in : Option Node → Bool
 stop_in (Some node) = node.stop
 stop_in None = false
 
-abbrev pub pieces_in : Option Node → List Piece
-pieces_in (Some node) = node.pieces.items
-pieces_in None = []
-
 abbrev pub node_at : Task → ℕ → Option Node
 node_at task stop = slice_get task.spots.items stop
 
+-- the pieces that lead from a spot
+abbrev pub pieces_at : Task → ℕ → List Piece
+pieces_at task spot = pieces_from spot task.pieces
+
 -- a piece leads from a stop, at a place among its pieces
 abbrev pub LeadsFrom : Task → ℕ → ℕ → Piece → Type 0
-LeadsFrom task stop index piece = slice_get (pieces_in (node_at task stop)) index ≡ Some piece
+LeadsFrom task stop index piece = slice_get (pieces_at task stop) index ≡ Some piece
 
 -- no border of some is used
 abbrev pub misses : List Bool → List ℕ → Bool

@@ -1,6 +1,6 @@
-//! The spots of a position, with the pieces of track that lead from them.
-ghost use Rattle.std.specs.Prelude.{◌≡◌, ◌+◌, ◌<◌, ◌≤◌, ◌%◌, ◌↔◌, [], length, IfOk, IsTrue, OnOk, Some, option_to_list};
-ghost use Rattle.best_run.specs.Described.{AreLaid, AreNumbered, Describes, IsNumbered, IsPieceOf, IsSideNode, IsStopNode, LaidBefore, TakesPiece, TakesStep, most_of, most_of_all, number_before, number_or_none};
+//! The spots of a position, and the pieces of track that lead from them.
+ghost use Rattle.std.specs.Prelude.{◌≡◌, ◌+◌, ◌<◌, ◌≤◌, ◌%◌, IfOk, OnOk, Some, option_to_list};
+ghost use Rattle.best_run.specs.Described.{AreLaid, AreNumbered, AreNumberedBefore, Describes, IsPieceOf, IsSideNode, IsStopNode, LaidBefore, TakesStep, most_of, most_of_all, number_before, number_or_none};
 ghost use Rattle.best_run.specs.Fit.{IsFit};
 ghost use Rattle.best_run.specs.Ways.{AreHomes, AreReady};
 ghost use Rattle.certificate.specs.Legal.{border_at, border_of};
@@ -12,6 +12,7 @@ ghost use Rattle.reach.specs.Search.{spot_number};
 ghost use Rattle.reach.specs.Walk.{entered_at};
 ghost use Rattle.tables.specs.Train.{stops_of};
 
+use crate::pieces::Pieces;
 use crate::stretch::Stretch;
 use crate::task::{Node, Task};
 use map_tables::{End, HEXES, Hex, Side, Stop, StopNumber, joined_stop, neighbour};
@@ -107,9 +108,8 @@ fn piece_of(step: Step, border: Option<usize>) -> Stretch
 }
 
 /// A side, which is nothing to a company.
-fn side_node(pieces: Vec<Stretch>) -> Node
+fn side_node() -> Node
     ensures node { IsSideNode (Some result) }
-    ensures pieces { result.pieces.items ≡ pieces.items }
     ensures value { result.value ≤ 80 }
 {
     Node {
@@ -117,14 +117,12 @@ fn side_node(pieces: Vec<Stretch>) -> Node
         value: 0,
         own: false,
         ends: false,
-        pieces,
     }
 }
 
 /// What a stop is to a company.
-fn stop_node<N: Network>(network: &N, company: Company, stop: Stop, pieces: Vec<Stretch>) -> Node
+fn stop_node<N: Network>(network: &N, company: Company, stop: Stop) -> Node
     ensures node { IsStopNode (N.position network.now) company stop (Some result) }
-    ensures pieces { result.pieces.items ≡ pieces.items }
     ensures value { result.value ≤ 80 }
 {
     network.keeps_laws();
@@ -133,7 +131,6 @@ fn stop_node<N: Network>(network: &N, company: Company, stop: Stop, pieces: Vec<
         value: network.value(stop),
         own: network.token(stop, company),
         ends: network.red(stop) || network.full(stop, company),
-        pieces,
     }
 }
 
@@ -142,13 +139,6 @@ pub(crate) const ENDS: usize = 8;
 
 /// How many of these are sides.
 pub(crate) const SIDES: usize = 6;
-
-/// Whether a number is that of a side.
-fn is_side(number: usize) -> bool
-    ensures { IsTrue result ↔ (number % 8 < 6) }
-{
-    number % ENDS < SIDES
-}
 
 /// The number of a stop, by its place among the ends of its hex.
 fn stop_numbered(place: usize) -> StopNumber
@@ -163,112 +153,83 @@ fn stop_numbered(place: usize) -> StopNumber
     }
 }
 
-/// The spot with a number, with no pieces from there.
-fn bare_node<N: Network>(alloc: Global, network: &N, company: Company, number: usize) -> Node
-    requires { number < 744 }
+/// Lays what the next stop is to a company.
+fn lay_stop<N: Network>(network: &N, company: Company, stop: usize, nodes: &mut Vec<Node>)
+    requires least { 6 ≤ stop % 8 }
+    requires most { stop < 744 }
+    requires before { AreNumberedBefore (N.position network.now) company stop nodes.old.items }
     ensures { let position = N.position network.now in
-        IsNumbered position company [] number result }
+        AreNumberedBefore position company (stop + 1) nodes.new.items }
 {
-    let pieces = Vec::new(alloc);
-    if is_side(number) {
-        return side_node(pieces);
-    }
-    let stop = Stop {
-        hex: Hex::at_index(number / ENDS),
-        number: stop_numbered(number % ENDS),
-    };
-    stop_node(network, company, stop, pieces)
+    let hex = Hex::at_index(stop / ENDS);
+    let number = stop_numbered(stop % ENDS);
+    nodes[stop] = stop_node(network, company, Stop { hex, number });
 }
 
-/// All spots, by their numbers, with no pieces.
-fn bare_spots<N: Network>(
-    alloc: Global,
-    network: &N,
-    company: Company,
-) -> Result<Vec<Node>, AllocError>
-    ensures { let position = N.position network.now in
-        IfOk result (λ nodes. AreNumbered position company [] 744 nodes.items) }
-{
-    let mut nodes = Vec::with_capacity(alloc, SPOTS)?;
-    for number in 0..SPOTS {
-        nodes.push(bare_node(alloc, network, company, number))?;
-    }
-    Ok(nodes)
-}
-
-/// How many pieces from a spot there is room for at first.
-const PIECES: usize = 3;
-
-/// Appends a piece to those that lead from a spot. The only error is want of memory.
-fn add_piece(alloc: Global, node: &mut Node, piece: Stretch) -> Result<(), AllocError>
-    ensures { OnOk result (TakesPiece piece node.old node.new) }
-{
-    if node.pieces.is_empty() {
-        node.pieces = Vec::with_capacity(alloc, PIECES)?;
-    }
-    node.pieces.push(piece)?;
-    Ok(())
-}
-
-/// Adds the piece of a step to those of the spot from which it may be taken, if there is one. The only
-/// error is want of memory.
-fn add_step(alloc: Global, step: Step, nodes: &mut Vec<Node>) -> Result<(), AllocError>
-    requires { length nodes.old.items ≡ 744 }
-    ensures { OnOk result (TakesStep step nodes.old.items nodes.new.items) }
-{
-    let from = origin_of(step.entered());
-    let number = from.number;
-    if number < SPOTS {
-        let piece = piece_of(step, from.border);
-        add_piece(alloc, &mut nodes[number], piece)?;
-    }
-    Ok(())
-}
-
-/// Adds the pieces of the steps in a hex: each link in both directions. The only error is want of memory.
-fn add_steps<N: Network>(
-    alloc: Global,
-    network: &N,
-    company: Company,
-    hex: Hex,
-    nodes: &mut Vec<Node>,
-) -> Result<(), AllocError>
-    requires lawful { IsLawful (N.position network.now) }
-    requires laid { LaidBefore (N.position network.now) company (index_of hex) nodes.old.items }
-    ensures { let position = N.position network.now in
-        OnOk result (LaidBefore position company (index_of hex + 1) nodes.new.items) }
-{
-    let links = network.links(hex);
-    for link in links.as_slice() {
-        let link = *link;
-        add_step(
-            alloc,
-            Step {
-                link,
-                turned: false,
-            },
-            nodes,
-        )?;
-        add_step(alloc, Step { link, turned: true }, nodes)?;
-    }
-    Ok(())
-}
-
-/// All spots, by their numbers, with the pieces from each of them.
+/// All spots, by their numbers. The only error is want of memory.
 fn all_spots<N: Network>(
     alloc: Global,
     network: &N,
     company: Company,
 ) -> Result<Vec<Node>, AllocError>
-    requires { IsLawful (N.position network.now) }
     ensures { let position = N.position network.now in
-        IfOk result (λ nodes. AreLaid position company nodes.items) }
+        IfOk result (λ nodes. AreNumbered position company nodes.items) }
 {
-    let mut nodes = bare_spots(alloc, network, company)?;
-    for index in 0..HEXES {
-        add_steps(alloc, network, company, Hex::at_index(index), &mut nodes)?;
+    let mut nodes = Vec::new(alloc);
+    nodes.resize(SPOTS, side_node())?;
+    for hex in 0..HEXES {
+        let stop = ENDS * hex + SIDES;
+        lay_stop(network, company, stop, &mut nodes);
+        lay_stop(network, company, stop + 1, &mut nodes);
     }
     Ok(nodes)
+}
+
+/// Adds the piece of a step to those of the spot from which it may be taken, if there is one. The only
+/// error is want of memory.
+fn add_step(step: Step, pieces: &mut Pieces) -> Result<(), AllocError>
+    ensures { OnOk result (TakesStep step pieces.old pieces.new) }
+{
+    let from = origin_of(step.entered());
+    if from.number < SPOTS {
+        let piece = piece_of(step, from.border);
+        pieces.add(from.number, piece)?;
+    }
+    Ok(())
+}
+
+/// Adds the pieces of the steps in a hex: each link in both directions. The only error is want of memory.
+fn add_steps<N: Network>(network: &N, hex: Hex, pieces: &mut Pieces) -> Result<(), AllocError>
+    requires lawful { IsLawful (N.position network.now) }
+    requires laid { LaidBefore (N.position network.now) (index_of hex) pieces.old }
+    ensures { let position = N.position network.now in
+        OnOk result (LaidBefore position (index_of hex + 1) pieces.new) }
+{
+    let links = network.links(hex);
+    for link in links.as_slice() {
+        let link = *link;
+        add_step(
+            Step {
+                link,
+                turned: false,
+            },
+            pieces,
+        )?;
+        add_step(Step { link, turned: true }, pieces)?;
+    }
+    Ok(())
+}
+
+/// The pieces from all spots. The only error is want of memory.
+fn all_pieces<N: Network>(alloc: Global, network: &N) -> Result<Pieces, AllocError>
+    requires { IsLawful (N.position network.now) }
+    ensures { IfOk result (AreLaid (N.position network.now)) }
+{
+    let mut pieces = Pieces::new(alloc)?;
+    for index in 0..HEXES {
+        add_steps(network, Hex::at_index(index), &mut pieces)?;
+    }
+    Ok(pieces)
 }
 
 /// The most stops of a run of a train: the borders allow no more than 280.
@@ -334,9 +295,11 @@ impl Task {
         ensures ways { IfOk result AreReady }
     {
         let spots = all_spots(alloc, network, company)?;
+        let pieces = all_pieces(alloc, network)?;
         let trains = most_of_all(alloc, kinds)?;
         let mut task = Task {
             spots,
+            pieces,
             departures: Vec::new(alloc),
             stops: Vec::new(alloc),
             homes: Vec::new(alloc),

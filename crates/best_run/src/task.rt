@@ -1,7 +1,7 @@
 ghost use Rattle.std.specs.Prelude.{◌≡◌};
 
 use crate::crossing::Crossing;
-use crate::stretch::Stretch;
+use crate::pieces::Pieces;
 use reach::Step;
 use tables::Amount;
 
@@ -17,7 +17,7 @@ pub(crate) struct Piece {
 }
 
 /// A spot, to a company: an end of a hex.
-#[derive(Drop)]
+#[derive(Clone, Copy)]
 pub(crate) struct Node {
     /// It is a stop.
     pub(crate) stop: bool,
@@ -27,8 +27,6 @@ pub(crate) struct Node {
     pub(crate) own: bool,
     /// No run passes it: it is red, or full for the company.
     pub(crate) ends: bool,
-    /// The pieces of track that lead from it.
-    pub(crate) pieces: Vec<Stretch>,
 }
 
 /// A way of plain track from a stop to the next one.
@@ -54,6 +52,8 @@ pub(crate) struct Departures {
 pub(crate) struct Task {
     /// The spots, by their numbers.
     pub(crate) spots: Vec<Node>,
+    /// The pieces of track that lead from them.
+    pub(crate) pieces: Pieces,
     /// For each spot that is a stop, by its number, the ways from there.
     pub(crate) departures: Vec<Departures>,
     /// The stops from which ways lead, by their numbers.

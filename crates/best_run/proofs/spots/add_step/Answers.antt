@@ -1,23 +1,21 @@
 -- The piece is added at the code of its step.
-use Rattle.std.proofs.Common.{◌≡◌, ◌<◌, ℕ, Some, length, slice_get, slice_set, refl, sym, ap, subst, ◌∙◌, arith}
-use Rattle.std.proofs.lemmas.Option.{slice_get_read}
-use Rattle.best_run.specs.Described.{TakesStep, code_before}
+use Rattle.std.proofs.Common.{◌≡◌, ◌<◌, ℕ, subst, arith}
+use Rattle.best_run.specs.Described.{code_before}
+use Rattle.best_run.specs.Pieces.{AddsPiece}
 use Rattle.best_run.proofs.Laid.{code_is, takes_none, takes_piece}
 use Rattle.best_run.proofs.spots.add_step.Goals as goal
 
-pub returns-in_ok-add_piece : goal.returns-in_ok-add_piece
-returns-in_ok-add_piece c =
-    let nodes = c.args.nodes.now.items in
+pub returns-in_ok-add : goal.returns-in_ok-add
+returns-in_ok-add c =
+    let old = c.args.pieces.now in
+    let new = c.add.new.self in
     let step = c.args.step in
-    let node = c.index_mut.result.now in
-    let number = c.origin_of-from.result.number in
-    let told : number ≡ code_before step = code_is number c.entered.result step c.entered.ensures c.origin_of-from.ensures.number in
-    let at : slice_get nodes number ≡ Some node = slice_get_read nodes (length nodes) number node refl (omega arith) c.index_mut.ensures.value in
-    let few : code_before step < 744 = omega (arith, told, c.if-number-lt-SPOTS.true) in
-    subst (λ (n : ℕ). TakesStep step nodes (slice_set nodes n c.add_piece.new.node)) (sym told)
-    (takes_piece step nodes node c.add_piece.new.node c.piece_of-piece.result few (ap (λ (n : ℕ). slice_get nodes n) (sym told) ∙ at) c.piece_of-piece.ensures c.in_ok-add_piece.ensures)
+    let told : c.origin_of-from.result.number ≡ code_before step = code_is c.origin_of-from.result.number c.entered.result step c.entered.ensures c.origin_of-from.ensures.number in
+    let few : code_before step < 744 = omega (arith, told, c.if-from-lt-SPOTS.true) in
+    takes_piece step old new c.piece_of-piece.result few c.piece_of-piece.ensures
+    (subst (λ (n : ℕ). AddsPiece n c.piece_of-piece.result old new) told c.in_ok-add.ensures)
 
-pub returns-else-number-lt-SPOTS : goal.returns-else-number-lt-SPOTS
-returns-else-number-lt-SPOTS c =
+pub returns-else-from-lt-SPOTS : goal.returns-else-from-lt-SPOTS
+returns-else-from-lt-SPOTS c =
     let told : c.origin_of-from.result.number ≡ code_before c.args.step = code_is _ c.entered.result c.args.step c.entered.ensures c.origin_of-from.ensures.number in
-    takes_none c.args.step c.args.nodes.now.items (omega (arith, told, c.if-number-lt-SPOTS.false))
+    takes_none c.args.step c.args.pieces.now (omega (arith, told, c.if-from-lt-SPOTS.false))

@@ -1,20 +1,14 @@
--- The steps in the hex in hand are added to those in the hexes before it.
-use Rattle.std.proofs.Common.{ℕ, ◌+◌, sym, subst, arith}
-use Rattle.best_run.specs.Described.{LaidBefore}
-use Rattle.best_run.proofs.Laid.{laid_all, laid_none}
+-- At first the sides stand there.
+use Rattle.std.proofs.Common.{refl, arith}
+use Rattle.best_run.proofs.Laid.{numbered_all, numbered_none, numbered_on}
 use Rattle.best_run.proofs.spots.all_spots.Goals as goal
 
-pub loop-index-init : goal.loop-index-init
-loop-index-init g c = laid_none (g.N.Network.position c.args.network.now) c.args.company _ c.in_ok-nodes.ensures
+pub loop-hex-init : goal.loop-hex-init
+loop-hex-init g c = numbered_none (g.N.Network.position c.args.network.now) c.args.company _ c.side_node.result c.side_node.ensures.node (rw (c.in_ok-resize.ensures.items, c.new-nodes.ensures.items, c.new-nodes.ensures.len) refl)
 
-pub add_steps-requires-clause-laid : goal.add_steps-requires-clause-laid
-add_steps-requires-clause-laid g c =
-    subst (λ (n : ℕ). LaidBefore (g.N.Network.position c.args.network.now) c.args.company n c.loop-index.nodes.items) (sym c.at_index.ensures) c.loop-index.invariant
-
-pub loop-index-preserved : goal.loop-index-preserved
-loop-index-preserved g c =
-    subst (λ (n : ℕ). LaidBefore (g.N.Network.position c.args.network.now) c.args.company (n + 1) c.add_steps.new.nodes.items) c.at_index.ensures c.in_ok-add_steps.ensures
+pub lay_stop-requires-clause-before : goal.lay_stop-requires-clause-before
+lay_stop-requires-clause-before g c = numbered_on (g.N.Network.position c.args.network.now) c.args.company c.loop-hex.hex _ c.loop-hex.invariant
 
 pub returns : goal.returns
 returns g c =
-    laid_all (g.N.Network.position c.args.network.now) c.args.company c.loop-index.index _ (omega (arith, c.loop-index-test.false)) c.loop-index.invariant
+    numbered_all (g.N.Network.position c.args.network.now) c.args.company c.loop-hex.hex _ (omega (arith, c.loop-hex-test.false)) c.loop-hex.invariant

@@ -1,0 +1,204 @@
+-- The table of pieces: what is added to it, and how a piece is found there.
+use Rattle.std.proofs.Common.{◌≡◌, ℕ, zero, suc, ◌+◌, ◌-◌, ◌<◌, ◌≤◌, Bool, true, false, ◌==◌, ◌⊎◌, inl, inr, Some, List, [], ◌∷◌, ◌++◌, length, replicate, set, slice_get, refl, sym, ap, subst, ◌∙◌, arith, length-append, length-set}
+use Rattle.std.proofs.lemmas.Bool.{cases_eq, eq-eqb, eqb-true}
+use Rattle.std.proofs.lemmas.Option.{slice_get_within}
+use Rattle.best_run.specs.declared.pieces.Entry.{Entry}
+use Rattle.best_run.specs.declared.pieces.Tail.{Tail}
+use Rattle.best_run.specs.declared.task.Piece.{Piece}
+use Rattle.best_run.specs.Pieces.{AreChained, HasPlace, IsTail, StandsThere, piece_if, pieces_from}
+
+-- what stands in a list stands there still where one more is added, and that one stands at its end
+pub more_at : {A : Type 0} (xs ys : List A) (i : ℕ) (x : A) → slice_get xs i ≡ Some x → slice_get (xs ++ ys) i ≡ Some x
+more_at [] ys zero x at = absurd cc
+more_at [] ys (suc i) x at = absurd cc
+more_at (y ∷ xs) ys zero x at = at
+more_at (y ∷ xs) ys (suc i) x at = more_at xs ys i x at
+
+pub end_at : {A : Type 0} (xs : List A) (x : A) → slice_get (xs ++ x ∷ []) (length xs) ≡ Some x
+end_at [] x = refl
+end_at (y ∷ xs) x = end_at xs x
+
+pub at_end : {A : Type 0} (xs : List A) (x : A) (i : ℕ) (y : A) → slice_get (xs ++ x ∷ []) i ≡ Some y → (slice_get xs i ≡ Some y) ⊎ ((i ≡ length xs) × (x ≡ y))
+at_end [] x zero y at = inr (refl, let same : x ≡ y = cc in same)
+at_end [] x (suc i) y at = absurd (omega (arith, slice_get_within (x ∷ []) (suc i) y at))
+at_end (z ∷ zs) x zero y at = inl at
+at_end (z ∷ zs) x (suc i) y at = elim (at_end zs x i y at) [ inl old ↦ inl old | inr last ↦ inr (ap suc last.0, last.1) ]
+
+-- what stands in a list of which one place is changed
+pub set_at : {A : Type 0} (xs : List A) (place i : ℕ) (new found : A) → slice_get (set xs place new) i ≡ Some found → ((i ≡ place) × (new ≡ found)) ⊎ ((i ≡ place → ⊥) × (slice_get xs i ≡ Some found))
+set_at [] place i new found at = absurd (omega (arith, slice_get_within [] i found at))
+set_at (x ∷ xs) zero zero new found at = inl (refl, let same : new ≡ found = cc in same)
+set_at (x ∷ xs) zero (suc i) new found at = inr (λ is. omega (arith, is), at)
+set_at (x ∷ xs) (suc place) zero new found at = inr (λ is. omega (arith, is), at)
+set_at (x ∷ xs) (suc place) (suc i) new found at =
+    elim (set_at xs place i new found at) [
+      | inl here ↦ inl (ap suc here.0, here.1)
+      | inr other ↦ inr (λ is. other.0 (omega (arith, is)), other.1)
+    ]
+
+-- the pieces from a spot where one more is in the table
+from_more : (spot : ℕ) (entries : List Entry) (entry : Entry) → pieces_from spot (entries ++ entry ∷ []) ≡ pieces_from spot entries ++ piece_if (entry.from == spot) entry.piece []
+from_more spot [] entry = refl
+from_more spot (first ∷ entries) entry =
+    ap (piece_if (first.from == spot) first.piece) (from_more spot entries entry)
+    ∙ by_test (first.from == spot) first.piece (pieces_from spot entries)
+  where
+    by_test : (test : Bool) (piece : Piece) (pieces : List Piece) → piece_if test piece (pieces ++ piece_if (entry.from == spot) entry.piece []) ≡ piece_if test piece pieces ++ piece_if (entry.from == spot) entry.piece []
+    by_test true piece pieces = refl
+    by_test false piece pieces = refl
+
+none_behind : {A : Type 0} (xs : List A) → xs ++ [] ≡ xs
+none_behind [] = refl
+none_behind (x ∷ xs) = ap (λ ys. x ∷ ys) (none_behind xs)
+
+not_same : (a b : ℕ) → (a ≡ b → ⊥) → (a == b) ≡ false
+not_same a b other = by_test (a == b) refl
+  where
+    by_test : (test : Bool) → (a == b) ≡ test → test ≡ false
+    by_test false is = refl
+    by_test true is = absurd (other (eqb-true a b is))
+
+pub from_here : (spot : ℕ) (entries : List Entry) (entry : Entry) → entry.from ≡ spot → pieces_from spot (entries ++ entry ∷ []) ≡ pieces_from spot entries ++ entry.piece ∷ []
+from_here spot entries entry is =
+    from_more spot entries entry ∙ ap (λ test. pieces_from spot entries ++ piece_if test entry.piece []) (eq-eqb entry.from spot is)
+
+pub from_other : (spot : ℕ) (entries : List Entry) (entry : Entry) → (entry.from ≡ spot → ⊥) → pieces_from spot (entries ++ entry ∷ []) ≡ pieces_from spot entries
+from_other spot entries entry other =
+    from_more spot entries entry
+    ∙ (ap (λ test. pieces_from spot entries ++ piece_if test entry.piece []) (not_same entry.from spot other) ∙ none_behind (pieces_from spot entries))
+
+-- there are no more of them than in the table
+one_few : (test : Bool) (piece : Piece) (pieces : List Piece) (most : ℕ) → length pieces ≤ most → length (piece_if test piece pieces) ≤ suc most
+one_few true piece pieces most few = omega (arith, few)
+one_few false piece pieces most few = omega (arith, few)
+
+pub from_few : (spot : ℕ) (entries : List Entry) → length (pieces_from spot entries) ≤ length entries
+from_few spot [] = omega arith
+from_few spot (entry ∷ entries) =
+    one_few (entry.from == spot) entry.piece (pieces_from spot entries) (length entries) (from_few spot entries)
+
+-- an empty table
+pub chained_none : (tails : List Tail) (tail : Tail) → tail.count ≡ 0 → tails ≡ replicate 744 tail → AreChained [] tails
+chained_none tails tail none is =
+    record {
+      long = ap length is ∙ long 744;
+      places = λ there entry at. absurd (omega (arith, slice_get_within [] there entry at));
+      tails_are = λ spot found at.
+          let same : tail ≡ found = all_same 744 spot found (subst (λ ts. slice_get ts spot ≡ Some found) is at) in
+          let count : found.count ≡ 0 = ap (λ (t : Tail). t.count) (sym same) ∙ none in
+          record { count = count; last = λ place one. absurd (omega (arith, one, count)) };
+    }
+  where
+    long : (n : ℕ) → length (replicate n tail) ≡ n
+    long zero = refl
+    long (suc n) = ap suc (long n)
+
+    all_same : (n i : ℕ) (found : Tail) → slice_get (replicate n tail) i ≡ Some found → tail ≡ found
+    all_same zero i found at = absurd (omega (arith, slice_get_within [] i found at))
+    all_same (suc n) zero found at = let same : tail ≡ found = cc in same
+    all_same (suc n) (suc i) found at = all_same n i found at
+
+stands_more : (entries : List Entry) (more : Entry) (there spot place : ℕ) → StandsThere entries there spot place → StandsThere (entries ++ more ∷ []) there spot place
+stands_more entries more there spot place is =
+    record { entry = is.entry; there_is = more_at entries (more ∷ []) there is.entry is.there_is; from_is = is.from_is; place_is = is.place_is }
+
+-- one more piece: it comes behind those from its spot
+module _ (entries : List Entry) (tails : List Tail) (are : AreChained entries tails) (entry : Entry) (old : Tail) (at_old : slice_get tails entry.from ≡ Some old) (place_is : entry.place ≡ old.count) (before_is : entry.before ≡ old.last) where
+  old_is : IsTail entries entry.from old
+  old_is = are.tails_are entry.from old at_old
+
+  has_more : (other : Entry) → HasPlace entries other → HasPlace (entries ++ entry ∷ []) other
+  has_more other has =
+      record {
+        piece_is = elim (cases_eq entry.from other.from) [
+          | inl same ↦
+              subst (λ (ps : List Piece). slice_get ps other.place ≡ Some other.piece) (sym (from_here other.from entries entry same))
+              (more_at (pieces_from other.from entries) (entry.piece ∷ []) other.place other.piece has.piece_is)
+          | inr apart ↦
+              subst (λ (ps : List Piece). slice_get ps other.place ≡ Some other.piece) (sym (from_other other.from entries entry apart)) has.piece_is
+        ];
+        before = λ place one. stands_more entries entry other.before other.from place (has.before place one);
+      }
+
+  has_here : HasPlace (entries ++ entry ∷ []) entry
+  has_here =
+      record {
+        piece_is =
+            let at : entry.place ≡ length (pieces_from entry.from entries) = place_is ∙ old_is.count in
+            subst (λ (n : ℕ). slice_get (pieces_from entry.from (entries ++ entry ∷ [])) n ≡ Some entry.piece) (sym at)
+            (subst (λ (ps : List Piece). slice_get ps (length (pieces_from entry.from entries)) ≡ Some entry.piece) (sym (from_here entry.from entries entry refl))
+            (end_at (pieces_from entry.from entries) entry.piece));
+        before = λ place one.
+            subst (λ (n : ℕ). StandsThere (entries ++ entry ∷ []) n entry.from place) (sym before_is)
+            (stands_more entries entry old.last entry.from place (old_is.last place (one ∙ place_is)));
+      }
+
+  pub chained_more : (new : Tail) → new.count ≡ old.count + 1 → new.last ≡ length entries → AreChained (entries ++ entry ∷ []) (set tails entry.from new)
+  chained_more new count last =
+      record {
+        long = length-set tails entry.from new ∙ are.long;
+        places = λ there other at. elim (at_end entries entry there other at) [
+          | inl known ↦ has_more other (are.places there other known)
+          | inr here ↦ subst (HasPlace (entries ++ entry ∷ [])) here.1 has_here
+        ];
+        tails_are = λ spot tail at. elim (set_at tails entry.from spot new tail at) [
+          | inl here ↦ subst (IsTail (entries ++ entry ∷ []) spot) here.1 (tail_here spot here.0)
+          | inr other ↦ tail_other spot tail other.0 (are.tails_are spot tail other.1)
+        ];
+      }
+    where
+      tail_here : (spot : ℕ) → spot ≡ entry.from → IsTail (entries ++ entry ∷ []) spot new
+      tail_here spot same =
+          subst (λ (n : ℕ). IsTail (entries ++ entry ∷ []) n new) (sym same)
+          (record {
+            count = omega (arith, count, old_is.count, ap length (from_here entry.from entries entry refl), length-append (pieces_from entry.from entries) (entry.piece ∷ []));
+            last = λ place one.
+                record {
+                  entry = entry;
+                  there_is = ap (λ (n : ℕ). slice_get (entries ++ entry ∷ []) n) last ∙ end_at entries entry;
+                  from_is = refl;
+                  place_is = omega (arith, one, count, place_is);
+                };
+          })
+
+      tail_other : (spot : ℕ) (tail : Tail) → (spot ≡ entry.from → ⊥) → IsTail entries spot tail → IsTail (entries ++ entry ∷ []) spot tail
+      tail_other spot tail apart is =
+          record {
+            count = is.count ∙ sym (ap length (from_other spot entries entry (λ same. apart (sym same))));
+            last = λ place one. stands_more entries entry tail.last spot place (is.last place one);
+          }
+
+-- on the way back from the last piece to one at a place: so many are left to pass
+pub record IsAbove (entries : List Entry) (there spot place left : ℕ) : Type 0 where
+  pub here : ℕ
+  pub stands : StandsThere entries there spot here
+  pub is : here ≡ place + left
+
+pub above_last : (entries : List Entry) (tails : List Tail) → AreChained entries tails → (spot : ℕ) (tail : Tail) → slice_get tails spot ≡ Some tail → (place : ℕ) → place < length (pieces_from spot entries) → IsAbove entries tail.last spot place (tail.count - (place + 1))
+above_last entries tails are spot tail at place low =
+    let is : IsTail entries spot tail = are.tails_are spot tail at in
+    let some : tail.count - 1 + 1 ≡ tail.count = omega (arith, is.count, low) in
+    record { here = tail.count - 1; stands = is.last (tail.count - 1) some; is = omega (arith, is.count, low) }
+
+pub above_before : (entries : List Entry) (tails : List Tail) → AreChained entries tails → (there spot place left : ℕ) (entry : Entry) → slice_get entries there ≡ Some entry → 0 < left → IsAbove entries there spot place left → IsAbove entries entry.before spot place (left - 1)
+above_before entries tails are there spot place left entry at some above =
+    let same : above.stands.entry ≡ entry = let e : Some above.stands.entry ≡ Some entry = sym above.stands.there_is ∙ at in cc in
+    let place_is : entry.place ≡ above.here = ap (λ (e : Entry). e.place) (sym same) ∙ above.stands.place_is in
+    let from_is : entry.from ≡ spot = ap (λ (e : Entry). e.from) (sym same) ∙ above.stands.from_is in
+    let one : above.here - 1 + 1 ≡ entry.place = omega (arith, place_is, above.is, some) in
+    record {
+      here = above.here - 1;
+      stands = subst (λ (n : ℕ). StandsThere entries entry.before n (above.here - 1)) from_is ((are.places there entry at).before (above.here - 1) one);
+      is = omega (arith, above.is, some);
+    }
+
+pub above_it : (entries : List Entry) (tails : List Tail) → AreChained entries tails → (there spot place left : ℕ) (entry : Entry) → slice_get entries there ≡ Some entry → left ≡ 0 → IsAbove entries there spot place left → slice_get (pieces_from spot entries) place ≡ Some entry.piece
+above_it entries tails are there spot place left entry at none above =
+    let same : above.stands.entry ≡ entry = let e : Some above.stands.entry ≡ Some entry = sym above.stands.there_is ∙ at in cc in
+    let place_is : entry.place ≡ place = ap (λ (e : Entry). e.place) (sym same) ∙ (above.stands.place_is ∙ omega (arith, above.is, none)) in
+    let from_is : entry.from ≡ spot = ap (λ (e : Entry). e.from) (sym same) ∙ above.stands.from_is in
+    subst (λ (n : ℕ). slice_get (pieces_from n entries) place ≡ Some entry.piece) from_is
+    (subst (λ (n : ℕ). slice_get (pieces_from entry.from entries) n ≡ Some entry.piece) place_is (are.places there entry at).piece_is)
+
+pub above_low : (entries : List Entry) (there spot place left : ℕ) → IsAbove entries there spot place left → there < length entries
+above_low entries there spot place left above = slice_get_within entries there above.stands.entry above.stands.there_is
