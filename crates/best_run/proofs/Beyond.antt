@@ -4,7 +4,7 @@ use Rattle.best_run.specs.declared.task.Node.{Node}
 use Rattle.best_run.specs.declared.task.Task.{Task}
 use Rattle.best_run.specs.declared.state.Standing.{Standing}
 use Rattle.best_run.specs.declared.worth.Worth.{Worth}
-use Rattle.best_run.specs.Ahead.{EarnsAhead, HasPassed, HasRanked, IsLeast, IsWorth, beyond, ends_by, goes_back, goes_on, if_ending, if_passed, one_end, two_ends}
+use Rattle.best_run.specs.Ahead.{HasPassed, HasRanked, IsLeast, IsWorth, beyond, ends_by, goes_back, goes_on, if_ending, if_passed, most_ahead, one_end, two_ends}
 use Rattle.best_run.specs.Fit.{IsFit}
 use Rattle.best_run.specs.Moves.{ends_in, value_in}
 use Rattle.best_run.proofs.Places.{node_is}
@@ -20,10 +20,10 @@ passes level node = if_passed node.ends (node.value - level)
 abbrev ends : ℕ → Node → ℕ
 ends level node = if_ending node.ends (node.value - level)
 
-same_node : (first node : Node) → Some first ≡ Some node → first ≡ node
+pub same_node : (first node : Node) → Some first ≡ Some node → first ≡ node
 same_node first node at = cc
 
-not_free : (b : Bool) → b ≡ true → b ≡ false → ⊥
+pub not_free : (b : Bool) → b ≡ true → b ≡ false → ⊥
 not_free true is free = let wrong : true ≡ false = free in cc
 not_free false is free = let wrong : false ≡ true = is in cc
 
@@ -137,7 +137,7 @@ pass_low : (b : Bool) (more : ℕ) → if_passed b more ≤ more
 pass_low true more = omega arith
 pass_low false more = omega arith
 
-most_of : (level : ℕ) (nodes : List Node) (ahead : List Bool) → ((n : ℕ) (node : Node) → slice_get nodes n ≡ Some node → node.value ≤ 80) → beyond level nodes ahead ≤ 80 * length nodes
+pub most_of : (level : ℕ) (nodes : List Node) (ahead : List Bool) → ((n : ℕ) (node : Node) → slice_get nodes n ≡ Some node → node.value ≤ 80) → beyond level nodes ahead ≤ 80 * length nodes
 most_of level [] ahead low = omega arith
 most_of level (node ∷ nodes) [] low = omega arith
 most_of level (node ∷ nodes) (true ∷ ahead) low =
@@ -237,12 +237,12 @@ ends_less false true one two first second less both = less
 ends_less false false one two first second less both = omega arith
 
 -- what is known of the stops ahead bounds what a run may earn there
-pub level_ahead : (task : Task) (run : Standing) (ahead : List Bool) (worth : Worth) (on back : Bool) (most : ℕ) → IsWorth task.spots.items ahead worth → goes_on task run ≡ on → goes_back task run ≡ back → IsLeast worth run.left on back most → EarnsAhead task run ahead most
-level_ahead task run ahead worth on back most known is_on is_back least =
+pub level_ahead : (task : Task) (nodes : List Node) (run : Standing) (ahead : List Bool) (worth : Worth) (on back : Bool) (most : ℕ) → IsWorth nodes ahead worth → goes_on task run ≡ on → goes_back task run ≡ back → IsLeast worth run.left on back most → (level : ℕ) × (most_ahead level task nodes run ahead ≤ most)
+level_ahead task nodes run ahead worth on back most known is_on is_back least =
     let passed = known.passed least.0 least.1 in
-    let counts = ends_less on back (one_end (10 * least.0) task.spots.items ahead) (two_ends (10 * least.0) task.spots.items ahead) (worth.first - 10 * least.0) ((worth.first - 10 * least.0) + (worth.second - 10 * least.0)) (known.one (10 * least.0)) (known.two (10 * least.0)) in
-    let sum : (run.left * (10 * least.0) + beyond (10 * least.0) task.spots.items ahead) + ends_by on back (one_end (10 * least.0) task.spots.items ahead) (two_ends (10 * least.0) task.spots.items ahead) ≤ most = omega (arith, passed, counts, least.2) in (
+    let counts = ends_less on back (one_end (10 * least.0) nodes ahead) (two_ends (10 * least.0) nodes ahead) (worth.first - 10 * least.0) ((worth.first - 10 * least.0) + (worth.second - 10 * least.0)) (known.one (10 * least.0)) (known.two (10 * least.0)) in
+    let sum : (run.left * (10 * least.0) + beyond (10 * least.0) nodes ahead) + ends_by on back (one_end (10 * least.0) nodes ahead) (two_ends (10 * least.0) nodes ahead) ≤ most = omega (arith, passed, counts, least.2) in (
       10 * least.0,
-      subst (λ (b : Bool). (run.left * (10 * least.0) + beyond (10 * least.0) task.spots.items ahead) + ends_by b (goes_back task run) (one_end (10 * least.0) task.spots.items ahead) (two_ends (10 * least.0) task.spots.items ahead) ≤ most) (sym is_on)
-          (subst (λ (b : Bool). (run.left * (10 * least.0) + beyond (10 * least.0) task.spots.items ahead) + ends_by on b (one_end (10 * least.0) task.spots.items ahead) (two_ends (10 * least.0) task.spots.items ahead) ≤ most) (sym is_back) sum),
+      subst (λ (b : Bool). (run.left * (10 * least.0) + beyond (10 * least.0) nodes ahead) + ends_by b (goes_back task run) (one_end (10 * least.0) nodes ahead) (two_ends (10 * least.0) nodes ahead) ≤ most) (sym is_on)
+          (subst (λ (b : Bool). (run.left * (10 * least.0) + beyond (10 * least.0) nodes ahead) + ends_by on b (one_end (10 * least.0) nodes ahead) (two_ends (10 * least.0) nodes ahead) ≤ most) (sym is_back) sum),
     )

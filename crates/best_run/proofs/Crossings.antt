@@ -3,9 +3,11 @@ use Rattle.std.proofs.Common.{◌≡◌, ◌↔◌, ℕ, zero, suc, Bool, true, 
 use Rattle.reach.specs.Position.{IsAmong}
 use Rattle.best_run.specs.Alike.{cleared_all}
 use Rattle.best_run.specs.Crossed.{numbers_in}
+use Rattle.best_run.specs.Kept.{Freer}
 use Rattle.best_run.specs.Marks.{AreApart, AreBoth, AreOnly, IsMarked}
 use Rattle.best_run.specs.Moves.{marked_all, misses}
 use Rattle.best_run.proofs.Advance.{free_misses, marks_more, misses_free}
+use Rattle.best_run.proofs.Eased.{freer_marked}
 use Rattle.best_run.proofs.Likened.{cleared_fewer, cleared_here}
 use Rattle.best_run.proofs.Marks.{length_marked}
 use Rattle.best_run.proofs.Numbers.{in_set, numbers_fit}
@@ -63,3 +65,8 @@ set_cleared old marks new only =
           cleared_other borders old border (λ among. left.1 ((in_set marks border).1 among)) left.0,
       λ marked. (only.each border).1 (cleared_fewer borders old border marked, λ other. cleared_here borders old border ((in_set marks border).0 other) marked),
     ))
+
+-- all of them are among others
+pub set_within : (marks others : List Bool) → Freer others marks → (border : ℕ) → IsAmong border (numbers_in marks) → IsAmong border (numbers_in others)
+set_within marks others freer border among =
+    (in_set others border).0 (freer_marked others marks border freer ((in_set marks border).1 among))

@@ -1,8 +1,9 @@
 -- A run earns at most what it has, the level for each stop that is left, what the stops ahead are worth beyond the
 -- level, of those at which it ends as many as it may come to, and what the later trains earn by themselves.
-use Rattle.std.proofs.Common.{◌≡◌, ℕ, zero, suc, ◌+◌, ◌-◌, ◌*◌, ◌<◌, ◌≤◌, Bool, true, false, not, ◌&&◌, nat_lt, Option, Some, None, inr, List, [], ◌∷◌, length, get_or, set, slice_get, refl, sym, ap, subst, ◌∙◌, arith, length-set, suc-mul}
+use Rattle.std.proofs.Common.{◌≡◌, ℕ, zero, suc, ◌+◌, ◌-◌, ◌*◌, ◌<◌, ◌≤◌, Bool, true, false, not, ◌&&◌, nat_lt, ◌⊎◌, Option, Some, None, inl, inr, List, [], ◌∷◌, length, get_or, set, slice_get, refl, sym, ap, subst, ◌∙◌, arith, length-set, suc-mul}
 use Rattle.std.proofs.lemmas.Bool.{lt-ltb}
 use Rattle.reach.proofs.Marking.{set_keeps}
+use Rattle.best_run.specs.declared.task.Node.{Node}
 use Rattle.best_run.specs.declared.task.Piece.{Piece}
 use Rattle.best_run.specs.declared.task.Departures.{Departures}
 use Rattle.best_run.specs.declared.task.Task.{Task}
@@ -12,6 +13,7 @@ use Rattle.best_run.specs.declared.state.Settled.{Settled}
 use Rattle.best_run.specs.declared.state.Standing.{Standing}
 use Rattle.best_run.specs.Ahead.{EndsAtMost, IsGoneOverFrom, IsOutlook, LiesAhead, beyond, ends_by, goes_back, goes_on, if_ending, if_passed, most_ahead, one_end, two_ends}
 use Rattle.best_run.specs.Fit.{IsFit, PieceFits}
+use Rattle.best_run.specs.Last.{Counts, EndsThere}
 use Rattle.best_run.specs.Moves.{Completes, Explores, LeadsFrom, Move, along, begin, between, can_take, ends_in, go, left_after, marked_all, marked_if, may_come, misses, node_at, pass, settle, settling, standing, stop_in, total_after, turn, turned_back, using, value_in}
 use Rattle.best_run.specs.Ways.{AreReady, AreWaysOf, IsStop, ways_at, ways_in}
 use Rattle.best_run.specs.Suffix.{AreCapped, AreEqual, EarnAtMost}
@@ -23,6 +25,7 @@ use Rattle.best_run.proofs.Departing.{none_at}
 use Rattle.best_run.proofs.Described.{among_place}
 use Rattle.best_run.proofs.Eased.{rest_low}
 use Rattle.best_run.proofs.Equal.{low_settled}
+use Rattle.best_run.proofs.Lasting.{last_stuck}
 use Rattle.best_run.proofs.Marks.{length_marked}
 use Rattle.best_run.proofs.Traced.{traced_none}
 
@@ -159,9 +162,15 @@ take_back task run used piece = ap (λ b. b && misses used piece.borders.items) 
     by_stop true = refl
     by_stop false = refl
 
-module _ (task : Task) (fit : IsFit task) (ready : AreReady task) (first : Settled) (begun : Standing) (ahead : List Bool) (look : IsOutlook task first begun ahead) where
-  -- a run that goes on from where the first one stands
-  pub record Follows (least : ℕ) (settled : Settled) (run : Standing) : Type 0 where
+module _ (task : Task) (fit : IsFit task) (ready : AreReady task) (first : Settled) (begun : Standing) (ahead : List Bool) (look : IsOutlook task first begun ahead) (nodes : List Node) (counts : Counts task first begun nodes) where
+  -- a run goes on no more from where it stands
+  abbrev pub Halts : Settled → Standing → Type 0
+  Halts settled run =
+      (ends_in (node_at task run.head) ≡ true) ⊎ ((place : ℕ) (way : Way) → slice_get (ways_at task run.head) place ≡ Some way → can_take task run settled.used way.piece ≡ true → ⊥)
+
+  -- a run that goes on from where the first one stands; by a mark it may go on from where it stands itself
+  pub record Follows (least : ℕ) (on : Bool) (settled : Settled) (run : Standing) : Type 0 where
+    pub halts : on ≡ false → Halts settled run
     pub takes : (piece : Piece) → can_take task run settled.used piece ≡ true → can_take task begun first.used piece ≡ true
     pub head : IsGoneOverFrom task first begun least ahead run.head
     pub home : run.turned ≡ false → IsGoneOverFrom task first begun run.first ahead run.home
@@ -182,18 +191,55 @@ module _ (task : Task) (fit : IsFit task) (ready : AreReady task) (first : Settl
 
   -- the next way
   pub record Leads (settled : Settled) (run : Standing) (way : Way) : Type 0 where
+    pub from : ℕ
+    pub place : ℕ
+    pub stands : slice_get (ways_at task from) place ≡ Some way
+    pub free : misses first.used way.piece.borders.items ≡ true
     pub lies : LiesAhead ahead way.piece.to
     pub fits : PieceFits task false way.piece
     pub stop : IsStop task way.piece.to
 
-  leads_by : (least : ℕ) (settled : Settled) (run : Standing) → Follows least settled run → ends_in (node_at task run.head) ≡ false → (place : ℕ) (way : Way) → slice_get (ways_at task run.head) place ≡ Some way → least ≤ way.first → can_take task run settled.used way.piece ≡ true → Leads settled run way
-  leads_by least settled run follows passes place way at later taken =
-      let fits = way_fits task fit run.head (ways_at task run.head) (ways_of run.head follows.stands) follows.stands.1 way (among_place (ways_at task run.head) place way at) in
-      record { lies = follows.head passes place way at later (follows.takes way.piece taken); fits = fits.0; stop = (fits.0.to, fits.1) }
+  free_first : (run : Standing) (used : List Bool) (piece : Piece) → can_take task run used piece ≡ true → misses used piece.borders.items ≡ true
+  free_first run used piece taken =
+      both_second (may_come (stop_in (node_at task piece.to)) run piece.to) (misses used piece.borders.items) taken
 
-  pub follows_go : (least : ℕ) (settled : Settled) (run : Standing) → Follows least settled run → (way : Way) → Leads settled run way → Follows 0 (using settled way.piece) (along task run way.piece)
-  follows_go least settled run follows way leads =
+  leads_by : (least : ℕ) (on : Bool) (settled : Settled) (run : Standing) → Follows least on settled run → ends_in (node_at task run.head) ≡ false → (place : ℕ) (way : Way) → slice_get (ways_at task run.head) place ≡ Some way → least ≤ way.first → can_take task run settled.used way.piece ≡ true → Leads settled run way
+  leads_by least on settled run follows passes place way at later taken =
+      let fits = way_fits task fit run.head (ways_at task run.head) (ways_of run.head follows.stands) follows.stands.1 way (among_place (ways_at task run.head) place way at) in
       record {
+        from = run.head;
+        place = place;
+        stands = at;
+        free = free_first begun first.used way.piece (follows.takes way.piece taken);
+        lies = follows.head passes place way at later (follows.takes way.piece taken);
+        fits = fits.0;
+        stop = (fits.0.to, fits.1);
+      }
+
+  -- whether a run may go on from a stop, as it counts
+  pub passes : ℕ → Bool
+  passes spot = not (ends_in (slice_get nodes spot))
+
+  was_true : (b : Bool) → not b ≡ false → b ≡ true
+  was_true true is = refl
+  was_true false is = absurd cc
+
+  -- a run has come to a stop at which it ends
+  halts_go : (least : ℕ) (on : Bool) (settled : Settled) (run : Standing) → Follows least on settled run → (way : Way) → Leads settled run way → EndsThere task first begun way.piece.to → Halts (using settled way.piece) (along task run way.piece)
+  halts_go least on settled run follows way leads ends =
+      elim ends [
+        | inl ending ↦ inl ending
+        | inr last ↦ inr (λ index other at taken.
+            last_stuck task first.used settled.used leads.from leads.place way last.1 leads.stands leads.fits.borders follows.whole leads.free index other at
+            (free_first begun first.used other.piece (follows.takes other.piece (take_before task settled run false way.piece leads.fits follows.whole follows.spots other.piece taken)))
+            (free_first (along task run way.piece) (marked_all settled.used way.piece.borders.items) other.piece taken))
+      ]
+
+  pub follows_go : (least : ℕ) (on : Bool) (settled : Settled) (run : Standing) → Follows least on settled run → (way : Way) → Leads settled run way → Follows 0 (passes way.piece.to) (using settled way.piece) (along task run way.piece)
+  unfolding passes
+  follows_go least on settled run follows way leads =
+      record {
+        halts = λ off. halts_go least on settled run follows way leads (counts.ends way.piece.to (was_true (ends_in (slice_get nodes way.piece.to)) off));
         takes = λ other is. follows.takes other (take_before task settled run false way.piece leads.fits follows.whole follows.spots other is);
         head = λ passes place other at later taken. look.all way.piece.to leads.lies passes place other at taken;
         home = follows.home;
@@ -206,9 +252,10 @@ module _ (task : Task) (fit : IsFit task) (ready : AreReady task) (first : Settl
       }
 
   -- a run that turns back goes on from where it began
-  follows_back : (settled : Settled) (run : Standing) → Follows 0 settled run → run.turned ≡ false → Follows run.first settled (turned_back run)
-  follows_back settled run follows once =
+  follows_back : (on : Bool) (settled : Settled) (run : Standing) → Follows 0 on settled run → run.turned ≡ false → Follows run.first true settled (turned_back run)
+  follows_back on settled run follows once =
       record {
+        halts = λ wrong. absurd (falsely true refl wrong);
         takes = λ piece taken. follows.takes piece (sym (take_back task run settled.used piece) ∙ taken);
         head = follows.home once;
         home = λ wrong. absurd (falsely true refl wrong);
@@ -221,144 +268,150 @@ module _ (task : Task) (fit : IsFit task) (ready : AreReady task) (first : Settl
       }
 
   -- what a run may still earn, at a level
-  pub still : ℕ → Standing → ℕ
-  still level run = most_ahead level task run (but ahead run.visited)
+  pub still : ℕ → Bool → Standing → ℕ
+  still level on run =
+      (run.left * level + beyond level nodes (but ahead run.visited)) + ends_by on (goes_back task run) (one_end level nodes (but ahead run.visited)) (two_ends level nodes (but ahead run.visited))
 
   -- a way leaves no more to be earned, as if the stop that it leaves might be passed
-  pub still_way : (level least : ℕ) (settled : Settled) (run : Standing) → Follows least settled run → (way : Way) → Leads settled run way → can_take task run settled.used way.piece ≡ true → value_in (node_at task way.piece.to) + still level (along task run way.piece) ≤ (run.left * level + beyond level task.spots.items (but ahead run.visited)) + ends_by true (goes_back task run) (one_end level task.spots.items (but ahead run.visited)) (two_ends level task.spots.items (but ahead run.visited))
-  unfolding still
-  still_way level least settled run follows way leads taken =
+  pub still_way : (level least : ℕ) (on : Bool) (settled : Settled) (run : Standing) → Follows least on settled run → (way : Way) → Leads settled run way → can_take task run settled.used way.piece ≡ true → value_in (node_at task way.piece.to) + still level (passes way.piece.to) (along task run way.piece) ≤ (run.left * level + beyond level nodes (but ahead run.visited)) + ends_by true (goes_back task run) (one_end level nodes (but ahead run.visited)) (two_ends level nodes (but ahead run.visited))
+  unfolding still passes
+  still_way level least on settled run follows way leads taken =
       let came : may_come true run way.piece.to ≡ true = subst (λ (b : Bool). may_come b run way.piece.to ≡ true) leads.stop.1 (both_first (may_come (stop_in (node_at task way.piece.to)) run way.piece.to) (misses settled.used way.piece.borders.items) taken) in
       let low : way.piece.to < length run.visited = omega (arith, follows.spots, leads.fits.to) in
       let free : get_or run.visited way.piece.to false ≡ false = not_is (get_or run.visited way.piece.to false) (both_second (nat_lt 0 run.left) (not (get_or run.visited way.piece.to false)) came) in
       let open_here : get_or (but ahead run.visited) way.piece.to false ≡ true = but_at ahead run.visited way.piece.to low leads.lies free in
-      still_by level run way.piece.to leads.stop.1 low open_here (both_first (nat_lt 0 run.left) (not (get_or run.visited way.piece.to false)) came)
+      subst (λ (v : ℕ). v + still level (passes way.piece.to) (along task run way.piece) ≤ (run.left * level + beyond level nodes (but ahead run.visited)) + ends_by true (goes_back task run) (one_end level nodes (but ahead run.visited)) (two_ends level nodes (but ahead run.visited))) (counts.value way.piece.to)
+      (still_by level run way.piece.to leads.stop.1 low open_here (both_first (nat_lt 0 run.left) (not (get_or run.visited way.piece.to false)) came))
     where
       Still : ℕ → Standing → ℕ → Bool → Type 0
       Still level run to stop =
-          value_in (node_at task to) + ((left_after stop run.left * level + beyond level task.spots.items (but ahead (marked_if stop run.visited to))) + ends_by (not (ends_in (node_at task to))) (goes_back task run) (one_end level task.spots.items (but ahead (marked_if stop run.visited to))) (two_ends level task.spots.items (but ahead (marked_if stop run.visited to)))) ≤ (run.left * level + beyond level task.spots.items (but ahead run.visited)) + ends_by true (goes_back task run) (one_end level task.spots.items (but ahead run.visited)) (two_ends level task.spots.items (but ahead run.visited))
+          value_in (slice_get nodes to) + ((left_after stop run.left * level + beyond level nodes (but ahead (marked_if stop run.visited to))) + ends_by (not (ends_in (slice_get nodes to))) (goes_back task run) (one_end level nodes (but ahead (marked_if stop run.visited to))) (two_ends level nodes (but ahead (marked_if stop run.visited to)))) ≤ (run.left * level + beyond level nodes (but ahead run.visited)) + ends_by true (goes_back task run) (one_end level nodes (but ahead run.visited)) (two_ends level nodes (but ahead run.visited))
 
       still_by : (level : ℕ) (run : Standing) (to : ℕ) → stop_in (node_at task to) ≡ true → to < length run.visited → get_or (but ahead run.visited) to false ≡ true → nat_lt 0 run.left ≡ true → Still level run to (stop_in (node_at task to))
       still_by level run to stops low open_here some =
           subst (λ (b : Bool). Still level run to b) (sym stops)
-          (subst (λ (bs : List Bool). value_in (node_at task to) + (((run.left - 1) * level + beyond level task.spots.items bs) + ends_by (not (ends_in (node_at task to))) (goes_back task run) (one_end level task.spots.items bs) (two_ends level task.spots.items bs)) ≤ (run.left * level + beyond level task.spots.items (but ahead run.visited)) + ends_by true (goes_back task run) (one_end level task.spots.items (but ahead run.visited)) (two_ends level task.spots.items (but ahead run.visited))) (sym (but_set ahead run.visited to low))
-          (spend (ends_in (node_at task to)) (goes_back task run) (value_in (node_at task to)) level (run.left * level) ((run.left - 1) * level)
-          (beyond level task.spots.items (but ahead run.visited)) (beyond level task.spots.items (set (but ahead run.visited) to false))
-          (one_end level task.spots.items (but ahead run.visited)) (one_end level task.spots.items (set (but ahead run.visited) to false))
-          (two_ends level task.spots.items (but ahead run.visited)) (two_ends level task.spots.items (set (but ahead run.visited) to false))
+          (subst (λ (bs : List Bool). value_in (slice_get nodes to) + (((run.left - 1) * level + beyond level nodes bs) + ends_by (not (ends_in (slice_get nodes to))) (goes_back task run) (one_end level nodes bs) (two_ends level nodes bs)) ≤ (run.left * level + beyond level nodes (but ahead run.visited)) + ends_by true (goes_back task run) (one_end level nodes (but ahead run.visited)) (two_ends level nodes (but ahead run.visited))) (sym (but_set ahead run.visited to low))
+          (spend (ends_in (slice_get nodes to)) (goes_back task run) (value_in (slice_get nodes to)) level (run.left * level) ((run.left - 1) * level)
+          (beyond level nodes (but ahead run.visited)) (beyond level nodes (set (but ahead run.visited) to false))
+          (one_end level nodes (but ahead run.visited)) (one_end level nodes (set (but ahead run.visited) to false))
+          (two_ends level nodes (but ahead run.visited)) (two_ends level nodes (set (but ahead run.visited) to false))
           (one_fewer run.left level some)
-          (beyond_spent level task.spots.items (but ahead run.visited) to open_here)
-          (one_spent level task.spots.items (but ahead run.visited) to open_here)
-          (two_spent level task.spots.items (but ahead run.visited) to open_here)
-          (one_less level task.spots.items (set (but ahead run.visited) to false) (but ahead run.visited) (unset_within (but ahead run.visited) to))
-          (two_less level task.spots.items (set (but ahead run.visited) to false) (but ahead run.visited) (unset_within (but ahead run.visited) to))))
+          (beyond_spent level nodes (but ahead run.visited) to open_here)
+          (one_spent level nodes (but ahead run.visited) to open_here)
+          (two_spent level nodes (but ahead run.visited) to open_here)
+          (one_less level nodes (set (but ahead run.visited) to false) (but ahead run.visited) (unset_within (but ahead run.visited) to))
+          (two_less level nodes (set (but ahead run.visited) to false) (but ahead run.visited) (unset_within (but ahead run.visited) to))))
 
   -- a way leaves no more to be earned
-  still_go : (level least : ℕ) (settled : Settled) (run : Standing) → Follows least settled run → ends_in (node_at task run.head) ≡ false → (way : Way) → Leads settled run way → can_take task run settled.used way.piece ≡ true → value_in (node_at task way.piece.to) + still level (along task run way.piece) ≤ still level run
+  still_go : (level least : ℕ) (on : Bool) (settled : Settled) (run : Standing) → Follows least on settled run → ends_in (node_at task run.head) ≡ false → (place : ℕ) (way : Way) → slice_get (ways_at task run.head) place ≡ Some way → Leads settled run way → can_take task run settled.used way.piece ≡ true → value_in (node_at task way.piece.to) + still level (passes way.piece.to) (along task run way.piece) ≤ still level on run
   unfolding still
-  still_go level least settled run follows passes way leads taken =
-      subst (λ (b : Bool). value_in (node_at task way.piece.to) + still level (along task run way.piece) ≤ (run.left * level + beyond level task.spots.items (but ahead run.visited)) + ends_by (not b) (goes_back task run) (one_end level task.spots.items (but ahead run.visited)) (two_ends level task.spots.items (but ahead run.visited))) (sym passes)
-      (still_way level least settled run follows way leads taken)
+  still_go level least true settled run follows goes place way at leads taken =
+      still_way level least true settled run follows way leads taken
+  still_go level least false settled run follows goes place way at leads taken =
+      absurd (elim (follows.halts refl) [
+        | inl ends ↦ falsely (ends_in (node_at task run.head)) ends goes
+        | inr none ↦ none place way at taken
+      ])
 
   -- a run that turns back has one end less
-  back_by : (on once passes : Bool) (one two : ℕ) → one ≤ two → once ≡ false → passes ≡ false → ends_by (not passes) (not true && not passes) one two ≤ ends_by on (not once && not passes) one two
+  back_by : (on once passes : Bool) (one two : ℕ) → one ≤ two → once ≡ false → passes ≡ false → ends_by true (not true && not passes) one two ≤ ends_by on (not once && not passes) one two
   back_by true false false one two less once passes = less
   back_by false false false one two less once passes = omega arith
   back_by on true passes one two less once is = absurd (falsely true refl once)
   back_by on false true one two less once is = absurd (falsely true refl is)
 
-  still_back : (level : ℕ) (run : Standing) → run.turned ≡ false → ends_in (node_at task run.home) ≡ false → still level (turned_back run) ≤ still level run
+  still_back : (level : ℕ) (on : Bool) (run : Standing) → run.turned ≡ false → ends_in (node_at task run.home) ≡ false → still level true (turned_back run) ≤ still level on run
   unfolding still
-  still_back level run once passes =
-      omega (arith, back_by (goes_on task run) run.turned (ends_in (node_at task run.home)) (one_end level task.spots.items (but ahead run.visited)) (two_ends level task.spots.items (but ahead run.visited)) (one_two level task.spots.items (but ahead run.visited)) once passes)
+  still_back level on run once passes =
+      omega (arith, back_by on run.turned (ends_in (node_at task run.home)) (one_end level nodes (but ahead run.visited)) (two_ends level nodes (but ahead run.visited)) (one_two level nodes (but ahead run.visited)) once passes)
 
   -- at first it may earn no more than by all that lies ahead
-  still_first : (level : ℕ) → still level begun ≤ most_ahead level task begun ahead
+  still_first : (level : ℕ) → still level (goes_on task begun) begun ≤ most_ahead level task nodes begun ahead
   unfolding still
   still_first level =
       let within : Within (but ahead begun.visited) ahead = but_within ahead begun.visited in
       omega (
         arith,
-        beyond_less level task.spots.items (but ahead begun.visited) ahead within,
-        ends_less (goes_on task begun) (goes_back task begun) (one_end level task.spots.items (but ahead begun.visited)) (two_ends level task.spots.items (but ahead begun.visited)) (one_end level task.spots.items ahead) (two_ends level task.spots.items ahead)
-            (one_less level task.spots.items (but ahead begun.visited) ahead within) (two_less level task.spots.items (but ahead begun.visited) ahead within),
+        beyond_less level nodes (but ahead begun.visited) ahead within,
+        ends_less (goes_on task begun) (goes_back task begun) (one_end level nodes (but ahead begun.visited)) (two_ends level nodes (but ahead begun.visited)) (one_end level nodes ahead) (two_ends level nodes ahead)
+            (one_less level nodes (but ahead begun.visited) ahead within) (two_less level nodes (but ahead begun.visited) ahead within),
       )
 
   -- the way with which what comes after a piece begins
-  abbrev Way_of : (least : ℕ) (settled : Settled) (run : Standing) → Follows least settled run → ℕ → Piece → List Move → Type 0
-  Way_of least settled run follows place piece moves =
+  abbrev Way_of : (least : ℕ) (on : Bool) (settled : Settled) (run : Standing) → Follows least on settled run → ℕ → Piece → List Move → Type 0
+  Way_of least on settled run follows place piece moves =
       ByWay task fit run.head follows.stands.1 (ways_at task run.head) (ways_of run.head follows.stands) settled run place piece moves
 
-  way_of : (least : ℕ) (settled : Settled) (run : Standing) → (follows : Follows least settled run) → (place : ℕ) (piece : Piece) (moves : List Move) → LeadsFrom task run.head place piece → can_take task run settled.used piece ≡ true → Completes task (standing (using settled piece) (along task run piece)) moves → Way_of least settled run follows place piece moves
-  way_of least settled run follows place piece moves leads taken completes =
+  way_of : (least : ℕ) (on : Bool) (settled : Settled) (run : Standing) → (follows : Follows least on settled run) → (place : ℕ) (piece : Piece) (moves : List Move) → LeadsFrom task run.head place piece → can_take task run settled.used piece ≡ true → Completes task (standing (using settled piece) (along task run piece)) moves → Way_of least on settled run follows place piece moves
+  way_of least on settled run follows place piece moves leads taken completes =
       by_way task fit run.head follows.stands.1 (ways_at task run.head) (ways_of run.head follows.stands) settled run follows.whole place piece moves leads taken completes
 
   -- all ways on
-  low_by : (level later : ℕ) → EarnAtMost task (first.next + 1) later → (fuel : ℕ) (moves : List Move) → length moves ≤ fuel → (settled : Settled) (run : Standing) → Follows 0 settled run → Completes task (standing settled run) moves → total_after task (standing settled run) moves ≤ settled.total + run.value + still level run + later
-  low_by level later bound fuel [] enough settled run follows completes = absurd completes
-  low_by level later bound fuel (pass ∷ moves) enough settled run follows completes = absurd completes.0
-  low_by level later bound fuel (begin stop index piece ∷ moves) enough settled run follows completes = absurd completes.0
-  low_by level later bound zero (go index piece ∷ moves) enough settled run follows completes = absurd (omega (arith, enough))
-  low_by level later bound (suc fuel) (go index piece ∷ moves) enough settled run follows completes =
+  low_by : (level later : ℕ) → EarnAtMost task (first.next + 1) later → (fuel : ℕ) (moves : List Move) → length moves ≤ fuel → (settled : Settled) (run : Standing) (on : Bool) → Follows 0 on settled run → Completes task (standing settled run) moves → total_after task (standing settled run) moves ≤ settled.total + run.value + still level on run + later
+  low_by level later bound fuel [] enough settled run on follows completes = absurd completes
+  low_by level later bound fuel (pass ∷ moves) enough settled run on follows completes = absurd completes.0
+  low_by level later bound fuel (begin stop index piece ∷ moves) enough settled run on follows completes = absurd completes.0
+  low_by level later bound zero (go index piece ∷ moves) enough settled run on follows completes = absurd (omega (arith, enough))
+  low_by level later bound (suc fuel) (go index piece ∷ moves) enough settled run on follows completes =
       let may = completes.0 in
-      let by : Way_of 0 settled run follows index piece moves = way_of 0 settled run follows index piece moves may.leads may.taken completes.1 in
-      let leads : Leads settled run by.way = leads_by 0 settled run follows may.passes by.place_of by.way by.stands (omega arith) by.can in
-      let rest : total_after task (standing (using settled by.way.piece) (along task run by.way.piece)) by.later ≤ settled.total + (run.value + value_in (node_at task by.way.piece.to)) + still level (along task run by.way.piece) + later = low_by level later bound fuel by.later (omega (arith, by.shorter, enough)) (using settled by.way.piece) (along task run by.way.piece) (follows_go 0 settled run follows by.way leads) by.completes in
-      omega (arith, rest, by.total, still_go level 0 settled run follows may.passes by.way leads by.can)
-  low_by level later bound zero (turn index piece ∷ moves) enough settled run follows completes = absurd (omega (arith, enough))
-  low_by level later bound (suc fuel) (turn index piece ∷ moves) enough settled run follows completes =
+      let by : Way_of 0 on settled run follows index piece moves = way_of 0 on settled run follows index piece moves may.leads may.taken completes.1 in
+      let leads : Leads settled run by.way = leads_by 0 on settled run follows may.passes by.place_of by.way by.stands (omega arith) by.can in
+      let rest : total_after task (standing (using settled by.way.piece) (along task run by.way.piece)) by.later ≤ settled.total + (run.value + value_in (node_at task by.way.piece.to)) + still level (passes by.way.piece.to) (along task run by.way.piece) + later = low_by level later bound fuel by.later (omega (arith, by.shorter, enough)) (using settled by.way.piece) (along task run by.way.piece) (passes by.way.piece.to) (follows_go 0 on settled run follows by.way leads) by.completes in
+      omega (arith, rest, by.total, still_go level 0 on settled run follows may.passes by.place_of by.way by.stands leads by.can)
+  low_by level later bound zero (turn index piece ∷ moves) enough settled run on follows completes = absurd (omega (arith, enough))
+  low_by level later bound (suc fuel) (turn index piece ∷ moves) enough settled run on follows completes =
       let may = completes.0 in
-      let back : Follows run.first settled (turned_back run) = follows_back settled run follows may.once in
-      let by : Way_of run.first settled (turned_back run) back index piece moves = way_of run.first settled (turned_back run) back index piece moves may.leads may.taken completes.1 in
-      let leads : Leads settled (turned_back run) by.way = leads_by run.first settled (turned_back run) back may.passes by.place_of by.way by.stands (omega (arith, may.later, by.first)) by.can in
-      let rest : total_after task (standing (using settled by.way.piece) (along task (turned_back run) by.way.piece)) by.later ≤ settled.total + (run.value + value_in (node_at task by.way.piece.to)) + still level (along task (turned_back run) by.way.piece) + later = low_by level later bound fuel by.later (omega (arith, by.shorter, enough)) (using settled by.way.piece) (along task (turned_back run) by.way.piece) (follows_go run.first settled (turned_back run) back by.way leads) by.completes in
-      omega (arith, rest, by.total, still_go level run.first settled (turned_back run) back may.passes by.way leads by.can, still_back level run may.once may.passes)
-  low_by level later bound fuel (settle ∷ moves) enough settled run follows completes =
+      let back : Follows run.first true settled (turned_back run) = follows_back on settled run follows may.once in
+      let by : Way_of run.first true settled (turned_back run) back index piece moves = way_of run.first true settled (turned_back run) back index piece moves may.leads may.taken completes.1 in
+      let leads : Leads settled (turned_back run) by.way = leads_by run.first true settled (turned_back run) back may.passes by.place_of by.way by.stands (omega (arith, may.later, by.first)) by.can in
+      let rest : total_after task (standing (using settled by.way.piece) (along task (turned_back run) by.way.piece)) by.later ≤ settled.total + (run.value + value_in (node_at task by.way.piece.to)) + still level (passes by.way.piece.to) (along task (turned_back run) by.way.piece) + later = low_by level later bound fuel by.later (omega (arith, by.shorter, enough)) (using settled by.way.piece) (along task (turned_back run) by.way.piece) (passes by.way.piece.to) (follows_go run.first true settled (turned_back run) back by.way leads) by.completes in
+      omega (arith, rest, by.total, still_go level run.first true settled (turned_back run) back may.passes by.place_of by.way by.stands leads by.can, still_back level on run may.once may.passes)
+  low_by level later bound fuel (settle ∷ moves) enough settled run on follows completes =
       let here : EarnAtMost task (settling settled run).next later = subst (λ (n : ℕ). EarnAtMost task (n + 1) later) (sym follows.next) bound in
       let rest : total_after task (between (settling settled run)) moves ≤ settled.total + run.value + later = rest_low task (settling settled run) later here follows.whole moves completes.1 in
       omega arith
 
   -- all ways on, if the next trains are of the same kind
-  pub low_alike : (level most : ℕ) → 0 < begun.most → (equal later : ℕ) → AreEqual task (first.next + 1) equal begun.most → EarnAtMost task (first.next + 1 + equal) later → (fuel : ℕ) (moves : List Move) → length moves ≤ fuel → (settled : Settled) (run : Standing) → Follows 0 settled run → run.value + still level run ≤ most → Completes task (standing settled run) moves → total_after task (standing settled run) moves ≤ settled.total + most + (equal * most + later)
-  low_alike level most some equal later alike bound fuel [] enough settled run follows low completes = absurd completes
-  low_alike level most some equal later alike bound fuel (pass ∷ moves) enough settled run follows low completes = absurd completes.0
-  low_alike level most some equal later alike bound fuel (begin stop index piece ∷ moves) enough settled run follows low completes = absurd completes.0
-  low_alike level most some equal later alike bound zero (go index piece ∷ moves) enough settled run follows low completes = absurd (omega (arith, enough))
-  low_alike level most some equal later alike bound (suc fuel) (go index piece ∷ moves) enough settled run follows low completes =
+  pub low_alike : (level most : ℕ) → 0 < begun.most → (equal later : ℕ) → AreEqual task (first.next + 1) equal begun.most → EarnAtMost task (first.next + 1 + equal) later → (fuel : ℕ) (moves : List Move) → length moves ≤ fuel → (settled : Settled) (run : Standing) (on : Bool) → Follows 0 on settled run → run.value + still level on run ≤ most → Completes task (standing settled run) moves → total_after task (standing settled run) moves ≤ settled.total + most + (equal * most + later)
+  low_alike level most some equal later alike bound fuel [] enough settled run on follows low completes = absurd completes
+  low_alike level most some equal later alike bound fuel (pass ∷ moves) enough settled run on follows low completes = absurd completes.0
+  low_alike level most some equal later alike bound fuel (begin stop index piece ∷ moves) enough settled run on follows low completes = absurd completes.0
+  low_alike level most some equal later alike bound zero (go index piece ∷ moves) enough settled run on follows low completes = absurd (omega (arith, enough))
+  low_alike level most some equal later alike bound (suc fuel) (go index piece ∷ moves) enough settled run on follows low completes =
       let may = completes.0 in
-      let by : Way_of 0 settled run follows index piece moves = way_of 0 settled run follows index piece moves may.leads may.taken completes.1 in
-      let leads : Leads settled run by.way = leads_by 0 settled run follows may.passes by.place_of by.way by.stands (omega arith) by.can in
-      let rest = low_alike level most some equal later alike bound fuel by.later (omega (arith, by.shorter, enough)) (using settled by.way.piece) (along task run by.way.piece) (follows_go 0 settled run follows by.way leads)
-      (omega (arith, low, still_go level 0 settled run follows may.passes by.way leads by.can)) by.completes in
+      let by : Way_of 0 on settled run follows index piece moves = way_of 0 on settled run follows index piece moves may.leads may.taken completes.1 in
+      let leads : Leads settled run by.way = leads_by 0 on settled run follows may.passes by.place_of by.way by.stands (omega arith) by.can in
+      let rest = low_alike level most some equal later alike bound fuel by.later (omega (arith, by.shorter, enough)) (using settled by.way.piece) (along task run by.way.piece) (passes by.way.piece.to) (follows_go 0 on settled run follows by.way leads)
+      (omega (arith, low, still_go level 0 on settled run follows may.passes by.place_of by.way by.stands leads by.can)) by.completes in
       omega (arith, rest, by.total)
-  low_alike level most some equal later alike bound zero (turn index piece ∷ moves) enough settled run follows low completes = absurd (omega (arith, enough))
-  low_alike level most some equal later alike bound (suc fuel) (turn index piece ∷ moves) enough settled run follows low completes =
+  low_alike level most some equal later alike bound zero (turn index piece ∷ moves) enough settled run on follows low completes = absurd (omega (arith, enough))
+  low_alike level most some equal later alike bound (suc fuel) (turn index piece ∷ moves) enough settled run on follows low completes =
       let may = completes.0 in
-      let back : Follows run.first settled (turned_back run) = follows_back settled run follows may.once in
-      let by : Way_of run.first settled (turned_back run) back index piece moves = way_of run.first settled (turned_back run) back index piece moves may.leads may.taken completes.1 in
-      let leads : Leads settled (turned_back run) by.way = leads_by run.first settled (turned_back run) back may.passes by.place_of by.way by.stands (omega (arith, may.later, by.first)) by.can in
-      let rest = low_alike level most some equal later alike bound fuel by.later (omega (arith, by.shorter, enough)) (using settled by.way.piece) (along task (turned_back run) by.way.piece) (follows_go run.first settled (turned_back run) back by.way leads)
-      (omega (arith, low, still_go level run.first settled (turned_back run) back may.passes by.way leads by.can, still_back level run may.once may.passes)) by.completes in
+      let back : Follows run.first true settled (turned_back run) = follows_back on settled run follows may.once in
+      let by : Way_of run.first true settled (turned_back run) back index piece moves = way_of run.first true settled (turned_back run) back index piece moves may.leads may.taken completes.1 in
+      let leads : Leads settled (turned_back run) by.way = leads_by run.first true settled (turned_back run) back may.passes by.place_of by.way by.stands (omega (arith, may.later, by.first)) by.can in
+      let rest = low_alike level most some equal later alike bound fuel by.later (omega (arith, by.shorter, enough)) (using settled by.way.piece) (along task (turned_back run) by.way.piece) (passes by.way.piece.to) (follows_go run.first true settled (turned_back run) back by.way leads)
+      (omega (arith, low, still_go level run.first true settled (turned_back run) back may.passes by.place_of by.way by.stands leads by.can, still_back level on run may.once may.passes)) by.completes in
       omega (arith, rest, by.total)
-  low_alike level most some equal later alike bound fuel (settle ∷ moves) enough settled run follows low completes =
+  low_alike level most some equal later alike bound fuel (settle ∷ moves) enough settled run on follows low completes =
       let here : AreEqual task (settled.next + 1) equal begun.most = subst (λ (n : ℕ). AreEqual task (n + 1) equal begun.most) (sym follows.next) alike in
       let there : EarnAtMost task (settled.next + 1 + equal) later = subst (λ (n : ℕ). EarnAtMost task (n + 1 + equal) later) (sym follows.next) bound in
       let rest : total_after task (between (settling settled run)) moves ≤ settled.total + run.value + (equal * most + later) = low_settled task begun.most most later some equal (settling settled run) here follows.most (omega (arith, low)) follows.whole there moves completes.1 in
       omega (arith, rest, low)
 
-  pub first_follows : IsStop task begun.head → IsStop task begun.home → length first.used ≡ 279 → length begun.visited ≡ 744 → Follows 0 first begun
+  pub first_follows : IsStop task begun.head → IsStop task begun.home → length first.used ≡ 279 → length begun.visited ≡ 744 → Follows 0 (goes_on task begun) first begun
   first_follows stands begins whole spots =
-      record { takes = λ piece taken. taken; head = λ passes place way at later taken. look.head passes place way at taken; home = look.home; stands = stands; begins = begins; next = refl; most = refl; whole = whole; spots = spots }
+      record { halts = λ off. inl (was_true (ends_in (node_at task begun.head)) off); takes = λ piece taken. taken; head = λ passes place way at later taken. look.head passes place way at taken; home = look.home; stands = stands; begins = begins; next = refl; most = refl; whole = whole; spots = spots }
 
   -- a run that earns too little
-  pub ends_low : IsStop task begun.head → IsStop task begun.home → (level later best : ℕ) → EarnAtMost task (first.next + 1) later → length first.used ≡ 279 → length begun.visited ≡ 744 → first.total + begun.value + most_ahead level task begun ahead + later ≤ best → EndsAtMost task first begun best
+  pub ends_low : IsStop task begun.head → IsStop task begun.home → (level later best : ℕ) → EarnAtMost task (first.next + 1) later → length first.used ≡ 279 → length begun.visited ≡ 744 → first.total + begun.value + most_ahead level task nodes begun ahead + later ≤ best → EndsAtMost task first begun best
   ends_low stands begins level later best bound whole spots low moves completes =
-      omega (arith, low_by level later bound (length moves) moves (omega arith) first begun (first_follows stands begins whole spots) completes, still_first level)
+      omega (arith, low_by level later bound (length moves) moves (omega arith) first begun (goes_on task begun) (first_follows stands begins whole spots) completes, still_first level)
 
   -- a run that earns too little with those of its kind
-  pub ends_alike : IsStop task begun.head → IsStop task begun.home → (level most best : ℕ) → AreCapped task (first.next + 1) begun.most most (first.total + most) best → length first.used ≡ 279 → length begun.visited ≡ 744 → begun.value + most_ahead level task begun ahead ≤ most → EndsAtMost task first begun best
+  pub ends_alike : IsStop task begun.head → IsStop task begun.home → (level most best : ℕ) → AreCapped task (first.next + 1) begun.most most (first.total + most) best → length first.used ≡ 279 → length begun.visited ≡ 744 → begun.value + most_ahead level task nodes begun ahead ≤ most → EndsAtMost task first begun best
   ends_alike stands begins level most best capped whole spots low moves completes =
-      omega (arith, capped.short, low_alike level most capped.some capped.equal capped.bound capped.are_equal capped.rest (length moves) moves (omega arith) first begun (first_follows stands begins whole spots) (omega (arith, low, still_first level)) completes)
+      omega (arith, capped.short, low_alike level most capped.some capped.equal capped.bound capped.are_equal capped.rest (length moves) moves (omega arith) first begun (goes_on task begun) (first_follows stands begins whole spots) (omega (arith, low, still_first level)) completes)
 
 -- what cannot earn more need not be tried
 pub explores_hopeless : (task : Task) (settled : Settled) (run : Standing) (best : Found) → EndsAtMost task settled run best.amount → Explores task (standing settled run) best best

@@ -33,3 +33,5 @@ pub mod Described
 pub mod Along
 pub mod Likened
 pub mod Homes
+pub mod Lasting
+pub mod Mirrored

@@ -13,7 +13,7 @@ use Rattle.best_run.specs.declared.explored.Found.{Found}
 use Rattle.best_run.specs.declared.state.Settled.{Settled}
 use Rattle.best_run.specs.declared.state.Standing.{Standing}
 use Rattle.best_run.specs.declared.worth.Worth.{Worth}
-use Rattle.best_run.specs.Ahead.{IsLeast, IsOutlook, IsWorth, LiesAhead, beyond, ends_by, goes_back, one_end, two_ends}
+use Rattle.best_run.specs.Ahead.{IsLeast, IsOutlook, IsWorth, LiesAhead, beyond, ends_by, goes_back, goes_on, one_end, two_ends}
 use Rattle.best_run.specs.Alike.{AreHeld, IsInReach}
 use Rattle.best_run.specs.Fit.{IsFit}
 use Rattle.best_run.specs.Moves.{Completes, EarnsAtMost, Explores, MayBegin, Move, along, begin, begun, between, ends_in, go, may_come, misses, node_at, own_before, own_in, pass, passed, settle, standing, stop_in, total_after, turn, using, value_in}
@@ -24,7 +24,8 @@ use Rattle.best_run.proofs.Beyond.{Within, beyond_less, beyond_spent, one_less, 
 use Rattle.best_run.proofs.Departing.{none_at}
 use Rattle.best_run.proofs.Described.{among_place}
 use Rattle.best_run.proofs.Eased.{rest_low}
-use Rattle.best_run.proofs.Hopeless.{Follows, Leads, but, but_unset, but_within, first_follows, follows_go, low_alike, one_fewer, spend, still, still_way}
+use Rattle.best_run.proofs.Hopeless.{Follows, Leads, but, but_unset, but_within, first_follows, follows_go, low_alike, one_fewer, passes, spend, still, still_way}
+use Rattle.best_run.proofs.Lasting.{counts_plain}
 use Rattle.best_run.proofs.Split.{own_length}
 use Rattle.best_run.proofs.Traced.{traced_none}
 
@@ -112,10 +113,11 @@ module _ (task : Task) (fit : IsFit task) (ready : AreReady task) (reach : List 
       let by : ByWay task fit stop is.1 (ways_at task stop) (ways_of stop is) settled run index piece moves = by_way task fit stop is.1 (ways_at task stop) (ways_of stop is) settled run whole index piece moves may.leads may.taken completes in
       let missed : misses settled.used by.way.piece.borders.items ≡ true = both_second (may_come (stop_in (node_at task by.way.piece.to)) run by.way.piece.to) (misses settled.used by.way.piece.borders.items) by.can in
       let fits = way_fits task fit stop (ways_at task stop) (ways_of stop is) is.1 by.way (among_place (ways_at task stop) by.place_of by.way by.stands) in
-      let leads : Leads task fit ready settled run reach look settled run by.way = record { lies = reaches stop is (inl may.token) by.place_of by.way by.stands missed; fits = fits.0; stop = (fits.0.to, fits.1) } in
+      let leads : Leads task fit ready settled run reach look task.spots.items (counts_plain task settled run) settled run by.way = record { from = stop; place = by.place_of; stands = by.stands; free = missed; lies = reaches stop is (inl may.token) by.place_of by.way by.stands missed; fits = fits.0; stop = (fits.0.to, fits.1) } in
       let spots : length run.visited ≡ 744 = length-set (own_before task stop) stop true ∙ own_length task stop in
-      let follows : Follows task fit ready settled run reach look 0 settled run = first_follows task fit ready settled run reach look is is whole spots in
-      let next : Follows task fit ready settled run reach look 0 (using settled by.way.piece) (along task run by.way.piece) = follows_go task fit ready settled run reach look 0 settled run follows by.way leads in
+      let follows : Follows task fit ready settled run reach look task.spots.items (counts_plain task settled run) 0 (goes_on task run) settled run = first_follows task fit ready settled run reach look task.spots.items (counts_plain task settled run) is is whole spots in
+      let on : Bool = passes task fit ready settled run reach look task.spots.items (counts_plain task settled run) by.way.piece.to in
+      let next : Follows task fit ready settled run reach look task.spots.items (counts_plain task settled run) 0 on (using settled by.way.piece) (along task run by.way.piece) = follows_go task fit ready settled run reach look task.spots.items (counts_plain task settled run) 0 (goes_on task run) settled run follows by.way leads in
       let lies : LiesAhead reach stop = elim (held.held stop is may.token) [
         | inl none ↦ absurd (no_way (ways_at task stop) by.place_of by.way none by.stands)
         | inr there ↦ there
@@ -123,10 +125,10 @@ module _ (task : Task) (fit : IsFit task) (ready : AreReady task) (reach : List 
       let came : may_come true run by.way.piece.to ≡ true = subst (λ (b : Bool). may_come b run by.way.piece.to ≡ true) fits.1 (both_first (may_come (stop_in (node_at task by.way.piece.to)) run by.way.piece.to) (misses settled.used by.way.piece.borders.items) by.can) in
       let more : nat_lt 0 run.left ≡ true = both_first (nat_lt 0 run.left) (not (get_or run.visited by.way.piece.to false)) came in
       let first = first_spent settled stop index same is lies more in
-      let second = still_way task fit ready settled run reach look level 0 settled run follows by.way leads by.can in
-      let small : value_in (node_at task stop) + value_in (node_at task by.way.piece.to) + still task fit ready settled run reach look level (along task run by.way.piece) ≤ cap = omega (arith, first, second, low) in
+      let second = still_way task fit ready settled run reach look task.spots.items (counts_plain task settled run) level 0 (goes_on task run) settled run follows by.way leads by.can in
+      let small : value_in (node_at task stop) + value_in (node_at task by.way.piece.to) + still task fit ready settled run reach look task.spots.items (counts_plain task settled run) level on (along task run by.way.piece) ≤ cap = omega (arith, first, second, low) in
       let alike : AreEqual task (settled.next + 1) count run.most = subst (AreEqual task (settled.next + 1) count) (sym same) equal in
-      let ran = low_alike task fit ready settled run reach look level cap (omega (arith, same, some)) count bound alike rest (length by.later) by.later (omega arith) (using settled by.way.piece) (along task run by.way.piece) next small by.completes in
+      let ran = low_alike task fit ready settled run reach look task.spots.items (counts_plain task settled run) level cap (omega (arith, same, some)) count bound alike rest (length by.later) by.later (omega arith) (using settled by.way.piece) (along task run by.way.piece) on next small by.completes in
       omega (arith, by.total, ran)
 
   equal_later : (settled : Settled) (count : ℕ) → AreEqual task settled.next (suc count) most → AreEqual task (settled.next + 1) count most

@@ -118,15 +118,11 @@ goes_on task run = not (ends_in (node_at task run.head))
 abbrev pub goes_back : Task → Standing → Bool
 goes_back task run = not run.turned && not (ends_in (node_at task run.home))
 
--- what a run may still earn at most, at a level
-abbrev pub most_ahead : ℕ → Task → Standing → List Bool → ℕ
-most_ahead level task run ahead =
-    (run.left * level + beyond level task.spots.items ahead)
-    + ends_by (goes_on task run) (goes_back task run) (one_end level task.spots.items ahead) (two_ends level task.spots.items ahead)
-
--- a run may earn no more ahead, by some level
-abbrev pub EarnsAhead : Task → Standing → List Bool → ℕ → Type 0
-EarnsAhead task run ahead most = (level : ℕ) × (most_ahead level task run ahead ≤ most)
+-- what a run may still earn at most, at a level, where the stops ahead count as in a list
+abbrev pub most_ahead : ℕ → Task → List Node → Standing → List Bool → ℕ
+most_ahead level task nodes run ahead =
+    (run.left * level + beyond level nodes ahead)
+    + ends_by (goes_on task run) (goes_back task run) (one_end level nodes ahead) (two_ends level nodes ahead)
 
 -- it is known what the stops ahead are worth
 pub record IsWorth (nodes : List Node) (ahead : List Bool) (worth : Worth) : Type 0 where

@@ -11,3 +11,4 @@ pub mod Kept
 pub mod Alike
 pub mod Kinds
 pub mod Ways
+pub mod Last

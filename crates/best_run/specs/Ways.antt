@@ -145,12 +145,28 @@ AreHomes task from to [] = HasNoHome task from to
 AreHomes task from to (home ∷ homes) =
     (from ≤ home) × (home < to) × (own_in (node_at task home) ≡ true) × HasNoHome task from home × AreHomes task (home + 1) to homes
 
--- the ways from each stop are known, and the stops from which they lead, and where the company has tokens
+-- a way leads back from where another one comes to, and crosses no border but those of it
+pub record HasMirror (task : Task) (way : Way) : Type 0 where
+  pub place : ℕ
+  pub back : Way
+  pub stands : slice_get (ways_at task way.piece.to) place ≡ Some back
+  pub within : (border : ℕ) → IsAmong border back.piece.borders.items → IsAmong border way.piece.borders.items
+
+-- one does for each way from a spot, and for each way
+abbrev pub AllLeadBack : Task → ℕ → Type 0
+AllLeadBack task spot = (place : ℕ) (way : Way) → slice_get (ways_at task spot) place ≡ Some way → HasMirror task way
+
+abbrev pub IsMirrored : Task → Type 0
+IsMirrored task = (spot : ℕ) → AllLeadBack task spot
+
+-- the ways from each stop are known, and the stops from which they lead, and where the company has tokens; where it is said,
+-- ways lead back over all of them
 pub record AreReady (task : Task) : Type 0 where
   pub long : length task.departures.items ≡ 744
   pub each : (stop : ℕ) (from : Departures) → slice_get task.departures.items stop ≡ Some from → stop_in (node_at task stop) ≡ true → AreWaysOf task stop from.ways.items
   pub stops : AreStops task 744 task.stops.items
   pub homes : AreHomes task 0 744 task.homes.items
+  pub mirrored : task.mirrored ≡ true → IsMirrored task
 
 -- a way stands among some before a place
 abbrev pub StandsBefore : List Way → ℕ → Way → Type 0

@@ -1,5 +1,5 @@
 //! Marks of the borders and of the spots of the map, a bit each.
-ghost use Rattle.std.specs.Prelude.{◌≡◌, ℕ, ◌-◌, ◌<◌, IsTrue, true, false, get_or, length, set, replicate};
+ghost use Rattle.std.specs.Prelude.{◌≡◌, ℕ, ◌-◌, ◌<◌, IsTrue, Some, true, false, get_or, length, set, replicate};
 ghost use Rattle.std.specs.Int.{bit_at};
 ghost use Rattle.best_run.specs.Kept.{Freer};
 ghost use Rattle.best_run.specs.Marks.{AreApart, AreBoth, AreOnly};
@@ -155,6 +155,19 @@ impl Borders {
         for word in 0..BORDER_WORDS {
             self.words[word] = without(self.words[word], other.words[word]);
         }
+    }
+
+    /// The first border that is marked; `None` where none is. It is not told that it is marked.
+    pub(crate) fn first(&self) -> Option<usize>
+        ensures { (border : ℕ) → result ≡ Some border → border < 279 }
+    {
+        for word in 0..BORDER_WORDS {
+            if self.words[word] != 0 {
+                let border = BITS * word + self.words[word].trailing_zeros() as usize;
+                return if border < BORDERS { Some(border) } else { None };
+            }
+        }
+        None
     }
 
     /// A number that states with the same marks share. Any number would do.

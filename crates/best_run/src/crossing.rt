@@ -1,8 +1,9 @@
 //! Borders that a way crosses: the set of them.
-ghost use Rattle.std.specs.Prelude.{◌≡◌, length};
+ghost use Rattle.std.specs.Prelude.{◌≡◌, ℕ, ◌<◌, IsTrue, Some, length};
 ghost use Rattle.best_run.specs.Alike.{cleared_all};
 ghost use Rattle.best_run.specs.Crossed.{numbers_in};
 ghost use Rattle.best_run.specs.Moves.{marked_all, misses};
+ghost use Rattle.reach.specs.Position.{IsAmong};
 
 use crate::bits::Borders;
 use std::marker::Model;
@@ -55,5 +56,32 @@ impl Crossing {
         ensures { marks.new ≡ cleared_all marks.old self.now.items }
     {
         marks.clear(&self.set)
+    }
+
+    /// A border that is one of these and of others: the first in order. `None` where there is none.
+    pub(crate) fn shared(&self, other: &Crossing) -> Option<usize>
+        ensures { (border : ℕ) → result ≡ Some border → border < 279 }
+    {
+        let mut rest = self.set.copy();
+        rest.clear(&other.set);
+        let mut shared = self.set.copy();
+        shared.clear(&rest);
+        shared.first()
+    }
+
+    /// Whether a border is one of these.
+    pub(crate) fn crosses(&self, border: usize) -> bool
+        requires { border < 279 }
+        ensures { IsTrue result → IsAmong border self.now.items }
+    {
+        self.set.has(border)
+    }
+
+    /// Whether all of these are among others.
+    pub(crate) fn is_within(&self, other: &Crossing) -> bool
+        ensures { IsTrue result
+            → (border : ℕ) → IsAmong border self.now.items → IsAmong border other.now.items }
+    {
+        self.set.is_within(&other.set)
     }
 }

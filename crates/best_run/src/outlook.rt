@@ -1,8 +1,9 @@
 ghost use Rattle.std.specs.Prelude.{◌≡◌, ◌+◌, ◌<◌, ◌≤◌, IsTrue, List, true, false, get_or, length, replicate, set, ℕ};
 ghost use Rattle.best_run.specs.declared.task.Node.{Node};
-ghost use Rattle.best_run.specs.Ahead.{EarnsAhead, EndsAtMost, IsOutlook, IsWorth, WidensBack, WidensBy, WidensFrom, WidensPast, goes_back, goes_on, leads_on};
+ghost use Rattle.best_run.specs.Ahead.{EndsAtMost, IsOutlook, IsWorth, WidensBack, WidensBy, WidensFrom, WidensPast, goes_back, goes_on, leads_on};
 ghost use Rattle.best_run.specs.Fit.{IsFit};
-ghost use Rattle.best_run.specs.Moves.{node_at, stop_in};
+ghost use Rattle.best_run.specs.Last.{EarnsAhead, HasWorth, LeadBelow, LeadsNew};
+ghost use Rattle.best_run.specs.Moves.{ends_in, node_at, stop_in};
 ghost use Rattle.best_run.specs.Suffix.{AreBounds};
 ghost use Rattle.best_run.specs.Ways.{AreReady, IsStop};
 
@@ -75,27 +76,126 @@ impl Task {
         !outlook.ahead.has(piece.to) && self.can_take(run, settled, piece)
     }
 
-    /// Adds to what lies ahead of a run what it may come to from a stop.
-    #[cycle(look)]
-    fn look_from(&self, settled: &Settled, run: &Standing, spot: usize, outlook: &mut Outlook)
+    /// Whether a run may come by a piece from a stop to another one that does not lie ahead so far.
+    fn leads_off(
+        &self,
+        settled: &Settled,
+        run: &Standing,
+        spot: usize,
+        piece: &Piece,
+        outlook: &Outlook,
+    ) -> bool
+        requires fit { IsFit self.now }
+        requires spot { spot < 744 }
+        requires to { piece.now.to < 744 }
+        requires stop { stop_in (node_at self.now piece.now.to) ≡ true }
+        ensures { let ahead = set outlook.now.ahead spot true in
+            result ≡ leads_on self.now settled.now run.now ahead piece.now }
+    {
+        outlook.ahead.is_whole();
+        piece.to != spot && self.leads_on(settled, run, piece, outlook)
+    }
+
+    /// The place of the first way by which a run may come from a stop to another one that does not lie ahead so
+    /// far; the number of ways where there is none, or no run passes the stop.
+    fn first_on(&self, settled: &Settled, run: &Standing, spot: usize, outlook: &Outlook) -> usize
         requires fit { IsFit self.now }
         requires ready { AreReady self.now }
         requires spot { spot < 744 }
         requires stop { stop_in (node_at self.now spot) ≡ true }
-        requires known { IsWorth self.now.spots.items outlook.old.ahead outlook.old.worth }
-        ensures widens { WidensFrom self.now settled.now run.now spot outlook.old.ahead outlook.new.ahead }
-        ensures known { IsWorth self.now.spots.items outlook.new.ahead outlook.new.worth }
+        ensures before { ends_in (node_at self.now spot) ≡ false
+            → LeadBelow self.now settled.now run.now spot result (set outlook.now.ahead spot true) }
+        ensures new { LeadsNew self.now spot result (set outlook.now.ahead spot true) }
     {
-        if self.spots[spot].ends {
-            return;
-        }
         let from = &self.departures[spot];
+        if self.spots[spot].ends {
+            return from.ways.len();
+        }
         for index in 0..from.ways.len() {
+            let way = &from.ways[index];
+            if self.leads_off(settled, run, spot, &way.piece, outlook) {
+                return index;
+            }
+        }
+        from.ways.len()
+    }
+
+    /// Adds to what lies ahead of a run what it may come to from a stop, by the ways from a place on; by the
+    /// others it comes to nothing else.
+    #[cycle(look)]
+    fn look_rest(
+        &self,
+        settled: &Settled,
+        run: &Standing,
+        spot: usize,
+        place: usize,
+        outlook: &mut Outlook,
+    )
+        requires fit { IsFit self.now }
+        requires ready { AreReady self.now }
+        requires spot { spot < 744 }
+        requires stop { stop_in (node_at self.now spot) ≡ true }
+        requires before { LeadBelow self.now settled.now run.now spot place outlook.old.ahead }
+        requires known { HasWorth self.now settled.now run.now outlook.old.ahead outlook.old.worth }
+        ensures widens { WidensFrom self.now settled.now run.now spot outlook.old.ahead outlook.new.ahead }
+        ensures known { HasWorth self.now settled.now run.now outlook.new.ahead outlook.new.worth }
+    {
+        let from = &self.departures[spot];
+        for index in place..from.ways.len() {
             let way = &from.ways[index];
             if self.leads_on(settled, run, &way.piece, outlook) {
                 self.look_past(settled, run, way.piece.to, outlook);
             }
         }
+    }
+
+    /// Adds to what lies ahead of a run what it may come to from a stop.
+    fn look_from(&self, settled: &Settled, run: &Standing, spot: usize, outlook: &mut Outlook)
+        requires fit { IsFit self.now }
+        requires ready { AreReady self.now }
+        requires spot { spot < 744 }
+        requires stop { stop_in (node_at self.now spot) ≡ true }
+        requires known { HasWorth self.now settled.now run.now outlook.old.ahead outlook.old.worth }
+        ensures widens { WidensFrom self.now settled.now run.now spot outlook.old.ahead outlook.new.ahead }
+        ensures known { HasWorth self.now settled.now run.now outlook.new.ahead outlook.new.worth }
+    {
+        if !self.spots[spot].ends {
+            self.look_rest(settled, run, spot, 0, outlook);
+        }
+    }
+
+    /// Adds to what lies ahead of a run what it may come to from a stop, of which the first way that leads on is
+    /// known.
+    #[cycle(look)]
+    fn look_on(
+        &self,
+        settled: &Settled,
+        run: &Standing,
+        spot: usize,
+        place: usize,
+        outlook: &mut Outlook,
+    )
+        requires fit { IsFit self.now }
+        requires ready { AreReady self.now }
+        requires spot { spot < 744 }
+        requires stop { stop_in (node_at self.now spot) ≡ true }
+        requires before { ends_in (node_at self.now spot) ≡ false
+            → LeadBelow self.now settled.now run.now spot place outlook.old.ahead }
+        requires new { LeadsNew self.now spot place outlook.old.ahead }
+        requires known { HasWorth self.now settled.now run.now outlook.old.ahead outlook.old.worth }
+        ensures widens { WidensFrom self.now settled.now run.now spot outlook.old.ahead outlook.new.ahead }
+        ensures known { HasWorth self.now settled.now run.now outlook.new.ahead outlook.new.worth }
+    {
+        if self.spots[spot].ends {
+            return;
+        }
+        let from = &self.departures[spot];
+        if place >= from.ways.len() {
+            return;
+        }
+        let to = from.ways[place].piece.to;
+        self.look_past(settled, run, to, outlook);
+        self.look_rest(settled, run, spot, place + 1, outlook);
     }
 
     /// Adds to what lies ahead of a run a stop, and what it may come to from there.
@@ -106,13 +206,15 @@ impl Task {
         requires spot { spot < 744 }
         requires stop { stop_in (node_at self.now spot) ≡ true }
         requires free { get_or outlook.old.ahead spot false ≡ false }
-        requires known { IsWorth self.now.spots.items outlook.old.ahead outlook.old.worth }
+        requires known { HasWorth self.now settled.now run.now outlook.old.ahead outlook.old.worth }
         ensures widens { WidensPast self.now settled.now run.now spot outlook.old.ahead outlook.new.ahead }
-        ensures known { IsWorth self.now.spots.items outlook.new.ahead outlook.new.worth }
+        ensures known { HasWorth self.now settled.now run.now outlook.new.ahead outlook.new.worth }
     {
         outlook.ahead.is_whole();
-        self.add(spot, outlook);
-        self.look_from(settled, run, spot, outlook);
+        let place = self.first_on(settled, run, spot, outlook);
+        let ends = self.is_end(settled, run, spot, place);
+        self.count(settled, run, spot, ends, outlook);
+        self.look_on(settled, run, spot, place, outlook);
     }
 
     /// Adds to what lies ahead of a run what it may come to by a piece.
@@ -127,9 +229,9 @@ impl Task {
         requires ready { AreReady self.now }
         requires to { piece.now.to < 744 }
         requires stop { stop_in (node_at self.now piece.now.to) ≡ true }
-        requires known { IsWorth self.now.spots.items outlook.old.ahead outlook.old.worth }
+        requires known { HasWorth self.now settled.now run.now outlook.old.ahead outlook.old.worth }
         ensures widens { WidensBy self.now settled.now run.now piece.now outlook.old.ahead outlook.new.ahead }
-        ensures known { IsWorth self.now.spots.items outlook.new.ahead outlook.new.worth }
+        ensures known { HasWorth self.now settled.now run.now outlook.new.ahead outlook.new.worth }
     {
         if self.leads_on(settled, run, piece, outlook) {
             self.look_past(settled, run, piece.to, outlook);
@@ -143,9 +245,9 @@ impl Task {
         requires ready { AreReady self.now }
         requires home { run.now.home < 744 }
         requires begun { stop_in (node_at self.now run.now.home) ≡ true }
-        requires known { IsWorth self.now.spots.items outlook.old.ahead outlook.old.worth }
+        requires known { HasWorth self.now settled.now run.now outlook.old.ahead outlook.old.worth }
         ensures widens { WidensBack self.now settled.now run.now outlook.old.ahead outlook.new.ahead }
-        ensures known { IsWorth self.now.spots.items outlook.new.ahead outlook.new.worth }
+        ensures known { HasWorth self.now settled.now run.now outlook.new.ahead outlook.new.worth }
     {
         if self.spots[run.home].ends {
             return;
@@ -168,7 +270,7 @@ impl Task {
         requires home { run.now.home < 744 }
         requires begun { stop_in (node_at self.now run.now.home) ≡ true }
         ensures outlook { IsOutlook self.now settled.now run.now result.ahead }
-        ensures known { IsWorth self.now.spots.items result.ahead result.worth }
+        ensures known { HasWorth self.now settled.now run.now result.ahead result.worth }
         ensures borders { length settled.now.used ≡ 279 }
         ensures spots { length run.now.visited ≡ 744 }
     {
@@ -203,13 +305,13 @@ impl Task {
     }
 
     /// The most that a run may still earn, in dollars, by what lies ahead.
-    fn most_ahead(&self, run: &Standing, outlook: &Outlook) -> Amount
+    fn most_ahead(&self, settled: &Settled, run: &Standing, outlook: &Outlook) -> Amount
         requires fit { IsFit self.now }
         requires head { run.now.head < 744 }
         requires home { run.now.home < 744 }
         requires left { run.now.left ≤ 744 }
-        requires known { IsWorth self.now.spots.items outlook.now.ahead outlook.now.worth }
-        ensures most { EarnsAhead self.now run.now outlook.now.ahead result }
+        requires known { HasWorth self.now settled.now run.now outlook.now.ahead outlook.now.worth }
+        ensures most { EarnsAhead self.now settled.now run.now outlook.now.ahead result }
         ensures bound { result ≤ 119200 }
     {
         let on = self.goes_on(run);
@@ -234,7 +336,7 @@ impl Task {
         requires bounds { AreBounds self.now bounds.now }
         requires next { settled.now.next < length self.now.trains.items }
         requires ahead { IsOutlook self.now settled.now run.now outlook.now.ahead }
-        requires known { IsWorth self.now.spots.items outlook.now.ahead outlook.now.worth }
+        requires known { HasWorth self.now settled.now run.now outlook.now.ahead outlook.now.worth }
         requires borders { length settled.now.used ≡ 279 }
         requires spots { length run.now.visited ≡ 744 }
         requires room { settled.now.total + run.now.value ≤ 44720 }
@@ -244,7 +346,7 @@ impl Task {
         if run.left > SPOTS || later >= bounds.len() {
             return false;
         }
-        let most = run.value + self.most_ahead(run, outlook);
+        let most = run.value + self.most_ahead(settled, run, outlook);
         let total = settled.total + most;
         if total > best {
             return false;

@@ -304,6 +304,7 @@ impl Task {
             stops: Vec::new(alloc),
             homes: Vec::new(alloc),
             trains,
+            mirrored: false,
         };
         let departures = task.all_departures(alloc)?;
         task.departures = departures;
@@ -311,6 +312,7 @@ impl Task {
         task.stops = stops;
         let homes = task.all_homes(alloc)?;
         task.homes = homes;
+        task.mirrored = task.is_mirrored();
         Ok(task)
     }
 }

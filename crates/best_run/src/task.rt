@@ -62,4 +62,6 @@ pub(crate) struct Task {
     pub(crate) homes: Vec<usize>,
     /// For each train, the most stops of a run.
     pub(crate) trains: Vec<usize>,
+    /// Over each way another one leads back, as is asked once.
+    pub(crate) mirrored: bool,
 }

@@ -2,7 +2,8 @@
 use Rattle.std.proofs.Common.{◌≡◌, ◌+◌, Some, length, slice_get, refl, sym, ap, subst, ◌∙◌, arith}
 use Rattle.std.proofs.lemmas.Option.{slice_get_read}
 use Rattle.best_run.specs.declared.outlook.Outlook.{Outlook}
-use Rattle.best_run.specs.Ahead.{IsWorth, WidensBackBelow}
+use Rattle.best_run.specs.Ahead.{WidensBackBelow}
+use Rattle.best_run.specs.Last.{HasWorth}
 use Rattle.best_run.specs.Moves.{ends_in}
 use Rattle.best_run.specs.Ways.{AreWaysOf, ways_at, ways_in}
 use Rattle.best_run.proofs.Ahead.{back_all, back_end, back_more, back_none, back_skip}
@@ -52,7 +53,7 @@ loop-index-preserved c =
     let at : slice_get ways index ≡ Some way = slice_get_read ways (length ways) index way refl (omega arith) c.index-way.ensures in
     let there : ways_at task run.home ≡ ways = ap ways_in (departs_at task c.requires.ready run.home from c.requires.home c.index-from.ensures) in
     let here = ap (λ ws. slice_get ws index) there ∙ at in
-    let Looked : Outlook → Type 0 = λ o. WidensBackBelow task settled run (index + 1) c.args.outlook.now.ahead o.ahead × IsWorth task.spots.items o.ahead o.worth in
+    let Looked : Outlook → Type 0 = λ o. WidensBackBelow task settled run (index + 1) c.args.outlook.now.ahead o.ahead × HasWorth task settled run o.ahead o.worth in
     elim c.if-run-way.branch [
       | then-run-way w ↦
           subst Looked (sym w.outlook-is) (back_more task settled run index way _ _ _ here c.loop-index.invariant.0 w.look_along.ensures.widens, w.look_along.ensures.known)

@@ -2,11 +2,12 @@
 use Rattle.std.proofs.Common.{Bool, List, replicate, false, subst}
 use Rattle.best_run.specs.Ahead.{WidensFrom}
 use Rattle.best_run.proofs.Ahead.{outlook_both, outlook_from}
+use Rattle.best_run.proofs.Lasting.{has_plain}
 use Rattle.best_run.proofs.task.Task.outlook.Goals as goal
 
 pub look_from-requires-clause-known : goal.look_from-requires-clause-known
 look_from-requires-clause-known c =
-    rw c.nothing_ahead-outlook.ensures.ahead (c.nothing_ahead-outlook.ensures.known c.args.self.now.spots.items)
+    rw c.nothing_ahead-outlook.ensures.ahead (has_plain c.args.self.now c.args.settled.now c.args.run.now (replicate 744 false) c.nothing_ahead-outlook.result.worth (c.nothing_ahead-outlook.ensures.known c.args.self.now.spots.items))
 
 pub returns-then-not-run-clause-outlook : goal.returns-then-not-run-clause-outlook
 returns-then-not-run-clause-outlook c =

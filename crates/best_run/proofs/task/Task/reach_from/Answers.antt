@@ -10,6 +10,7 @@ use Rattle.best_run.proofs.Likened.{widens_all}
 use Rattle.best_run.proofs.Along.{way_fits}
 use Rattle.best_run.proofs.Departing.{departs_at, departs_from}
 use Rattle.best_run.proofs.Described.{among_place}
+use Rattle.best_run.proofs.Lasting.{has_plain, plain_has}
 use Rattle.best_run.proofs.task.Task.reach_from.Goals as goal
 
 pub look_along-requires-clause-to : goal.look_along-requires-clause-to
@@ -34,6 +35,10 @@ look_along-requires-clause-stop c =
     let fits = way_fits task c.requires.fit c.args.stop ways are c.requires.stops way (among_place ways c.loop-index.index way at) in
     fits.1
 
+pub look_along-requires-clause-known : goal.look_along-requires-clause-known
+look_along-requires-clause-known c =
+    has_plain c.args.self.now c.args.settled.now c.anywhere-run.result c.loop-index.reach.ahead c.loop-index.reach.worth c.loop-index.invariant.1
+
 pub loop-index-preserved : goal.loop-index-preserved
 loop-index-preserved c =
     let task = c.args.self.now in
@@ -44,7 +49,7 @@ loop-index-preserved c =
     let there : ways_at task c.args.stop ≡ ways = ap ways_in (departs_at task c.requires.ready c.args.stop from c.requires.spot c.index-from.ensures) in
     let here : slice_get (ways_at task c.args.stop) c.loop-index.index ≡ Some way = ap (λ ws. slice_get ws c.loop-index.index) there ∙ at in
     let by : WidensBy task c.args.settled.now anywhere way.piece c.loop-index.reach.ahead c.look_along.new.outlook.ahead = subst (λ (r : Standing). WidensBy task c.args.settled.now r way.piece c.loop-index.reach.ahead c.look_along.new.outlook.ahead) c.anywhere-run.ensures c.look_along.ensures.widens in
-    (below_more task c.args.settled.now anywhere c.args.stop c.loop-index.index way _ _ _ here c.loop-index.invariant.0 by, c.look_along.ensures.known)
+    (below_more task c.args.settled.now anywhere c.args.stop c.loop-index.index way _ _ _ here c.loop-index.invariant.0 by, plain_has task c.args.settled.now c.anywhere-run.result c.look_along.new.outlook.ahead c.look_along.new.outlook.worth (ap (λ (r : Standing). r.most) c.anywhere-run.ensures) c.look_along.ensures.known)
 
 pub returns-clause-reaches : goal.returns-clause-reaches
 returns-clause-reaches c =

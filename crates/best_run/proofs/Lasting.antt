@@ -1,0 +1,169 @@
+-- The stops ahead as they count: one more that a run may pass, or at which it ends. At a stop that is last it ends.
+use Rattle.std.proofs.Common.{◌≡◌, ℕ, zero, suc, ◌+◌, ◌-◌, ◌*◌, ◌<◌, ◌≤◌, max, Bool, true, false, ◌⊎◌, inl, inr, Some, List, [], ◌∷◌, length, get_or, set, slice_get, refl, sym, ap, subst, ◌∙◌, arith, length-set}
+use Rattle.reach.specs.Position.{IsAmong}
+use Rattle.best_run.specs.declared.task.Node.{Node}
+use Rattle.best_run.specs.declared.task.Task.{Task}
+use Rattle.best_run.specs.declared.task.Way.{Way}
+use Rattle.best_run.specs.declared.state.Settled.{Settled}
+use Rattle.best_run.specs.declared.state.Standing.{Standing}
+use Rattle.best_run.specs.declared.worth.Worth.{Worth}
+use Rattle.best_run.specs.Ahead.{HasPassed, HasRanked, IsLeast, IsWorth, beyond, goes_back, goes_on, if_ending, if_passed, one_end, two_ends}
+use Rattle.best_run.specs.Fit.{BordersFit, IsFit}
+use Rattle.best_run.specs.Last.{Counts, EarnsAhead, EndsThere, HasWorth, IsLast}
+use Rattle.best_run.specs.Moves.{ends_in, marked_all, misses, node_at, value_in}
+use Rattle.best_run.specs.Ways.{ways_at}
+use Rattle.best_run.proofs.Advance.{free_misses, marks_more, misses_free}
+use Rattle.best_run.proofs.Beyond.{level_ahead, most_of, not_free, same_node, worth_ended, worth_passed}
+use Rattle.best_run.proofs.Places.{value_low}
+
+-- a run that has come to a last stop by a way goes on from there by none
+pub last_stuck : (task : Task) (used now : List Bool) (stop place : ℕ) (way : Way) → IsLast task used way.piece.to → slice_get (ways_at task stop) place ≡ Some way → BordersFit way.piece.borders.items → length now ≡ 279 → misses used way.piece.borders.items ≡ true → (index : ℕ) (other : Way) → slice_get (ways_at task way.piece.to) index ≡ Some other → misses used other.piece.borders.items ≡ true → misses (marked_all now way.piece.borders.items) other.piece.borders.items ≡ true → ⊥
+last_stuck task used now stop place way last at fits whole missed index other stands free left =
+    let mirror = last.0 stop place way at in
+    let border = last.1.0 in
+    let back : misses used mirror.back.piece.borders.items ≡ true = free_misses used mirror.back.piece.borders.items (λ b among marked. misses_free used way.piece.borders.items missed b (mirror.within b among) marked) in
+    let came : IsAmong border way.piece.borders.items = mirror.within border (last.1.1 mirror.place mirror.back mirror.stands back) in
+    let goes : IsAmong border other.piece.borders.items = last.1.1 index other stands free in
+    misses_free (marked_all now way.piece.borders.items) other.piece.borders.items left border goes ((marks_more now way.piece.borders.items fits whole border).1 (inl came))
+
+-- another node at a place
+set_at : (nodes : List Node) (n m : ℕ) (node : Node) → n < length nodes → ((n ≡ m) × (slice_get (set nodes n node) m ≡ Some node)) ⊎ (slice_get (set nodes n node) m ≡ slice_get nodes m)
+set_at [] n m node low = absurd (omega arith)
+set_at (first ∷ nodes) zero zero node low = inl (refl, refl)
+set_at (first ∷ nodes) zero (suc m) node low = inr refl
+set_at (first ∷ nodes) (suc n) zero node low = inr refl
+set_at (first ∷ nodes) (suc n) (suc m) node low =
+    elim (set_at nodes n m node (omega arith)) [ inl here ↦ inl (ap suc here.0, here.1) | inr other ↦ inr other ]
+
+set_here : (nodes : List Node) (n : ℕ) (node : Node) → n < length nodes → slice_get (set nodes n node) n ≡ Some node
+set_here [] n node low = absurd (omega arith)
+set_here (first ∷ nodes) zero node low = refl
+set_here (first ∷ nodes) (suc n) node low = set_here nodes n node (omega arith)
+
+-- the same one
+set_same : (nodes : List Node) (n : ℕ) (node : Node) → slice_get nodes n ≡ Some node → set nodes n node ≡ nodes
+set_same [] zero node at = absurd cc
+set_same [] (suc n) node at = absurd cc
+set_same (first ∷ nodes) zero node at = ap (λ (x : Node). x ∷ nodes) (sym (same_node first node at))
+set_same (first ∷ nodes) (suc n) node at = ap (λ (xs : List Node). first ∷ xs) (set_same nodes n node at)
+
+-- as long as it does not lie ahead, nothing changes
+beyond_free : (level : ℕ) (nodes : List Node) (ahead : List Bool) (n : ℕ) (node : Node) → get_or ahead n false ≡ false → beyond level (set nodes n node) ahead ≡ beyond level nodes ahead
+beyond_free level [] ahead n node free = refl
+beyond_free level (first ∷ nodes) [] zero node free = refl
+beyond_free level (first ∷ nodes) [] (suc n) node free = refl
+beyond_free level (first ∷ nodes) (true ∷ ahead) zero node free = absurd (not_free true refl free)
+beyond_free level (first ∷ nodes) (false ∷ ahead) zero node free = refl
+beyond_free level (first ∷ nodes) (true ∷ ahead) (suc n) node free =
+    ap (λ (x : ℕ). if_passed first.ends (first.value - level) + x) (beyond_free level nodes ahead n node free)
+beyond_free level (first ∷ nodes) (false ∷ ahead) (suc n) node free = beyond_free level nodes ahead n node free
+
+one_free : (level : ℕ) (nodes : List Node) (ahead : List Bool) (n : ℕ) (node : Node) → get_or ahead n false ≡ false → one_end level (set nodes n node) ahead ≡ one_end level nodes ahead
+one_free level [] ahead n node free = refl
+one_free level (first ∷ nodes) [] zero node free = refl
+one_free level (first ∷ nodes) [] (suc n) node free = refl
+one_free level (first ∷ nodes) (true ∷ ahead) zero node free = absurd (not_free true refl free)
+one_free level (first ∷ nodes) (false ∷ ahead) zero node free = refl
+one_free level (first ∷ nodes) (true ∷ ahead) (suc n) node free =
+    ap (λ (x : ℕ). max x (if_ending first.ends (first.value - level))) (one_free level nodes ahead n node free)
+one_free level (first ∷ nodes) (false ∷ ahead) (suc n) node free = one_free level nodes ahead n node free
+
+two_free : (level : ℕ) (nodes : List Node) (ahead : List Bool) (n : ℕ) (node : Node) → get_or ahead n false ≡ false → two_ends level (set nodes n node) ahead ≡ two_ends level nodes ahead
+two_free level [] ahead n node free = refl
+two_free level (first ∷ nodes) [] zero node free = refl
+two_free level (first ∷ nodes) [] (suc n) node free = refl
+two_free level (first ∷ nodes) (true ∷ ahead) zero node free = absurd (not_free true refl free)
+two_free level (first ∷ nodes) (false ∷ ahead) zero node free = refl
+two_free level (first ∷ nodes) (true ∷ ahead) (suc n) node free =
+    ap (λ (x : ℕ). max x (if_ending first.ends (first.value - level) + one_end level (set nodes n node) ahead)) (two_free level nodes ahead n node free)
+    ∙ ap (λ (x : ℕ). max (two_ends level nodes ahead) (if_ending first.ends (first.value - level) + x)) (one_free level nodes ahead n node free)
+two_free level (first ∷ nodes) (false ∷ ahead) (suc n) node free = two_free level nodes ahead n node free
+
+worth_free : (nodes : List Node) (ahead : List Bool) (n : ℕ) (node : Node) (worth : Worth) → get_or ahead n false ≡ false → IsWorth nodes ahead worth → IsWorth (set nodes n node) ahead worth
+worth_free nodes ahead n node worth free known =
+    record {
+      levels = known.levels;
+      few = known.few;
+      passed = λ place small. known.passed place small ∙ sym (beyond_free (10 * place) nodes ahead n node free);
+      one = λ level. omega (arith, known.one level, one_free level nodes ahead n node free);
+      two = λ level. omega (arith, known.two level, two_free level nodes ahead n node free);
+      order = known.order;
+      low = known.low;
+    }
+
+-- the stops count as they are
+pub counts_plain : (task : Task) (settled : Settled) (run : Standing) → Counts task settled run task.spots.items
+counts_plain task settled run =
+    record { all = refl; value = λ spot. refl; ends = λ spot ending. inl ending; plain = λ none. refl }
+
+pub has_plain : (task : Task) (settled : Settled) (run : Standing) (ahead : List Bool) (worth : Worth) → IsWorth task.spots.items ahead worth → HasWorth task settled run ahead worth
+has_plain task settled run ahead worth known =
+    record { nodes = task.spots.items; counts = counts_plain task settled run; known = known }
+
+pub plain_has : (task : Task) (settled : Settled) (run : Standing) (ahead : List Bool) (worth : Worth) → run.most ≡ 0 → HasWorth task settled run ahead worth → IsWorth task.spots.items ahead worth
+plain_has task settled run ahead worth none has =
+    subst (λ (nodes : List Node). IsWorth nodes ahead worth) (has.counts.plain none) has.known
+
+-- one stop counts otherwise
+counts_set : (task : Task) (settled : Settled) (run : Standing) (nodes : List Node) (n : ℕ) (node other : Node) → node_at task n ≡ Some node → n < length task.spots.items → other.value ≡ node.value → (other.ends ≡ true → EndsThere task settled run n) → (run.most ≡ 0 → other ≡ node) → Counts task settled run nodes → Counts task settled run (set nodes n other)
+counts_set task settled run nodes n node other at low value ends plain counts =
+    let within : n < length nodes = omega (arith, low, counts.all) in
+    record {
+      all = length-set nodes n other ∙ counts.all;
+      value = λ spot. elim (set_at nodes n spot other within) [
+        | inl here ↦ ap value_in here.1 ∙ (value ∙ (sym (ap value_in at) ∙ ap (λ (i : ℕ). value_in (node_at task i)) here.0))
+        | inr same ↦ ap value_in same ∙ counts.value spot
+      ];
+      ends = λ spot told. elim (set_at nodes n spot other within) [
+        | inl here ↦ subst (EndsThere task settled run) here.0 (ends (sym (ap ends_in here.1) ∙ told))
+        | inr same ↦ counts.ends spot (sym (ap ends_in same) ∙ told)
+      ];
+      plain = λ none. ap (λ (xs : List Node). set xs n other) (counts.plain none) ∙ (ap (λ (x : Node). set task.spots.items n x) (plain none) ∙ set_same task.spots.items n node at);
+    }
+
+module _ (task : Task) (settled : Settled) (run : Standing) (ahead : List Bool) (n : ℕ) (node : Node) (at : node_at task n ≡ Some node) (placed : n < length task.spots.items) (small : node.value ≤ 80) (free : get_or ahead n false ≡ false) (low : n < length ahead) (old new : Worth) (has : HasWorth task settled run ahead old) where
+  -- a run may pass one stop more
+  pub has_passed : ends_in (node_at task n) ≡ false → HasPassed node.value old new → HasWorth task settled run (set ahead n true) new
+  has_passed passes adds =
+      let passed : node.ends ≡ false = sym (ap ends_in at) ∙ passes in
+      record {
+        nodes = set has.nodes n node;
+        counts = counts_set task settled run has.nodes n node node at placed refl (λ ending. absurd (not_free node.ends ending passed)) (λ none. refl) has.counts;
+        known = worth_passed (set has.nodes n node) ahead n node old new (set_here has.nodes n node (omega (arith, placed, has.counts.all))) passed free low adds (worth_free has.nodes ahead n node old free has.known);
+      }
+
+  ended_by : (other : Node) → other.value ≡ node.value → other.ends ≡ true → EndsThere task settled run n → (run.most ≡ 0 → other ≡ node) → HasRanked node.value old new → HasWorth task settled run (set ahead n true) new
+  ended_by other value ending ends plain ranks =
+      record {
+        nodes = set has.nodes n other;
+        counts = counts_set task settled run has.nodes n node other at placed value (λ told. ends) plain has.counts;
+        known = worth_ended (set has.nodes n other) ahead n other old new (set_here has.nodes n other (omega (arith, placed, has.counts.all))) ending (omega (arith, value, small)) free low
+            (subst (λ (v : ℕ). HasRanked v old new) (sym value) ranks) (worth_free has.nodes ahead n other old free has.known);
+      }
+
+  none_most : (most : ℕ) → 0 < most → most ≡ 0 → ⊥
+  none_most most some none = omega (arith, some, none)
+
+  -- it ends at one
+  pub has_ended : EndsThere task settled run n → HasRanked node.value old new → HasWorth task settled run (set ahead n true) new
+  has_ended ends ranks =
+      elim ends [
+        | inl ending ↦ ended_by node refl (sym (ap ends_in at) ∙ ending) (inl ending) (λ none. refl) ranks
+        | inr last ↦ ended_by (record node { ends = true }) refl refl (inr last) (λ none. absurd (none_most run.most last.0 none)) ranks
+      ]
+
+-- stops that are worth at most 80 dollars each
+pub has_most : (task : Task) → IsFit task → (settled : Settled) (run : Standing) (ahead : List Bool) (worth : Worth) → HasWorth task settled run ahead worth → (place : ℕ) → place < worth.levels → get_or worth.beyond place 0 ≤ 59520
+has_most task fit settled run ahead worth has place small =
+    omega (arith, fit.all, has.counts.all, has.known.passed place small, most_of (10 * place) has.nodes ahead (λ n node at. each n node at))
+  where
+    each : (n : ℕ) (node : Node) → slice_get has.nodes n ≡ Some node → node.value ≤ 80
+    each n node at =
+        let same : node.value ≡ value_in (node_at task n) = sym (ap value_in at) ∙ has.counts.value n in
+        omega (arith, same, value_low task fit n)
+
+-- what is known of the stops ahead bounds what a run may earn there
+pub earns_ahead : (task : Task) (settled : Settled) (run : Standing) (ahead : List Bool) (worth : Worth) (on back : Bool) (most : ℕ) → HasWorth task settled run ahead worth → goes_on task run ≡ on → goes_back task run ≡ back → IsLeast worth run.left on back most → EarnsAhead task settled run ahead most
+earns_ahead task settled run ahead worth on back most has is_on is_back least =
+    let found = level_ahead task has.nodes run ahead worth on back most has.known is_on is_back least in
+    record { nodes = has.nodes; counts = has.counts; level = found.0; low = found.1 }

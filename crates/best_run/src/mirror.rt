@@ -1,0 +1,52 @@
+//! Ways that lead back over others: a way is the same track in both directions.
+ghost use Rattle.std.specs.Prelude.{◌≡◌, ◌<◌, IsTrue, length};
+ghost use Rattle.best_run.specs.Ways.{AllLeadBack, HasMirror, IsMirrored};
+
+use crate::task::{Task, Way};
+
+impl Task {
+    /// Whether a way leads back over one, from where that comes to, over no borders but those of it.
+    fn leads_back(&self, way: &Way) -> bool
+        ensures { IsTrue result → HasMirror self.now way.now }
+    {
+        let to = way.piece.to;
+        if to >= self.departures.len() {
+            return false;
+        }
+        let from = &self.departures[to];
+        for index in 0..from.ways.len() {
+            let back = &from.ways[index];
+            if back.piece.borders.is_within(&way.piece.borders) {
+                return true;
+            }
+        }
+        false
+    }
+
+    /// Whether ways lead back over all ways from a spot.
+    fn all_lead_back(&self, spot: usize) -> bool
+        requires { spot < length self.now.departures.items }
+        ensures { IsTrue result → AllLeadBack self.now spot }
+    {
+        let from = &self.departures[spot];
+        for index in 0..from.ways.len() {
+            let way = &from.ways[index];
+            if !self.leads_back(way) {
+                return false;
+            }
+        }
+        true
+    }
+
+    /// Whether ways lead back over all ways.
+    pub(crate) fn is_mirrored(&self) -> bool
+        ensures { IsTrue result → IsMirrored self.now }
+    {
+        for spot in 0..self.departures.len() {
+            if !self.all_lead_back(spot) {
+                return false;
+            }
+        }
+        true
+    }
+}
