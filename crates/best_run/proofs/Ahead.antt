@@ -1,5 +1,5 @@
 -- What lies ahead of a run is found piece by piece, and what is found is all that the run may come to.
-use Rattle.std.proofs.Common.{◌≡◌, ℕ, ◌+◌, ◌<◌, ◌≤◌, Bool, true, false, not, ◌&&◌, ◌⊎◌, inl, inr, Some, List, length, get_or, set, replicate, slice_get, refl, sym, ap, subst, ◌∙◌, arith, le_trans, get_or-set_other, get_or-set_same}
+use Rattle.std.proofs.Common.{◌≡◌, ℕ, ◌+◌, ◌<◌, ◌≤◌, Bool, true, false, not, ◌&&◌, ◌⊎◌, inl, inr, Some, List, length, get_or, set, replicate, slice_get, refl, sym, ap, subst, ◌∙◌, arith, le_trans, get_or-set_same}
 use Rattle.std.proofs.lemmas.Option.{slice_get_within}
 use Rattle.reach.proofs.Collected.{none_marked}
 use Rattle.reach.proofs.Marking.{set_cases, set_keeps}
@@ -9,7 +9,6 @@ use Rattle.best_run.specs.declared.task.Way.{Way}
 use Rattle.best_run.specs.declared.state.Settled.{Settled}
 use Rattle.best_run.specs.declared.state.Standing.{Standing}
 use Rattle.best_run.specs.Ahead.{IsGoneOver, IsOutlook, LiesAhead, Widens, WidensBack, WidensBackBelow, WidensBelow, WidensBy, WidensFrom, WidensPast, leads_on}
-use Rattle.best_run.specs.Last.{LeadBelow, LeadsNew}
 use Rattle.best_run.specs.Moves.{can_take, ends_in, node_at}
 use Rattle.best_run.specs.Ways.{ways_at}
 use Rattle.best_run.proofs.Marks.{set_fewer}
@@ -47,9 +46,6 @@ module _ (task : Task) (settled : Settled) (run : Standing) where
   pub below_none : (spot : ℕ) (ahead : List Bool) → WidensBelow task settled run spot 0 ahead ahead
   below_none spot ahead = record { widens = widens_none ahead; leads = λ place way low at taken. absurd (omega arith) }
 
-  pub below_from : (spot most : ℕ) (ahead : List Bool) → LeadBelow task settled run spot most ahead → WidensBelow task settled run spot most ahead ahead
-  below_from spot most ahead before = record { widens = widens_none ahead; leads = before }
-
   pub below_more : (spot place : ℕ) (way : Way) (old middle new : List Bool) → slice_get (ways_at task spot) place ≡ Some way → WidensBelow task settled run spot place old middle → WidensBy task settled run way.piece middle new → WidensBelow task settled run spot (place + 1) old new
   below_more spot place way old middle new here before by =
       record {
@@ -70,43 +66,6 @@ module _ (task : Task) (settled : Settled) (run : Standing) where
             let low : other < length ways = slice_get_within ways other way (ap (λ ws. slice_get ws other) (sym there) ∙ at) in
             below.leads other way (omega (arith, low, all)) at taken;
       }
-
-  -- some ways are gone over, and then the others
-  pub from_both : (spot most : ℕ) (old middle new : List Bool) → WidensBelow task settled run spot most old middle → WidensFrom task settled run spot middle new → WidensFrom task settled run spot old new
-  from_both spot most old middle new below from =
-      record { widens = widens_both old middle new below.widens from.widens; here = from.here }
-
-  -- no way leads on
-  pub from_known : (spot most : ℕ) (ways : List Way) (ahead : List Bool) → ways_at task spot ≡ ways → length ways ≤ most → (ends_in (node_at task spot) ≡ false → LeadBelow task settled run spot most ahead) → WidensFrom task settled run spot ahead ahead
-  from_known spot most ways ahead there all before =
-      record {
-        widens = widens_none ahead;
-        here = λ passes other way at taken.
-            let low : other < length ways = slice_get_within ways other way (ap (λ ws. slice_get ws other) (sym there) ∙ at) in
-            before passes other way (omega (arith, low, all)) at taken;
-      }
-
-  -- a piece leads on to another stop than the one that is added
-  pub leads_other : (spot : ℕ) (piece : Piece) (ahead : List Bool) (other : Bool) → spot < length ahead → (other ≡ true → piece.to ≡ spot → ⊥) → (other ≡ false → piece.to ≡ spot) → (other && leads_on task settled run ahead piece) ≡ leads_on task settled run (set ahead spot true) piece
-  leads_other spot piece ahead true low differs same =
-      ap (λ (b : Bool). not b && can_take task run settled.used piece) (sym (get_or-set_other ahead spot piece.to true false (differs refl)))
-  leads_other spot piece ahead false low differs same =
-      let marked : get_or (set ahead spot true) piece.to false ≡ true = ap (λ (i : ℕ). get_or (set ahead spot true) i false) (same refl) ∙ get_or-set_same ahead spot true false low in
-      ap (λ (b : Bool). not b && can_take task run settled.used piece) (sym marked)
-
-  pub leads_new : (spot place : ℕ) (way : Way) (ahead : List Bool) → slice_get (ways_at task spot) place ≡ Some way → leads_on task settled run ahead way.piece ≡ true → LeadsNew task spot place ahead
-  leads_new spot place way ahead here leads found at =
-      let is : way ≡ found = one_way (ways_at task spot) place place way found here at refl in
-      subst (λ (w : Way). get_or ahead w.piece.to false ≡ false) is (by_mark (get_or ahead way.piece.to false) leads)
-    where
-      by_mark : (lies : Bool) → (not lies && can_take task run settled.used way.piece) ≡ true → lies ≡ false
-      by_mark true is = absurd (falsely false is refl)
-      by_mark false is = refl
-
-  pub leads_none : (spot place : ℕ) (ways : List Way) (ahead : List Bool) → ways_at task spot ≡ ways → length ways ≤ place → LeadsNew task spot place ahead
-  leads_none spot place ways ahead there all found at =
-      let low : place < length ways = slice_get_within ways place found (ap (λ ws. slice_get ws place) (sym there) ∙ at) in
-      absurd (omega (arith, low, all))
 
   -- the same for the stop where the run began
   pub back_none : (ahead : List Bool) → WidensBackBelow task settled run 0 ahead ahead

@@ -7,9 +7,9 @@ use Rattle.best_run.specs.declared.task.Way.{Way}
 use Rattle.best_run.specs.declared.state.Settled.{Settled}
 use Rattle.best_run.specs.declared.state.Standing.{Standing}
 use Rattle.best_run.specs.declared.worth.Worth.{Worth}
-use Rattle.best_run.specs.Ahead.{HasPassed, HasRanked, IsLeast, IsWorth, beyond, goes_back, goes_on, if_ending, if_passed, one_end, two_ends}
+use Rattle.best_run.specs.Ahead.{HasPassed, HasRanked, HasTakenBack, IsLeast, IsWorth, beyond, goes_back, goes_on, if_ending, if_passed, one_end, two_ends}
 use Rattle.best_run.specs.Fit.{BordersFit, IsFit}
-use Rattle.best_run.specs.Last.{Counts, EarnsAhead, EndsThere, HasWorth, IsLast}
+use Rattle.best_run.specs.Last.{Counts, CountsAsPassed, EarnsAhead, EndsThere, HasWorth, IsLast}
 use Rattle.best_run.specs.Moves.{ends_in, marked_all, misses, node_at, value_in}
 use Rattle.best_run.specs.Ways.{ways_at}
 use Rattle.best_run.proofs.Advance.{free_misses, marks_more, misses_free}
@@ -123,34 +123,93 @@ counts_set task settled run nodes n node other at low value ends plain counts =
 
 module _ (task : Task) (settled : Settled) (run : Standing) (ahead : List Bool) (n : ℕ) (node : Node) (at : node_at task n ≡ Some node) (placed : n < length task.spots.items) (small : node.value ≤ 80) (free : get_or ahead n false ≡ false) (low : n < length ahead) (old new : Worth) (has : HasWorth task settled run ahead old) where
   -- a run may pass one stop more
-  pub has_passed : ends_in (node_at task n) ≡ false → HasPassed node.value old new → HasWorth task settled run (set ahead n true) new
-  has_passed passes adds =
+  pub has_passing : ends_in (node_at task n) ≡ false → HasPassed node.value old new → CountsAsPassed task settled run n (set ahead n true) new
+  has_passing passes adds =
       let passed : node.ends ≡ false = sym (ap ends_in at) ∙ passes in
+      let here : slice_get (set has.nodes n node) n ≡ Some node = set_here has.nodes n node (omega (arith, placed, has.counts.all)) in
+      record {
+        has = record {
+          nodes = set has.nodes n node;
+          counts = counts_set task settled run has.nodes n node node at placed refl (λ ending. absurd (not_free node.ends ending passed)) (λ none. refl) has.counts;
+          known = worth_passed (set has.nodes n node) ahead n node old new here passed free low adds (worth_free has.nodes ahead n node old free has.known);
+        };
+        passed = ap ends_in here ∙ passed;
+      }
+
+  -- all runs end at one
+  pub has_ended : ends_in (node_at task n) ≡ true → HasRanked node.value old new → HasWorth task settled run (set ahead n true) new
+  has_ended ends ranks =
       record {
         nodes = set has.nodes n node;
-        counts = counts_set task settled run has.nodes n node node at placed refl (λ ending. absurd (not_free node.ends ending passed)) (λ none. refl) has.counts;
-        known = worth_passed (set has.nodes n node) ahead n node old new (set_here has.nodes n node (omega (arith, placed, has.counts.all))) passed free low adds (worth_free has.nodes ahead n node old free has.known);
+        counts = counts_set task settled run has.nodes n node node at placed refl (λ told. inl ends) (λ none. refl) has.counts;
+        known = worth_ended (set has.nodes n node) ahead n node old new (set_here has.nodes n node (omega (arith, placed, has.counts.all))) (sym (ap ends_in at) ∙ ends) small free low ranks (worth_free has.nodes ahead n node old free has.known);
       }
 
-  ended_by : (other : Node) → other.value ≡ node.value → other.ends ≡ true → EndsThere task settled run n → (run.most ≡ 0 → other ≡ node) → HasRanked node.value old new → HasWorth task settled run (set ahead n true) new
-  ended_by other value ending ends plain ranks =
-      record {
-        nodes = set has.nodes n other;
-        counts = counts_set task settled run has.nodes n node other at placed value (λ told. ends) plain has.counts;
-        known = worth_ended (set has.nodes n other) ahead n other old new (set_here has.nodes n other (omega (arith, placed, has.counts.all))) ending (omega (arith, value, small)) free low
-            (subst (λ (v : ℕ). HasRanked v old new) (sym value) ranks) (worth_free has.nodes ahead n other old free has.known);
-      }
+-- a stop that counted as passed counts as an end
+beyond_turned : (level : ℕ) (nodes : List Node) (ahead : List Bool) (n : ℕ) (other : Node) → get_or ahead n false ≡ true → n < length nodes → ends_in (slice_get nodes n) ≡ false → other.ends ≡ true → beyond level (set nodes n other) ahead + (value_in (slice_get nodes n) - level) ≡ beyond level nodes ahead
+beyond_turned level [] ahead n other lies low passed ending = absurd (omega arith)
+beyond_turned level (node ∷ nodes) [] n other lies low passed ending = absurd (not_free false lies refl)
+beyond_turned level (node ∷ nodes) (true ∷ ahead) zero other lies low passed ending =
+    let none : if_passed other.ends (other.value - level) ≡ 0 = ap (λ (b : Bool). if_passed b (other.value - level)) ending in
+    let all : if_passed node.ends (node.value - level) ≡ node.value - level = ap (λ (b : Bool). if_passed b (node.value - level)) passed in
+    omega (arith, none, all)
+beyond_turned level (node ∷ nodes) (false ∷ ahead) zero other lies low passed ending = absurd (not_free false lies refl)
+beyond_turned level (node ∷ nodes) (true ∷ ahead) (suc n) other lies low passed ending =
+    omega (arith, beyond_turned level nodes ahead n other lies (omega arith) passed ending)
+beyond_turned level (node ∷ nodes) (false ∷ ahead) (suc n) other lies low passed ending =
+    beyond_turned level nodes ahead n other lies (omega arith) passed ending
 
-  none_most : (most : ℕ) → 0 < most → most ≡ 0 → ⊥
-  none_most most some none = omega (arith, some, none)
+end_most : (b : Bool) (more : ℕ) → if_ending b more ≤ more
+end_most true more = omega arith
+end_most false more = omega arith
 
-  -- it ends at one
-  pub has_ended : EndsThere task settled run n → HasRanked node.value old new → HasWorth task settled run (set ahead n true) new
-  has_ended ends ranks =
-      elim ends [
-        | inl ending ↦ ended_by node refl (sym (ap ends_in at) ∙ ending) (inl ending) (λ none. refl) ranks
-        | inr last ↦ ended_by (record node { ends = true }) refl refl (inr last) (λ none. absurd (none_most run.most last.0 none)) ranks
-      ]
+one_turned : (level : ℕ) (nodes : List Node) (ahead : List Bool) (n : ℕ) (other : Node) → one_end level (set nodes n other) ahead ≤ max (one_end level nodes ahead) (other.value - level)
+one_turned level [] ahead n other = omega arith
+one_turned level (node ∷ nodes) [] zero other = omega arith
+one_turned level (node ∷ nodes) [] (suc n) other = omega arith
+one_turned level (node ∷ nodes) (true ∷ ahead) zero other = omega (arith, end_most other.ends (other.value - level))
+one_turned level (node ∷ nodes) (false ∷ ahead) zero other = omega arith
+one_turned level (node ∷ nodes) (true ∷ ahead) (suc n) other = omega (arith, one_turned level nodes ahead n other)
+one_turned level (node ∷ nodes) (false ∷ ahead) (suc n) other = one_turned level nodes ahead n other
+
+two_turned : (level : ℕ) (nodes : List Node) (ahead : List Bool) (n : ℕ) (other : Node) → two_ends level (set nodes n other) ahead ≤ max (two_ends level nodes ahead) ((other.value - level) + one_end level nodes ahead)
+two_turned level [] ahead n other = omega arith
+two_turned level (node ∷ nodes) [] zero other = omega arith
+two_turned level (node ∷ nodes) [] (suc n) other = omega arith
+two_turned level (node ∷ nodes) (true ∷ ahead) zero other = omega (arith, end_most other.ends (other.value - level))
+two_turned level (node ∷ nodes) (false ∷ ahead) zero other = omega arith
+two_turned level (node ∷ nodes) (true ∷ ahead) (suc n) other =
+    omega (arith, two_turned level nodes ahead n other, one_turned level nodes ahead n other)
+two_turned level (node ∷ nodes) (false ∷ ahead) (suc n) other = two_turned level nodes ahead n other
+
+worth_turned : (nodes : List Node) (ahead : List Bool) (n : ℕ) (other : Node) (old middle new : Worth) → get_or ahead n false ≡ true → n < length nodes → ends_in (slice_get nodes n) ≡ false → other.ends ≡ true → value_in (slice_get nodes n) ≡ other.value → other.value ≤ 80 → HasTakenBack other.value old middle → HasRanked other.value middle new → IsWorth nodes ahead old → IsWorth (set nodes n other) ahead new
+worth_turned nodes ahead n other old middle new lies low passed ending value small back ranks known =
+    record {
+      levels = omega (arith, known.levels, back.levels, ranks.levels);
+      few = omega (arith, known.few, back.levels, ranks.levels);
+      passed = λ place less.
+          let within : place < old.levels = omega (arith, less, back.levels, ranks.levels) in
+          let same : get_or new.beyond place 0 ≡ get_or middle.beyond place 0 = ap (λ (xs : List ℕ). get_or xs place 0) ranks.same in
+          omega (arith, same, value, back.each place within, known.passed place within, beyond_turned (10 * place) nodes ahead n other lies low passed ending);
+      one = λ level. omega (arith, one_turned level nodes ahead n other, known.one level, back.first, (ranks.one level).0, (ranks.one level).1);
+      two = λ level. omega (arith, two_turned level nodes ahead n other, known.one level, known.two level, back.first, back.second, (ranks.two level).0, (ranks.two level).1);
+      order = ranks.order;
+      low = ranks.low 80 (omega (arith, known.low, back.first)) small;
+    }
+
+none_most : (most : ℕ) → 0 < most → most ≡ 0 → ⊥
+none_most most some none = omega (arith, some, none)
+
+pub turned_ends : (task : Task) (settled : Settled) (run : Standing) (ahead : List Bool) (n : ℕ) (node : Node) → node_at task n ≡ Some node → n < length task.spots.items → node.value ≤ 80 → get_or ahead n false ≡ true → (old middle new : Worth) → CountsAsPassed task settled run n ahead old → (0 < run.most) × IsLast task settled.used n → HasTakenBack node.value old middle → HasRanked node.value middle new → HasWorth task settled run ahead new
+turned_ends task settled run ahead n node at placed small lies old middle new counted last back ranks =
+    let has = counted.has in
+    let other : Node = record node { ends = true } in
+    let value : value_in (slice_get has.nodes n) ≡ node.value = has.counts.value n ∙ ap value_in at in
+    record {
+      nodes = set has.nodes n other;
+      counts = counts_set task settled run has.nodes n node other at placed refl (λ told. inr last) (λ none. absurd (none_most run.most last.0 none)) has.counts;
+      known = worth_turned has.nodes ahead n other old middle new lies (omega (arith, placed, has.counts.all)) counted.passed refl value small back ranks has.known;
+    }
 
 -- stops that are worth at most 80 dollars each
 pub has_most : (task : Task) → IsFit task → (settled : Settled) (run : Standing) (ahead : List Bool) (worth : Worth) → HasWorth task settled run ahead worth → (place : ℕ) → place < worth.levels → get_or worth.beyond place 0 ≤ 59520

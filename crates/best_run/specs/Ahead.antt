@@ -141,6 +141,13 @@ pub record HasPassed (value : ℕ) (old new : Worth) : Type 0 where
   pub first : new.first ≡ old.first
   pub second : new.second ≡ old.second
 
+-- a stop that may be passed is taken away
+pub record HasTakenBack (value : ℕ) (old new : Worth) : Type 0 where
+  pub levels : new.levels ≡ old.levels
+  pub each : (place : ℕ) → place < old.levels → get_or new.beyond place 0 ≡ get_or old.beyond place 0 - (value - 10 * place)
+  pub first : new.first ≡ old.first
+  pub second : new.second ≡ old.second
+
 -- a stop at which runs end is added
 pub record HasRanked (value : ℕ) (old new : Worth) : Type 0 where
   pub levels : new.levels ≡ old.levels

@@ -1,7 +1,7 @@
 -- Stops ahead of a run at which it ends, though others may pass them: all ways from there that cross no used border cross
 -- one and the same, and so does the way by which the run comes, since a way leads back over it. Such a stop counts as one at
 -- which runs end.
-use Rattle.std.specs.Prelude.{◌≡◌, ℕ, ◌<◌, ◌≤◌, Bool, true, false, ◌⊎◌, Some, List, get_or, length, slice_get}
+use Rattle.std.specs.Prelude.{◌≡◌, ℕ, ◌<◌, ◌≤◌, Bool, true, false, ◌⊎◌, Some, List, length, slice_get}
 use Rattle.reach.specs.Position.{IsAmong}
 use Rattle.best_run.specs.declared.task.Node.{Node}
 use Rattle.best_run.specs.declared.task.Task.{Task}
@@ -9,8 +9,8 @@ use Rattle.best_run.specs.declared.task.Way.{Way}
 use Rattle.best_run.specs.declared.state.Settled.{Settled}
 use Rattle.best_run.specs.declared.state.Standing.{Standing}
 use Rattle.best_run.specs.declared.worth.Worth.{Worth}
-use Rattle.best_run.specs.Ahead.{IsWorth, LiesAhead, most_ahead}
-use Rattle.best_run.specs.Moves.{can_take, ends_in, misses, node_at, value_in}
+use Rattle.best_run.specs.Ahead.{IsWorth, most_ahead}
+use Rattle.best_run.specs.Moves.{ends_in, misses, node_at, value_in}
 use Rattle.best_run.specs.Ways.{IsMirrored, ways_at}
 
 -- all ways from a stop that cross no used border cross a border
@@ -45,19 +45,14 @@ pub record HasWorth (task : Task) (settled : Settled) (run : Standing) (ahead : 
   pub counts : Counts task settled run nodes
   pub known : IsWorth nodes ahead worth
 
+-- the same, where a stop counts as one that may be passed
+pub record CountsAsPassed (task : Task) (settled : Settled) (run : Standing) (spot : ℕ) (ahead : List Bool) (worth : Worth) : Type 0 where
+  pub has : HasWorth task settled run ahead worth
+  pub passed : ends_in (slice_get has.nodes spot) ≡ false
+
 -- a run may earn no more ahead, by some level, as the stops count
 pub record EarnsAhead (task : Task) (settled : Settled) (run : Standing) (ahead : List Bool) (most : ℕ) : Type 0 where
   pub nodes : List Node
   pub counts : Counts task settled run nodes
   pub level : ℕ
   pub low : most_ahead level task nodes run ahead ≤ most
-
--- a run may come by no way before one from a stop to another that does not lie ahead, unless the stop ends it
-abbrev pub LeadBelow : Task → Settled → Standing → ℕ → ℕ → List Bool → Type 0
-LeadBelow task settled run spot most ahead =
-    (place : ℕ) (way : Way) → place < most → slice_get (ways_at task spot) place ≡ Some way → can_take task run settled.used way.piece ≡ true → LiesAhead ahead way.piece.to
-
--- the way at a place leads to a stop that does not lie ahead
-abbrev pub LeadsNew : Task → ℕ → ℕ → List Bool → Type 0
-LeadsNew task spot place ahead =
-    (way : Way) → slice_get (ways_at task spot) place ≡ Some way → get_or ahead way.piece.to false ≡ false

@@ -62,6 +62,9 @@ impl Crossing {
     pub(crate) fn shared(&self, other: &Crossing) -> Option<usize>
         ensures { (border : ℕ) → result ≡ Some border → border < 279 }
     {
+        if self.set.is_apart_from(&other.set) {
+            return None;
+        }
         let mut rest = self.set.copy();
         rest.clear(&other.set);
         let mut shared = self.set.copy();

@@ -3,7 +3,7 @@
 ghost use Rattle.std.specs.Prelude.{◌≡◌, ℕ, ◌<◌, ◌≤◌, IsTrue, Some, false, get_or, length, set, true};
 ghost use Rattle.best_run.specs.Ahead.{IsWorth};
 ghost use Rattle.best_run.specs.Fit.{IsFit};
-ghost use Rattle.best_run.specs.Last.{CrossIt, EndsThere, HasWorth};
+ghost use Rattle.best_run.specs.Last.{CountsAsPassed, CrossIt, HasWorth, IsLast};
 ghost use Rattle.best_run.specs.Moves.{ends_in, node_at};
 ghost use Rattle.best_run.specs.Ways.{AreReady, ways_at};
 
@@ -53,25 +53,14 @@ impl Task {
         true
     }
 
-    /// Whether a run ends at a stop ahead, of which the place of the first way that leads on is known. It is not
-    /// told of all stops at which it ends: only of those from which none does.
-    pub(crate) fn is_end(
-        &self,
-        settled: &Settled,
-        run: &Standing,
-        spot: usize,
-        place: usize,
-    ) -> bool
-        requires fit { IsFit self.now }
+    /// Whether a run that comes to a stop ahead ends there, since all its ways that cross no used border cross the
+    /// one by which it comes. It is not told of all such stops, and of none to a run that visits no stops.
+    fn is_last(&self, settled: &Settled, run: &Standing, spot: usize) -> bool
         requires ready { AreReady self.now }
         requires spot { spot < 744 }
-        ensures ends { IsTrue result → EndsThere self.now settled.now run.now spot }
-        ensures passes { result ≡ false → ends_in (node_at self.now spot) ≡ false }
+        ensures { IsTrue result → (0 < run.now.most) × IsLast self.now settled.now.used spot }
     {
-        if self.spots[spot].ends {
-            return true;
-        }
-        if !self.mirrored || run.most == 0 || place < self.departures[spot].ways.len() {
+        if !self.mirrored || run.most == 0 {
             return false;
         }
         match self.exit(settled, spot) {
@@ -80,31 +69,53 @@ impl Task {
         }
     }
 
-    /// One stop more lies ahead, at which the run ends, or which it may pass.
+    /// One stop more lies ahead, which the run may pass, or at which all runs end.
     pub(crate) fn count(
         &self,
         settled: &Settled,
         run: &Standing,
         spot: usize,
-        ends: bool,
         outlook: &mut Outlook,
     )
         requires fit { IsFit self.now }
         requires spot { spot < 744 }
         requires free { get_or outlook.old.ahead spot false ≡ false }
-        requires ends { IsTrue ends → EndsThere self.now settled.now run.now spot }
-        requires passes { ends ≡ false → ends_in (node_at self.now spot) ≡ false }
         requires known { HasWorth self.now settled.now run.now outlook.old.ahead outlook.old.worth }
         ensures marked { outlook.new.ahead ≡ set outlook.old.ahead spot true }
         ensures known { HasWorth self.now settled.now run.now outlook.new.ahead outlook.new.worth }
+        ensures passed { ends_in (node_at self.now spot) ≡ false
+            → CountsAsPassed self.now settled.now run.now spot outlook.new.ahead outlook.new.worth }
     {
         let node = &self.spots[spot];
         outlook.ahead.is_whole();
         outlook.ahead.mark(spot);
-        if ends {
+        if node.ends {
             outlook.worth.end(node.value);
         } else {
             outlook.worth.pass(node.value);
+        }
+    }
+
+    /// A stop ahead that counts as one that may be passed counts as one at which the run ends, if it is last.
+    pub(crate) fn end_at(
+        &self,
+        settled: &Settled,
+        run: &Standing,
+        spot: usize,
+        outlook: &mut Outlook,
+    )
+        requires fit { IsFit self.now }
+        requires ready { AreReady self.now }
+        requires spot { spot < 744 }
+        requires lies { get_or outlook.old.ahead spot false ≡ true }
+        requires passed { CountsAsPassed self.now settled.now run.now spot outlook.old.ahead outlook.old.worth }
+        ensures same { outlook.new.ahead ≡ outlook.old.ahead }
+        ensures known { HasWorth self.now settled.now run.now outlook.new.ahead outlook.new.worth }
+    {
+        let node = &self.spots[spot];
+        if self.is_last(settled, run, spot) {
+            outlook.worth.take_back(node.value);
+            outlook.worth.end(node.value);
         }
     }
 }

@@ -2,7 +2,7 @@ ghost use Rattle.std.specs.Prelude.{◌≡◌, ◌+◌, ◌<◌, ◌≤◌, IsTr
 ghost use Rattle.best_run.specs.declared.task.Node.{Node};
 ghost use Rattle.best_run.specs.Ahead.{EndsAtMost, IsOutlook, IsWorth, WidensBack, WidensBy, WidensFrom, WidensPast, goes_back, goes_on, leads_on};
 ghost use Rattle.best_run.specs.Fit.{IsFit};
-ghost use Rattle.best_run.specs.Last.{EarnsAhead, HasWorth, LeadBelow, LeadsNew};
+ghost use Rattle.best_run.specs.Last.{EarnsAhead, HasWorth};
 ghost use Rattle.best_run.specs.Moves.{ends_in, node_at, stop_in};
 ghost use Rattle.best_run.specs.Suffix.{AreBounds};
 ghost use Rattle.best_run.specs.Ways.{AreReady, IsStop};
@@ -76,129 +76,41 @@ impl Task {
         !outlook.ahead.has(piece.to) && self.can_take(run, settled, piece)
     }
 
-    /// Whether a run may come by a piece from a stop to another one that does not lie ahead so far.
-    fn leads_off(
+    /// Adds to what lies ahead of a run what it may come to from a stop: whether there is anything.
+    #[cycle(look)]
+    fn look_from(
         &self,
         settled: &Settled,
         run: &Standing,
         spot: usize,
-        piece: &Piece,
-        outlook: &Outlook,
+        outlook: &mut Outlook,
     ) -> bool
         requires fit { IsFit self.now }
-        requires spot { spot < 744 }
-        requires to { piece.now.to < 744 }
-        requires stop { stop_in (node_at self.now piece.now.to) ≡ true }
-        ensures { let ahead = set outlook.now.ahead spot true in
-            result ≡ leads_on self.now settled.now run.now ahead piece.now }
-    {
-        outlook.ahead.is_whole();
-        piece.to != spot && self.leads_on(settled, run, piece, outlook)
-    }
-
-    /// The place of the first way by which a run may come from a stop to another one that does not lie ahead so
-    /// far; the number of ways where there is none, or no run passes the stop.
-    fn first_on(&self, settled: &Settled, run: &Standing, spot: usize, outlook: &Outlook) -> usize
-        requires fit { IsFit self.now }
         requires ready { AreReady self.now }
         requires spot { spot < 744 }
         requires stop { stop_in (node_at self.now spot) ≡ true }
-        ensures before { ends_in (node_at self.now spot) ≡ false
-            → LeadBelow self.now settled.now run.now spot result (set outlook.now.ahead spot true) }
-        ensures new { LeadsNew self.now spot result (set outlook.now.ahead spot true) }
-    {
-        let from = &self.departures[spot];
-        if self.spots[spot].ends {
-            return from.ways.len();
-        }
-        for index in 0..from.ways.len() {
-            let way = &from.ways[index];
-            if self.leads_off(settled, run, spot, &way.piece, outlook) {
-                return index;
-            }
-        }
-        from.ways.len()
-    }
-
-    /// Adds to what lies ahead of a run what it may come to from a stop, by the ways from a place on; by the
-    /// others it comes to nothing else.
-    #[cycle(look)]
-    fn look_rest(
-        &self,
-        settled: &Settled,
-        run: &Standing,
-        spot: usize,
-        place: usize,
-        outlook: &mut Outlook,
-    )
-        requires fit { IsFit self.now }
-        requires ready { AreReady self.now }
-        requires spot { spot < 744 }
-        requires stop { stop_in (node_at self.now spot) ≡ true }
-        requires before { LeadBelow self.now settled.now run.now spot place outlook.old.ahead }
         requires known { HasWorth self.now settled.now run.now outlook.old.ahead outlook.old.worth }
         ensures widens { WidensFrom self.now settled.now run.now spot outlook.old.ahead outlook.new.ahead }
         ensures known { HasWorth self.now settled.now run.now outlook.new.ahead outlook.new.worth }
+        ensures same { result ≡ false → outlook.new ≡ outlook.old }
     {
+        if self.spots[spot].ends {
+            return false;
+        }
         let from = &self.departures[spot];
-        for index in place..from.ways.len() {
+        let mut leads = false;
+        for index in 0..from.ways.len() {
             let way = &from.ways[index];
             if self.leads_on(settled, run, &way.piece, outlook) {
                 self.look_past(settled, run, way.piece.to, outlook);
+                leads = true;
             }
         }
+        leads
     }
 
-    /// Adds to what lies ahead of a run what it may come to from a stop.
-    fn look_from(&self, settled: &Settled, run: &Standing, spot: usize, outlook: &mut Outlook)
-        requires fit { IsFit self.now }
-        requires ready { AreReady self.now }
-        requires spot { spot < 744 }
-        requires stop { stop_in (node_at self.now spot) ≡ true }
-        requires known { HasWorth self.now settled.now run.now outlook.old.ahead outlook.old.worth }
-        ensures widens { WidensFrom self.now settled.now run.now spot outlook.old.ahead outlook.new.ahead }
-        ensures known { HasWorth self.now settled.now run.now outlook.new.ahead outlook.new.worth }
-    {
-        if !self.spots[spot].ends {
-            self.look_rest(settled, run, spot, 0, outlook);
-        }
-    }
-
-    /// Adds to what lies ahead of a run what it may come to from a stop, of which the first way that leads on is
-    /// known.
-    #[cycle(look)]
-    fn look_on(
-        &self,
-        settled: &Settled,
-        run: &Standing,
-        spot: usize,
-        place: usize,
-        outlook: &mut Outlook,
-    )
-        requires fit { IsFit self.now }
-        requires ready { AreReady self.now }
-        requires spot { spot < 744 }
-        requires stop { stop_in (node_at self.now spot) ≡ true }
-        requires before { ends_in (node_at self.now spot) ≡ false
-            → LeadBelow self.now settled.now run.now spot place outlook.old.ahead }
-        requires new { LeadsNew self.now spot place outlook.old.ahead }
-        requires known { HasWorth self.now settled.now run.now outlook.old.ahead outlook.old.worth }
-        ensures widens { WidensFrom self.now settled.now run.now spot outlook.old.ahead outlook.new.ahead }
-        ensures known { HasWorth self.now settled.now run.now outlook.new.ahead outlook.new.worth }
-    {
-        if self.spots[spot].ends {
-            return;
-        }
-        let from = &self.departures[spot];
-        if place >= from.ways.len() {
-            return;
-        }
-        let to = from.ways[place].piece.to;
-        self.look_past(settled, run, to, outlook);
-        self.look_rest(settled, run, spot, place + 1, outlook);
-    }
-
-    /// Adds to what lies ahead of a run a stop, and what it may come to from there.
+    /// Adds to what lies ahead of a run a stop, and what it may come to from there. Where that is nothing, the stop
+    /// may be last.
     #[cycle(look)]
     fn look_past(&self, settled: &Settled, run: &Standing, spot: usize, outlook: &mut Outlook)
         requires fit { IsFit self.now }
@@ -211,10 +123,13 @@ impl Task {
         ensures known { HasWorth self.now settled.now run.now outlook.new.ahead outlook.new.worth }
     {
         outlook.ahead.is_whole();
-        let place = self.first_on(settled, run, spot, outlook);
-        let ends = self.is_end(settled, run, spot, place);
-        self.count(settled, run, spot, ends, outlook);
-        self.look_on(settled, run, spot, place, outlook);
+        self.count(settled, run, spot, outlook);
+        if self.spots[spot].ends {
+            return;
+        }
+        if !self.look_from(settled, run, spot, outlook) {
+            self.end_at(settled, run, spot, outlook);
+        }
     }
 
     /// Adds to what lies ahead of a run what it may come to by a piece.

@@ -1,6 +1,6 @@
 //! What the stops ahead of a run are worth: those that it may pass, and those at which it ends.
 ghost use Rattle.std.specs.Prelude.{◌≡◌, ℕ, ◌+◌, ◌-◌, ◌<◌, ◌≤◌, get_or};
-ghost use Rattle.best_run.specs.Ahead.{HasPassed, HasRanked, at_level, ends_by, IsLeast};
+ghost use Rattle.best_run.specs.Ahead.{HasPassed, HasRanked, HasTakenBack, at_level, ends_by, IsLeast};
 
 use tables::Amount;
 
@@ -48,6 +48,17 @@ impl Worth {
     {
         for place in 0..self.levels {
             self.beyond[place] += value.saturating_sub(STEP * place as Amount);
+        }
+    }
+
+    /// Takes a stop away that may be passed.
+    pub(crate) fn take_back(&mut self, value: Amount)
+        requires { self.old.levels ≤ 9 }
+        ensures { HasTakenBack value self.old self.new }
+    {
+        for place in 0..self.levels {
+            let more = value.saturating_sub(STEP * place as Amount);
+            self.beyond[place] = self.beyond[place].saturating_sub(more);
         }
     }
 
