@@ -96,7 +96,9 @@ impl Task {
         }
     }
 
-    /// A stop ahead that counts as one that may be passed counts as one at which the run ends, if it is last.
+    /// A stop ahead that counts as one that may be passed counts as one at which the run ends, if it is last. (It is
+    /// kept out of line, so that the way to it stays short.)
+    #[inline(never)]
     pub(crate) fn end_at(
         &self,
         settled: &Settled,

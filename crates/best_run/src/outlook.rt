@@ -112,6 +112,7 @@ impl Task {
     /// Adds to what lies ahead of a run a stop, and what it may come to from there. Where that is nothing, the stop
     /// may be last.
     #[cycle(look)]
+    #[inline(always)]
     fn look_past(&self, settled: &Settled, run: &Standing, spot: usize, outlook: &mut Outlook)
         requires fit { IsFit self.now }
         requires ready { AreReady self.now }
