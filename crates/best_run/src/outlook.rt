@@ -177,27 +177,27 @@ impl Task {
         }
     }
 
-    /// What lies ahead of a run.
-    fn outlook(&self, settled: &Settled, run: &Standing) -> Outlook
+    /// Finds what lies ahead of a run, where nothing has been found yet.
+    fn look_ahead(&self, settled: &Settled, run: &Standing, outlook: &mut Outlook)
         requires fit { IsFit self.now }
         requires ready { AreReady self.now }
         requires head { run.now.head < 744 }
         requires stands { stop_in (node_at self.now run.now.head) ≡ true }
         requires home { run.now.home < 744 }
         requires begun { stop_in (node_at self.now run.now.home) ≡ true }
-        ensures outlook { IsOutlook self.now settled.now run.now result.ahead }
-        ensures known { HasWorth self.now settled.now run.now result.ahead result.worth }
+        requires nothing { outlook.old.ahead ≡ replicate 744 false }
+        requires known { (nodes : List Node) → IsWorth nodes (replicate 744 false) outlook.old.worth }
+        ensures outlook { IsOutlook self.now settled.now run.now outlook.new.ahead }
+        ensures known { HasWorth self.now settled.now run.now outlook.new.ahead outlook.new.worth }
         ensures borders { length settled.now.used ≡ 279 }
         ensures spots { length run.now.visited ≡ 744 }
     {
         settled.marks_all_borders();
         run.visited.is_whole();
-        let mut outlook = self.nothing_ahead(run.left);
-        self.look_from(settled, run, run.head, &mut outlook);
+        self.look_from(settled, run, run.head, outlook);
         if !run.turned {
-            self.look_back(settled, run, &mut outlook);
+            self.look_back(settled, run, outlook);
         }
-        outlook
     }
 
     /// Whether a run may go on from where it stands.
@@ -306,7 +306,8 @@ impl Task {
         if self.earns_too_much(settled, run) {
             return true;
         }
-        let outlook = self.outlook(settled, run);
+        let mut outlook = self.nothing_ahead(run.left);
+        self.look_ahead(settled, run, &mut outlook);
         self.earns_too_little(settled, run, &outlook, bounds, best)
     }
 }
