@@ -27,6 +27,7 @@ pub mod Runs
 pub mod Told
 pub mod Sound
 pub mod Greatest
+pub mod Copied
 pub mod Chained
 pub mod Laid
 pub mod Described

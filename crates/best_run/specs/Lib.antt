@@ -1,6 +1,7 @@
 pub mod Trail
 pub mod Marks
 pub mod Crossed
+pub mod Walked
 pub mod Pieces
 pub mod Moves
 pub mod Fit

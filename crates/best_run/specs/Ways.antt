@@ -76,6 +76,13 @@ pub record IsLonger (path : Path) (piece : Piece) (longer : Path) : Type 0 where
   pub first : longer.first ≡ path.first
   pub steps : longer.steps.items ≡ path.steps.items ++ piece.step ∷ []
 
+-- a way is made of a path and of one more piece, and crosses the borders of a set
+pub record IsWayBy (path : Path) (piece : Piece) (set : List Bool) (way : Way) : Type 0 where
+  pub first : way.first ≡ path.first
+  pub to : way.piece.to ≡ piece.to
+  pub borders : way.piece.borders.items ≡ numbers_in set
+  pub steps : way.steps.items ≡ path.steps.items ++ piece.step ∷ []
+
 -- no piece of a path yet
 pub record IsNoPath (path : Path) : Type 0 where
   pub steps : path.steps.items ≡ []

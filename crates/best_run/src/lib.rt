@@ -16,8 +16,8 @@
 //!
 //! Reading order: `revenue` (the public call), `answer`, `trains` (their order), `spots` (the spots of a position
 //! with the pieces of track between them), `ways` (from stop to stop), `task`, `bits` (marks of borders and
-//! spots, a bit each), `stretch` (a piece of track), `pieces` (those from all spots), `crossing` (the borders of a
-//! way, a set of them), `state` (the trains settled so far, and the run begun), `outlook` (what lies ahead of that
+//! spots, a bit each), `stretch` (a piece of track), `pieces` (those from all spots), `steps` (those of a
+//! way), `crossing` (its borders, a set of them), `state` (the trains settled so far, and the run begun), `outlook` (what lies ahead of that
 //! run) with `worth` (what that is worth), `last` (at which stops ahead it ends) and `mirror` (whether ways lead back
 //! over all ways), `trail` (the moves that earn what has been found), `explored` (what has been found, and what need
 //! not be explored again), `alike` (states between runs that are alike), `search`, `claimed` (the runs that a trail
@@ -39,6 +39,7 @@ mod runner;
 mod search;
 mod spots;
 mod state;
+mod steps;
 mod stretch;
 mod task;
 mod trail;

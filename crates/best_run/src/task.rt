@@ -2,6 +2,7 @@ ghost use Rattle.std.specs.Prelude.{◌≡◌};
 
 use crate::crossing::Crossing;
 use crate::pieces::Pieces;
+use crate::steps::Steps;
 use reach::Step;
 use tables::Amount;
 
@@ -19,10 +20,10 @@ pub(crate) struct Piece {
 /// A spot, to a company: an end of a hex.
 #[derive(Clone, Copy)]
 pub(crate) struct Node {
-    /// It is a stop.
-    pub(crate) stop: bool,
     /// What it is worth, in dollars.
     pub(crate) value: Amount,
+    /// It is a stop.
+    pub(crate) stop: bool,
     /// The company has a token there.
     pub(crate) own: bool,
     /// No run passes it: it is red, or full for the company.
@@ -35,7 +36,7 @@ pub(crate) struct Way {
     /// The place of its first piece among those that lead from the stop.
     pub(crate) first: usize,
     /// The steps of its pieces, in order.
-    pub(crate) steps: Vec<Step>,
+    pub(crate) steps: Steps,
     /// The stop to which it leads, and the borders that it crosses.
     pub(crate) piece: Piece,
 }
