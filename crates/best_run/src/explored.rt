@@ -6,8 +6,8 @@ ghost use Rattle.best_run.specs.Moves.{Traces};
 ghost use Rattle.best_run.specs.Trail.{go_along};
 
 use crate::state::Settled;
+use crate::steps::Steps;
 use crate::trail::{Mark, Trail};
-use reach::Step;
 use std::alloc::{AllocError, Global};
 use tables::Amount;
 
@@ -75,11 +75,11 @@ impl Found {
     }
 
     /// Tells of the steps that led on to what has been found, if it is more than before.
-    pub(crate) fn trace_steps(&mut self, before: Amount, steps: &[Step])
-        ensures { Traces before (go_along steps.now) self.old self.new }
+    pub(crate) fn trace_steps(&mut self, before: Amount, steps: &Steps)
+        ensures { Traces before (go_along steps.now.items) self.old self.new }
     {
         if self.amount > before {
-            self.trail.write_steps(steps);
+            self.trail.write_steps(steps.as_slice());
         }
     }
 

@@ -4,7 +4,6 @@ ghost use Rattle.std.specs.Prelude.{◌≡◌, ◌∷◌, ◌++◌, [], IfOk};
 use reach::Step;
 use std::alloc::{AllocError, Global};
 use std::marker::Model;
-use std::ops::DerefSlice;
 
 /// How many steps are few.
 const FEW: usize = 8;
@@ -53,7 +52,7 @@ impl Steps {
     }
 
     /// The steps, in order.
-    fn as_slice(&self) -> &[Step]
+    pub(crate) fn as_slice(&self) -> &[Step]
         ensures { result.now ≡ self.now.items }
     {
         if self.count == 0 {
@@ -61,17 +60,5 @@ impl Steps {
         } else {
             &self.few[..self.count]
         }
-    }
-}
-
-impl DerefSlice for Steps {
-    type Elem = Step;
-
-    ghost deref_gives = { λ steps slice. slice ≡ steps.items };
-
-    fn deref(&self) -> &[Step]
-        ensures value { result.now ≡ self.now.items }
-    {
-        self.as_slice()
     }
 }

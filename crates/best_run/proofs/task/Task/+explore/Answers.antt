@@ -7,9 +7,8 @@ use Rattle.best_run.specs.declared.state.Settled.{Settled}
 use Rattle.best_run.specs.declared.state.Standing.{Standing}
 use Rattle.best_run.specs.declared.task.Task.{Task}
 use Rattle.best_run.specs.declared.trail.Mark.TheVariants.{Pass, Turn, Settle}
-use Rattle.reach.specs.declared.walk.Step.{Step}
 use Rattle.best_run.specs.Trail.{go_along}
-use Rattle.best_run.specs.Moves.{Explores, Takes, Traces, begun, begun_by, between, can_take, ends_in, node_at, passed, settling, standing, stop_in, turned_back}
+use Rattle.best_run.specs.Moves.{Explores, Takes, begun, begun_by, between, can_take, ends_in, node_at, passed, settling, standing, stop_in, turned_back}
 use Rattle.best_run.specs.Ways.{AreWaysOf, StandsBefore, TriesWays}
 use Rattle.best_run.proofs.Likened.{low_alike, low_back}
 use Rattle.best_run.proofs.Along.{AnyWay, IsLater, begin_by_ways, go_by_ways, leads_begin, leads_go, leads_turn, turn_by_ways, way_fits, ways_more, ways_none, ways_skip}
@@ -49,7 +48,7 @@ begin_at-loop-index-preserved t c =
     (takes_from task (between settled) settled run way (go_along way.steps.items) c.loop-index.best c.take.new.best c.trace_steps.new.self
     (leads_begin task c.requires.fit settled c.marks_all_borders.ensures stop c.requires.begins c.requires.token c.requires.next ways are index way at)
     (subst (λ (r : Standing). Takes task settled r way.piece c.loop-index.best c.take.new.best) (c.by-run.ensures ∙ ap (λ (r : Standing). begun_by r way.first) c.begun-begun.ensures) c.take.ensures)
-    (subst (λ (steps : List Step). Traces c.loop-index.best.amount (go_along steps) c.take.new.best c.trace_steps.new.self) c.deref.ensures.value c.trace_steps.ensures))
+    c.trace_steps.ensures)
 
 pub begin_at-returns : goal.begin_at-returns
 begin_at-returns t c =
@@ -82,7 +81,7 @@ go_on-loop-index-preserved t c =
     (takes_from task (standing settled run) settled run way (go_along way.steps.items) c.loop-index.best c.take.new.best c.trace_steps.new.self
     (leads_go task c.requires.fit settled c.marks_all_borders.ensures run c.requires.stands (ap ends_in there ∙ c.if-head.false) ways are index way at)
     c.take.ensures
-    (subst (λ (steps : List Step). Traces c.loop-index.best.amount (go_along steps) c.take.new.best c.trace_steps.new.self) c.deref.ensures.value c.trace_steps.ensures))
+    c.trace_steps.ensures)
 
 pub go_on-returns : goal.go_on-returns
 go_on-returns t c =
@@ -321,7 +320,7 @@ turn_back-loop-index-preserved t c =
           (leads_turn task c.requires.fit settled c.marks_all_borders.ensures run c.requires.begun c.if-run.false c.requires.stands (ap ends_in there ∙ c.if-index.false) ways are index way at (omega arith))
           (subst (λ (r : Standing). Takes task settled r way.piece c.loop-index.best w.take.new.best) c.turned_back-back.ensures w.take.ensures)
           (traces_both c.loop-index.best.amount (go_along way.steps.items) (Turn ∷ []) w.take.new.best w.trace_steps.new.self w.trace.new.self
-          (subst (λ (steps : List Step). Traces c.loop-index.best.amount (go_along steps) w.take.new.best w.trace_steps.new.self) w.deref.ensures.value w.trace_steps.ensures)
+          w.trace_steps.ensures
           w.trace.ensures)))
       | turn_back-else-run-way w ↦
           subst Tried (sym w.best-is)
