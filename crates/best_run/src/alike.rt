@@ -50,7 +50,7 @@ impl Task {
     }
 
     /// A stop lies in reach.
-    fn hold(&self, stop: usize, reach: &mut Outlook)
+    fn hold(&self, settled: &Settled, stop: usize, reach: &mut Outlook)
         requires fit { IsFit self.now }
         requires spot { stop < 744 }
         requires known { IsWorth self.now.spots.items reach.old.ahead reach.old.worth }
@@ -59,7 +59,7 @@ impl Task {
     {
         reach.ahead.is_whole();
         if !reach.ahead.has(stop) {
-            self.add(stop, reach);
+            self.count(settled, &anywhere(), stop, reach);
         }
     }
 
@@ -78,7 +78,7 @@ impl Task {
         for place in 0..self.stops.len() {
             let stop = self.stops[place];
             if self.spots[stop].own {
-                self.hold(stop, &mut reach);
+                self.hold(settled, stop, &mut reach);
                 self.reach_from(settled, stop, &mut reach);
             }
         }

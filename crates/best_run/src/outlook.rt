@@ -47,25 +47,6 @@ impl Task {
         Outlook::nothing(if left >= self.stops.len() { 1 } else { LEVELS })
     }
 
-    /// One stop more lies ahead.
-    pub(crate) fn add(&self, spot: usize, outlook: &mut Outlook)
-        requires fit { IsFit self.now }
-        requires spot { spot < 744 }
-        requires free { get_or outlook.old.ahead spot false ≡ false }
-        requires known { IsWorth self.now.spots.items outlook.old.ahead outlook.old.worth }
-        ensures marked { outlook.new.ahead ≡ set outlook.old.ahead spot true }
-        ensures known { IsWorth self.now.spots.items outlook.new.ahead outlook.new.worth }
-    {
-        let node = &self.spots[spot];
-        outlook.ahead.is_whole();
-        outlook.ahead.mark(spot);
-        if node.ends {
-            outlook.worth.end(node.value);
-        } else {
-            outlook.worth.pass(node.value);
-        }
-    }
-
     /// Whether a run may come by a piece to a stop that does not lie ahead so far.
     fn leads_on(&self, settled: &Settled, run: &Standing, piece: &Piece, outlook: &Outlook) -> bool
         requires fit { IsFit self.now }
