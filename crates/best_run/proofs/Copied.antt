@@ -12,12 +12,12 @@ together [] others step = refl
 together (first ∷ steps) others step = ap (λ more. first ∷ more) (together steps others step)
 
 -- one more is copied
-pub copy_next : (first few : List Step) (place : ℕ) (last none : Step) → place < length first → place < 8 → few ≡ take place first ++ replicate (8 - place) last → set few place (get_or first place none) ≡ take (place + 1) first ++ replicate (8 - (place + 1)) last
+pub copy_next : (first few : List Step) (place : ℕ) (last none : Step) → place < length first → place < 4 → few ≡ take place first ++ replicate (4 - place) last → set few place (get_or first place none) ≡ take (place + 1) first ++ replicate (4 - (place + 1)) last
 copy_next first few place last none low fits before =
     let step : Step = get_or first place none in
-    let n : ℕ = 7 - place in
-    let some : 8 - place ≡ suc n = omega (arith, fits) in
-    let rest : n ≡ 8 - (place + 1) = omega (arith, fits) in
+    let n : ℕ = 3 - place in
+    let some : 4 - place ≡ suc n = omega (arith, fits) in
+    let rest : n ≡ 4 - (place + 1) = omega (arith, fits) in
     let long : length (take place first) ≡ place = length-take-le place first (omega (arith, low)) in
     let taken : take (place + 1) first ≡ take place first ++ step ∷ [] = take_more first place none low in
     ap (λ (steps : List Step). set steps place step) (before ∙ ap (λ (m : ℕ). take place first ++ replicate m last) some)
@@ -36,10 +36,10 @@ none_behind [] = refl
 none_behind (first ∷ steps) = ap (λ more. first ∷ more) (none_behind steps)
 
 -- all are copied
-pub copy_all : (first few others : List Step) (place count : ℕ) (last : Step) → length first ≤ place → place ≤ length first → place < 8 → count ≡ length first + 1 → others ≡ [] → few ≡ take place first ++ replicate (8 - place) last → take count few ++ others ≡ first ++ last ∷ []
+pub copy_all : (first few others : List Step) (place count : ℕ) (last : Step) → length first ≤ place → place ≤ length first → place < 4 → count ≡ length first + 1 → others ≡ [] → few ≡ take place first ++ replicate (4 - place) last → take count few ++ others ≡ first ++ last ∷ []
 copy_all first few others place count last all low fits counts none are =
-    let n : ℕ = 7 - place in
-    let some : 8 - place ≡ suc n = omega (arith, fits) in
+    let n : ℕ = 3 - place in
+    let some : 4 - place ≡ suc n = omega (arith, fits) in
     let one_more : count ≡ suc (length first) = omega (arith, counts) in
     let few_are : few ≡ first ++ replicate (suc n) last = are ∙ (ap (λ (m : ℕ). take place first ++ replicate m last) some ∙ ap (λ (steps : List Step). steps ++ replicate (suc n) last) (take_all place first all)) in
     ap (λ (steps : List Step). take count few ++ steps) none

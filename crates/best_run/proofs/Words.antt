@@ -1,5 +1,5 @@
 -- Marks as bits in words of 64: what setting a bit, and joining, taking away or comparing words comes to, mark by mark.
-use Rattle.std.proofs.Common.{◌≡◌, ◌↔◌, ℕ, zero, suc, ◌+◌, ◌-◌, ◌*◌, ◌/◌, ◌%◌, ◌^◌, ◌<◌, ◌≤◌, Bool, true, false, ◌⊎◌, inl, inr, List, [], ◌∷◌, length, get_or, set, replicate, refl, sym, ap, subst, ◌∙◌, arith, eq-eqb, eqb, eqb-true, get_or-set_same, get_or-set_other, length-set, w64}
+use Rattle.std.proofs.Common.{◌≡◌, ◌↔◌, ℕ, zero, suc, ◌+◌, ◌-◌, ◌*◌, ◌/◌, ◌%◌, ◌^◌, ◌<◌, ◌≤◌, Bool, true, false, ◌||◌, ◌⊎◌, inl, inr, List, [], ◌∷◌, length, get_or, set, replicate, refl, sym, ap, subst, ◌∙◌, arith, eq-eqb, eqb, eqb-true, get_or-set_same, get_or-set_other, length-set, w64}
 use Rattle.std.specs.Prelude.{bit_and, bit_or}
 use Rattle.std.specs.Int.{bit_at}
 use Rattle.std.proofs.lemmas.Bool.{cases_eq, cases_lt}
@@ -61,6 +61,37 @@ pub same_bool : (a b : Bool) → (a ≡ true → b ≡ true) → (b ≡ true →
 same_bool true b there back = sym (there refl)
 same_bool false true there back = back refl
 same_bool false false there back = refl
+
+left_true : (a b : Bool) → a ≡ true → (a || b) ≡ true
+left_true true b is = refl
+left_true false b is = absurd cc
+
+right_true : (a b : Bool) → b ≡ true → (a || b) ≡ true
+right_true true b is = refl
+right_true false b is = is
+
+either_true : (a b : Bool) → (a || b) ≡ true → (a ≡ true) ⊎ (b ≡ true)
+either_true true b is = inl refl
+either_true false b is = inr is
+
+-- the test of a bit in either of two words
+either_bit : (a b i : ℕ) → eqb (bit_at (bit_or a b) i) 1 ≡ (eqb (bit_at a i) 1 || eqb (bit_at b i) 1)
+either_bit a b i =
+    same_bool (eqb (bit_at (bit_or a b) i) 1) (eqb (bit_at a i) 1 || eqb (bit_at b i) 1)
+    (λ told. let is = eqb-true (bit_at (bit_or a b) i) 1 told in
+    elim (cases_eq (bit_at a i) 1) [
+      | inl one ↦ left_true (eqb (bit_at a i) 1) (eqb (bit_at b i) 1) (eq-eqb (bit_at a i) 1 one)
+      | inr other ↦ right_true (eqb (bit_at a i) 1) (eqb (bit_at b i) 1) (eq-eqb (bit_at b i) 1 (omega (arith, is, other, bit_at_or a b i, bit_at-lt a i)))
+    ])
+    (λ told. eq-eqb (bit_at (bit_or a b) i) 1 (elim (either_true (eqb (bit_at a i) 1) (eqb (bit_at b i) 1) told) [
+      | inl one ↦ omega (arith, eqb-true (bit_at a i) 1 one, bit_at_or a b i, bit_at-lt b i)
+      | inr two ↦ omega (arith, eqb-true (bit_at b i) 1 two, bit_at_or a b i, bit_at-lt a i)
+    ]))
+
+pub either_is : (words others : List ℕ) (n : ℕ) → eqb (bit_and (bit_or (get_or words (n / 64) 0) (get_or others (n / 64) 0) / 2 ^ (n % 64)) 1) 1 ≡ (mark_at words n || mark_at others n)
+unfolding mark_at
+either_is words others n =
+    rw shr_and_one (either_bit (get_or words (n / 64) 0) (get_or others (n / 64) 0) (n % 64))
 
 -- two lists with the same marks are the same
 pub same_marks : (marks others : List Bool) → length marks ≡ length others → ((n : ℕ) → IsMarked marks n ↔ IsMarked others n) → marks ≡ others

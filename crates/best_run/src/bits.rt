@@ -1,5 +1,5 @@
 //! Marks of the borders and of the spots of the map, a bit each.
-ghost use Rattle.std.specs.Prelude.{◌≡◌, ℕ, ◌-◌, ◌<◌, IsTrue, Some, true, false, get_or, length, set, replicate};
+ghost use Rattle.std.specs.Prelude.{◌≡◌, ℕ, ◌-◌, ◌<◌, ◌||◌, IsTrue, Some, true, false, get_or, length, set, replicate};
 ghost use Rattle.std.specs.Int.{bit_at};
 ghost use Rattle.best_run.specs.Kept.{Freer};
 ghost use Rattle.best_run.specs.Marks.{AreApart, AreBoth, AreOnly};
@@ -211,6 +211,15 @@ impl Spots {
         ensures { result ≡ get_or self.now spot false }
     {
         self.words[spot / BITS] >> (spot % BITS) & 1 == 1
+    }
+
+    /// Whether a spot is marked here or in others.
+    pub(crate) fn either_has(&self, other: &Spots, spot: usize) -> bool
+        requires { spot < 744 }
+        ensures { result ≡ get_or self.now spot false || get_or other.now spot false }
+    {
+        let word = self.words[spot / BITS] | other.words[spot / BITS];
+        word >> (spot % BITS) & 1 == 1
     }
 
     /// Marks a spot.

@@ -54,7 +54,9 @@ impl Task {
         requires stop { stop_in (node_at self.now piece.now.to) ≡ true }
         ensures { result ≡ leads_on self.now settled.now run.now outlook.now.ahead piece.now }
     {
-        !outlook.ahead.has(piece.to) && self.can_take(run, settled, piece)
+        !outlook.ahead.either_has(&run.visited, piece.to)
+            && run.left > 0
+            && piece.borders.misses(&settled.used)
     }
 
     /// Adds to what lies ahead of a run what it may come to from a stop: whether there is anything.

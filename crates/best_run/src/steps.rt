@@ -6,7 +6,7 @@ use std::alloc::{AllocError, Global};
 use std::marker::Model;
 
 /// How many steps are few.
-const FEW: usize = 8;
+const FEW: usize = 4;
 
 /// Some steps, in order. They are the first ones of the few, or, where these are none, the others.
 #[derive(Drop)]
@@ -25,7 +25,7 @@ impl Model for Steps {
 
     ghost view = { λ steps. record { items = take steps.count steps.few ++ steps.others.items } };
 
-    ghost invariant = { λ steps. (steps.count ≤ 8) × (0 < steps.count → steps.others.items ≡ []) };
+    ghost invariant = { λ steps. (steps.count ≤ 4) × (0 < steps.count → steps.others.items ≡ []) };
 }
 
 impl Steps {

@@ -3,4 +3,4 @@ use Rattle.std.proofs.Common.{◌≡◌, ◌++◌, ◌-◌, replicate, take}
 use Rattle.best_run.proofs.steps.Steps.of.Given as goal
 
 abbrev pub invariant-loop-place : goal.invariant-loop-place
-invariant-loop-place l = l.few ≡ take l.place l.first ++ replicate (8 - l.place) l.fn.last
+invariant-loop-place l = l.few ≡ take l.place l.first ++ replicate (4 - l.place) l.fn.last
