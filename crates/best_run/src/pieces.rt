@@ -11,9 +11,6 @@ use std::marker::Model;
 /// How many pieces there is room for at first.
 const ROOM: usize = 256;
 
-/// How many pieces the table may have: their places are kept in 32 bits.
-const MOST: usize = u32::MAX as usize;
-
 /// A piece that leads from a spot.
 #[derive(Drop)]
 pub(crate) struct Entry {
@@ -31,9 +28,9 @@ pub(crate) struct Entry {
 #[derive(Clone, Copy)]
 pub(crate) struct Tail {
     /// How many pieces.
-    pub(crate) count: u32,
+    pub(crate) count: usize,
     /// The place in the table of the last of them, if there is one.
-    pub(crate) last: u32,
+    pub(crate) last: usize,
 }
 
 /// The pieces from all spots. The contracts see the table, in order.
@@ -68,26 +65,22 @@ impl Pieces {
         Ok(Pieces { entries, tails })
     }
 
-    /// Adds a piece behind those that lead from a spot. The only error is want of memory; a table that
-    /// has no place left counts as that.
+    /// Adds a piece behind those that lead from a spot. The only error is want of memory.
     pub(crate) fn add(&mut self, from: usize, piece: Stretch) -> Result<(), AllocError>
         requires { from < 744 }
         ensures { OnOk result (AddsPiece from piece self.old self.new) }
     {
         let tail = self.tails[from];
         let last = self.entries.len();
-        if last >= MOST {
-            return Err(AllocError);
-        }
         self.entries.push(Entry {
             from,
-            place: tail.count as usize,
-            before: tail.last as usize,
+            place: tail.count,
+            before: tail.last,
             piece,
         })?;
         self.tails[from] = Tail {
             count: tail.count + 1,
-            last: last as u32,
+            last,
         };
         Ok(())
     }
@@ -97,7 +90,7 @@ impl Pieces {
         requires { spot < 744 }
         ensures { result ≡ length (pieces_from spot self.now) }
     {
-        self.tails[spot].count as usize
+        self.tails[spot].count
     }
 
     /// The piece that leads from a spot at a place among those from there.
@@ -107,8 +100,8 @@ impl Pieces {
         ensures { slice_get (pieces_from spot self.now) place ≡ Some result.now }
     {
         let tail = self.tails[spot];
-        let mut entry = tail.last as usize;
-        for next in place + 1..tail.count as usize {
+        let mut entry = tail.last;
+        for next in place + 1..tail.count {
             entry = self.entries[entry].before;
         }
         &self.entries[entry].piece
