@@ -23,7 +23,13 @@ pub freer_none : (used : List Bool) → Freer used (replicate (length used) fals
 freer_none [] = tt
 freer_none (mark ∷ used) = ((λ wrong. absurd (let w : false ≡ true = wrong in cc)), freer_none used)
 
-freer_set : (used others : List Bool) (n : ℕ) → Freer used others → Freer (set used n true) (set others n true)
+pub freer_length : (marks used : List Bool) → Freer marks used → length marks ≡ length used
+freer_length [] [] freer = refl
+freer_length [] (other ∷ used) freer = absurd freer
+freer_length (mark ∷ marks) [] freer = absurd freer
+freer_length (mark ∷ marks) (other ∷ used) freer = ap suc (freer_length marks used freer.1)
+
+pub freer_set : (used others : List Bool) (n : ℕ) → Freer used others → Freer (set used n true) (set others n true)
 freer_set [] [] n freer = tt
 freer_set [] (mark ∷ others) n freer = absurd freer
 freer_set (mark ∷ used) [] n freer = absurd freer
@@ -52,11 +58,11 @@ freer_take task run used others piece freer =
     (λ free. free_misses others piece.borders.items (λ border among marked. misses_free used piece.borders.items free border among (freer_marked used others border freer marked)))
 
 -- there is no cap, or one that is no lower, for trains of the same kind
-abbrev Looser : ℕ → ℕ → ℕ → ℕ → Type 0
+abbrev pub Looser : ℕ → ℕ → ℕ → ℕ → Type 0
 Looser before low kind cap = (kind ≡ 0) ⊎ ((before ≡ kind) × (low ≤ cap))
 
 -- the same trains are settled, with another cap, other earnings and other marks
-abbrev eased : ℕ → ℕ → Settled → ℕ → List Bool → Settled
+abbrev pub eased : ℕ → ℕ → Settled → ℕ → List Bool → Settled
 eased kind cap settled total used =
     record { next = settled.next; total = total; kind = kind; cap = cap; used = used }
 

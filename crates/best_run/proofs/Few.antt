@@ -50,7 +50,7 @@ few_crossed steps distinct =
 -- at most as many as the train may
 by_most : (most : Option ℕ) (count : ℕ) → AreAtMost most count → count ≤ 280 → count ≤ most_of most
 by_most (Some most) count at_most few = at_most
-by_most None count at_most few = few
+by_most None count at_most few = omega (arith, few)
 
 pub few_stops : (position : Position) → IsLawful position → (kind : Kind) (steps : List Step) → IsWalk position steps → AreDistinct (crossed steps) → AreAtMost (stops_of kind) (length (visited steps)) → length (visited steps) ≤ most_of (stops_of kind)
 few_stops position lawful kind steps walk distinct at_most =

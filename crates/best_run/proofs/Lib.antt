@@ -17,6 +17,7 @@ pub mod Backwards
 pub mod Advance
 pub mod Complete
 pub mod Few
+pub mod Freed
 pub mod Split
 pub mod Arms
 pub mod Chunks

@@ -1,10 +1,11 @@
--- Ways to the end from a state between runs are ways to the end from one that is alike: no run to come crosses a border in
--- which they differ.
-use Rattle.std.proofs.Common.{◌≡◌, ℕ, zero, suc, ◌+◌, ◌<◌, ◌≤◌, Bool, true, false, not, ◌&&◌, ◌||◌, ◌⊎◌, inl, inr, Option, Some, None, List, [], ◌∷◌, length, get_or, set, slice_get, replicate, refl, sym, ap, subst, ◌∙◌, arith, get_or-set_same}
+-- Ways to the end from a state are ways to the end from one that is alike: neither the run begun nor one to come crosses a
+-- border in which they differ.
+use Rattle.std.proofs.Common.{◌≡◌, ℕ, zero, suc, ◌+◌, ◌<◌, ◌≤◌, Bool, true, false, not, ◌&&◌, ◌||◌, nat_lt, ◌⊎◌, inl, inr, Option, Some, None, List, [], ◌∷◌, length, get_or, set, slice_get, replicate, refl, sym, ap, subst, ◌∙◌, arith, get_or-set_same, length-set}
 use Rattle.std.proofs.lemmas.Option.{slice_get_within}
 use Rattle.reach.proofs.Collected.{none_marked}
 use Rattle.reach.proofs.Marking.{set_cases, set_keeps}
 use Rattle.reach.specs.Position.{IsAmong}
+use Rattle.best_run.specs.declared.stage.Stage.{Stage}
 use Rattle.best_run.specs.declared.state.Settled.{Settled}
 use Rattle.best_run.specs.declared.state.Standing.{Standing}
 use Rattle.best_run.specs.declared.task.Departures.{Departures}
@@ -13,10 +14,10 @@ use Rattle.best_run.specs.declared.task.Piece.{Piece}
 use Rattle.best_run.specs.declared.task.Task.{Task}
 use Rattle.best_run.specs.declared.task.Way.{Way}
 use Rattle.best_run.specs.Ahead.{LiesAhead, WidensBelow}
-use Rattle.best_run.specs.Alike.{AllLead, AreHeld, AreOpen, AreOpenBelow, Holds, IsAlike, IsInReach, IsShut, IsShutBelow, Opens, ReachesBelow, SetsOut, WidensTo, anywhere, cleared_all, sets_out}
+use Rattle.best_run.specs.Alike.{AllLead, AreHeld, AreOpen, AreOpenBelow, Holds, IsAlike, IsInReach, IsRunAlike, IsShut, IsShutBelow, MayGoOn, Opens, ReachesBelow, ReachesPast, SetsOut, WidensTo, anywhere, cleared_all, sets_out}
 use Rattle.best_run.specs.Fit.{BordersFit, IsFit, PieceFits}
 use Rattle.best_run.specs.Kept.{Freer}
-use Rattle.best_run.specs.Moves.{Completes, EarnsAtMost, LeadsFrom, Move, State, along, begin, begun, between, can_take, ends_in, go, marked_all, may_come, misses, node_at, own_in, pass, passed, settle, settling, standing, stop_in, total_after, turn, turned_back, using}
+use Rattle.best_run.specs.Moves.{Completes, LeadsFrom, LeadsToAtMost, Move, State, along, begin, begun, between, can_take, ends_in, go, marked_all, marked_if, may_come, misses, node_at, own_before, own_in, pass, passed, settle, settling, standing, state_at, state_by, stop_in, total_after, turn, turned_back, using}
 use Rattle.best_run.specs.Ways.{AreReady, AreWaysOf, IsListed, IsStop, ways_at, ways_in}
 use Rattle.best_run.specs.Marks.{IsMarked}
 use Rattle.best_run.proofs.Advance.{free_misses, marks_more, misses_free}
@@ -24,7 +25,11 @@ use Rattle.best_run.proofs.Ahead.{falsely}
 use Rattle.best_run.proofs.Along.{ByPieces, ByWay, by_pieces, by_way, way_fits}
 use Rattle.best_run.proofs.Departing.{none_at}
 use Rattle.best_run.proofs.Described.{among_place}
-use Rattle.best_run.proofs.Eased.{Eased, ease}
+use Rattle.best_run.proofs.Eased.{Eased, ease, freer_length}
+use Rattle.best_run.proofs.Freed.{Freed, Frees, free}
+use Rattle.best_run.proofs.Hopeless.{mark_length}
+use Rattle.best_run.proofs.Split.{own_length}
+use Rattle.best_run.proofs.Words.{freer_from}
 use Rattle.best_run.proofs.Marks.{length_marked}
 use Rattle.best_run.proofs.Places.{below_next}
 
@@ -202,12 +207,6 @@ pub freer_full : (used : List Bool) → Freer (replicate (length used) true) use
 freer_full [] = tt
 freer_full (mark ∷ used) = ((λ is. refl), freer_full used)
 
-freer_length : (marks used : List Bool) → Freer marks used → length marks ≡ length used
-freer_length [] [] freer = refl
-freer_length [] (other ∷ used) freer = absurd freer
-freer_length (mark ∷ marks) [] freer = absurd freer
-freer_length (mark ∷ marks) (other ∷ used) freer = ap suc (freer_length marks used freer.1)
-
 -- no way is open yet, one more is, one is not since a border of it is used, and all are
 pub opens_none : (used shut : List Bool) → Opens used shut shut
 opens_none used shut = record { fewer = λ borders free. free; kept = λ freer. freer }
@@ -301,9 +300,12 @@ shut_same task used reach place stop shut is at none before =
 abbrev with_used : Settled → List Bool → Settled
 with_used settled used = record settled { used = used }
 
-abbrev state_with : State → List Bool → State
-state_with (between settled) used = between (with_used settled used)
-state_with (standing settled run) used = standing (with_used settled used) run
+abbrev with_marks : Standing → List Bool → Standing
+with_marks run marks = record run { visited = marks }
+
+abbrev state_with : State → List Bool → List Bool → State
+state_with (between settled) used marks = between (with_used settled used)
+state_with (standing settled run) used marks = standing (with_used settled used) (with_marks run marks)
 
 module _ (task : Task) (fit : IsFit task) (ready : AreReady task) (first reach shut : List Bool) (reaches : IsInReach task first reach) (shuts : IsShut task first reach shut) where
   -- borders that are used since then are used in both
@@ -328,17 +330,23 @@ module _ (task : Task) (fit : IsFit task) (ready : AreReady task) (first reach s
         other_whole = length_marked others borders ∙ shares.other_whole;
       }
 
+  -- what is marked of the stops in reach is visited
+  abbrev Sees : Standing → List Bool → Type 0
+  Sees run marks = (spot : ℕ) → LiesAhead reach spot → IsMarked marks spot → IsMarked run.visited spot
+
   -- a run that goes on
-  record Goes (settled : Settled) (run : Standing) (others : List Bool) : Type 0 where
+  record Goes (settled : Settled) (run : Standing) (others marks : List Bool) : Type 0 where
     pub shares : Shares settled.used others
+    pub sees : Sees run marks
+    pub spots : length run.visited ≡ 744
     pub stands : IsStop task run.head
     pub begins : IsStop task run.home
     pub head : ends_in (node_at task run.head) ≡ false → SetsOut task reach run.head
-    pub home : SetsOut task reach run.home
+    pub home : ends_in (node_at task run.home) ≡ false → SetsOut task reach run.home
 
-  abbrev GoesOn : State → List Bool → Type 0
-  GoesOn (between settled) others = Shares settled.used others
-  GoesOn (standing settled run) others = Goes settled run others
+  abbrev GoesOn : State → List Bool → List Bool → Type 0
+  GoesOn (between settled) others marks = Shares settled.used others
+  GoesOn (standing settled run) others marks = Goes settled run others marks
 
   ways_of : (stop : ℕ) → IsStop task stop → AreWaysOf task stop (ways_at task stop)
   ways_of stop is = by_from (slice_get task.departures.items stop) refl
@@ -355,14 +363,28 @@ module _ (task : Task) (fit : IsFit task) (ready : AreReady task) (first reach s
       by_node (Some node) at is = omega (arith, fit.all, slice_get_within task.spots.items spot node at)
 
   -- the next way
-  record Takes_it (others : List Bool) (run : Standing) (way : Way) : Type 0 where
-    pub can : can_take task run others way.piece ≡ true
+  record Takes_it (others marks : List Bool) (run : Standing) (way : Way) : Type 0 where
+    pub can : can_take task (with_marks run marks) others way.piece ≡ true
     pub lies : LiesAhead reach way.piece.to
     pub fits : PieceFits task false way.piece
     pub stop : IsStop task way.piece.to
 
-  takes_it : (used others : List Bool) → Shares used others → (spot : ℕ) → IsStop task spot → SetsOut task reach spot → (place : ℕ) (way : Way) → slice_get (ways_at task spot) place ≡ Some way → (run : Standing) → can_take task run used way.piece ≡ true → Takes_it others run way
-  takes_it used others shares spot is out place way at run can =
+  comes : (run : Standing) (marks : List Bool) (spot : ℕ) → LiesAhead reach spot → Sees run marks → (stop : Bool) → may_come stop run spot ≡ true → may_come stop (with_marks run marks) spot ≡ true
+  comes run marks spot lies sees false came = refl
+  comes run marks spot lies sees true came =
+      both_are (nat_lt 0 run.left) (not (get_or marks spot false)) (both_first (nat_lt 0 run.left) (not (get_or run.visited spot false)) came)
+      (unmarked (get_or marks spot false) refl)
+    where
+      not_both : (b : Bool) → b ≡ true → not b ≡ true → ⊥
+      not_both true is none = let wrong : false ≡ true = none in cc
+      not_both false is none = let wrong : false ≡ true = is in cc
+
+      unmarked : (b : Bool) → get_or marks spot false ≡ b → not b ≡ true
+      unmarked true is = absurd (not_both (get_or run.visited spot false) (sees spot lies is) (both_second (nat_lt 0 run.left) (not (get_or run.visited spot false)) came))
+      unmarked false is = refl
+
+  takes_it : (used others : List Bool) → Shares used others → (spot : ℕ) → IsStop task spot → SetsOut task reach spot → (place : ℕ) (way : Way) → slice_get (ways_at task spot) place ≡ Some way → (run : Standing) (marks : List Bool) → Sees run marks → can_take task run used way.piece ≡ true → Takes_it others marks run way
+  takes_it used others shares spot is out place way at run marks sees can =
       let borders = way.piece.borders.items in
       let come = both_first (may_come (stop_in (node_at task way.piece.to)) run way.piece.to) (misses used borders) can in
       let free : misses used borders ≡ true = both_second (may_come (stop_in (node_at task way.piece.to)) run way.piece.to) (misses used borders) can in
@@ -370,7 +392,7 @@ module _ (task : Task) (fit : IsFit task) (ready : AreReady task) (first reach s
       let open_way : misses shut borders ≡ true = shuts.open_ways spot is out place way at before in
       let fits = way_fits task fit spot (ways_at task spot) (ways_of spot is) is.1 way (among_place (ways_at task spot) place way at) in
       record {
-        can = both_are (may_come (stop_in (node_at task way.piece.to)) run way.piece.to) (misses others borders) come
+        can = both_are (may_come (stop_in (node_at task way.piece.to)) (with_marks run marks) way.piece.to) (misses others borders) (comes run marks way.piece.to (reaches spot is out place way at before) sees (stop_in (node_at task way.piece.to)) come)
             (free_misses others borders (λ border among marked. elim (shares.either border marked) [
               | inl used_it ↦ misses_free used borders free border among used_it
               | inr shut_it ↦ misses_free shut borders open_way border among shut_it
@@ -380,10 +402,20 @@ module _ (task : Task) (fit : IsFit task) (ready : AreReady task) (first reach s
         stop = (fits.0.to, fits.1);
       }
 
-  goes_next : (settled : Settled) (run : Standing) (others : List Bool) → Shares settled.used others → IsStop task run.home → SetsOut task reach run.home → (way : Way) → Takes_it others run way → Goes (using settled way.piece) (along task run way.piece) (marked_all others way.piece.borders.items)
-  goes_next settled run others shares begins home way takes =
+  sees_next : (stop : Bool) (visited marks : List Bool) (to : ℕ) → to < length visited → ((spot : ℕ) → LiesAhead reach spot → IsMarked marks spot → IsMarked visited spot) → (spot : ℕ) → LiesAhead reach spot → IsMarked (marked_if stop marks to) spot → IsMarked (marked_if stop visited to) spot
+  sees_next true visited marks to low sees spot lies is =
+      elim (set_cases marks to spot is) [
+        | inl same ↦ subst (IsMarked (set visited to true)) same (get_or-set_same visited to true false low)
+        | inr was ↦ set_keeps visited to spot low (sees spot lies was)
+      ]
+  sees_next false visited marks to low sees spot lies is = sees spot lies is
+
+  goes_next : (settled : Settled) (run : Standing) (others marks : List Bool) → Shares settled.used others → Sees run marks → length run.visited ≡ 744 → IsStop task run.home → (ends_in (node_at task run.home) ≡ false → SetsOut task reach run.home) → (way : Way) → Takes_it others marks run way → Goes (using settled way.piece) (along task run way.piece) (marked_all others way.piece.borders.items) (marked_if (stop_in (node_at task way.piece.to)) marks way.piece.to)
+  goes_next settled run others marks shares sees spots begins home way takes =
       record {
         shares = shares_more settled.used others way.piece.borders.items takes.fits.borders shares;
+        sees = sees_next (stop_in (node_at task way.piece.to)) run.visited marks way.piece.to (omega (arith, spots, takes.fits.to)) sees;
+        spots = mark_length (stop_in (node_at task way.piece.to)) run.visited way.piece.to ∙ spots;
         stands = takes.stop;
         begins = begins;
         head = λ passes. inr (takes.lies, passes);
@@ -396,76 +428,152 @@ module _ (task : Task) (fit : IsFit task) (ready : AreReady task) (first reach s
     pub completes : Completes task state moves
     pub same : total_after task state moves ≡ total
 
-  move_by : (fuel : ℕ) (moves : List Move) → length moves ≤ fuel → (state : State) (others : List Bool) → GoesOn state others → Completes task state moves → Moved (state_with state others) (total_after task state moves)
-  move_by fuel [] enough (between settled) others goes completes = record { moves = []; completes = completes; same = refl }
-  move_by fuel [] enough (standing settled run) others goes completes = absurd completes
-  move_by zero (move ∷ moves) enough state others goes completes = absurd (omega (arith, enough))
-  move_by (suc fuel) (pass ∷ moves) enough (between settled) others goes completes =
-      let rest : Moved (between (with_used (passed settled) others)) (total_after task (between (passed settled)) moves) = move_by fuel moves (omega (arith, enough)) (between (passed settled)) others goes completes.1 in
+  move_by : (fuel : ℕ) (moves : List Move) → length moves ≤ fuel → (state : State) (others marks : List Bool) → GoesOn state others marks → Completes task state moves → Moved (state_with state others marks) (total_after task state moves)
+  move_by fuel [] enough (between settled) others marks goes completes = record { moves = []; completes = completes; same = refl }
+  move_by fuel [] enough (standing settled run) others marks goes completes = absurd completes
+  move_by zero (move ∷ moves) enough state others marks goes completes = absurd (omega (arith, enough))
+  move_by (suc fuel) (pass ∷ moves) enough (between settled) others marks goes completes =
+      let rest : Moved (between (with_used (passed settled) others)) (total_after task (between (passed settled)) moves) = move_by fuel moves (omega (arith, enough)) (between (passed settled)) others marks goes completes.1 in
       record { moves = pass ∷ rest.moves; completes = (completes.0, rest.completes); same = rest.same }
-  move_by (suc fuel) (pass ∷ moves) enough (standing settled run) others goes completes = absurd completes.0
-  move_by (suc fuel) (begin stop index piece ∷ moves) enough (between settled) others goes completes =
+  move_by (suc fuel) (pass ∷ moves) enough (standing settled run) others marks goes completes = absurd completes.0
+  move_by (suc fuel) (begin stop index piece ∷ moves) enough (between settled) others marks goes completes =
       let may = completes.0 in
       let is : IsStop task stop = is_stop stop may.begins in
       let run = begun task settled stop index in
       let by : ByWay task fit stop may.begins (ways_at task stop) (ways_of stop is) settled run index piece moves = by_way task fit stop may.begins (ways_at task stop) (ways_of stop is) settled run goes.whole index piece moves may.leads may.taken completes.1 in
-      let takes : Takes_it others run by.way = takes_it settled.used others goes stop is (inl may.token) by.place_of by.way by.stands run by.can in
-      let rest : Moved (standing (using (with_used settled others) by.way.piece) (along task run by.way.piece)) (total_after task (standing (using settled by.way.piece) (along task run by.way.piece)) by.later) = move_by fuel by.later (omega (arith, by.shorter, enough)) (standing (using settled by.way.piece) (along task run by.way.piece)) (marked_all others by.way.piece.borders.items) (goes_next settled run others goes is (inl may.token) by.way takes) by.completes in
-      let back : ByPieces task fit stop may.begins (ways_at task stop) (ways_of stop is) (with_used settled others) run by.way rest.moves = by_pieces task fit stop may.begins (ways_at task stop) (ways_of stop is) (with_used settled others) run by.way (among_place (ways_at task stop) by.place_of by.way by.stands) takes.can rest.moves rest.completes in
+      let marks = run.visited in
+      let spots : length marks ≡ 744 = length-set (own_before task stop) stop true ∙ own_length task stop in
+      let takes : Takes_it others marks run by.way = takes_it settled.used others goes stop is (inl may.token) by.place_of by.way by.stands run marks (λ spot lies was. was) by.can in
+      let rest : Moved (standing (using (with_used settled others) by.way.piece) (along task (with_marks run marks) by.way.piece)) (total_after task (standing (using settled by.way.piece) (along task run by.way.piece)) by.later) = move_by fuel by.later (omega (arith, by.shorter, enough)) (standing (using settled by.way.piece) (along task run by.way.piece)) (marked_all others by.way.piece.borders.items) (marked_if (stop_in (node_at task by.way.piece.to)) marks by.way.piece.to) (goes_next settled run others marks goes (λ spot lies was. was) spots is (λ passes. inl may.token) by.way takes) by.completes in
+      let back : ByPieces task fit stop may.begins (ways_at task stop) (ways_of stop is) (with_used settled others) (with_marks run marks) by.way rest.moves = by_pieces task fit stop may.begins (ways_at task stop) (ways_of stop is) (with_used settled others) (with_marks run marks) by.way (among_place (ways_at task stop) by.place_of by.way by.stands) takes.can rest.moves rest.completes in
       record {
         moves = begin stop index back.piece ∷ back.moves;
         completes = (record { train = may.train; begins = may.begins; token = may.token; leads = subst (λ (n : ℕ). LeadsFrom task stop n back.piece) by.first back.leads; taken = back.can }, back.completes);
         same = back.total ∙ (rest.same ∙ sym by.total);
       }
-  move_by (suc fuel) (begin stop index piece ∷ moves) enough (standing settled run) others goes completes = absurd completes.0
-  move_by (suc fuel) (go index piece ∷ moves) enough (between settled) others goes completes = absurd completes.0
-  move_by (suc fuel) (go index piece ∷ moves) enough (standing settled run) others goes completes =
+  move_by (suc fuel) (begin stop index piece ∷ moves) enough (standing settled run) others marks goes completes = absurd completes.0
+  move_by (suc fuel) (go index piece ∷ moves) enough (between settled) others marks goes completes = absurd completes.0
+  move_by (suc fuel) (go index piece ∷ moves) enough (standing settled run) others marks goes completes =
       let may = completes.0 in
       let stop = run.head in
       let is : IsStop task stop = goes.stands in
       let by : ByWay task fit stop is.1 (ways_at task stop) (ways_of stop is) settled run index piece moves = by_way task fit stop is.1 (ways_at task stop) (ways_of stop is) settled run goes.shares.whole index piece moves may.leads may.taken completes.1 in
-      let takes : Takes_it others run by.way = takes_it settled.used others goes.shares stop is (goes.head may.passes) by.place_of by.way by.stands run by.can in
-      let rest : Moved (standing (using (with_used settled others) by.way.piece) (along task run by.way.piece)) (total_after task (standing (using settled by.way.piece) (along task run by.way.piece)) by.later) = move_by fuel by.later (omega (arith, by.shorter, enough)) (standing (using settled by.way.piece) (along task run by.way.piece)) (marked_all others by.way.piece.borders.items) (goes_next settled run others goes.shares goes.begins goes.home by.way takes) by.completes in
-      let back : ByPieces task fit stop is.1 (ways_at task stop) (ways_of stop is) (with_used settled others) run by.way rest.moves = by_pieces task fit stop is.1 (ways_at task stop) (ways_of stop is) (with_used settled others) run by.way (among_place (ways_at task stop) by.place_of by.way by.stands) takes.can rest.moves rest.completes in
+      let takes : Takes_it others marks run by.way = takes_it settled.used others goes.shares stop is (goes.head may.passes) by.place_of by.way by.stands run marks goes.sees by.can in
+      let rest : Moved (standing (using (with_used settled others) by.way.piece) (along task (with_marks run marks) by.way.piece)) (total_after task (standing (using settled by.way.piece) (along task run by.way.piece)) by.later) = move_by fuel by.later (omega (arith, by.shorter, enough)) (standing (using settled by.way.piece) (along task run by.way.piece)) (marked_all others by.way.piece.borders.items) (marked_if (stop_in (node_at task by.way.piece.to)) marks by.way.piece.to) (goes_next settled run others marks goes.shares goes.sees goes.spots goes.begins goes.home by.way takes) by.completes in
+      let back : ByPieces task fit stop is.1 (ways_at task stop) (ways_of stop is) (with_used settled others) (with_marks run marks) by.way rest.moves = by_pieces task fit stop is.1 (ways_at task stop) (ways_of stop is) (with_used settled others) (with_marks run marks) by.way (among_place (ways_at task stop) by.place_of by.way by.stands) takes.can rest.moves rest.completes in
       record {
         moves = go by.way.first back.piece ∷ back.moves;
         completes = (record { passes = may.passes; leads = back.leads; taken = back.can }, back.completes);
         same = back.total ∙ (rest.same ∙ sym by.total);
       }
-  move_by (suc fuel) (turn index piece ∷ moves) enough (between settled) others goes completes = absurd completes.0
-  move_by (suc fuel) (turn index piece ∷ moves) enough (standing settled ran) others goes completes =
+  move_by (suc fuel) (turn index piece ∷ moves) enough (between settled) others marks goes completes = absurd completes.0
+  move_by (suc fuel) (turn index piece ∷ moves) enough (standing settled ran) others marks goes completes =
       let may = completes.0 in
       let run = turned_back ran in
       let stop = ran.home in
       let is : IsStop task stop = goes.begins in
       let by : ByWay task fit stop is.1 (ways_at task stop) (ways_of stop is) settled run index piece moves = by_way task fit stop is.1 (ways_at task stop) (ways_of stop is) settled run goes.shares.whole index piece moves may.leads may.taken completes.1 in
-      let takes : Takes_it others run by.way = takes_it settled.used others goes.shares stop is goes.home by.place_of by.way by.stands run by.can in
-      let rest : Moved (standing (using (with_used settled others) by.way.piece) (along task run by.way.piece)) (total_after task (standing (using settled by.way.piece) (along task run by.way.piece)) by.later) = move_by fuel by.later (omega (arith, by.shorter, enough)) (standing (using settled by.way.piece) (along task run by.way.piece)) (marked_all others by.way.piece.borders.items) (goes_next settled run others goes.shares goes.begins goes.home by.way takes) by.completes in
-      let back : ByPieces task fit stop is.1 (ways_at task stop) (ways_of stop is) (with_used settled others) run by.way rest.moves = by_pieces task fit stop is.1 (ways_at task stop) (ways_of stop is) (with_used settled others) run by.way (among_place (ways_at task stop) by.place_of by.way by.stands) takes.can rest.moves rest.completes in
+      let takes : Takes_it others marks run by.way = takes_it settled.used others goes.shares stop is (goes.home may.passes) by.place_of by.way by.stands run marks goes.sees by.can in
+      let rest : Moved (standing (using (with_used settled others) by.way.piece) (along task (with_marks run marks) by.way.piece)) (total_after task (standing (using settled by.way.piece) (along task run by.way.piece)) by.later) = move_by fuel by.later (omega (arith, by.shorter, enough)) (standing (using settled by.way.piece) (along task run by.way.piece)) (marked_all others by.way.piece.borders.items) (marked_if (stop_in (node_at task by.way.piece.to)) marks by.way.piece.to) (goes_next settled run others marks goes.shares goes.sees goes.spots goes.begins goes.home by.way takes) by.completes in
+      let back : ByPieces task fit stop is.1 (ways_at task stop) (ways_of stop is) (with_used settled others) (with_marks run marks) by.way rest.moves = by_pieces task fit stop is.1 (ways_at task stop) (ways_of stop is) (with_used settled others) (with_marks run marks) by.way (among_place (ways_at task stop) by.place_of by.way by.stands) takes.can rest.moves rest.completes in
       record {
         moves = turn by.way.first back.piece ∷ back.moves;
         completes = (record { once = may.once; stands = may.stands; later = omega (arith, may.later, by.first); passes = may.passes; leads = back.leads; taken = back.can }, back.completes);
         same = back.total ∙ (rest.same ∙ sym by.total);
       }
-  move_by (suc fuel) (settle ∷ moves) enough (between settled) others goes completes = absurd completes.0
-  move_by (suc fuel) (settle ∷ moves) enough (standing settled run) others goes completes =
-      let rest : Moved (between (with_used (settling settled run) others)) (total_after task (between (settling settled run)) moves) = move_by fuel moves (omega (arith, enough)) (between (settling settled run)) others goes.shares completes.1 in
+  move_by (suc fuel) (settle ∷ moves) enough (between settled) others marks goes completes = absurd completes.0
+  move_by (suc fuel) (settle ∷ moves) enough (standing settled run) others marks goes completes =
+      let rest : Moved (between (with_used (settling settled run) others)) (total_after task (between (settling settled run)) moves) = move_by fuel moves (omega (arith, enough)) (between (settling settled run)) others marks goes.shares completes.1 in
       record { moves = settle ∷ rest.moves; completes = (completes.0, rest.completes); same = rest.same }
 
+-- more stops lie in reach
+pub reach_past : (task : Task) (settled : Settled) (stop : ℕ) (old middle new : List Bool) → Holds stop old middle → WidensTo task settled stop middle new → ReachesPast task settled.used stop old new
+reach_past task settled stop old middle new holds more =
+    record {
+      kept = λ spot lies. more.widens.kept spot (holds.kept spot lies);
+      lies = more.widens.kept stop holds.lies;
+      reaches = λ reaches spot is out. elim out [
+        | inl own ↦ still spot (reaches spot is (inl own))
+        | inr on ↦ elim (more.widens.over spot on.0) [
+          | inl known ↦ elim (holds.over spot known) [
+            | inl was ↦ still spot (reaches spot is (inr (was, on.1)))
+            | inr same ↦ subst (AllLead task settled.used new) same more.here
+          ]
+          | inr over ↦ λ index way stands free. over on.1 index way stands (takes_free task settled.used way.piece ∙ free)
+        ]
+      ];
+    }
+  where
+    still : (spot : ℕ) → AllLead task settled.used old spot → AllLead task settled.used new spot
+    still spot leads index way stands free = more.widens.kept way.piece.to (holds.kept way.piece.to (leads index way stands free))
+
+-- a run may go on from its head and from its home, as these lie in reach
+pub goes_past : (task : Task) (used : List Bool) (run : Standing) (old middle new : List Bool) → IsStop task run.head → IsStop task run.home → length run.visited ≡ 744 → ReachesPast task used run.head old middle → ReachesPast task used run.home middle new → MayGoOn task new run
+goes_past task used run old middle new stands begins spots head home =
+    record {
+      head = (stands, λ passes. inr (home.kept run.head head.lies, passes));
+      home = (begins, λ passes. inr (home.lies, passes));
+      spots = spots;
+    }
+
+-- a state that is alike has as many borders
+pub alike_whole : (task : Task) (settled : Settled) (run : Option Standing) (like : Stage) → length settled.used ≡ 279 → IsAlike task settled run like → length like.settled.used ≡ 279
+alike_whole task settled run like whole alike = freer_length like.settled.used settled.used alike.off.shut.kept ∙ whole
+
 -- what is earned from a state is earned from one that is alike
-pub low_alike : (task : Task) → IsFit task → AreReady task → (settled like : Settled) → length settled.used ≡ 279 → IsAlike task settled like → (most : ℕ) → EarnsAtMost task like most → EarnsAtMost task settled most
-low_alike task fit ready settled like whole alike most low moves completes =
-    let shares : Shares task fit ready settled.used alike.reach like.used alike.reaches alike.shut settled.used like.used = record { still = λ border is. is; either = λ border is. inr is; whole = whole; other_whole = freer_length like.used settled.used alike.shut.kept ∙ whole } in
-    let moved : Moved task fit ready settled.used alike.reach like.used alike.reaches alike.shut (between (with_used settled like.used)) (total_after task (between settled) moves) = move_by task fit ready settled.used alike.reach like.used alike.reaches alike.shut (length moves) moves (omega arith) (between settled) like.used shares completes in
-    let there : EarnsAtMost task (with_used settled like.used) most = subst (λ (s : Settled). EarnsAtMost task s most) alike.same low in
-    subst (λ (n : ℕ). n ≤ most) moved.same (there moved.moves moved.completes)
+pub low_alike : (task : Task) → IsFit task → AreReady task → (settled : Settled) (run : Option Standing) (like : Stage) → length settled.used ≡ 279 → IsAlike task settled run like → (most : ℕ) → LeadsToAtMost task (state_at like) most → LeadsToAtMost task (state_by settled run) most
+low_alike task fit ready settled run like whole alike most low =
+    by_runs run like.run alike.begun (subst (λ (s : Settled). LeadsToAtMost task (state_by s like.run) most) alike.off.same low)
+  where
+    used : List Bool
+    used = like.settled.used
+
+    shares : Shares task fit ready settled.used alike.reach used alike.reaches alike.off.shut settled.used used
+    shares = record { still = λ border is. is; either = λ border is. inr is; whole = whole; other_whole = alike_whole task settled run like whole alike }
+
+    moved : (state : State) (marks : List Bool) → GoesOn task fit ready settled.used alike.reach used alike.reaches alike.off.shut state used marks → LeadsToAtMost task (state_with state used marks) most → LeadsToAtMost task state most
+    moved state marks goes low moves completes =
+        let there : Moved task fit ready settled.used alike.reach used alike.reaches alike.off.shut (state_with state used marks) (total_after task state moves) = move_by task fit ready settled.used alike.reach used alike.reaches alike.off.shut (length moves) moves (omega arith) state used marks goes completes in
+        subst (λ (n : ℕ). n ≤ most) there.same (low there.moves there.completes)
+
+    by_runs : (run other : Option Standing) → IsRunAlike task alike.reach run other → LeadsToAtMost task (state_by (with_used settled used) other) most → LeadsToAtMost task (state_by settled run) most
+    by_runs None None like_it low = moved (between settled) [] shares low
+    by_runs None (Some other) like_it low = absurd like_it
+    by_runs (Some run) None like_it low = absurd like_it
+    by_runs (Some run) (Some other) like_it low =
+        let on = like_it.0 in
+        let barred = like_it.1 in
+        moved (standing settled run) other.visited
+        (record { shares = shares; sees = barred.marks.only; spots = on.spots; stands = on.head.0; begins = on.home.0; head = on.head.1; home = on.home.1 })
+        (subst (λ (r : Standing). LeadsToAtMost task (standing (with_used settled used) r) most) barred.same low)
 
 -- and the other way round
-pub low_back : (task : Task) (settled like : Settled) → IsAlike task settled like → (most : ℕ) → EarnsAtMost task settled most → EarnsAtMost task like most
-low_back task settled like alike most low =
-    subst (λ (s : Settled). EarnsAtMost task s most) (sym alike.same) from_used
+pub low_back : (task : Task) → IsFit task → (settled : Settled) (run : Option Standing) (like : Stage) → length settled.used ≡ 279 → IsAlike task settled run like → (most : ℕ) → LeadsToAtMost task (state_by settled run) most → LeadsToAtMost task (state_at like) most
+low_back task fit settled run like whole alike most low =
+    subst (λ (s : Settled). LeadsToAtMost task (state_by s like.run) most) (sym alike.off.same) (by_runs run like.run alike.begun low)
   where
-    from_used : EarnsAtMost task (with_used settled like.used) most
-    from_used moves completes =
-        let easy : Eased task settled.kind settled.cap (between (with_used settled like.used)) moves settled.total settled.used = ease task moves settled.kind settled.cap (between (with_used settled like.used)) settled.total settled.used (inr (refl, omega arith)) alike.shut.kept completes in
+    used : List Bool
+    used = like.settled.used
+
+    from_barred : (run : Standing) (marks : List Bool) → Freer marks run.visited → LeadsToAtMost task (standing settled run) most → LeadsToAtMost task (standing (with_used settled used) (with_marks run marks)) most
+    from_barred run marks freer low moves completes =
+        let frees : Frees (with_used settled used) (with_marks run marks) run.home run.first run.left run.value run.visited settled.used settled.kind settled.cap 0 = record {
+          back = λ once. (refl, refl);
+          left_is = inl (omega arith);
+          value_is = omega arith;
+          freer = freer;
+          borders = alike.off.shut.kept;
+          looser = inr (refl, omega arith);
+          whole = whole;
+        } in
+        let easy : Freed task (with_used settled used) (with_marks run marks) run settled.used settled.kind settled.cap 0 settled.total moves = free task fit moves (with_used settled used) (with_marks run marks) run.home run.first run.left run.value run.visited settled.used settled.kind settled.cap 0 settled.total frees completes in
         omega (arith, easy.earns, low moves easy.completes)
+
+    by_runs : (run other : Option Standing) → IsRunAlike task alike.reach run other → LeadsToAtMost task (state_by settled run) most → LeadsToAtMost task (state_by (with_used settled used) other) most
+    by_runs None None like_it low = λ moves completes.
+        let easy : Eased task settled.kind settled.cap (between (with_used settled used)) moves settled.total settled.used = ease task moves settled.kind settled.cap (between (with_used settled used)) settled.total settled.used (inr (refl, omega arith)) alike.off.shut.kept completes in
+        omega (arith, easy.earns, low moves easy.completes)
+    by_runs None (Some other) like_it low = absurd like_it
+    by_runs (Some run) None like_it low = absurd like_it
+    by_runs (Some run) (Some other) like_it low =
+        subst (λ (r : Standing). LeadsToAtMost task (standing (with_used settled used) r) most) (sym like_it.1.same) (from_barred run other.visited (freer_from other.visited run.visited like_it.1.marks.whole like_it.1.marks.kept) low)

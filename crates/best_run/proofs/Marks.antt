@@ -41,3 +41,9 @@ marked_fewer used [] whole fit some free = absurd (omega arith)
 marked_fewer used (border ∷ borders) whole fit some free =
     let one : unused (set used border true) + 1 ≡ unused used = set_fewer used border (omega (arith, fit.0)) (first_free (get_or used border false) (list_any (λ b. get_or used b false) borders) free) in
     omega (arith, marked_most (set used border true) borders)
+
+-- no more are unmarked than there are
+pub unused_most : (marks : List Bool) → unused marks ≤ length marks
+unused_most [] = omega arith
+unused_most (true ∷ marks) = omega (arith, unused_most marks)
+unused_most (false ∷ marks) = omega (arith, unused_most marks)

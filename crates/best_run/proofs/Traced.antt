@@ -2,13 +2,14 @@
 -- one before it, by the marks of the moves between them.
 use Rattle.std.proofs.Common.{◌≡◌, ℕ, ◌<◌, ◌≤◌, true, ◌⊎◌, inl, inr, None, List, ◌++◌, slice_get, refl, sym, ap, subst, ◌∙◌, arith}
 use Rattle.best_run.specs.declared.explored.Found.{Found}
+use Rattle.best_run.specs.declared.stage.Stage.{Stage}
 use Rattle.best_run.specs.declared.state.Settled.{Settled}
 use Rattle.best_run.specs.declared.state.Standing.{Standing}
 use Rattle.best_run.specs.declared.task.Task.{Task}
 use Rattle.best_run.specs.declared.task.Way.{Way}
 use Rattle.best_run.specs.declared.trail.Mark.{Mark}
 use Rattle.best_run.specs.declared.trail.Trail.{Trail}
-use Rattle.best_run.specs.Moves.{AreExplored, Completes, Earns, EarnsAtMost, Explores, IsAsBefore, IsBetter, IsTraced, Move, State, Takes, Traces, along, can_take, marks_of, standing, total_after, using}
+use Rattle.best_run.specs.Moves.{AreExplored, Completes, Earns, Explores, IsAsBefore, IsBetter, IsTraced, Move, State, Takes, Traces, along, can_take, marks_of, standing, total_after, using, LeadsToAtMost, state_at}
 use Rattle.best_run.specs.Trail.{IsWritten, marks_in}
 use Rattle.std.proofs.lemmas.List.{append_assoc}
 
@@ -101,8 +102,8 @@ known_traced :
     (task : Task) (least : ℕ) (front : List Mark) (middle new : Found) → Traces least front middle new → AreExplored task middle →
     AreExplored task new
 known_traced task least front middle new traces known place entry there =
-    subst (λ (n : ℕ). EarnsAtMost task entry n) (sym traces.amount)
-    (known place entry (ap (λ (entries : List Settled). slice_get entries place) (sym traces.explored) ∙ there))
+    subst (λ (n : ℕ). LeadsToAtMost task (state_at entry) n) (sym traces.amount)
+    (known place entry (ap (λ (entries : List Stage). slice_get entries place) (sym traces.explored) ∙ there))
 
 -- all ways from a state on have been tried, and the trail tells of them from one before it
 pub record ExploresFrom (task : Task) (from to : State) (old new : Found) : Type 0 where

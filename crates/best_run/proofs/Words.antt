@@ -9,7 +9,7 @@ use Rattle.std.proofs.lemmas.Nat.{and_le_l}
 use Rattle.std.proofs.lemmas.Nat.Bits.{bit_at-lt, bit_at-trailing_zeros, bit_at-zero, bit_at_and, bit_at_ones, bit_at_ones_above, bit_at_or, bit_at_set_other, bit_at_set_same, shr_and_one}
 use Rattle.std.specs.Int.{trailing_zeros}
 use Rattle.best_run.specs.Kept.{Freer}
-use Rattle.best_run.specs.Marks.{AreApart, AreBoth, AreOnly, HasNoneFrom, IsMarked, bit_of, mark_at, marks_in}
+use Rattle.best_run.specs.Marks.{AreApart, AreBarred, AreBoth, AreOnly, HasNoneFrom, IsMarked, bit_of, mark_at, marks_in}
 use Rattle.best_run.proofs.Advance.{mark_more}
 use Rattle.best_run.proofs.Places.{below_next}
 
@@ -265,7 +265,7 @@ met_words count a b k clean fits some apart =
     meets_at count a b k (trailing_zeros w64 (bit_and (get_or a k 0) (get_or b k 0))) clean lowest.0 lowest.1 apart
 
 -- all that is marked in one is marked in another
-freer_from : (marks others : List Bool) → length marks ≡ length others → ((n : ℕ) → IsMarked others n → IsMarked marks n) → Freer marks others
+pub freer_from : (marks others : List Bool) → length marks ≡ length others → ((n : ℕ) → IsMarked others n → IsMarked marks n) → Freer marks others
 freer_from [] [] long each = tt
 freer_from [] (other ∷ others) long each = absurd (omega arith)
 freer_from (mark ∷ marks) [] long each = absurd (omega arith)
@@ -360,6 +360,15 @@ all_full =
 pub all_none : HasNoneFrom 279 all_words
 all_none = record { none = λ n high. full_none all_words all_full n high }
 
+length_true : (n : ℕ) → length (replicate n true) ≡ n
+length_true zero = refl
+length_true (suc n) = ap suc (length_true n)
+
+marked_true : (n m : ℕ) → m < n → IsMarked (replicate n true) m
+marked_true zero m low = absurd (omega arith)
+marked_true (suc n) zero low = refl
+marked_true (suc n) (suc m) low = marked_true n m (omega arith)
+
 pub all_marks : marks_in 279 all_words ≡ replicate 279 true
 all_marks =
     same_marks (marks_in 279 all_words) (replicate 279 true) (length_marks 279 all_words ∙ sym (length_true 279)) (λ n. (
@@ -367,12 +376,32 @@ all_marks =
       λ is. let low : n < 279 = omega (arith, marked_low (replicate 279 true) n is, length_true 279) in
           bit_marked 279 all_words n low (full_bit all_words all_full n low),
     ))
-  where
-    length_true : (n : ℕ) → length (replicate n true) ≡ n
-    length_true zero = refl
-    length_true (suc n) = ap suc (length_true n)
 
-    marked_true : (n m : ℕ) → m < n → IsMarked (replicate n true) m
-    marked_true zero m low = absurd (omega arith)
-    marked_true (suc n) zero low = refl
-    marked_true (suc n) (suc m) low = marked_true n m (omega arith)
+-- all bits are set
+pub all_spots : marks_in 744 (replicate 12 18446744073709551615) ≡ replicate 744 true
+all_spots =
+    same_marks (marks_in 744 (replicate 12 18446744073709551615)) (replicate 744 true) (length_marks 744 (replicate 12 18446744073709551615) ∙ sym (length_true 744)) (λ n. (
+      λ is. marked_true 744 n (marked_bit 744 (replicate 12 18446744073709551615) n is).0,
+      λ is. let low : n < 744 = omega (arith, marked_low (replicate 744 true) n is, length_true 744) in
+          bit_marked 744 (replicate 12 18446744073709551615) n low (ap (λ word. bit_at word (n % 64)) (get_same 12 18446744073709551615 (n / 64) (omega (arith, low))) ∙ bit_at_ones 64 (n % 64) (omega arith)),
+    ))
+
+-- what is open is taken away from all
+pub barred_out : (marks reach fresh barred : List Bool) → length marks ≡ 744 → AreOnly reach marks fresh → AreOnly (replicate 744 true) fresh barred → AreBarred marks reach barred
+barred_out marks reach fresh barred whole opens bars =
+    record {
+      whole = bars.whole ∙ (length_true 744 ∙ sym whole);
+      kept = λ n is. (bars.each n).1 (marked_true 744 n (omega (arith, marked_low marks n is, whole)), λ opened. ((opens.each n).0 opened).1 is);
+      only = λ n lies out. elim (marked_or (get_or marks n false)) [
+        | inl is ↦ is
+        | inr not ↦ absurd (((bars.each n).0 out).1 ((opens.each n).1 (lies, λ is. false_true (get_or marks n false) not is)))
+      ];
+    }
+  where
+    marked_or : (b : Bool) → (b ≡ true) ⊎ (b ≡ false)
+    marked_or true = inl refl
+    marked_or false = inr refl
+
+    false_true : (b : Bool) → b ≡ false → b ≡ true → ⊥
+    false_true true not is = let wrong : true ≡ false = not in cc
+    false_true false not is = let wrong : false ≡ true = is in cc

@@ -13,7 +13,7 @@ use Rattle.best_run.specs.declared.state.Standing.{Standing}
 use Rattle.best_run.specs.declared.worth.Worth.{Worth}
 use Rattle.best_run.specs.Fit.{unused}
 use Rattle.best_run.specs.Ways.{ways_at}
-use Rattle.best_run.specs.Moves.{Completes, Move, can_take, ends_in, node_at, standing, total_after}
+use Rattle.best_run.specs.Moves.{LeadsToAtMost, can_take, ends_in, node_at, standing}
 
 -- a stop lies ahead, by its number
 abbrev pub LiesAhead : List Bool → ℕ → Type 0
@@ -169,5 +169,4 @@ IsLeast worth left on back least = (place : ℕ) × (place < worth.levels) × (a
 
 -- all ways on from a run earn at most so much
 abbrev pub EndsAtMost : Task → Settled → Standing → ℕ → Type 0
-EndsAtMost task settled run most =
-    (moves : List Move) → Completes task (standing settled run) moves → total_after task (standing settled run) moves ≤ most
+EndsAtMost task settled run most = LeadsToAtMost task (standing settled run) most

@@ -1,12 +1,13 @@
 -- What the trains that are left can come to: the borders that no way from there crosses make no difference to them, so two
--- states between runs that differ in such borders alone are alike.
-use Rattle.std.specs.Prelude.{◌≡◌, ℕ, ◌<◌, Bool, true, false, not, ◌&&◌, ◌||◌, ◌⊎◌, Some, List, [], ◌∷◌, get_or, replicate, set, slice_get}
+-- states that differ in such borders alone are alike: between runs, or with the same run begun.
+use Rattle.std.specs.Prelude.{◌≡◌, ℕ, ◌<◌, Bool, true, false, not, ◌&&◌, ◌||◌, ◌⊎◌, Option, Some, None, List, [], ◌∷◌, length, get_or, replicate, set, slice_get}
+use Rattle.best_run.specs.declared.stage.Stage.{Stage}
 use Rattle.best_run.specs.declared.state.Settled.{Settled}
 use Rattle.best_run.specs.declared.state.Standing.{Standing}
 use Rattle.best_run.specs.declared.task.Task.{Task}
 use Rattle.best_run.specs.declared.task.Way.{Way}
 use Rattle.best_run.specs.Ahead.{LiesAhead, Widens}
-use Rattle.best_run.specs.Kept.{Freer}
+use Rattle.best_run.specs.Kept.{Freer, IsBarred}
 use Rattle.best_run.specs.Moves.{ends_in, misses, node_at, own_in, stop_in}
 use Rattle.best_run.specs.Ways.{IsListed, IsStop, ways_at}
 
@@ -83,9 +84,37 @@ pub record IsShut (task : Task) (used reach shut : List Bool) : Type 0 where
   pub kept : Freer shut used
   pub open_ways : (spot : ℕ) → IsStop task spot → SetsOut task reach spot → AreOpen task used spot shut
 
--- a state differs from another only in borders that no run to come can cross
-pub record IsAlike (task : Task) (settled like : Settled) : Type 0 where
+-- more stops lie in reach, a stop among them, and so do all to which a run may come from there
+pub record ReachesPast (task : Task) (used : List Bool) (spot : ℕ) (old new : List Bool) : Type 0 where
+  pub kept : (other : ℕ) → LiesAhead old other → LiesAhead new other
+  pub lies : LiesAhead new spot
+  pub reaches : IsInReach task used old → IsInReach task used new
+
+-- only the borders used are others: those that are shut
+pub record IsShutOff (task : Task) (settled : Settled) (reach : List Bool) (like : Settled) : Type 0 where
   pub same : like ≡ record settled { used = like.used }
+  pub shut : IsShut task settled.used reach like.used
+
+-- a run may set out from where it stands, and from where it began, if it may pass these stops
+abbrev pub PassesFrom : Task → List Bool → ℕ → Type 0
+PassesFrom task reach spot = IsStop task spot × (ends_in (node_at task spot) ≡ false → SetsOut task reach spot)
+
+pub record MayGoOn (task : Task) (reach : List Bool) (run : Standing) : Type 0 where
+  pub head : PassesFrom task reach run.head
+  pub home : PassesFrom task reach run.home
+  pub spots : length run.visited ≡ 744
+
+-- the run begun, if any, is the same, but that all stops are as visited that are not in reach
+abbrev pub IsRunAlike : Task → List Bool → Option Standing → Option Standing → Type 0
+IsRunAlike task reach None None = Unit {0}
+IsRunAlike task reach None (Some like) = ⊥
+IsRunAlike task reach (Some run) None = ⊥
+IsRunAlike task reach (Some run) (Some like) = MayGoOn task reach run × IsBarred reach run like
+
+-- a state differs from another only in borders that neither the run begun, if any, nor one to come can cross, and in stops
+-- to which they cannot come
+pub record IsAlike (task : Task) (settled : Settled) (run : Option Standing) (like : Stage) : Type 0 where
   pub reach : List Bool
   pub reaches : IsInReach task settled.used reach
-  pub shut : IsShut task settled.used reach like.used
+  pub off : IsShutOff task settled reach like.settled
+  pub begun : IsRunAlike task reach run like.run

@@ -53,10 +53,10 @@ abbrev pub IsNodeAt : Position → Company → Option Stop → Option Node → T
 IsNodeAt position company (Some stop) node = IsStopNode position company stop node
 IsNodeAt position company None node = IsSideNode node
 
--- the most stops of a run: the borders allow no more than 280
+-- the most stops of a run: the borders allow no more than 280, so without a bound no fewer are left than there are borders
 abbrev pub most_of : Option ℕ → ℕ
 most_of (Some most) = most
-most_of None = 280
+most_of None = 560
 
 abbrev pub most_of_all : List Kind → List ℕ
 most_of_all [] = []

@@ -1,7 +1,10 @@
--- States between runs that have been explored, and are kept: another state from which no more can be earned need not be.
-use Rattle.std.specs.Prelude.{◌≡◌, ℕ, ◌≤◌, Bool, true, ◌⊎◌, Some, List, [], ◌∷◌, slice_get}
+-- States that have been explored, and are kept: another state from which no more can be earned need not be.
+use Rattle.std.specs.Prelude.{◌≡◌, ℕ, ◌≤◌, Bool, true, false, ◌⊎◌, Option, Some, None, List, [], ◌∷◌, slice_get}
 use Rattle.best_run.specs.declared.explored.Found.{Found}
+use Rattle.best_run.specs.declared.stage.Stage.{Stage}
 use Rattle.best_run.specs.declared.state.Settled.{Settled}
+use Rattle.best_run.specs.declared.state.Standing.{Standing}
+use Rattle.best_run.specs.Marks.{AreBarred}
 use Rattle.best_run.specs.Trail.{marks_in}
 
 -- what is marked in the second is marked in the first
@@ -20,22 +23,53 @@ pub record Covers (first second : Settled) : Type 0 where
   pub total : second.total ≤ first.total
   pub used : Freer second.used first.used
 
+-- a run may turn back as another one may, or that has turned back before
+abbrev pub TurnsAs : Standing → Standing → Type 0
+TurnsAs first second = second.turned ≡ false → (first.home ≡ second.home) × (first.first ≡ second.first)
+
+-- two runs stand at one stop; the first has visited no stop that the second has not, and earns no less; it may visit as many
+-- more, or more than there are borders
+pub record CoversRun (first second : Standing) : Type 0 where
+  pub head : first.head ≡ second.head
+  pub turned : first.turned ≡ second.turned
+  pub most : first.most ≡ second.most
+  pub back : TurnsAs first second
+  pub left : (second.left ≤ first.left) ⊎ (279 ≤ first.left)
+  pub value : second.value ≤ first.value
+  pub visited : Freer second.visited first.visited
+
+-- the first covers the second, if any has begun, and no train ran before
+abbrev pub CoversAny : ℕ → Option Standing → Option Standing → Type 0
+CoversAny kind None None = Unit {0}
+CoversAny kind None (Some second) = ⊥
+CoversAny kind (Some first) None = ⊥
+CoversAny kind (Some first) (Some second) = (kind ≡ 0) × CoversRun first second
+
+pub record CoversStage (first second : Stage) : Type 0 where
+  pub settled : Covers first.settled second.settled
+  pub run : CoversAny first.settled.kind first.run second.run
+
+-- to a run all stops are as visited that are not in reach
+pub record IsBarred (reach : List Bool) (run barred : Standing) : Type 0 where
+  pub same : barred ≡ record run { visited = barred.visited }
+  pub marks : AreBarred run.visited reach barred.visited
+
 -- a state that is kept covers another
-pub record IsCovered (found : Found) (settled : Settled) : Type 0 where
+pub record IsCovered (found : Found) (stage : Stage) : Type 0 where
   pub place : ℕ
-  pub entry : Settled
+  pub entry : Stage
   pub there : slice_get found.explored.items place ≡ Some entry
-  pub covers : Covers entry settled
+  pub covers : CoversStage entry stage
 
 -- a state stands at some place
-abbrev pub IsHeld : Found → Settled → Type 0
+abbrev pub IsHeld : Found → Stage → Type 0
 IsHeld found entry = (place : ℕ) × (slice_get found.explored.items place ≡ Some entry)
 
 -- a state is kept, if at all; the others that are kept are among those that were
-pub record IsKept (settled : Settled) (old new : Found) : Type 0 where
+pub record IsKept (stage : Stage) (old new : Found) : Type 0 where
   pub amount : new.amount ≡ old.amount
   pub trail : new.trail ≡ old.trail
-  pub only : (place : ℕ) (entry : Settled) → slice_get new.explored.items place ≡ Some entry → IsHeld old entry ⊎ (settled ≡ entry)
+  pub only : (place : ℕ) (entry : Stage) → slice_get new.explored.items place ≡ Some entry → IsHeld old entry ⊎ (stage ≡ entry)
 
 -- nothing is found yet, no move is told, and no state is kept
 pub record IsNothing (found : Found) : Type 0 where

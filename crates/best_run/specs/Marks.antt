@@ -36,3 +36,9 @@ pub record AreBoth (marks others both : List Bool) : Type 0 where
 pub record AreOnly (marks others left : List Bool) : Type 0 where
   pub whole : length left ≡ length marks
   pub each : (number : ℕ) → IsMarked left number ↔ (IsMarked marks number × (IsMarked others number → ⊥))
+
+-- what is marked, and all that is not in reach
+pub record AreBarred (marks reach barred : List Bool) : Type 0 where
+  pub whole : length barred ≡ length marks
+  pub kept : (number : ℕ) → IsMarked marks number → IsMarked barred number
+  pub only : (number : ℕ) → IsMarked reach number → IsMarked barred number → IsMarked marks number

@@ -9,6 +9,7 @@ use Rattle.best_run.specs.declared.task.Node.{Node}
 use Rattle.best_run.specs.declared.task.Piece.{Piece}
 use Rattle.best_run.specs.declared.task.Task.{Task}
 use Rattle.best_run.specs.declared.explored.Found.{Found}
+use Rattle.best_run.specs.declared.stage.Stage.{Stage}
 use Rattle.best_run.specs.declared.state.Settled.{Settled}
 use Rattle.best_run.specs.declared.state.Standing.{Standing}
 use Rattle.best_run.specs.declared.trail.Mark.{Mark}
@@ -254,15 +255,26 @@ pub record Traces (least : ℕ) (marks : List Mark) (old new : Found) : Type 0 w
   pub as_before : old.amount ≤ least → new.trail ≡ old.trail
   pub written : least < old.amount → IsWritten marks old.trail new.trail
 
--- all ways from a state between runs to the end earn at most so much
+-- all ways from a state to the end earn at most so much
+abbrev pub LeadsToAtMost : Task → State → ℕ → Type 0
+LeadsToAtMost task state most = (moves : List Move) → Completes task state moves → total_after task state moves ≤ most
+
+-- all ways from a state between runs
 abbrev pub EarnsAtMost : Task → Settled → ℕ → Type 0
-EarnsAtMost task settled most =
-    (moves : List Move) → Completes task (between settled) moves → total_after task (between settled) moves ≤ most
+EarnsAtMost task settled most = LeadsToAtMost task (between settled) most
+
+-- the state that is meant: between runs, unless one has begun
+abbrev pub state_by : Settled → Option Standing → State
+state_by settled None = between settled
+state_by settled (Some run) = standing settled run
+
+abbrev pub state_at : Stage → State
+state_at stage = state_by stage.settled stage.run
 
 -- from no state that is kept as explored more is earned than the best found
 abbrev pub AreExplored : Task → Found → Type 0
 AreExplored task found =
-    (place : ℕ) (settled : Settled) → slice_get found.explored.items place ≡ Some settled → EarnsAtMost task settled found.amount
+    (place : ℕ) (stage : Stage) → slice_get found.explored.items place ≡ Some stage → LeadsToAtMost task (state_at stage) found.amount
 
 -- moves that begin with such a move have been tried in a state: the best found grows at most, the trail tells how it is
 -- earned, and those that have been tried earn at most that, if what is kept as explored is

@@ -1,15 +1,16 @@
-//! States between runs that are alike to the trains that are left: they differ only in borders that no
-//! run to come can cross.
-ghost use Rattle.std.specs.Prelude.{◌≡◌, ◌<◌, IsTrue, length, true};
+//! States that are alike to the trains that are left: they differ only in borders that neither the run begun nor one to
+//! come can cross.
+ghost use Rattle.std.specs.Prelude.{◌≡◌, ◌<◌, IsTrue, None, Some, length, true};
 ghost use Rattle.best_run.specs.Ahead.{IsWorth};
-ghost use Rattle.best_run.specs.Alike.{AreHeld, AreOpen, Holds, IsAlike, IsInReach, IsShut, Opens, WidensTo, anywhere, sets_out};
+ghost use Rattle.best_run.specs.Alike.{AreHeld, AreOpen, Holds, IsAlike, IsInReach, IsShut, IsShutOff, Opens, ReachesPast, WidensTo, anywhere, sets_out};
 ghost use Rattle.best_run.specs.Fit.{IsFit};
 ghost use Rattle.best_run.specs.Moves.{EarnsAtMost, node_at, stop_in};
 ghost use Rattle.best_run.specs.Suffix.{AreBounds};
-ghost use Rattle.best_run.specs.Ways.{AreReady};
+ghost use Rattle.best_run.specs.Ways.{AreReady, IsStop};
 
 use crate::bits::{Borders, SPOTS, Spots};
 use crate::outlook::Outlook;
+use crate::stage::Stage;
 use crate::state::{Settled, Standing};
 use crate::task::Task;
 use tables::Amount;
@@ -159,13 +160,12 @@ impl Task {
         shut
     }
 
-    /// A state that is alike to the trains that are left, and in which all borders are used that they
-    /// cannot cross.
-    pub(crate) fn alike(&self, settled: &Settled, reach: &Spots) -> Settled
+    /// The same trains are settled, and all borders are used but those that a run of the trains that are left may cross,
+    /// which sets out from a stop in reach.
+    fn shut_off(&self, settled: &Settled, reach: &Spots) -> Settled
         requires fit { IsFit self.now }
         requires ready { AreReady self.now }
-        requires reaches { IsInReach self.now settled.now.used reach.now }
-        ensures { IsAlike self.now settled.now result }
+        ensures { IsShutOff self.now settled.now reach.now result }
     {
         Settled {
             next: settled.next,
@@ -173,6 +173,53 @@ impl Task {
             kind: settled.kind,
             cap: settled.cap,
             used: self.shut(settled, reach),
+        }
+    }
+
+    /// A state that is alike to one between runs, and in which all borders are used that no run to come can cross.
+    pub(crate) fn alike(&self, settled: &Settled, reach: &Spots) -> Stage
+        requires fit { IsFit self.now }
+        requires ready { AreReady self.now }
+        requires reaches { IsInReach self.now settled.now.used reach.now }
+        ensures { IsAlike self.now settled.now None result }
+    {
+        Stage {
+            settled: self.shut_off(settled, reach),
+            run: None,
+        }
+    }
+
+    /// Adds to what lies in reach a stop, and what a run may come to from there.
+    fn reach_past(&self, settled: &Settled, stop: usize, reach: &mut Outlook)
+        requires fit { IsFit self.now }
+        requires ready { AreReady self.now }
+        requires spot { stop < 744 }
+        requires stops { stop_in (node_at self.now stop) ≡ true }
+        requires known { IsWorth self.now.spots.items reach.old.ahead reach.old.worth }
+        ensures reaches { ReachesPast self.now settled.now.used stop reach.old.ahead reach.new.ahead }
+        ensures known { IsWorth self.now.spots.items reach.new.ahead reach.new.worth }
+    {
+        self.hold(settled, stop, reach);
+        self.reach_from(settled, stop, reach);
+    }
+
+    /// A state that is alike to one with a run begun, in which all borders are used that neither that run nor one to come
+    /// can cross, and to which all stops are as visited that they cannot come to.
+    pub(crate) fn alike_begun(&self, settled: &Settled, run: &Standing) -> Stage
+        requires fit { IsFit self.now }
+        requires ready { AreReady self.now }
+        requires next { settled.now.next < length self.now.trains.items }
+        requires stands { IsStop self.now run.now.head }
+        requires begun { IsStop self.now run.now.home }
+        ensures { IsAlike self.now settled.now (Some run.now) result }
+    {
+        run.visited.is_whole();
+        let mut reach = self.reach(settled);
+        self.reach_past(settled, run.head, &mut reach);
+        self.reach_past(settled, run.home, &mut reach);
+        Stage {
+            settled: self.shut_off(settled, &reach.ahead),
+            run: Some(run.within(&reach.ahead)),
         }
     }
 }

@@ -2,7 +2,7 @@
 ghost use Rattle.std.specs.Prelude.{◌≡◌, ℕ, ◌-◌, ◌<◌, ◌||◌, IsTrue, Some, true, false, get_or, length, set, replicate};
 ghost use Rattle.std.specs.Int.{bit_at};
 ghost use Rattle.best_run.specs.Kept.{Freer};
-ghost use Rattle.best_run.specs.Marks.{AreApart, AreBoth, AreOnly};
+ghost use Rattle.best_run.specs.Marks.{AreApart, AreBarred, AreBoth, AreOnly};
 
 use std::marker::Model;
 
@@ -61,6 +61,12 @@ fn without(word: u64, other: u64) -> u64
     ensures { (bit : ℕ) → bit < 64 → bit_at result bit ≡ bit_at word bit - bit_at other bit }
 {
     word & !other
+}
+
+/// A number that hangs on another and on a word. Any number would do.
+pub(crate) fn mixed_with(sum: u64, word: u64) -> u64 {
+    let mixed = (sum ^ word).wrapping_mul(0x9E37_79B9_7F4A_7C15);
+    mixed ^ (mixed >> 29)
 }
 
 impl Borders {
@@ -174,8 +180,7 @@ impl Borders {
     pub(crate) fn mixed(&self) -> u64 {
         let mut sum: u64 = 0;
         for word in 0..BORDER_WORDS {
-            sum = (sum ^ self.words[word]).wrapping_mul(0x9E37_79B9_7F4A_7C15);
-            sum ^= sum >> 29;
+            sum = mixed_with(sum, self.words[word]);
         }
         sum
     }
@@ -188,6 +193,15 @@ impl Spots {
     {
         Spots {
             words: [0; SPOT_WORDS],
+        }
+    }
+
+    /// All spots are marked.
+    fn all() -> Spots
+        ensures { result ≡ replicate 744 true }
+    {
+        Spots {
+            words: [u64::MAX; SPOT_WORDS],
         }
     }
 
@@ -228,5 +242,47 @@ impl Spots {
         ensures { self.new ≡ set self.old spot true }
     {
         self.words[spot / BITS] |= 1 << (spot % BITS);
+    }
+
+    /// Takes away the marks of others.
+    fn clear(&mut self, other: &Spots)
+        ensures { AreOnly self.old other.now self.new }
+    {
+        for word in 0..SPOT_WORDS {
+            self.words[word] = without(self.words[word], other.words[word]);
+        }
+    }
+
+    /// Whether all spots that are marked here are marked in others.
+    pub(crate) fn is_within(&self, other: &Spots) -> bool
+        ensures { IsTrue result → Freer other.now self.now }
+    {
+        for word in 0..SPOT_WORDS {
+            if without(self.words[word], other.words[word]) != 0 {
+                return false;
+            }
+        }
+        true
+    }
+
+    /// The spots that are marked here, and all that are not in reach.
+    pub(crate) fn or_out_of(&self, reach: &Spots) -> Spots
+        ensures { AreBarred self.now reach.now result }
+    {
+        self.is_whole();
+        let mut open = reach.copy();
+        open.clear(self);
+        let mut barred = Spots::all();
+        barred.clear(&open);
+        barred
+    }
+
+    /// A number that hangs on another, and that is shared where the same spots are marked. Any number would do.
+    pub(crate) fn mixed(&self, other: u64) -> u64 {
+        let mut sum = other;
+        for word in 0..SPOT_WORDS {
+            sum = mixed_with(sum, self.words[word]);
+        }
+        sum
     }
 }

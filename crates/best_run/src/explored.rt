@@ -1,18 +1,18 @@
-//! What has been found, and which states between runs have been explored: a state from which no more
-//! can be earned than from one of these is not explored again.
+//! What has been found, and which states have been explored: a state from which no more can be earned than from one of
+//! these is not explored again.
 ghost use Rattle.std.specs.Prelude.{◌≡◌, [], ◌∷◌, IfOk, IsTrue};
 ghost use Rattle.best_run.specs.Kept.{IsCovered, IsKept, IsNothing};
 ghost use Rattle.best_run.specs.Moves.{Traces};
 ghost use Rattle.best_run.specs.Trail.{go_along};
 
-use crate::state::Settled;
+use crate::stage::Stage;
 use crate::steps::Steps;
 use crate::trail::{Mark, Trail};
 use std::alloc::{AllocError, Global};
 use tables::Amount;
 
 /// How many explored states are kept at most.
-const MOST_PLACES: usize = 32_768;
+const MOST_PLACES: usize = 16_384;
 
 /// How many places there are for each state that has been kept, as long as there may be more: where there are
 /// too few, states are put in place of others that would have served.
@@ -25,20 +25,14 @@ pub(crate) struct Found {
     pub(crate) amount: Amount,
     /// The moves that earn it.
     pub(crate) trail: Trail,
-    /// States between runs that have been explored: no way on from there earns more. Each stands at one
+    /// States that have been explored: no way on from there earns more. Each stands at one
     /// place, in place of the one that stood there. There are no places at first, and twice as many each time
     /// that there are too few.
-    pub(crate) explored: Vec<Settled>,
+    pub(crate) explored: Vec<Stage>,
     /// How often a state has been kept.
     pub(crate) kept: usize,
     /// The error of a place for which memory was refused, if there was any.
     pub(crate) refused: Option<AllocError>,
-}
-
-/// The place at which a state is kept. Any place would do: states that use the same borders share one.
-fn place_of(settled: &Settled) -> usize {
-    let sum = settled.used.mixed().wrapping_add(settled.next as u64);
-    (sum >> 40) as usize
 }
 
 impl Found {
@@ -85,25 +79,25 @@ impl Found {
 
     /// Whether a state that was explored is known to earn no less than another. It is not told of
     /// all of them.
-    pub(crate) fn covers(&self, settled: &Settled) -> bool
-        ensures { IsTrue result → IsCovered self.now settled.now }
+    pub(crate) fn covers(&self, stage: &Stage) -> bool
+        ensures { IsTrue result → IsCovered self.now stage.now }
     {
         let places = self.explored.len();
         if places == 0 {
             return false;
         }
-        self.explored[place_of(settled) % places].covers(settled)
+        self.explored[stage.place() % places].covers(stage)
     }
 
     /// Makes the places twice as many; the states that stand in the first half stand in the other half, too,
     /// where those are looked for whose place was the same. Before the first place there is the given state. The
     /// only error is want of memory.
-    fn widen(&mut self, settled: &Settled) -> Result<(), AllocError>
-        ensures { IsKept settled.now self.old self.new }
+    fn widen(&mut self, stage: &Stage) -> Result<(), AllocError>
+        ensures { IsKept stage.now self.old self.new }
     {
         let places = self.explored.len();
         if places == 0 {
-            self.explored.push(settled.copy())?;
+            self.explored.push(stage.copy())?;
         }
         for place in 0..places {
             let twin = self.explored[place].copy();
@@ -112,20 +106,27 @@ impl Found {
         Ok(())
     }
 
+    /// Puts a state that has been explored at its place, if there are places.
+    fn put(&mut self, stage: &Stage)
+        ensures { IsKept stage.now self.old self.new }
+    {
+        let places = self.explored.len();
+        if places > 0 {
+            self.explored[stage.place() % places] = stage.copy();
+            self.kept = self.kept.saturating_add(1);
+        }
+    }
+
     /// Keeps a state that has been explored. Where memory is refused, the error is kept.
-    pub(crate) fn keep(&mut self, settled: &Settled)
-        ensures { IsKept settled.now self.old self.new }
+    pub(crate) fn keep(&mut self, stage: &Stage)
+        ensures { IsKept stage.now self.old self.new }
     {
         let places = self.explored.len();
         if places < MOST_PLACES && self.kept >= places / PLACES_EACH {
-            if let Err(error) = self.widen(settled) {
+            if let Err(error) = self.widen(stage) {
                 self.refused = Some(error);
             }
         }
-        let places = self.explored.len();
-        if places > 0 {
-            self.explored[place_of(settled) % places] = settled.copy();
-            self.kept = self.kept.saturating_add(1);
-        }
+        self.put(stage);
     }
 }

@@ -89,6 +89,7 @@ impl Task {
         let node = &self.spots[spot];
         outlook.ahead.is_whole();
         outlook.ahead.mark(spot);
+        outlook.stops = outlook.stops.wrapping_add(1);
         if node.ends {
             outlook.worth.end(node.value);
         } else {

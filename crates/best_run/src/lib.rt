@@ -9,8 +9,8 @@
 //! bounds, `Suffix` what the last trains earn by themselves, and equal trains one after
 //! another, which bounds what they earn behind others, `Ahead` what may lie ahead of a run,
 //! which bounds what it may still earn, `Last` at which of the stops ahead it ends since it can
-//! leave them only as it comes, `Kept` which states between runs need not be explored since
-//! another one was, `Alike` which of them are alike to the trains left, `Marks` how bits in
+//! leave them only as it comes, `Kept` which states need not be explored since another one
+//! was, `Alike` which of them are alike to the trains left, `Marks` how bits in
 //! words are marks, `Crossed` what borders a piece crosses, `Pieces` how the pieces that lead
 //! from a spot stand in one table.
 //!
@@ -21,8 +21,8 @@
 //! them), `state` (the trains settled so far, and the run begun), `outlook` (what lies ahead of
 //! that run) with `worth` (what that is worth), `last` (at which stops ahead it ends) and
 //! `mirror` (whether ways lead back over all ways), `trail` (the moves that earn what has been
-//! found), `explored` (what has been found, and what need not be explored again), `alike`
-//! (states between runs that are alike), `search`, `claimed` (the runs that a trail tells),
+//! found), `stage` (a state that is kept), `explored` (what has been found, and what need not be
+//! explored again), `alike` (states that are alike to the trains left), `search`, `claimed` (the runs that a trail tells),
 //! `runner`.
 #![tactic(auto)]
 
@@ -40,6 +40,7 @@ mod revenue;
 mod runner;
 mod search;
 mod spots;
+mod stage;
 mod state;
 mod steps;
 mod stretch;

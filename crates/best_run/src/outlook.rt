@@ -1,4 +1,4 @@
-ghost use Rattle.std.specs.Prelude.{◌≡◌, ◌+◌, ◌<◌, ◌≤◌, IsTrue, List, true, false, get_or, length, replicate, set, ℕ};
+ghost use Rattle.std.specs.Prelude.{◌≡◌, ◌+◌, ◌<◌, ◌≤◌, IsTrue, List, None, true, false, get_or, length, replicate, set, ℕ};
 ghost use Rattle.best_run.specs.declared.task.Node.{Node};
 ghost use Rattle.best_run.specs.Ahead.{EndsAtMost, IsOutlook, IsWorth, WidensBack, WidensBy, WidensFrom, WidensPast, goes_back, goes_on, leads_on};
 ghost use Rattle.best_run.specs.Fit.{IsFit};
@@ -18,6 +18,8 @@ use tables::Amount;
 pub(crate) struct Outlook {
     /// The stops that it may come to.
     pub(crate) ahead: Spots,
+    /// How many these are.
+    pub(crate) stops: usize,
     /// What they are worth.
     pub(crate) worth: Worth,
 }
@@ -32,6 +34,7 @@ impl Outlook {
     {
         Outlook {
             ahead: Spots::none(),
+            stops: 0,
             worth: Worth::nothing(levels),
         }
     }
@@ -117,6 +120,7 @@ impl Task {
     }
 
     /// Adds to what lies ahead of a run what it may come to by a piece.
+    #[inline(always)]
     pub(crate) fn look_along(
         &self,
         settled: &Settled,
@@ -266,15 +270,15 @@ impl Task {
         run.value > settled.cap
     }
 
-    /// Whether no way on from a run can earn more than what has been found. It is not told of all
-    /// such runs.
-    pub(crate) fn is_hopeless(
+    /// How many stops lie ahead of a run; `None` where no way on from it can earn more than what has been
+    /// found. That is not told of all such runs.
+    pub(crate) fn stops_ahead(
         &self,
         settled: &Settled,
         run: &Standing,
         bounds: &[Amount],
         best: Amount,
-    ) -> bool
+    ) -> Option<usize>
         requires fit { IsFit self.now }
         requires ready { AreReady self.now }
         requires bounds { AreBounds self.now bounds.now }
@@ -284,13 +288,16 @@ impl Task {
         requires home { run.now.home < 744 }
         requires begun { stop_in (node_at self.now run.now.home) ≡ true }
         requires room { settled.now.total + run.now.value ≤ 44720 }
-        ensures { IsTrue result → EndsAtMost self.now settled.now run.now best }
+        ensures { result ≡ None → EndsAtMost self.now settled.now run.now best }
     {
         if self.earns_too_much(settled, run) {
-            return true;
+            return None;
         }
         let mut outlook = self.nothing_ahead(run.left);
         self.look_ahead(settled, run, &mut outlook);
-        self.earns_too_little(settled, run, &outlook, bounds, best)
+        if self.earns_too_little(settled, run, &outlook, bounds, best) {
+            return None;
+        }
+        Some(outlook.stops)
     }
 }

@@ -11,6 +11,9 @@ use crate::task::{Piece, Task};
 use crate::trail::Mark;
 use tables::Amount;
 
+/// How many stops lie ahead of a run at least for which it is asked whether it has been tried before.
+const MANY: usize = 8;
+
 impl Task {
     /// Whether the trains that are left can earn no more than what has been found, by what they
     /// earn by themselves. It is not told of all of them.
@@ -199,7 +202,8 @@ impl Task {
         }
     }
 
-    /// Tries all ways to the end from a run that has begun. Longer runs come first, since they earn more.
+    /// Tries all ways to the end from a run that has begun. Where it is the first one, others are left behind it, and many
+    /// stops lie ahead, it is worth its while to ask whether they have been tried before.
     #[cycle(explore)]
     fn stand(&self, settled: &Settled, run: &Standing, bounds: &[Amount], best: &mut Found)
         requires fit { IsFit self.now }
@@ -214,9 +218,55 @@ impl Task {
             HasRoom settled.now.used (settled.now.total + (run.now.value + more)) 44720 }
         ensures { Explores self.now (standing settled.now run.now) best.old best.new }
     {
-        if self.is_hopeless(settled, run, bounds, best.amount) {
+        let Some(stops) = self.stops_ahead(settled, run, bounds, best.amount) else {
+            return;
+        };
+        if stops < MANY || settled.kind != 0 || settled.next + 1 == self.trains.len() {
+            self.stand_anew(settled, run, bounds, best);
+        } else {
+            self.stand_once(settled, run, bounds, best);
+        }
+    }
+
+    /// Tries all ways to the end from a run that has begun, unless that was done before.
+    #[cycle(explore)]
+    fn stand_once(&self, settled: &Settled, run: &Standing, bounds: &[Amount], best: &mut Found)
+        requires fit { IsFit self.now }
+        requires ready { AreReady self.now }
+        requires bounds { AreBounds self.now bounds.now }
+        requires next { settled.now.next < length self.now.trains.items }
+        requires head { run.now.head < 744 }
+        requires stands { stop_in (node_at self.now run.now.head) ≡ true }
+        requires home { run.now.home < 744 }
+        requires begun { stop_in (node_at self.now run.now.home) ≡ true }
+        requires room { let more = credit (stop_in (node_at self.now run.now.head)) in
+            HasRoom settled.now.used (settled.now.total + (run.now.value + more)) 44720 }
+        ensures { Explores self.now (standing settled.now run.now) best.old best.new }
+    {
+        settled.marks_all_borders();
+        let alike = self.alike_begun(settled, run);
+        if best.covers(&alike) {
             return;
         }
+        self.stand_anew(settled, run, bounds, best);
+        best.keep(&alike);
+    }
+
+    /// Tries all ways to the end from a run that has begun. Longer runs come first, since they earn more.
+    #[cycle(explore)]
+    fn stand_anew(&self, settled: &Settled, run: &Standing, bounds: &[Amount], best: &mut Found)
+        requires fit { IsFit self.now }
+        requires ready { AreReady self.now }
+        requires bounds { AreBounds self.now bounds.now }
+        requires next { settled.now.next < length self.now.trains.items }
+        requires head { run.now.head < 744 }
+        requires stands { stop_in (node_at self.now run.now.head) ≡ true }
+        requires home { run.now.home < 744 }
+        requires begun { stop_in (node_at self.now run.now.home) ≡ true }
+        requires room { let more = credit (stop_in (node_at self.now run.now.head)) in
+            HasRoom settled.now.used (settled.now.total + (run.now.value + more)) 44720 }
+        ensures { Explores self.now (standing settled.now run.now) best.old best.new }
+    {
         self.go_on(settled, run, bounds, best);
         self.turn_back(settled, run, bounds, best);
         if self.may_settle(settled, run) {

@@ -232,13 +232,14 @@ fn all_pieces<N: Network>(alloc: Global, network: &N) -> Result<Pieces, AllocErr
     Ok(pieces)
 }
 
-/// The most stops of a run of a train: the borders allow no more than 280.
+/// The most stops of a run of a train. The borders allow no more than 280, so that of a Diesel never has fewer left than
+/// there are borders.
 fn most_of(kind: Kind) -> usize
     ensures { result ≡ most_of (stops_of kind) }
 {
     match kind.stops() {
         Some(most) => most,
-        None => 280,
+        None => 560,
     }
 }
 

@@ -1,9 +1,9 @@
 ghost use Rattle.std.specs.Prelude.{◌≡◌, ◌+◌, ◌-◌, ◌*◌, ◌^◌, ◌<◌, ◌≤◌, IsTrue, false, length, true};
 ghost use Rattle.best_run.specs.Fit.{BordersFit, IsFit};
-ghost use Rattle.best_run.specs.Kept.{Covers, Freer};
+ghost use Rattle.best_run.specs.Kept.{Covers, CoversRun, Freer, IsBarred, TurnsAs};
 ghost use Rattle.best_run.specs.Moves.{along, begun, begun_by, can_take, left_after, marked_all, may_come, may_earn, may_settle, misses, node_at, own_before, passed, settling, stop_in, turned_back, using};
 
-use crate::bits::{Borders, Spots};
+use crate::bits::{BORDERS, Borders, Spots};
 use crate::task::{Piece, Task};
 use tables::Amount;
 
@@ -129,6 +129,49 @@ impl Settled {
 }
 
 impl Standing {
+    /// The same run.
+    pub(crate) fn copy(&self) -> Standing
+        ensures { result ≡ self.now }
+    {
+        self.by(self.first)
+    }
+
+    /// Whether the run may go on as another one may, and earns no less then. It is not told of all such runs.
+    pub(crate) fn covers(&self, other: &Standing) -> bool
+        ensures { IsTrue result → CoversRun self.now other.now }
+    {
+        self.head == other.head
+            && self.turned == other.turned
+            && self.most == other.most
+            && self.may_turn_as(other)
+            && (self.left >= other.left || self.left >= BORDERS)
+            && self.value >= other.value
+            && self.visited.is_within(&other.visited)
+    }
+
+    /// Whether the run may turn back as another one may: neither may where both have.
+    fn may_turn_as(&self, other: &Standing) -> bool
+        ensures { IsTrue result → TurnsAs self.now other.now }
+    {
+        other.turned || (self.home == other.home && self.first == other.first)
+    }
+
+    /// The same run, to which all stops are as visited that are not in reach.
+    pub(crate) fn within(&self, reach: &Spots) -> Standing
+        ensures { IsBarred reach.now self.now result }
+    {
+        Standing {
+            home: self.home,
+            first: self.first,
+            turned: self.turned,
+            head: self.head,
+            most: self.most,
+            left: self.left,
+            value: self.value,
+            visited: self.visited.or_out_of(reach),
+        }
+    }
+
     /// The same run, begun by the piece at another place.
     pub(crate) fn by(&self, first: usize) -> Standing
         ensures { result ≡ begun_by self.now first }

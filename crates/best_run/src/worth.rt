@@ -42,11 +42,13 @@ impl Worth {
     /// Adds a stop that may be passed.
     pub(crate) fn pass(&mut self, value: Amount)
         requires value { value ≤ 80 }
+        requires levels { 0 < self.old.levels }
         requires few { self.old.levels ≤ 9 }
         requires room { (place : ℕ) → place < self.old.levels → get_or self.old.beyond place 0 ≤ 59520 }
         ensures { HasPassed value self.old self.new }
     {
-        for place in 0..self.levels {
+        self.beyond[0] += value;
+        for place in 1..self.levels {
             self.beyond[place] += value.saturating_sub(STEP * place as Amount);
         }
     }

@@ -1,7 +1,7 @@
 -- A copy of a state that is kept comes behind the others.
 use Rattle.std.proofs.Common.{◌≡◌, Some, length, slice_get, refl, sym, subst, arith}
 use Rattle.std.proofs.lemmas.Option.{slice_get_read}
-use Rattle.best_run.specs.declared.state.Settled.{Settled}
+use Rattle.best_run.specs.declared.stage.Stage.{Stage}
 use Rattle.best_run.proofs.Kept.{kept_twin}
 use Rattle.best_run.proofs.explored.Found.widen.Goals as goal
 
@@ -11,8 +11,8 @@ loop-place-preserved c =
     let place = c.loop-place.place in
     let items = now.explored.items in
     let at : slice_get items place ≡ Some c.index.result.now = slice_get_read items (length items) place c.index.result.now refl (omega (arith, c.loop-place-test.true, c.loop-place.invariant.long)) c.index.ensures in
-    let twin : slice_get items place ≡ Some c.copy-twin.result = subst (λ (s : Settled). slice_get items place ≡ Some s) (sym c.copy-twin.ensures) at in
+    let twin : slice_get items place ≡ Some c.copy-twin.result = subst (λ (s : Stage). slice_get items place ≡ Some s) (sym c.copy-twin.ensures) at in
     record {
-      kept = kept_twin c.args.settled.now c.copy-twin.result c.args.self.now now _ place c.loop-place.invariant.kept twin refl refl c.in_ok-push-2.ensures.items;
+      kept = kept_twin c.args.stage.now c.copy-twin.result c.args.self.now now _ place c.loop-place.invariant.kept twin refl refl c.in_ok-push-2.ensures.items;
       long = omega (arith, c.loop-place.invariant.long, c.in_ok-push-2.ensures.len);
     }

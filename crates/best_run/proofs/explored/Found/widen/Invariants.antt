@@ -5,6 +5,6 @@ use Rattle.best_run.proofs.explored.Found.widen.Given as goal
 
 abbrev pub invariant-loop-place : goal.invariant-loop-place
 invariant-loop-place l = record {
-  kept : IsKept l.settled l.fn.self l.self;
+  kept : IsKept l.stage l.fn.self l.self;
   long : l.places ≤ length l.self.explored.items;
 }

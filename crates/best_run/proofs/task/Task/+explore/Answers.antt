@@ -1,5 +1,5 @@
 -- Each loop adds the next ways to those tried, and together they are all moves of the state.
-use Rattle.std.proofs.Common.{◌≡◌, ℕ, ◌+◌, ◌<◌, Bool, List, [], ◌∷◌, true, false, inl, Some, drop, get_or, length, slice_get, refl, sym, ap, subst, ◌∙◌, arith}
+use Rattle.std.proofs.Common.{◌≡◌, ℕ, ◌+◌, ◌<◌, Bool, List, [], ◌∷◌, true, false, inl, None, Some, drop, get_or, length, slice_get, refl, sym, ap, subst, ◌∙◌, arith}
 use Rattle.std.proofs.lemmas.List.{drop_all, drop_more}
 use Rattle.std.proofs.lemmas.Option.{slice_get_read}
 use Rattle.best_run.specs.declared.explored.Found.{Found}
@@ -10,14 +10,13 @@ use Rattle.best_run.specs.declared.trail.Mark.TheVariants.{Pass, Turn, Settle}
 use Rattle.best_run.specs.Trail.{go_along}
 use Rattle.best_run.specs.Moves.{Explores, Takes, begun, begun_by, between, can_take, ends_in, node_at, passed, settling, standing, stop_in, turned_back}
 use Rattle.best_run.specs.Ways.{AreWaysOf, StandsBefore, TriesWays}
-use Rattle.best_run.proofs.Likened.{low_alike, low_back}
+use Rattle.best_run.proofs.Likened.{alike_whole, low_alike, low_back}
 use Rattle.best_run.proofs.Along.{AnyWay, IsLater, begin_by_ways, go_by_ways, leads_begin, leads_go, leads_turn, turn_by_ways, way_fits, ways_more, ways_none, ways_skip}
 use Rattle.best_run.proofs.Departing.{departs_from}
 use Rattle.best_run.proofs.Described.{among_place}
 use Rattle.best_run.proofs.Eased.{falls_short}
 use Rattle.best_run.proofs.Equal.{explores_capped}
 use Rattle.best_run.proofs.Homes.{TriesHomes, home_before, home_first, home_last, home_more}
-use Rattle.best_run.proofs.Hopeless.{explores_hopeless}
 use Rattle.best_run.proofs.Kept.{explores_covered, explores_kept}
 use Rattle.best_run.proofs.Places.{less_by, node_is, one_at_side, one_low, one_of, room_by, take_free, value_low}
 use Rattle.best_run.proofs.Reached.{explores_reached}
@@ -116,7 +115,7 @@ pub settle_next-returns : goal.settle_next-returns
 settle_next-returns t c =
     let task = c.args.self.now in
     let settled = c.args.settled.now in
-    explores_kept task settled c.alike-alike.result c.args.best.now c.trace.new.self c.keep.new.self (low_back task settled c.alike-alike.result c.alike-alike.ensures)
+    explores_kept task (between settled) c.alike-alike.result c.args.best.now c.trace.new.self c.keep.new.self (low_back task c.requires.fit settled None c.alike-alike.result c.falls_short.ensures.whole c.alike-alike.ensures)
     (explores_between task settled c.args.best.now c.begin_runs.new.best c.trace.new.self c.begin_runs.ensures
     (explores_from task (between settled) (between (passed settled)) (Pass ∷ []) c.begin_runs.new.best c.settle_next.new.best c.trace.new.self (leads_pass task settled (omega arith))
     (subst (λ (s : Settled). Explores task (between s) c.begin_runs.new.best c.settle_next.new.best) c.passed-passed.ensures c.settle_next.ensures)
@@ -126,14 +125,22 @@ settle_next-returns t c =
 
 pub settle_next-returns-then-covers : goal.settle_next-returns-then-covers
 settle_next-returns-then-covers t c =
-    explores_covered c.args.self.now c.args.settled.now c.alike-alike.result c.args.best.now (low_alike c.args.self.now c.requires.fit c.requires.ready c.args.settled.now c.alike-alike.result c.falls_short.ensures.whole c.alike-alike.ensures) (c.covers.ensures c.if-covers.true)
+    explores_covered c.args.self.now c.requires.fit (between c.args.settled.now) c.alike-alike.result c.args.best.now (alike_whole c.args.self.now c.args.settled.now None c.alike-alike.result c.falls_short.ensures.whole c.alike-alike.ensures) (low_alike c.args.self.now c.requires.fit c.requires.ready c.args.settled.now None c.alike-alike.result c.falls_short.ensures.whole c.alike-alike.ensures) (c.covers.ensures c.if-covers.true)
 
-pub stand-returns-then-is_hopeless : goal.stand-returns-then-is_hopeless
-stand-returns-then-is_hopeless t c =
-    explores_hopeless c.args.self.now c.args.settled.now c.args.run.now c.args.best.now (c.is_hopeless.ensures c.if-is_hopeless.true)
+pub stand_once-returns-then-covers : goal.stand_once-returns-then-covers
+stand_once-returns-then-covers t c =
+    let settled = c.args.settled.now in
+    let run = c.args.run.now in
+    explores_covered c.args.self.now c.requires.fit (standing settled run) c.alike_begun-alike.result c.args.best.now (alike_whole c.args.self.now settled (Some run) c.alike_begun-alike.result c.marks_all_borders.ensures c.alike_begun-alike.ensures) (low_alike c.args.self.now c.requires.fit c.requires.ready settled (Some run) c.alike_begun-alike.result c.marks_all_borders.ensures c.alike_begun-alike.ensures) (c.covers.ensures c.if-covers.true)
 
-pub stand-returns-then-may_settle : goal.stand-returns-then-may_settle
-stand-returns-then-may_settle t c =
+pub stand_once-returns : goal.stand_once-returns
+stand_once-returns t c =
+    let settled = c.args.settled.now in
+    let run = c.args.run.now in
+    explores_kept c.args.self.now (standing settled run) c.alike_begun-alike.result c.args.best.now c.stand_anew.new.best c.keep.new.self (low_back c.args.self.now c.requires.fit settled (Some run) c.alike_begun-alike.result c.marks_all_borders.ensures c.alike_begun-alike.ensures) c.stand_anew.ensures c.keep.ensures
+
+pub stand_anew-returns-then-may_settle : goal.stand_anew-returns-then-may_settle
+stand_anew-returns-then-may_settle t c =
     let task = c.args.self.now in
     let settled = c.args.settled.now in
     let run = c.args.run.now in
@@ -144,8 +151,8 @@ stand-returns-then-may_settle t c =
     (subst (λ (s : Settled). Explores task (between s) c.turn_back.new.best c.settle_next.new.best) c.settling-settling.ensures c.settle_next.ensures)
     c.trace.ensures)
 
-pub stand-returns-else-may_settle : goal.stand-returns-else-may_settle
-stand-returns-else-may_settle t c =
+pub stand_anew-returns-else-may_settle : goal.stand_anew-returns-else-may_settle
+stand_anew-returns-else-may_settle t c =
     let task = c.args.self.now in
     let settled = c.args.settled.now in
     let run = c.args.run.now in

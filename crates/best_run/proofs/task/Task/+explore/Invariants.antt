@@ -10,22 +10,28 @@ use Rattle.best_run.proofs.Places.{one_if}
 use Rattle.best_run.proofs.task.Task.+explore.Given as goal
 
 abbrev pub decreases-settle_next : goal.decreases-settle_next
-decreases-settle_next l = 4000 * (length l.self.now.trains.items - l.settled.now.next)
+decreases-settle_next l = 6000 * (length l.self.now.trains.items - l.settled.now.next)
 
 abbrev pub decreases-begin_runs : goal.decreases-begin_runs
-decreases-begin_runs l = 4000 * (length l.self.now.trains.items - l.settled.now.next) - 1
+decreases-begin_runs l = 6000 * (length l.self.now.trains.items - l.settled.now.next) - 1
 
 abbrev pub decreases-begin_at : goal.decreases-begin_at
-decreases-begin_at l = 4000 * (length l.self.now.trains.items - l.settled.now.next) - 2
+decreases-begin_at l = 6000 * (length l.self.now.trains.items - l.settled.now.next) - 2
 
 abbrev pub decreases-take : goal.decreases-take
-decreases-take l = 4000 * (length l.self.now.trains.items - l.settled.now.next - 1) + 4 * (3 * unused l.settled.now.used + one_if (stop_in (node_at l.self.now l.run.now.head))) + 1
+decreases-take l = 6000 * (length l.self.now.trains.items - l.settled.now.next - 1) + 6 * (3 * unused l.settled.now.used + one_if (stop_in (node_at l.self.now l.run.now.head))) + 1
 
 abbrev pub decreases-stand : goal.decreases-stand
-decreases-stand l = 4000 * (length l.self.now.trains.items - l.settled.now.next - 1) + 4 * (3 * unused l.settled.now.used + one_if (stop_in (node_at l.self.now l.run.now.head))) + 3
+decreases-stand l = 6000 * (length l.self.now.trains.items - l.settled.now.next - 1) + 6 * (3 * unused l.settled.now.used + one_if (stop_in (node_at l.self.now l.run.now.head))) + 5
+
+abbrev pub decreases-stand_once : goal.decreases-stand_once
+decreases-stand_once l = 6000 * (length l.self.now.trains.items - l.settled.now.next - 1) + 6 * (3 * unused l.settled.now.used + one_if (stop_in (node_at l.self.now l.run.now.head))) + 4
+
+abbrev pub decreases-stand_anew : goal.decreases-stand_anew
+decreases-stand_anew l = 6000 * (length l.self.now.trains.items - l.settled.now.next - 1) + 6 * (3 * unused l.settled.now.used + one_if (stop_in (node_at l.self.now l.run.now.head))) + 3
 
 abbrev pub decreases-go_on : goal.decreases-go_on
-decreases-go_on l = 4000 * (length l.self.now.trains.items - l.settled.now.next - 1) + 4 * (3 * unused l.settled.now.used + one_if (stop_in (node_at l.self.now l.run.now.head))) + 2
+decreases-go_on l = 6000 * (length l.self.now.trains.items - l.settled.now.next - 1) + 6 * (3 * unused l.settled.now.used + one_if (stop_in (node_at l.self.now l.run.now.head))) + 2
 
 abbrev pub invariant-begin_runs-loop-place : goal.invariant-begin_runs-loop-place
 invariant-begin_runs-loop-place l =
@@ -40,7 +46,7 @@ invariant-go_on-loop-index l =
     TriesWays l.self (standing l.settled l.run) l.settled (λ way. l.run) (λ way. StandsBefore l.from.ways.items l.index way × AnyWay way) l.initial.best l.best
 
 abbrev pub decreases-turn_back : goal.decreases-turn_back
-decreases-turn_back l = 4000 * (length l.self.now.trains.items - l.settled.now.next - 1) + 4 * (3 * unused l.settled.now.used + one_if (stop_in (node_at l.self.now l.run.now.head))) + 2
+decreases-turn_back l = 6000 * (length l.self.now.trains.items - l.settled.now.next - 1) + 6 * (3 * unused l.settled.now.used + one_if (stop_in (node_at l.self.now l.run.now.head))) + 2
 
 abbrev pub invariant-turn_back-loop-index : goal.invariant-turn_back-loop-index
 invariant-turn_back-loop-index l =

@@ -1,0 +1,195 @@
+-- A run may go on as another one that stands at its stop, if it has visited no stop that the other has not, and may visit as
+-- many more or more than there are borders; it earns as much more as it has earned more.
+use Rattle.std.proofs.Common.{◌≡◌, ℕ, ◌+◌, ◌<◌, ◌≤◌, Bool, true, false, not, ◌&&◌, ◌||◌, nat_le, nat_lt, ◌==◌, ◌⊎◌, inl, inr, List, [], ◌∷◌, length, get_or, refl, sym, ap, subst, ◌∙◌, arith}
+use Rattle.std.proofs.lemmas.Bool.{le-leb, leb-true, lt-ltb, ltb-true}
+use Rattle.best_run.specs.declared.task.Piece.{Piece}
+use Rattle.best_run.specs.declared.task.Task.{Task}
+use Rattle.best_run.specs.declared.state.Settled.{Settled}
+use Rattle.best_run.specs.declared.state.Standing.{Standing}
+use Rattle.best_run.specs.Fit.{IsFit, PieceFits, unused}
+use Rattle.best_run.specs.Kept.{Freer}
+use Rattle.best_run.specs.Moves.{Completes, LeadsFrom, Move, along, begin, between, can_take, ends_in, go, left_after, marked_all, marked_if, may_come, may_earn, misses, node_at, pass, settle, settling, standing, stop_in, total_after, turn, turned_back, using, value_in}
+use Rattle.best_run.proofs.Advance.{free_misses, misses_free}
+use Rattle.best_run.proofs.Eased.{Eased, ease, eased, freer_all, freer_marked, freer_set}
+use Rattle.best_run.proofs.Hopeless.{take_back}
+use Rattle.best_run.proofs.Marks.{length_marked, marked_fewer, marked_most}
+use Rattle.best_run.proofs.Places.{leading_fits}
+
+both_first : (a b : Bool) → (a && b) ≡ true → a ≡ true
+both_first true b is = refl
+both_first false b is = absurd cc
+
+both_second : (a b : Bool) → (a && b) ≡ true → b ≡ true
+both_second true b is = is
+both_second false b is = absurd cc
+
+both_are : (a b : Bool) → a ≡ true → b ≡ true → (a && b) ≡ true
+both_are true b first second = second
+both_are false b first second = absurd cc
+
+-- another run at the same stop
+abbrev pub freed : Standing → ℕ → ℕ → ℕ → ℕ → List Bool → Standing
+freed run home first left value visited =
+    record { home = home; first = first; turned = run.turned; head = run.head; most = run.most; left = left; value = value; visited = visited }
+
+-- so many stops more may be visited, or more than there are borders
+abbrev pub HasLeft : List Bool → ℕ → ℕ → Type 0
+HasLeft used left more = (left ≤ more) ⊎ (unused used ≤ more)
+
+-- one run may do what another may
+pub record Frees (settled : Settled) (run : Standing) (home first left value : ℕ) (visited used : List Bool) (kind cap more : ℕ) : Type 0 where
+  pub back : run.turned ≡ false → (home ≡ run.home) × (first ≡ run.first)
+  pub left_is : HasLeft used run.left left
+  pub value_is : value ≡ run.value + more
+  pub freer : Freer run.visited visited
+  pub borders : Freer settled.used used
+  pub looser : (kind ≡ 0) ⊎ ((settled.kind ≡ kind) × (settled.cap + more ≤ cap))
+  pub whole : length used ≡ 279
+
+pub record Freed (task : Task) (settled : Settled) (run other : Standing) (used : List Bool) (kind cap more total : ℕ) (moves : List Move) : Type 0 where
+  pub completes : Completes task (standing (eased kind cap settled total used) other) moves
+  pub earns : total_after task (standing settled run) moves + (total + more) ≡ total_after task (standing (eased kind cap settled total used) other) moves + settled.total
+
+some_left : (used : List Bool) (left more : ℕ) → HasLeft used left more → nat_lt 0 left ≡ true → (borders : List ℕ) → 0 < unused used → nat_lt 0 more ≡ true
+some_left used left more (inl most) some borders free = lt-ltb 0 more (omega (arith, most, ltb-true 0 left some))
+some_left used left more (inr most) some borders free = lt-ltb 0 more (omega (arith, most, free))
+
+not_marked : (visited others : List Bool) (n : ℕ) → Freer visited others → not (get_or visited n false) ≡ true → not (get_or others n false) ≡ true
+not_marked visited others n freer none = by_case (get_or others n false) refl
+  where
+    marked_not : (b : Bool) → b ≡ true → not b ≡ true → ⊥
+    marked_not true is none = let wrong : false ≡ true = none in cc
+    marked_not false is none = let wrong : false ≡ true = is in cc
+
+    by_case : (b : Bool) → get_or others n false ≡ b → not b ≡ true
+    by_case true is = absurd (marked_not (get_or visited n false) (freer_marked visited others n freer is) none)
+    by_case false is = refl
+
+freer_if : (stop : Bool) (visited others : List Bool) (n : ℕ) → Freer visited others → Freer (marked_if stop visited n) (marked_if stop others n)
+freer_if true visited others n freer = freer_set visited others n freer
+freer_if false visited others n freer = freer
+
+-- a piece that comes to a stop crosses a border
+fewer_left : (task : Task) (from to : Bool) (piece : Piece) → PieceFits task from piece → stop_in (node_at task piece.to) ≡ true → (used : List Bool) → length used ≡ 279 → misses used piece.borders.items ≡ true → unused (marked_all used piece.borders.items) + 1 ≤ unused used
+fewer_left task true to piece fits stop used whole free = let wrong : true ≡ false = sym stop ∙ fits.to_side refl in absurd cc
+fewer_left task false to piece fits stop used whole free = marked_fewer used piece.borders.items whole fits.borders (fits.over refl) free
+
+module _ (task : Task) (fit : IsFit task) where
+  free_of : (settled : Settled) (run : Standing) (used : List Bool) → Freer settled.used used → (piece : Piece) → can_take task run settled.used piece ≡ true → misses used piece.borders.items ≡ true
+  free_of settled run used borders piece taken =
+      let free : misses settled.used piece.borders.items ≡ true = both_second (may_come (stop_in (node_at task piece.to)) run piece.to) (misses settled.used piece.borders.items) taken in
+      free_misses used piece.borders.items (λ border among marked. misses_free settled.used piece.borders.items free border among (freer_marked settled.used used border borders marked))
+
+  -- a piece that may be taken
+  frees_take : (settled : Settled) (run : Standing) (home first left value : ℕ) (visited used : List Bool) (kind cap more : ℕ) → Frees settled run home first left value visited used kind cap more → (spot index : ℕ) (piece : Piece) → LeadsFrom task spot index piece → can_take task run settled.used piece ≡ true → can_take task (freed run home first left value visited) used piece ≡ true
+  frees_take settled run home first left value visited used kind cap more frees spot index piece leads taken =
+      both_are (may_come stop (freed run home first left value visited) piece.to) (misses used piece.borders.items) (come stop refl (both_first (may_come stop run piece.to) (misses settled.used piece.borders.items) taken)) free
+    where
+      stop : Bool
+      stop = stop_in (node_at task piece.to)
+
+      free : misses used piece.borders.items ≡ true
+      free = free_of settled run used frees.borders piece taken
+
+      come : (b : Bool) → stop_in (node_at task piece.to) ≡ b → may_come b run piece.to ≡ true → may_come b (freed run home first left value visited) piece.to ≡ true
+      come false is came = refl
+      come true is came =
+          let fits = leading_fits task fit spot index piece leads in
+          both_are (nat_lt 0 left) (not (get_or visited piece.to false))
+          (some_left used run.left left frees.left_is (both_first (nat_lt 0 run.left) (not (get_or run.visited piece.to false)) came) piece.borders.items (omega (arith, fewer_left task fits.0 true piece fits.1 is used frees.whole free)))
+          (not_marked run.visited visited piece.to frees.freer (both_second (nat_lt 0 run.left) (not (get_or run.visited piece.to false)) came))
+
+  -- what is left after it
+  left_next : (used : List Bool) (left more : ℕ) → HasLeft used left more → (piece : Piece) (b : Bool) → (b ≡ true → unused (marked_all used piece.borders.items) + 1 ≤ unused used) → HasLeft (marked_all used piece.borders.items) (left_after b left) (left_after b more)
+  left_next used left more (inl most) piece true fewer = inl (omega (arith, most))
+  left_next used left more (inl most) piece false fewer = inl most
+  left_next used left more (inr most) piece true fewer = inr (omega (arith, most, fewer refl))
+  left_next used left more (inr most) piece false fewer = inr (omega (arith, most, marked_most used piece.borders.items))
+
+  frees_next : (settled : Settled) (run : Standing) (home first left value : ℕ) (visited used : List Bool) (kind cap more : ℕ) → Frees settled run home first left value visited used kind cap more → (spot index : ℕ) (piece : Piece) → LeadsFrom task spot index piece → can_take task run settled.used piece ≡ true → Frees (using settled piece) (along task run piece) home first (left_after (stop_in (node_at task piece.to)) left) (value + value_in (node_at task piece.to)) (marked_if (stop_in (node_at task piece.to)) visited piece.to) (marked_all used piece.borders.items) kind cap more
+  frees_next settled run home first left value visited used kind cap more frees spot index piece leads taken =
+      let fits = leading_fits task fit spot index piece leads in
+      record {
+        back = frees.back;
+        left_is = left_next used run.left left frees.left_is piece (stop_in (node_at task piece.to)) (λ is. fewer_left task fits.0 true piece fits.1 is used frees.whole (free_of settled run used frees.borders piece taken));
+        value_is = omega (arith, frees.value_is);
+        freer = freer_if (stop_in (node_at task piece.to)) run.visited visited piece.to frees.freer;
+        borders = freer_all piece.borders.items settled.used used frees.borders;
+        looser = frees.looser;
+        whole = length_marked used piece.borders.items ∙ frees.whole;
+      }
+
+  -- it has turned back
+  frees_back : (settled : Settled) (run : Standing) (home first left value : ℕ) (visited used : List Bool) (kind cap more : ℕ) → Frees settled run home first left value visited used kind cap more → Frees settled (turned_back run) home first left value visited used kind cap more
+  frees_back settled run home first left value visited used kind cap more frees =
+      record {
+        back = λ wrong. absurd (let w : true ≡ false = wrong in cc);
+        left_is = frees.left_is;
+        value_is = frees.value_is;
+        freer = frees.freer;
+        borders = frees.borders;
+        looser = frees.looser;
+        whole = frees.whole;
+      }
+
+  -- a run that may be settled
+  earns_freed : (before low kind cap most value more total : ℕ) → (kind ≡ 0) ⊎ ((before ≡ kind) × (low + more ≤ cap)) → total ≡ value + more → may_earn before low most value ≡ true → may_earn kind cap most total ≡ true
+  earns_freed before low kind cap most value more total (inl none) is may = rw none refl
+  earns_freed before low kind cap most value more total (inr same) is may =
+      by_kind (kind == 0 || not (kind == most)) (ap (λ (k : ℕ). may_earn k low most value) (sym same.0) ∙ may)
+    where
+      by_kind : (b : Bool) → (b || nat_le value low) ≡ true → (b || nat_le total cap) ≡ true
+      by_kind true under = refl
+      by_kind false under = le-leb total cap (omega (arith, leb-true value low under, same.1, is))
+
+  -- what a run earns is earned by the other, and more
+  more_both : (a b total value more settled : ℕ) → a + (total + (value + more)) ≡ b + (settled + value) → a + (total + more) ≡ b + settled
+  more_both a b total value more settled same = omega (arith, same)
+
+  pub free : (moves : List Move) (settled : Settled) (run : Standing) (home first left value : ℕ) (visited used : List Bool) (kind cap more total : ℕ) → Frees settled run home first left value visited used kind cap more → Completes task (standing settled run) moves → Freed task settled run (freed run home first left value visited) used kind cap more total moves
+  free [] settled run home first left value visited used kind cap more total frees completes = absurd completes
+  free (pass ∷ moves) settled run home first left value visited used kind cap more total frees completes = absurd completes.0
+  free (begin stop index piece ∷ moves) settled run home first left value visited used kind cap more total frees completes = absurd completes.0
+  free (go index piece ∷ moves) settled run home first left value visited used kind cap more total frees completes =
+      let may = completes.0 in
+      let stop = stop_in (node_at task piece.to) in
+      let rest : Freed task (using settled piece) (along task run piece) (along task (freed run home first left value visited) piece) (marked_all used piece.borders.items) kind cap more total moves = free moves (using settled piece) (along task run piece) home first (left_after stop left) (value + value_in (node_at task piece.to)) (marked_if stop visited piece.to) (marked_all used piece.borders.items) kind cap more total (frees_next settled run home first left value visited used kind cap more frees run.head index piece may.leads may.taken) completes.1 in
+      record {
+        completes = (record { passes = may.passes; leads = may.leads; taken = frees_take settled run home first left value visited used kind cap more frees run.head index piece may.leads may.taken }, rest.completes);
+        earns = rest.earns;
+      }
+  free (turn index piece ∷ moves) settled run home first left value visited used kind cap more total frees completes =
+      let may = completes.0 in
+      let stop = stop_in (node_at task piece.to) in
+      let back = frees.back may.once in
+      let other = freed run home first left value visited in
+      let turned : Frees settled (turned_back run) home first left value visited used kind cap more = frees_back settled run home first left value visited used kind cap more frees in
+      let rest : Freed task (using settled piece) (along task (turned_back run) piece) (along task (turned_back other) piece) (marked_all used piece.borders.items) kind cap more total moves = free moves (using settled piece) (along task (turned_back run) piece) home first (left_after stop left) (value + value_in (node_at task piece.to)) (marked_if stop visited piece.to) (marked_all used piece.borders.items) kind cap more total (frees_next settled (turned_back run) home first left value visited used kind cap more turned run.home index piece may.leads may.taken) completes.1 in
+      let taken : can_take task other used piece ≡ true = frees_take settled run home first left value visited used kind cap more frees run.home index piece may.leads (sym (take_back task run settled.used piece) ∙ may.taken) in
+      record {
+        completes = (
+          record {
+            once = may.once;
+            stands = may.stands;
+            later = omega (arith, may.later, back.1);
+            passes = subst (λ (n : ℕ). ends_in (node_at task n) ≡ false) (sym back.0) may.passes;
+            leads = subst (λ (n : ℕ). LeadsFrom task n index piece) (sym back.0) may.leads;
+            taken = take_back task other used piece ∙ taken;
+          },
+          rest.completes,
+        );
+        earns = rest.earns;
+      }
+  free (settle ∷ moves) settled run home first left value visited used kind cap more total frees completes =
+      let looser : (run.most ≡ 0) ⊎ ((run.most ≡ run.most) × (run.value ≤ value)) = inr (refl, omega (arith, frees.value_is)) in
+      let rest : Eased task run.most value (between (settling settled run)) moves (total + value) used = ease task moves run.most value (between (settling settled run)) (total + value) used looser frees.borders completes.1 in
+      let is = completes.0 in
+      record {
+        completes = (
+          both_are (stop_in (node_at task run.head)) (may_earn kind cap run.most value)
+              (both_first (stop_in (node_at task run.head)) (may_earn settled.kind settled.cap run.most run.value) is)
+              (earns_freed settled.kind settled.cap kind cap run.most run.value more value frees.looser frees.value_is (both_second (stop_in (node_at task run.head)) (may_earn settled.kind settled.cap run.most run.value) is)),
+          rest.completes,
+        );
+        earns = more_both (total_after task (between (settling settled run)) moves) (total_after task (between (eased run.most value (settling settled run) (total + value) used)) moves) total run.value more settled.total (omega (arith, rest.earns, frees.value_is));
+      }
