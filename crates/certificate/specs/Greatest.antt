@@ -1,7 +1,7 @@
--- What holds of the greatest revenue, whatever lies: there is one and no second, it is at most 50,000 dollars, and
+-- What holds of the greatest revenue, whatever lies: there is one and no second, it is under 50,000 dollars, and
 -- neither more trains, nor a train that may visit more stops in place of another, make it less; the order of the
 -- trains changes nothing.
-use Rattle.std.specs.Prelude.{◌≡◌, ℕ, ◌≤◌, List, ◌∷◌}
+use Rattle.std.specs.Prelude.{◌≡◌, ℕ, ◌<◌, ◌≤◌, List, ◌∷◌}
 use Rattle.reach.specs.Lawful.{IsLawful}
 use Rattle.reach.specs.Position.{Position}
 use Rattle.tables.specs.Train.{stops_of}
@@ -10,11 +10,11 @@ use Rattle.tables.specs.declared.roster.Company.{Company}
 use Rattle.certificate.specs.Legal.{AreAtMost}
 use Rattle.certificate.specs.Set.{AreTakenFrom, IsGreatest, in_number}
 
--- there is a greatest revenue, of at most 50,000 dollars
+-- there is a greatest revenue, of under 50,000 dollars
 abbrev pub AGreatestExists : Type 0
 AGreatestExists =
     (position : Position) (company : Company) (trains : List Kind) →
-    IsLawful position → (revenue : ℕ) × IsGreatest position company trains revenue × (revenue ≤ 50000)
+    IsLawful position → (revenue : ℕ) × IsGreatest position company trains revenue × (revenue < 50000)
 
 -- there is no second one
 abbrev pub OneGreatest : Type 0

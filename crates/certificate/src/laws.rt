@@ -75,7 +75,7 @@ pub fn each_legal_run_is_named()
 {}
 
 /// There is a greatest revenue that a company's trains can earn, whatever lies: some legal set of
-/// runs earns it and none earns more. It is at most 50,000 dollars.
+/// runs earns it and none earns more. It is under 50,000 dollars.
 pub fn a_greatest_exists()
     ensures { AGreatestExists }
 {}

@@ -1,5 +1,5 @@
 -- The trains of a company, one for one, and what its best runs earn.
-use Rattle.std.proofs.Common.{◌≡◌, ℕ, zero, suc, ◌+◌, ◌≤◌, Bool, true, false, List, [], ◌∷◌, ◌++◌, Option, Some, None, length, replicate, ℤ, pos, ◌≤ℤ◌, refl, sym, ap, subst, ◌∙◌, arith, add-one}
+use Rattle.std.proofs.Common.{◌≡◌, ℕ, zero, suc, ◌+◌, ◌<◌, ◌≤◌, Bool, true, false, List, [], ◌∷◌, ◌++◌, Option, Some, None, length, replicate, ℤ, pos, ◌≤ℤ◌, refl, sym, ap, subst, ◌∙◌, arith, add-one}
 use Rattle.std.proofs.lemmas.Int.{ints}
 use Rattle.std.specs.Int.RustNames.{unsigned_abs}
 use mir.Syntax.{w128}
@@ -54,7 +54,9 @@ pub small_greatest :
     IsGreatest position company trains revenue → revenue ≤ 50000
 small_greatest exists one position company trains revenue lawful greatest =
     let there = exists position company trains lawful in
-    subst (λ (n : ℕ). n ≤ 50000) (one position company trains there.0 revenue there.1 greatest) there.2
+    let same : there.0 ≡ revenue = one position company trains there.0 revenue there.1 greatest in
+    let small : there.0 < 50000 = there.2 in
+    omega (arith, same, small)
 
 -- as many trains of a kind behind others
 pub same_count : (trains : List Kind) (kind : Kind) (count other : ℤ) → count ≡ other →
