@@ -33,8 +33,8 @@ pub fn legal_where_no_rule_is_broken()
     ensures { LegalWhereNoRuleIsBroken }
 {}
 
-/// Borders are told apart by their numbers: two sides of hexes have one number exactly where they
-/// are one side, or the two sides of one border.
+/// Borders are told apart by their numbers: two sides of hexes that each lie at a border have one
+/// number exactly where they are one side, or the two sides of one border.
 pub fn borders_are_told_apart()
     ensures { BordersAreToldApart }
 {

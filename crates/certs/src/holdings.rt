@@ -22,14 +22,14 @@ pub struct Holdings {
 impl Holdings {
     ghost use Rattle.certs.specs.Holdings.{AreHoldingsAt, AreHoldingsOf, MovesTenths, tenths_in};
 
-    /// The holdings of a game as it stands, by looking back over its events.
+    /// The holdings of a game as it stands, read from the totals that it keeps of its events.
     pub fn of(history: &History) -> Holdings
         ensures { AreHoldingsOf history.now result }
     {
         Holdings::at(&history.now())
     }
 
-    /// The holdings of a game as it stood, by looking back over its events.
+    /// The holdings of a game as it stood, read from the totals that it kept of its events.
     pub fn at(past: &Past) -> Holdings
         ensures { AreHoldingsAt past.now result }
     {

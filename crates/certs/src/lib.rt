@@ -1,7 +1,7 @@
 //! The certificates: who holds how many tenths of each company, who presides, how many certificates
 //! of a player count against the limit, and what a player may buy and sell.
 //!
-//! The holdings are a small table that is made by looking back over the events of a game. A
+//! The holdings are a small table that is read from the totals that a game keeps of its events. A
 //! transfer moves tenths and nothing else; then the table answers who presides. The rules of a
 //! purchase and of a sale are looked at in the order of their numbers, and the first that is broken
 //! is the answer.

@@ -61,7 +61,7 @@ impl Holdings {
     }
 }
 
-/// Who presides over a company, by looking back over the events, where this seat presided: it stays
+/// Who presides over a company by the tenths that the game tells, where this seat presided: it stays
 /// unless some seat has strictly more tenths; then it is the seat with most, among equals the first
 /// to its left.
 pub fn successor(past: &Past, company: Company, old: Seat) -> Seat

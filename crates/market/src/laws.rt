@@ -20,8 +20,8 @@ pub fn floated_companies_in_order()
     ensures { (events : List Event) → IsOperatingOrder events (operating_order_of events) }
 {}
 
-/// Of two companies on one square that which came there first operates first: BO before PRR, where
-/// BO was started first at the same par value.
+/// An example, computed: BO operates before PRR in a list in which both are started at 67, BO first,
+/// and float there. For every list `floated_companies_in_order` says it.
 pub fn first_there_operates_first()
     ensures { operating_order_of both_at_67 ≡ BaltimoreOhio ∷ Pennsylvania ∷ [] }
 {}

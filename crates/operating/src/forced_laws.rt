@@ -7,14 +7,14 @@ pub fn presidents_stay()
     ensures { PresidentStays }
 {}
 
-/// A bankruptcy is the last event of a company's turn: the president of that company is bankrupt, and
-/// it has no train.
+/// Where nobody was bankrupt before a company's turn and somebody is after it, the bankruptcy is the
+/// last event of the turn: the president of that company is bankrupt, and it has no train.
 pub fn bankruptcy_ends_turns()
     ensures { BankruptcyEndsTurns }
 {}
 
-/// After its turn a company owns a train, or its president is bankrupt, or it could run no train of
-/// kind 2.
+/// Where all trains are there before its turn, as play keeps them, a company that has a president
+/// owns a train after it, or a president is bankrupt, or it could run no train of kind 2.
 pub fn turns_end_with_trains()
     ensures { TurnsEndWithTrains }
 {}

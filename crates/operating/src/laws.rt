@@ -49,8 +49,8 @@ pub fn obeyed_runs_are_legal()
     ensures { ObeyedRunsAreLegal }
 {}
 
-/// A company that pays out what its trains earned gets no more than that from the bank for those
-/// who hold its tenths.
+/// In a sound list a company that pays out what its trains earned gets no more than that from the
+/// bank for those who hold its tenths.
 pub fn no_more_is_paid()
     ensures { NoMoreIsPaid }
 {}

@@ -20,7 +20,9 @@ pub fn some_report()
     some_game()
 }
 
-/// In which order the sheets of different players arrive changes nothing in the report.
+/// In which order the sheets of different players arrive changes nothing in the report: two accepted
+/// files of the same players have one report, where each player sent the same sheets in the same
+/// order, and the unread lines have the same faults in the same order.
 pub fn arrival_changes_no_report()
     ensures { ArrivalChangesNoReport }
 {

@@ -35,7 +35,7 @@ pub struct Accounts {
 pub struct Short;
 
 impl Accounts {
-    /// The accounts of a game as it stands, by looking back over its events.
+    /// The accounts of a game as it stands, read from the totals that it keeps of its events.
     pub fn of(history: &History) -> Accounts
         ensures accounts { AreAccountsOf history.now result }
         ensures moderate { AreModerate result }
