@@ -34,7 +34,8 @@ pub record EndsBankrupt (game : Game) (company : Company) : Type 0 where
   pub first : bankrupt_in before ≡ false
   pub none : has_trains game.events company ≡ false
 
--- a bankruptcy is the last event of a company's turn: the president of the company is bankrupt, and it has no train
+-- where nobody was bankrupt before a company's turn, a bankruptcy in it is its last event: the president of the company is
+-- bankrupt, and it has no train
 abbrev pub BankruptcyEndsTurns : Type 0
 BankruptcyEndsTurns =
     (file : List ℕ) (round : Round) (company : Company) (old new : Game) →
@@ -51,7 +52,8 @@ AidIsWhatLacks =
 abbrev pub NoAidWithoutLack : Type 0
 NoAidWithoutLack = (by : Operator) (game : Game) → lt_z (pos 0) (lack_of game by.company) ≡ false → with_aid by game ≡ game
 
--- after its turn a company that has a president owns a train, or its president is bankrupt, or it could run no train
+-- where all trains are there before its turn, a company that has a president owns a train after it, or a president is
+-- bankrupt, or it could run no train
 abbrev pub TurnsEndWithTrains : Type 0
 TurnsEndWithTrains =
     (file : List ℕ) (round : Round) (company : Company) (old new : Game) (president : Seat) →
