@@ -1,17 +1,17 @@
 -- What is done with the set of some borders is done with each of them.
-use Rattle.std.proofs.Common.{◌≡◌, ◌↔◌, ℕ, zero, suc, Bool, true, false, ◌⊎◌, inl, inr, List, [], ◌∷◌, length, set, refl, sym, ap, ◌∙◌, length-set}
+use Rattle.std.proofs.Common.{◌≡◌, ◌↔◌, ℕ, zero, suc, Bool, true, false, ◌⊎◌, inl, inr, Option, None, Some, List, [], ◌∷◌, length, get_or, set, refl, sym, ap, ◌∙◌, length-set}
 use Rattle.reach.specs.Position.{IsAmong}
 use Rattle.best_run.specs.Alike.{cleared_all}
-use Rattle.best_run.specs.Crossed.{numbers_in}
+use Rattle.best_run.specs.Crossed.{IsShared, numbers_in}
 use Rattle.best_run.specs.Kept.{Freer}
-use Rattle.best_run.specs.Marks.{AreApart, AreBoth, AreOnly, IsMarked}
+use Rattle.best_run.specs.Marks.{AreApart, AreBoth, AreOnly, IsMarked, IsOneOf}
 use Rattle.best_run.specs.Moves.{marked_all, misses}
 use Rattle.best_run.proofs.Advance.{free_misses, marks_more, misses_free}
 use Rattle.best_run.proofs.Eased.{freer_marked}
 use Rattle.best_run.proofs.Likened.{cleared_fewer, cleared_here}
 use Rattle.best_run.proofs.Marks.{length_marked}
 use Rattle.best_run.proofs.Numbers.{in_set, numbers_fit}
-use Rattle.best_run.proofs.Words.{same_marks}
+use Rattle.best_run.proofs.Words.{not_both, same_marks}
 
 same_test : (a b : Bool) → (a ≡ true → b ≡ true) → (b ≡ true → a ≡ true) → a ≡ b
 same_test true b there back = sym (there refl)
@@ -70,3 +70,17 @@ set_cleared old marks new only =
 pub set_within : (marks others : List Bool) → Freer others marks → (border : ℕ) → IsAmong border (numbers_in marks) → IsAmong border (numbers_in others)
 set_within marks others freer border among =
     (in_set others border).0 (freer_marked others marks border freer ((in_set marks border).1 among))
+
+-- no border is one of both
+pub set_apart : (marks others : List Bool) → AreApart marks others → (border : ℕ) → IsAmong border (numbers_in marks) → IsAmong border (numbers_in others) → ⊥
+set_apart marks others apart border first second =
+    apart border ((in_set marks border).1 first) ((in_set others border).1 second)
+
+-- what is left where what is left of one without the other is taken away
+pub set_shared : (marks others rest shared : List Bool) (answer : Option ℕ) → AreOnly marks others rest → AreOnly marks rest shared → IsOneOf shared answer → IsShared (numbers_in marks) (numbers_in others) answer
+set_shared marks others rest shared None one two none =
+    λ border first second. none border ((two.each border).1 ((in_set marks border).1 first, λ left. ((one.each border).0 left).1 ((in_set others border).1 second)))
+set_shared marks others rest shared (Some border) one two marked =
+    let left = (two.each border).0 marked in
+    let met : IsMarked others border = true_or (get_or others border false) (λ not. left.1 ((one.each border).1 (left.0, λ is. not_both (get_or others border false) is not))) in
+    ((in_set marks border).0 left.0, (in_set others border).0 met)

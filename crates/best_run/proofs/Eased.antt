@@ -225,10 +225,10 @@ solved_more task count bounds old new trail low before explores written =
 pub solved_all :
     (task : Task) (count : ℕ) (bounds : List ℕ) (old new : Found) → count ≡ length task.trains.items →
     IsSolved task (length task.trains.items) bounds old → Explores task (between (nothing_before (length task.trains.items - count))) old new →
-    IsTop task new
-solved_all task count bounds old new all before explores =
+    new.trail.refused ≡ None → IsTop task new
+solved_all task count bounds old new all before explores granted =
     record {
-      earns = still_earned task start old new from_start.traced (subst (λ (n : ℕ). old.trail.refused ≡ None → Earns task (between (nothing_before n)) (marks_in old.trail) old.amount) none before.earns);
+      earns = still_earned task start old new from_start.traced (subst (λ (n : ℕ). old.trail.refused ≡ None → Earns task (between (nothing_before n)) (marks_in old.trail) old.amount) none before.earns) granted;
       most = from_start.most before.known;
     }
   where

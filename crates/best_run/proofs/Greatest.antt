@@ -1,5 +1,5 @@
 -- What the search finds is the greatest revenue, and the runs that the trail tells earn it.
-use Rattle.std.proofs.Common.{◌≡◌, ℕ, ◌+◌, true, false, None, List, [], ◌∷◌, replicate, refl, sym, subst, ◌∙◌, arith}
+use Rattle.std.proofs.Common.{◌≡◌, ℕ, ◌+◌, true, false, List, [], ◌∷◌, replicate, refl, sym, subst, ◌∙◌, arith}
 use Rattle.std.specs.List.{AllByRecursion}
 use Rattle.reach.proofs.Collected.{none_marked}
 use Rattle.reach.specs.Lawful.{IsLawful}
@@ -82,9 +82,9 @@ module _ (position : Position) (company : Company) (lawful : IsLawful position) 
       })
 
   -- what has been explored from the start is the greatest
-  pub greatest_found : (found : Found) → IsTop task found → found.trail.refused ≡ None → IsGreatest position company kinds found.amount
-  greatest_found found top none =
-      let told : TellSet (marks_in found.trail) found.amount = tell_set (marks_in found.trail) found.amount (top.earns none) in
+  pub greatest_found : (found : Found) → IsTop task found → IsGreatest position company kinds found.amount
+  greatest_found found top =
+      let told : TellSet (marks_in found.trail) found.amount = tell_set (marks_in found.trail) found.amount top.earns in
       record { earned = (runs_told kinds [] (marks_in found.trail), told.set, told.earns); most = most }
     where
       most : IsMost position company kinds found.amount

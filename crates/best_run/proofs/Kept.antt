@@ -1,6 +1,7 @@
 -- A state that is covered by one that has been explored earns no more than the best found; a state that has been explored may
 -- be kept.
-use Rattle.std.proofs.Common.{◌≡◌, ℕ, Bool, zero, suc, ◌-◌, ◌≤◌, ◌⊎◌, inl, inr, Option, None, Some, List, [], ◌∷◌, ◌++◌, length, set, slice_get, refl, sym, ap, subst, ◌∙◌, arith}
+use Rattle.std.proofs.Common.{◌≡◌, ℕ, Bool, zero, suc, ◌-◌, ◌<◌, ◌≤◌, ◌⊎◌, inl, inr, Option, None, Some, Ok, List, [], ◌∷◌, ◌++◌, length, set, slice_get, refl, sym, ap, subst, ◌∙◌, arith}
+use Rattle.std.specs.declared.alloc.AllocError.{AllocError}
 use Rattle.best_run.specs.declared.explored.Found.{Found}
 use Rattle.best_run.specs.declared.stage.Stage.{Stage}
 use Rattle.best_run.specs.declared.state.Settled.{Settled}
@@ -8,7 +9,7 @@ use Rattle.best_run.specs.declared.state.Standing.{Standing}
 use Rattle.best_run.specs.declared.task.Task.{Task}
 use Rattle.best_run.specs.declared.trail.Trail.{Trail}
 use Rattle.best_run.specs.Fit.{IsFit}
-use Rattle.best_run.specs.Kept.{Covers, CoversAny, CoversRun, CoversStage, IsCovered, IsHeld, IsKept, IsNothing}
+use Rattle.best_run.specs.Kept.{Covers, CoversAny, CoversRun, CoversStage, IsCovered, IsHeld, IsKept, IsNothing, found_or, unless_refused}
 use Rattle.best_run.specs.Moves.{AreExplored, Completes, Explores, LeadsToAtMost, State, between, standing, state_at, state_by, total_after}
 use Rattle.best_run.specs.Trail.{marks_in}
 use Rattle.best_run.proofs.Eased.{Eased, ease, freer_length}
@@ -79,8 +80,8 @@ explores_kept task state like old new kept alike explores is =
     record {
       grows = omega (arith, explores.grows, is.amount);
       traced = traced_both task state old new kept explores.grows (omega (arith, is.amount)) explores.traced (record {
-        refused = λ none. ap (λ (t : Trail). t.refused) (sym is.trail) ∙ none;
-        told = λ none. inl (record { amount = is.amount; marks = ap marks_in is.trail });
+        refused = is.refused;
+        told = λ none. inl (record { amount = is.amount; marks = is.marks });
       });
       known = λ known place entry there. subst (λ (n : ℕ). LeadsToAtMost task (state_at entry) n) (sym is.amount) (elim (is.only place entry there) [
         | inl held ↦ explores.known known held.0 entry held.1
@@ -88,6 +89,14 @@ explores_kept task state like old new kept alike explores is =
       ]);
       most = λ known. subst (λ (n : ℕ). LeadsToAtMost task state n) (sym is.amount) (explores.most known);
     }
+
+-- no memory has been refused where what is found is answered
+pub granted : (best found : Found) → unless_refused best ≡ Ok found → (found ≡ best) × (best.trail.refused ≡ None)
+granted best found is = by_error best.trail.refused is
+  where
+    by_error : (refused : Option AllocError) → found_or best refused ≡ Ok found → (found ≡ best) × (refused ≡ None)
+    by_error None told = (let same : best ≡ found = cc in sym same, refl)
+    by_error (Some error) told = absurd cc
 
 -- no state is kept at first
 pub nothing_explored : (task : Task) (found : Found) → IsNothing found → AreExplored task found
@@ -113,12 +122,19 @@ push_only one [] (suc place) entry is = inl is
 push_only one (other ∷ entries) zero entry is = inl is
 push_only one (other ∷ entries) (suc place) entry is = push_only one entries place entry is
 
+-- and the state that is put there stands there
+pub set_held : (entries : List Stage) (n : ℕ) (stage : Stage) → n < length entries → slice_get (set entries n stage) n ≡ Some stage
+set_held [] n stage low = absurd (omega (arith, low))
+set_held (one ∷ entries) zero stage low = refl
+set_held (one ∷ entries) (suc n) stage low = set_held entries n stage (omega (arith, low))
+
 -- one that is held is held once more
 pub kept_twin : (stage twin : Stage) (old now new : Found) (place : ℕ) → IsKept stage old now → slice_get now.explored.items place ≡ Some twin → new.amount ≡ now.amount → new.trail ≡ now.trail → new.explored.items ≡ now.explored.items ++ twin ∷ [] → IsKept stage old new
 kept_twin stage twin old now new place is at amount trail items =
     record {
       amount = amount ∙ is.amount;
-      trail = trail ∙ is.trail;
+      marks = ap marks_in trail ∙ is.marks;
+      refused = λ none. is.refused (ap (λ (t : Trail). t.refused) (sym trail) ∙ none);
       only = λ other entry there. elim (push_only twin now.explored.items other entry (subst (λ (entries : List Stage). slice_get entries other ≡ Some entry) items there)) [
         | inl before ↦ is.only other entry before
         | inr same ↦ subst (λ (s : Stage). IsHeld old s ⊎ (stage ≡ s)) same (is.only place twin at)
@@ -130,7 +146,8 @@ pub kept_again : (stage : Stage) (old now new : Found) → IsKept stage old now 
 kept_again stage old now new first again =
     record {
       amount = again.amount ∙ first.amount;
-      trail = again.trail ∙ first.trail;
+      marks = again.marks ∙ first.marks;
+      refused = λ none. first.refused (again.refused none);
       only = λ place entry there. elim (again.only place entry there) [
         | inl held ↦ first.only held.0 entry held.1
         | inr same ↦ inr same

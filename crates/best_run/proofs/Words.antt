@@ -31,7 +31,7 @@ bit_is : (words : List ℕ) (n : ℕ) → bit_of words n ≡ 1 → mark_at words
 unfolding mark_at
 bit_is words n is = eq-eqb (bit_of words n) 1 is
 
-not_both : (b : Bool) → b ≡ true → b ≡ false → ⊥
+pub not_both : (b : Bool) → b ≡ true → b ≡ false → ⊥
 not_both true is none = let wrong : true ≡ false = none in cc
 not_both false is none = let wrong : false ≡ true = is in cc
 
@@ -263,6 +263,34 @@ met_words count a b k clean fits some apart =
     let both : ℕ = bit_and (get_or a k 0) (get_or b k 0) in
     let lowest = bit_at-trailing_zeros w64 (bit_and (get_or a k 0) (get_or b k 0)) (some_bit (bit_and (get_or a k 0) (get_or b k 0)) some) (omega (arith, fits, and_le_l (get_or a k 0) (get_or b k 0))) in
     meets_at count a b k (trailing_zeros w64 (bit_and (get_or a k 0) (get_or b k 0))) clean lowest.0 lowest.1 apart
+
+-- the number of the lowest bit of a word
+abbrev pub lowest_of : ℕ → ℕ → ℕ
+lowest_of k word = 64 * k + trailing_zeros w64 word
+
+lowest_bit : (words : List ℕ) (k : ℕ) → get_or words k 0 < 2 ^ 64 → (get_or words k 0 ≡ 0 → ⊥) → bit_of words (lowest_of k (get_or words k 0)) ≡ 1
+lowest_bit words k fits some =
+    let lowest = bit_at-trailing_zeros w64 (get_or words k 0) (some_bit (get_or words k 0) some) (omega (arith, fits)) in
+    let i : ℕ = trailing_zeros w64 (get_or words k 0) in
+    let word : (64 * k + i) / 64 ≡ k = omega (arith, lowest.0) in
+    let rest : (64 * k + i) % 64 ≡ i = omega (arith, lowest.0) in
+    rw (word, rest) lowest.1
+
+pub first_low : (count : ℕ) (words : List ℕ) (k : ℕ) → HasNoneFrom count words → get_or words k 0 < 2 ^ 64 → (get_or words k 0 ≡ 0 → ⊥) → lowest_of k (get_or words k 0) < count
+first_low count words k clean fits some =
+    let bit = lowest_bit words k fits some in
+    elim (cases_lt (lowest_of k (get_or words k 0)) count) [ inl less ↦ less | inr past ↦ absurd (omega (arith, clean.none (lowest_of k (get_or words k 0)) past, bit)) ]
+
+pub first_marked : (count : ℕ) (words : List ℕ) (k : ℕ) → HasNoneFrom count words → get_or words k 0 < 2 ^ 64 → (get_or words k 0 ≡ 0 → ⊥) → IsMarked (marks_in count words) (lowest_of k (get_or words k 0))
+first_marked count words k clean fits some =
+    bit_marked count words (lowest_of k (get_or words k 0)) (first_low count words k clean fits some) (lowest_bit words k fits some)
+
+-- no word has a bit
+pub unmarked : (count width : ℕ) (words : List ℕ) → count ≤ 64 * width → ((j : ℕ) → j < width → get_or words j 0 ≡ 0) → (n : ℕ) → IsMarked (marks_in count words) n → ⊥
+unmarked count width words fits none n is =
+    let bit = marked_bit count words n is in
+    let at : bit_of words n ≡ bit_at 0 (n % 64) = ap (λ word. bit_at word (n % 64)) (none (n / 64) (omega (arith, fits, bit.0))) in
+    absurd (omega (arith, bit.1, at, bit_at-zero (n % 64)))
 
 -- all that is marked in one is marked in another
 pub freer_from : (marks others : List Bool) → length marks ≡ length others → ((n : ℕ) → IsMarked others n → IsMarked marks n) → Freer marks others

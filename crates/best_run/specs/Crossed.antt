@@ -1,5 +1,6 @@
 -- Borders that a piece of track crosses, by their numbers, and which numbers are marked in a set.
-use Rattle.std.specs.Prelude.{ℕ, suc, Bool, true, false, List, [], ◌∷◌}
+use Rattle.std.specs.Prelude.{ℕ, suc, Bool, true, false, Option, None, Some, List, [], ◌∷◌}
+use Rattle.reach.specs.Position.{IsAmong}
 
 pub record Crossed : Type 0 where
   pub items : List ℕ
@@ -16,3 +17,8 @@ numbers_from first (mark ∷ marks) = before_if mark first (numbers_from (suc fi
 
 unfoldable pub numbers_in : List Bool → List ℕ
 numbers_in marks = numbers_from 0 marks
+
+-- a border that is one of some and of others; none where there is no such border
+abbrev pub IsShared : List ℕ → List ℕ → Option ℕ → Type 0
+IsShared borders others (Some border) = IsAmong border borders × IsAmong border others
+IsShared borders others None = (border : ℕ) → IsAmong border borders → IsAmong border others → ⊥

@@ -1,5 +1,6 @@
 -- States that have been explored, and are kept: another state from which no more can be earned need not be.
-use Rattle.std.specs.Prelude.{◌≡◌, ℕ, ◌≤◌, Bool, true, false, ◌⊎◌, Option, Some, None, List, [], ◌∷◌, slice_get}
+use Rattle.std.specs.Prelude.{◌≡◌, ℕ, ◌≤◌, Bool, true, false, ◌⊎◌, Option, Some, None, Result, Ok, Err, List, [], ◌∷◌, slice_get}
+use Rattle.std.specs.declared.alloc.AllocError.{AllocError}
 use Rattle.best_run.specs.declared.explored.Found.{Found}
 use Rattle.best_run.specs.declared.stage.Stage.{Stage}
 use Rattle.best_run.specs.declared.state.Settled.{Settled}
@@ -65,10 +66,11 @@ pub record IsCovered (found : Found) (stage : Stage) : Type 0 where
 abbrev pub IsHeld : Found → Stage → Type 0
 IsHeld found entry = (place : ℕ) × (slice_get found.explored.items place ≡ Some entry)
 
--- a state is kept, if at all; the others that are kept are among those that were
+-- a state is kept, if at all; the others that are kept are among those that were, and an earlier refusal of memory stands
 pub record IsKept (stage : Stage) (old new : Found) : Type 0 where
   pub amount : new.amount ≡ old.amount
-  pub trail : new.trail ≡ old.trail
+  pub marks : marks_in new.trail ≡ marks_in old.trail
+  pub refused : new.trail.refused ≡ None → old.trail.refused ≡ None
   pub only : (place : ℕ) (entry : Stage) → slice_get new.explored.items place ≡ Some entry → IsHeld old entry ⊎ (stage ≡ entry)
 
 -- nothing is found yet, no move is told, and no state is kept
@@ -76,3 +78,11 @@ pub record IsNothing (found : Found) : Type 0 where
   pub amount : found.amount ≡ 0
   pub marks : marks_in found.trail ≡ []
   pub none : found.explored.items ≡ []
+
+-- what is found, or the refusal of memory
+abbrev pub found_or : Found → Option AllocError → Result Found AllocError
+found_or found None = Ok found
+found_or found (Some error) = Err error
+
+abbrev pub unless_refused : Found → Result Found AllocError
+unless_refused found = found_or found found.trail.refused

@@ -13,3 +13,4 @@ pub mod Alike
 pub mod Kinds
 pub mod Ways
 pub mod Last
+pub mod Answer

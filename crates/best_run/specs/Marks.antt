@@ -1,5 +1,5 @@
 -- Marks of borders or spots by their numbers, as bits in words of 64.
-use Rattle.std.specs.Prelude.{◌≡◌, ℕ, ◌/◌, ◌%◌, ◌≤◌, Bool, true, false, ◌==◌, ◌⊎◌, ◌↔◌, List, length, get_or, map}
+use Rattle.std.specs.Prelude.{◌≡◌, ℕ, ◌/◌, ◌%◌, ◌≤◌, Bool, true, false, ◌==◌, ◌⊎◌, ◌↔◌, Option, None, Some, List, length, get_or, map}
 use Rattle.std.specs.Int.{bit_at}
 use Rattle.std.specs.List.{range_with_len}
 
@@ -22,6 +22,11 @@ marks_in count words = map (mark_at words) (range_with_len 0 count)
 -- no bit is set for a number from one on
 pub record HasNoneFrom (count : ℕ) (words : List ℕ) : Type 0 where
   pub none : (number : ℕ) → count ≤ number → bit_of words number ≡ 0
+
+-- a number that is marked; none where no number is
+abbrev pub IsOneOf : List Bool → Option ℕ → Type 0
+IsOneOf marks (Some number) = IsMarked marks number
+IsOneOf marks None = (number : ℕ) → IsMarked marks number → ⊥
 
 -- no number is marked in both
 abbrev pub AreApart : List Bool → List Bool → Type 0

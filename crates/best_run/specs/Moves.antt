@@ -243,7 +243,7 @@ pub record IsBetter (task : Task) (state : State) (old new : Found) : Type 0 whe
   pub more : old.amount < new.amount
   pub earns : Earns task state (marks_in new.trail) new.amount
 
--- where no mark has been refused, the trail tells how what is found is earned from a state on, if it is more than before
+-- where no memory has been refused, the trail tells how what is found is earned from a state on, if it is more than before
 pub record IsTraced (task : Task) (state : State) (old new : Found) : Type 0 where
   pub refused : new.trail.refused ≡ None → old.trail.refused ≡ None
   pub told : new.trail.refused ≡ None → IsAsBefore old new ⊎ IsBetter task state old new

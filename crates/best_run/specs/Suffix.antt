@@ -50,5 +50,5 @@ pub record IsSolved (task : Task) (count : ℕ) (bounds : List ℕ) (found : Fou
 
 -- what is found is the most that any moves from the start earn, and the trail tells how
 pub record IsTop (task : Task) (found : Found) : Type 0 where
-  pub earns : found.trail.refused ≡ None → Earns task start (marks_in found.trail) found.amount
+  pub earns : Earns task start (marks_in found.trail) found.amount
   pub most : (moves : List Move) → Completes task start moves → total_after task start moves ≤ found.amount

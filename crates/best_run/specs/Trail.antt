@@ -20,7 +20,7 @@ marks_in trail = reverse trail.marks.items
 abbrev pub go_along : List Step → List Mark
 go_along steps = map (λ step. Go step) steps
 
--- where no mark has been refused, some marks have come in front of the others
+-- where no memory has been refused, some marks have come in front of the others
 pub record IsWritten (marks : List Mark) (old new : Trail) : Type 0 where
   pub refused : new.refused ≡ None → old.refused ≡ None
   pub marks_are : new.refused ≡ None → marks_in new ≡ marks ++ marks_in old
@@ -70,15 +70,17 @@ pub record CanBeClaimed (run : TrainRun) : Type 0 where
   pub least : 2 ≤ length (places_of run.steps)
   pub most : length (places_of run.steps) ≤ 280
 
--- all runs that a trail tells can be written out, where none of its marks has been refused
+-- the runs that a trail tells of some trains
+abbrev pub runs_in : List Kind → Trail → List TrainRun
+runs_in kinds trail = runs_told kinds [] (marks_in trail)
+
+-- all of them can be written out
 abbrev pub CanBeRead : List Kind → Trail → Type 0
-CanBeRead kinds trail =
-    trail.refused ≡ None → AllByRecursion CanBeClaimed (runs_told kinds [] (marks_in trail))
+CanBeRead kinds trail = AllByRecursion CanBeClaimed (runs_in kinds trail)
 
 -- they are written out
-pub record IsRead (kinds : List Kind) (trail : Trail) (runs : List ClaimedRun) : Type 0 where
-  pub refused : trail.refused ≡ None
-  pub runs_are : runs ≡ written (runs_told kinds [] (marks_in trail))
+abbrev pub IsRead : List Kind → Trail → List ClaimedRun → Type 0
+IsRead kinds trail runs = runs ≡ written (runs_in kinds trail)
 
 -- the steps of a walk, if there is one
 abbrev pub steps_of : Option (Vec Step Global) → Option (List Step)

@@ -2,7 +2,7 @@
 ghost use Rattle.std.specs.Prelude.{◌≡◌, ℕ, ◌-◌, ◌<◌, ◌||◌, IsTrue, Some, true, false, get_or, length, set, replicate};
 ghost use Rattle.std.specs.Int.{bit_at};
 ghost use Rattle.best_run.specs.Kept.{Freer};
-ghost use Rattle.best_run.specs.Marks.{AreApart, AreBarred, AreBoth, AreOnly};
+ghost use Rattle.best_run.specs.Marks.{AreApart, AreBarred, AreBoth, AreOnly, IsOneOf};
 
 use std::marker::Model;
 
@@ -163,14 +163,14 @@ impl Borders {
         }
     }
 
-    /// The first border that is marked; `None` where none is. It is not told that it is marked.
+    /// A border that is marked; `None` where none is.
     pub(crate) fn first(&self) -> Option<usize>
-        ensures { (border : ℕ) → result ≡ Some border → border < 279 }
+        ensures marked { IsOneOf self.now result }
+        ensures low { (border : ℕ) → result ≡ Some border → border < 279 }
     {
         for word in 0..BORDER_WORDS {
             if self.words[word] != 0 {
-                let border = BITS * word + self.words[word].trailing_zeros() as usize;
-                return if border < BORDERS { Some(border) } else { None };
+                return Some(BITS * word + self.words[word].trailing_zeros() as usize);
             }
         }
         None

@@ -48,8 +48,7 @@ fn read_walk(alloc: Global, marks: &mut Vec<Mark>) -> Result<Option<Vec<Step>>, 
     Ok(None)
 }
 
-/// The runs that a trail tells of some trains. The only error is want of memory, which may have come
-/// when the trail was written.
+/// The runs that a trail tells of some trains. The only error is want of memory.
 pub(crate) fn claimed_runs(
     alloc: Global,
     kinds: &[Kind],
@@ -58,9 +57,6 @@ pub(crate) fn claimed_runs(
     requires { CanBeRead kinds.now trail }
     ensures { IfOk result (IsRead kinds.now trail) }
 {
-    if let Some(error) = trail.refused {
-        return Err(error);
-    }
     let mut marks = trail.marks;
     let mut runs = ClaimedRuns::new(alloc);
     for kind in kinds {

@@ -1,7 +1,7 @@
 //! Borders that a way crosses: the set of them.
 ghost use Rattle.std.specs.Prelude.{◌≡◌, ℕ, ◌<◌, IsTrue, Some, length};
 ghost use Rattle.best_run.specs.Alike.{cleared_all};
-ghost use Rattle.best_run.specs.Crossed.{numbers_in};
+ghost use Rattle.best_run.specs.Crossed.{IsShared, numbers_in};
 ghost use Rattle.best_run.specs.Moves.{marked_all, misses};
 ghost use Rattle.reach.specs.Position.{IsAmong};
 
@@ -58,9 +58,10 @@ impl Crossing {
         marks.clear(&self.set)
     }
 
-    /// A border that is one of these and of others: the first in order. `None` where there is none.
+    /// A border that is one of these and of others. `None` where there is none.
     pub(crate) fn shared(&self, other: &Crossing) -> Option<usize>
-        ensures { (border : ℕ) → result ≡ Some border → border < 279 }
+        ensures shared { IsShared self.now.items other.now.items result }
+        ensures low { (border : ℕ) → result ≡ Some border → border < 279 }
     {
         if self.set.is_apart_from(&other.set) {
             return None;

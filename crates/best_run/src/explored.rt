@@ -1,7 +1,7 @@
 //! What has been found, and which states have been explored: a state from which no more can be earned than from one of
 //! these is not explored again.
-ghost use Rattle.std.specs.Prelude.{◌≡◌, [], ◌∷◌, IfOk, IsTrue};
-ghost use Rattle.best_run.specs.Kept.{IsCovered, IsKept, IsNothing};
+ghost use Rattle.std.specs.Prelude.{◌≡◌, ◌<◌, [], ◌∷◌, IsOk, IsTrue, None, length};
+ghost use Rattle.best_run.specs.Kept.{IsCovered, IsHeld, IsKept, IsNothing, unless_refused};
 ghost use Rattle.best_run.specs.Moves.{Traces};
 ghost use Rattle.best_run.specs.Trail.{go_along};
 
@@ -31,8 +31,6 @@ pub(crate) struct Found {
     pub(crate) explored: Vec<Stage>,
     /// How often a state has been kept.
     pub(crate) kept: usize,
-    /// The error of a place for which memory was refused, if there was any.
-    pub(crate) refused: Option<AllocError>,
 }
 
 impl Found {
@@ -45,15 +43,14 @@ impl Found {
             trail: Trail::new(alloc),
             explored: Vec::new(alloc),
             kept: 0,
-            refused: None,
         }
     }
 
-    /// What is found, unless memory was refused for a place. The only error is that refusal.
+    /// What is found, unless memory was refused for a mark or for a place. The only error is that refusal.
     pub(crate) fn unless_refused(self) -> Result<Found, AllocError>
-        ensures { IfOk result (λ found. found ≡ self) }
+        ensures { result ≡ unless_refused self }
     {
-        match self.refused {
+        match self.trail.refused {
             Some(error) => Err(error),
             None => Ok(self),
         }
@@ -93,7 +90,8 @@ impl Found {
     /// where those are looked for whose place was the same. Before the first place there is the given state. The
     /// only error is want of memory.
     fn widen(&mut self, stage: &Stage) -> Result<(), AllocError>
-        ensures { IsKept stage.now self.old self.new }
+        ensures kept { IsKept stage.now self.old self.new }
+        ensures places { IsOk result → 0 < length self.new.explored.items }
     {
         let places = self.explored.len();
         if places == 0 {
@@ -108,7 +106,8 @@ impl Found {
 
     /// Puts a state that has been explored at its place, if there are places.
     fn put(&mut self, stage: &Stage)
-        ensures { IsKept stage.now self.old self.new }
+        ensures kept { IsKept stage.now self.old self.new }
+        ensures held { 0 < length self.old.explored.items → IsHeld self.new stage.now }
     {
         let places = self.explored.len();
         if places > 0 {
@@ -119,12 +118,13 @@ impl Found {
 
     /// Keeps a state that has been explored. Where memory is refused, the error is kept.
     pub(crate) fn keep(&mut self, stage: &Stage)
-        ensures { IsKept stage.now self.old self.new }
+        ensures kept { IsKept stage.now self.old self.new }
+        ensures held { self.new.trail.refused ≡ None → IsHeld self.new stage.now }
     {
         let places = self.explored.len();
         if places < MOST_PLACES && self.kept >= places / PLACES_EACH {
             if let Err(error) = self.widen(stage) {
-                self.refused = Some(error);
+                self.trail.refuse(error);
             }
         }
         self.put(stage);

@@ -12,7 +12,7 @@
 //! leave them only as it comes, `Kept` which states need not be explored since another one
 //! was, `Alike` which of them are alike to the trains left, `Marks` how bits in
 //! words are marks, `Crossed` what borders a piece crosses, `Pieces` how the pieces that lead
-//! from a spot stand in one table.
+//! from a spot stand in one table, `Answer` what the search finds in the end.
 //!
 //! Reading order: `revenue` (the public call), `answer`, `trains` (their order), `spots` (the
 //! spots of a position with the pieces of track between them), `ways` (from stop to stop),

@@ -1,4 +1,5 @@
 ghost use Rattle.std.specs.Prelude.{◌≡◌, ◌-◌, ◌≤◌, IfOk, length};
+ghost use Rattle.best_run.specs.Answer.{IsBest};
 ghost use Rattle.best_run.specs.Fit.{IsFit};
 ghost use Rattle.best_run.specs.Kept.{IsNothing};
 ghost use Rattle.best_run.specs.Moves.{Explores, between};
@@ -74,6 +75,39 @@ impl Task {
     }
 }
 
+/// The greatest revenue that any legal set of runs for some trains of a company earns on a network, with a trail
+/// that tells the runs of one. The trains are given greatest first. The only error is want of memory.
+fn find<N: Network>(
+    alloc: Global,
+    network: &N,
+    company: Company,
+    kinds: &[Kind],
+) -> Result<Found, AllocError>
+    ensures { let position = N.position network.now in
+        IfOk result (IsBest position company kinds.now) }
+{
+    network.keeps_laws();
+    let task = Task::of(alloc, network, company, kinds)?;
+    let found = task.greatest(alloc)?;
+    Ok(found)
+}
+
+/// The greatest revenue that any legal set of runs for these trains of a company earns on a network, in
+/// dollars. The only error is want of memory.
+pub(crate) fn greatest_revenue<N: Network>(
+    alloc: Global,
+    network: &N,
+    company: Company,
+    trains: &[Kind],
+) -> Result<Amount, AllocError>
+    ensures { let position = N.position network.now in
+        IfOk result (IsGreatest position company trains.now) }
+{
+    let kinds = greatest_first(alloc, trains)?;
+    let found = find(alloc, network, company, &kinds)?;
+    Ok(found.amount)
+}
+
 /// The greatest revenue that any legal set of runs for these trains of a company earns on a network,
 /// with the runs of a legal set that earns it. Where no run is legal, that is nothing, by no run. The
 /// only error is want of memory.
@@ -88,12 +122,10 @@ pub fn best<N: Network>(
     ensures greatest { let position = N.position network.now in
         IfOk result (λ best. IsGreatest position company trains.now best.claim.revenue) }
 {
-    network.keeps_laws();
-    let sorted = greatest_first(alloc, trains)?;
-    let task = Task::of(alloc, network, company, &sorted)?;
-    let top = task.greatest(alloc)?;
-    let revenue = top.amount;
-    let runs = claimed_runs(alloc, &sorted, top.trail)?;
+    let kinds = greatest_first(alloc, trains)?;
+    let found = find(alloc, network, company, &kinds)?;
+    let revenue = found.amount;
+    let runs = claimed_runs(alloc, &kinds, found.trail)?;
     Ok(Best {
         claim: Claim { revenue, runs },
     })

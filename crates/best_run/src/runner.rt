@@ -1,7 +1,7 @@
 ghost use Rattle.std.specs.Prelude.{◌≡◌, IfOk, false, pos};
 ghost use Rattle.certificate.specs.Set.{IsGreatestMoney};
 
-use crate::revenue::best;
+use crate::revenue::greatest_revenue;
 use certificate::{Runner, RunnerFault};
 use reach::Network;
 use std::alloc::{AllocError, Global};
@@ -50,8 +50,8 @@ fn greatest_money<N: Network>(
     ensures { let position = N.position network.now in
         IfOk result (IsGreatestMoney position company trains.now) }
 {
-    let answer = best(alloc, network, company, trains)?;
-    Ok(money(answer.claim.revenue))
+    let revenue = greatest_revenue(alloc, network, company, trains)?;
+    Ok(money(revenue))
 }
 
 /// A sum of dollars.

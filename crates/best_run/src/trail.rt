@@ -1,6 +1,6 @@
 //! The trail: how the best found is earned. The moves that earn it are told by their marks, which are
 //! written on the way back from the end, the last one first.
-ghost use Rattle.std.specs.Prelude.{◌≡◌, [], ◌∷◌, ◌++◌, None};
+ghost use Rattle.std.specs.Prelude.{◌≡◌, [], ◌∷◌, ◌++◌, None, Some};
 ghost use Rattle.best_run.specs.Trail.{IsWritten, go_along, marks_in};
 
 use reach::Step;
@@ -24,7 +24,8 @@ pub(crate) enum Mark {
 pub(crate) struct Trail {
     /// The marks, from the last one to the first.
     pub(crate) marks: Vec<Mark>,
-    /// The error of one that could not be written, if there was any. The marks are then of no worth.
+    /// The error of one that could not be written, or of a state that could not be kept, if there was any. What has been
+    /// found is then answered to nobody.
     pub(crate) refused: Option<AllocError>,
 }
 
@@ -48,12 +49,19 @@ impl Trail {
         self.marks.clear();
     }
 
+    /// Keeps the error of memory that was refused.
+    pub(crate) fn refuse(&mut self, error: AllocError)
+        ensures { self.new ≡ record self.old { refused = Some error } }
+    {
+        self.refused = Some(error);
+    }
+
     /// Writes a mark in front of the others. Where memory is refused, the error is kept.
     pub(crate) fn write(&mut self, mark: Mark)
         ensures { IsWritten (mark ∷ []) self.old self.new }
     {
         if let Err(failed) = self.marks.push(mark) {
-            self.refused = Some(failed.into());
+            self.refuse(failed.into());
         }
     }
 

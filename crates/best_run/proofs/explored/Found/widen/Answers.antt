@@ -15,4 +15,5 @@ loop-place-preserved c =
     record {
       kept = kept_twin c.args.stage.now c.copy-twin.result c.args.self.now now _ place c.loop-place.invariant.kept twin refl refl c.in_ok-push-2.ensures.items;
       long = omega (arith, c.loop-place.invariant.long, c.in_ok-push-2.ensures.len);
+      some = omega (arith, c.loop-place.invariant.some, c.in_ok-push-2.ensures.len);
     }

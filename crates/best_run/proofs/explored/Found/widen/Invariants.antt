@@ -1,5 +1,5 @@
 -- What stands at the places is what stood there before, or the state that is kept.
-use Rattle.std.proofs.Common.{◌≤◌, length}
+use Rattle.std.proofs.Common.{◌<◌, ◌≤◌, length}
 use Rattle.best_run.specs.Kept.{IsKept}
 use Rattle.best_run.proofs.explored.Found.widen.Given as goal
 
@@ -7,4 +7,5 @@ abbrev pub invariant-loop-place : goal.invariant-loop-place
 invariant-loop-place l = record {
   kept : IsKept l.stage l.fn.self l.self;
   long : l.places ≤ length l.self.explored.items;
+  some : 0 < length l.self.explored.items;
 }

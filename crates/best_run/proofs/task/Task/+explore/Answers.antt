@@ -121,7 +121,7 @@ settle_next-returns t c =
     (subst (λ (s : Settled). Explores task (between s) c.begin_runs.new.best c.settle_next.new.best) c.passed-passed.ensures c.settle_next.ensures)
     c.trace.ensures)
     (omega arith))
-    c.keep.ensures
+    c.keep.ensures.kept
 
 pub settle_next-returns-then-covers : goal.settle_next-returns-then-covers
 settle_next-returns-then-covers t c =
@@ -137,7 +137,7 @@ pub stand_once-returns : goal.stand_once-returns
 stand_once-returns t c =
     let settled = c.args.settled.now in
     let run = c.args.run.now in
-    explores_kept c.args.self.now (standing settled run) c.alike_begun-alike.result c.args.best.now c.stand_anew.new.best c.keep.new.self (low_back c.args.self.now c.requires.fit settled (Some run) c.alike_begun-alike.result c.marks_all_borders.ensures c.alike_begun-alike.ensures) c.stand_anew.ensures c.keep.ensures
+    explores_kept c.args.self.now (standing settled run) c.alike_begun-alike.result c.args.best.now c.stand_anew.new.best c.keep.new.self (low_back c.args.self.now c.requires.fit settled (Some run) c.alike_begun-alike.result c.marks_all_borders.ensures c.alike_begun-alike.ensures) c.stand_anew.ensures c.keep.ensures.kept
 
 pub stand_anew-returns-then-may_settle : goal.stand_anew-returns-then-may_settle
 stand_anew-returns-then-may_settle t c =

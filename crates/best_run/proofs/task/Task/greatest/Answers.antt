@@ -1,7 +1,9 @@
 -- All trains are solved for in the end.
-use Rattle.std.proofs.Common.{sym, subst, arith}
+use Rattle.std.proofs.Common.{◌≡◌, None, sym, subst, arith}
+use Rattle.best_run.specs.declared.explored.Found.{Found}
 use Rattle.best_run.specs.Suffix.{AreBounds, IsTop}
 use Rattle.best_run.proofs.Eased.{solved_all}
+use Rattle.best_run.proofs.Kept.{granted}
 use Rattle.best_run.proofs.task.Task.greatest.Goals as goal
 
 pub settle_last-requires-clause-bounds : goal.settle_last-requires-clause-bounds
@@ -9,5 +11,9 @@ settle_last-requires-clause-bounds c = subst (AreBounds c.args.self.now) (sym c.
 
 pub returns : goal.returns
 returns c =
-    subst (IsTop c.args.self.now) (sym c.in_ok-found.ensures)
-    (solved_all c.args.self.now c.len.result _ _ _ (omega arith) c.in_ok-bounds.ensures c.settle_last.ensures)
+    let best : Found = c.settle_last.new.best in
+    let found : Found = c.in_ok-found.found in
+    let same : found ≡ best = (granted best found (sym c.in_ok-found.ensures)).0 in
+    let none : best.trail.refused ≡ None = (granted best found (sym c.in_ok-found.ensures)).1 in
+    subst (IsTop c.args.self.now) (sym same)
+    (solved_all c.args.self.now c.len.result _ _ best (omega arith) c.in_ok-bounds.ensures c.settle_last.ensures none)

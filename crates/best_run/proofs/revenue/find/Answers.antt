@@ -1,0 +1,26 @@
+-- What has been explored from the start is the greatest, and the runs that the trail tells earn it.
+use Rattle.std.proofs.Common.{List, []}
+use Rattle.certificate.specs.Set.{TrainRun}
+use Rattle.best_run.specs.Described.{Describes}
+use Rattle.best_run.specs.Trail.{marks_in, runs_told}
+use Rattle.best_run.proofs.Greatest.{TellSet, can_claim, greatest_found, names_them, tell_set}
+use Rattle.best_run.proofs.revenue.find.Goals as goal
+
+pub returns : goal.returns
+returns g c =
+    let position = g.N.Network.position c.args.network.now in
+    let company = c.args.company in
+    let kinds = c.args.kinds.now in
+    let task = c.in_ok-task.task in
+    let found = c.in_ok-found.found in
+    let lawful = c.keeps_laws.ensures in
+    let laid : Describes position company kinds task = c.in_ok-task.ensures.described in
+    let tells : TellSet position company lawful kinds task laid (marks_in found.trail) found.amount = tell_set position company lawful kinds task laid (marks_in found.trail) found.amount c.in_ok-found.ensures.earns in
+    let runs : List TrainRun = runs_told kinds [] (marks_in found.trail) in
+    record {
+      written_out = can_claim position company lawful runs tells.set.legal;
+      names = names_them position company lawful runs tells.set.legal;
+      set = tells.set;
+      earns = tells.earns;
+      greatest = greatest_found position company lawful kinds task laid found c.in_ok-found.ensures;
+    }
