@@ -20,6 +20,7 @@ pub mod Bounds
 pub mod Branching
 pub mod Nodes
 pub mod Leaves
+pub mod Holding
 pub mod RunReached
 pub mod RunBelow
 pub mod SetBelow

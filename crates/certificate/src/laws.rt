@@ -17,6 +17,7 @@ ghost use Rattle.certificate.specs.Greatest.{
   OneGreatest,
   OrderOfTrainsChangesNothing,
 };
+ghost use Rattle.certificate.specs.HoldingLaws.{MarksHoldWhereRead};
 ghost use Rattle.certificate.specs.TreeLaws.{
   BoundsFall,
   LeavesAreLegalSets,
@@ -128,4 +129,9 @@ pub fn legal_sets_are_leaves()
 /// A small example of the choice tree: two trains, two cities, and one border between them.
 pub fn worked_tree()
     ensures { WorkedTree }
+{}
+
+/// Marks hold at a node exactly where they are read over it and none is left over.
+pub fn marks_hold_where_read()
+    ensures { MarksHoldWhereRead }
 {}
