@@ -29,13 +29,13 @@ module _ (position : Position) (company : Company) (reached : List Stop) (revenu
   HoldAhead nodes marks = HoldInTurn position company reached revenue nodes marks
 
   -- a split where trains are left
-  read_split :
+  pub read_split :
       (node : Node) (marks : List Bool) (nodes : List Node) → ¬ IsLeaf node →
       over (node ∷ nodes) (true ∷ marks) ≡ over (children position company reached node ++ nodes) marks
   read_split node marks nodes trains =
       ap (λ (b : Bool). if b then None else over (children position company reached node ++ nodes) marks) (no_leaf node.trains trains)
 
-  read_cut :
+  pub read_cut :
       (node : Node) (marks : List Bool) (nodes : List Node) → bound position reached node ≤ revenue →
       over (node ∷ nodes) (false ∷ marks) ≡ over nodes marks
   read_cut node marks nodes within =

@@ -20,10 +20,11 @@ pub mod Bounds
 pub mod Branching
 pub mod Nodes
 pub mod Leaves
-pub mod Holding
 pub mod RunReached
 pub mod RunBelow
 pub mod SetBelow
+pub mod Holding
+pub mod Accepted
 pub mod Example
 pub mod Fewer
 pub mod TwoTrain

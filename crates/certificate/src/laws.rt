@@ -17,7 +17,12 @@ ghost use Rattle.certificate.specs.Greatest.{
   OneGreatest,
   OrderOfTrainsChangesNothing,
 };
-ghost use Rattle.certificate.specs.HoldingLaws.{MarksHoldWhereRead};
+ghost use Rattle.certificate.specs.HoldingLaws.{
+  AcceptedIsGreatest,
+  MarksAreRead,
+  MarksHoldWhereRead,
+  WrittenMarksHold,
+};
 ghost use Rattle.certificate.specs.TreeLaws.{
   BoundsFall,
   LeavesAreLegalSets,
@@ -134,4 +139,21 @@ pub fn worked_tree()
 /// Marks hold at a node exactly where they are read over it and none is left over.
 pub fn marks_hold_where_read()
     ensures { MarksHoldWhereRead }
+{}
+
+/// Bits are marks exactly where they are read as such, at the stops that the company reaches.
+pub fn marks_are_read()
+    ensures { MarksAreRead }
+{}
+
+/// A claim that holds, with marks that hold for its revenue, has the greatest revenue, whoever made
+/// the marks.
+pub fn accepted_is_greatest()
+    ensures { AcceptedIsGreatest }
+{}
+
+/// What is written over the root for the greatest revenue are marks that hold for it, with at most
+/// three 0 bits behind them.
+pub fn written_marks_hold()
+    ensures { WrittenMarksHold }
 {}
