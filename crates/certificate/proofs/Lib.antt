@@ -25,6 +25,8 @@ pub mod RunBelow
 pub mod SetBelow
 pub mod Holding
 pub mod Accepted
+pub mod Digits
+pub mod Printed
 pub mod Example
 pub mod Fewer
 pub mod TwoTrain

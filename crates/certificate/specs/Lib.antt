@@ -11,6 +11,7 @@ pub mod Tree
 pub mod TreeLaws
 pub mod Holding
 pub mod HoldingLaws
+pub mod Digits
 pub mod Example
 pub mod Tally
 pub mod Law

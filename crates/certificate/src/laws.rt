@@ -9,7 +9,12 @@ ghost use Rattle.certificate.specs.Law.{
   RunsShareNoBorder,
   WalksAreWritten,
 };
-ghost use Rattle.certificate.specs.Example.{WorkedTree};
+ghost use Rattle.certificate.specs.Digits.{
+  PrintsInLowerCase,
+  PrintsWhatWasRead,
+  ReadsWhatWasPrinted,
+};
+ghost use Rattle.certificate.specs.Example.{WorkedMarks, WorkedTree};
 ghost use Rattle.certificate.specs.Greatest.{
   AGreatestExists,
   GreaterTrainsEarnNoLess,
@@ -156,4 +161,17 @@ pub fn accepted_is_greatest()
 /// three 0 bits behind them.
 pub fn written_marks_hold()
     ensures { WrittenMarksHold }
+{}
+
+/// The marks of the small example, in hexadecimal digits.
+pub fn worked_marks()
+    ensures { WorkedMarks }
+{}
+
+/// `print_hex` of what `read_hex` reads from a text of digits in lower case is that text; it prints
+/// such texts alone; and what it printed is read as the bits, with at most three 0 bits behind them.
+pub fn digits_and_bits()
+    ensures prints_again { PrintsWhatWasRead }
+    ensures prints_lower { PrintsInLowerCase }
+    ensures reads_again { ReadsWhatWasPrinted }
 {}
