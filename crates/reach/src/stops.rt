@@ -61,9 +61,10 @@ impl ReachedStops {
         self.marks.mark(stop);
     }
 
-    /// The stops, in the order of the map.
+    /// The stops, in the order of the map, 186 at most.
     pub fn stops(&self) -> &[Stop]
-        ensures { result.now ≡ self.now }
+        ensures value { result.now ≡ self.now }
+        ensures bound { length self.now ≤ 186 }
     {
         &self.stops[..self.count]
     }
