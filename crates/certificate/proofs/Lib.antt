@@ -31,3 +31,5 @@ pub mod Example
 pub mod Fewer
 pub mod TwoTrain
 pub mod RunDecided
+pub mod Sums
+pub mod Ranks

@@ -13,12 +13,13 @@
 //!
 //! `Set` says what a legal set of runs is, what it earns and what the greatest revenue is, and
 //! `Greatest` what holds of it; `Claim` says when a claim of runs holds. `Tree` is the choice tree
-//! with the bound of a node, and `TreeLaws` joins it to the legal sets.
+//! with the bound of a node, and `TreeLaws` joins it to the legal sets. `Ranking` is a table of the
+//! values of reached stops, from which that bound is found in a few steps.
 //!
 //! Reading order: `check` (the public call), `run_fault`, `used`, `leg` (from place to place),
 //! `tally`, `laws`; `claim` (a revenue with runs that earn it), `write` (a run by its places, from
 //! its walk), `runner` (what tells the greatest revenue), `two_train` (whether a company can run at
-//! all).
+//! all), `ranking` (what a run may still earn).
 #![tactic(auto)]
 
 mod bits;
@@ -27,6 +28,7 @@ mod claim;
 mod hex;
 mod laws;
 mod leg;
+mod ranking;
 mod run_fault;
 mod runner;
 mod tally;
@@ -47,6 +49,7 @@ pub use laws::{
     runs_earn_by_borders, runs_share_no_border, walks_are_written, worked_marks, worked_tree,
     written_marks_hold,
 };
+pub use ranking::Ranking;
 pub use run_fault::RunFault;
 pub use runner::{Runner, RunnerFault};
 pub use two_train::can_run;
