@@ -33,3 +33,9 @@ pub mod TwoTrain
 pub mod RunDecided
 pub mod Sums
 pub mod Ranks
+pub mod Walked
+pub mod Walking
+pub mod Standing
+pub mod Places
+pub mod Going
+pub mod Read

@@ -17,3 +17,6 @@ pub mod Tally
 pub mod Law
 pub mod TwoTrain
 pub mod Ranking
+pub mod Walked
+pub mod Walking
+pub mod Read

@@ -22,20 +22,27 @@
 //! all), `ranking` (what a run may still earn).
 #![tactic(auto)]
 
+mod accept;
 mod bits;
 mod check;
 mod claim;
+mod decider;
 mod hex;
 mod laws;
 mod leg;
 mod ranking;
+mod reader;
 mod run_fault;
 mod runner;
 mod tally;
+mod tree;
+mod tree_walk;
 mod two_train;
 mod used;
 mod write;
+mod writer;
 
+pub use accept::write_marks;
 pub use bits::{BitReader, Bits};
 pub use check::check_run;
 pub use claim::{Claim, ClaimedRun, ClaimedRuns};

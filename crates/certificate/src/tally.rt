@@ -216,14 +216,14 @@ pub(crate) fn worth<N: Network>(network: &N, stop: Stop) -> Amount
 }
 
 /// Whether a company has a token at a stop.
-fn has_token<N: Network>(network: &N, company: Company, stop: Stop) -> bool
+pub(crate) fn has_token<N: Network>(network: &N, company: Company, stop: Stop) -> bool
     ensures { result ≡ has_token (N.position network.now) company stop }
 {
     network.token(stop, company)
 }
 
 /// Whether a stop is a city that is full for a company.
-fn is_full<N: Network>(network: &N, company: Company, stop: Stop) -> bool
+pub(crate) fn is_full<N: Network>(network: &N, company: Company, stop: Stop) -> bool
     ensures { result ≡ is_full (N.position network.now) company stop }
 {
     network.full(stop, company)
