@@ -13,12 +13,14 @@
 //!
 //! `Set` says what a legal set of runs is, what it earns and what the greatest revenue is, and
 //! `Greatest` what holds of it; `Claim` says when a claim of runs holds. `Tree` is the choice tree
-//! with the bound of a node, and `TreeLaws` joins it to the legal sets.
+//! with the bound of a node, and `TreeLaws` joins it to the legal sets. `Holding` says which marks
+//! hold at a node, how they are read over the nodes ahead, and when a claim is accepted by them;
+//! `HoldingLaws` says that it then has the greatest revenue. `Digits` is how marks stand in a text.
 //!
 //! Reading order: `check` (the public call), `run_fault`, `used`, `leg` (from place to place),
 //! `tally`, `laws`; `claim` (a revenue with runs that earn it), `write` (a run by its places, from
 //! its walk), `runner` (what tells the greatest revenue), `two_train` (whether a company can run at
-//! all).
+//! all); `hex` (marks in a text), `bits` (marks as they are kept).
 #![tactic(auto)]
 
 mod bits;
