@@ -31,3 +31,4 @@ pub mod Example
 pub mod Fewer
 pub mod TwoTrain
 pub mod RunDecided
+pub mod InTurn

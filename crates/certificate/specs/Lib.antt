@@ -16,3 +16,4 @@ pub mod Example
 pub mod Tally
 pub mod Law
 pub mod TwoTrain
+pub mod InTurn

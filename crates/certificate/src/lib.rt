@@ -20,13 +20,14 @@
 //! Reading order: `check` (the public call), `run_fault`, `used`, `leg` (from place to place),
 //! `tally`, `laws`; `claim` (a revenue with runs that earn it), `write` (a run by its places, from
 //! its walk), `runner` (what tells the greatest revenue), `two_train` (whether a company can run at
-//! all); `hex` (marks in a text), `bits` (marks as they are kept).
+//! all); `in_turn` (whether a claim holds), `hex` (marks in a text), `bits` (marks as they are kept).
 #![tactic(auto)]
 
 mod bits;
 mod check;
 mod claim;
 mod hex;
+mod in_turn;
 mod laws;
 mod leg;
 mod run_fault;
@@ -40,9 +41,10 @@ pub use bits::{BitReader, Bits};
 pub use check::check_run;
 pub use claim::{Claim, ClaimedRun, ClaimedRuns};
 pub use hex::{HexFault, print_hex, read_hex};
+pub use in_turn::claim_holds;
 pub use laws::{
     a_greatest_exists, accepted_is_greatest, borders_are_told_apart, bounds_fall,
-    crossed_borders_are_used, digits_and_bits, each_legal_run_is_named,
+    claim_holds_in_turn, crossed_borders_are_used, digits_and_bits, each_legal_run_is_named,
     greater_trains_earn_no_less, leaves_are_legal_sets, leaves_earn_their_bounds, legal_by_marks,
     legal_sets_are_leaves, legal_where_no_rule_is_broken, marks_are_read, marks_hold_where_read,
     more_trains_earn_no_less, no_leaf_earns_more, one_greatest, order_of_trains_changes_nothing,
