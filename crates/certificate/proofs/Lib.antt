@@ -39,3 +39,4 @@ pub mod Standing
 pub mod Places
 pub mod Going
 pub mod Read
+pub mod InTurn

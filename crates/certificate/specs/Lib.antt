@@ -20,3 +20,4 @@ pub mod Ranking
 pub mod Walked
 pub mod Walking
 pub mod Read
+pub mod InTurn

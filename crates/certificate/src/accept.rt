@@ -1,12 +1,14 @@
 //! Marks that hold: whether some do, and those that are written for a revenue.
 ghost use Rattle.std.specs.Prelude.{◌≡◌, ◌↔◌, IsTrue, IfOk, List};
-ghost use Rattle.certificate.specs.Holding.{AreMarks};
+ghost use Rattle.certificate.specs.Holding.{AreMarks, IsAccepted};
 ghost use Rattle.certificate.specs.Read.{AreZeros};
 ghost use Rattle.certificate.specs.Set.{IsGreatest};
 
 use crate::bits::Bits;
+use crate::claim::Claim;
+use crate::in_turn::claim_holds;
 use crate::laws::{marks_are_read, written_marks_hold};
-use crate::reader::{Marks, Reader};
+use crate::reader::{Marks, Reader, SliceMarks};
 use crate::tree::Tree;
 use crate::tree_walk::choose;
 use crate::used::Used;
@@ -14,6 +16,48 @@ use crate::writer::Writer;
 use reach::Network;
 use std::alloc::{AllocError, Global};
 use tables::{Amount, Company, Kind};
+
+/// Whether a claim for a company's trains is accepted by bits: it holds, and the bits are marks that
+/// hold for its revenue, with at most three 0 bits behind them. It takes no memory, and no search:
+/// a claim that is accepted has the greatest revenue, whoever made the bits.
+pub fn accepts<N: Network>(
+    network: &N,
+    company: Company,
+    trains: &[Kind],
+    claim: &Claim,
+    marks: &[bool],
+) -> bool
+    ensures { let position = N.position network.now in
+        IsTrue result ↔ IsAccepted position company trains.now claim.now marks.now }
+{
+    if !claim_holds(network, company, trains, claim) {
+        return false;
+    }
+    marks_hold(
+        network,
+        company,
+        trains,
+        claim.revenue,
+        SliceMarks { marks },
+    )
+}
+
+/// Whether a claim is accepted by bits that are kept, just as `accepts` says.
+pub fn accepts_bits<N: Network>(
+    network: &N,
+    company: Company,
+    trains: &[Kind],
+    claim: &Claim,
+    bits: &Bits,
+) -> bool
+    ensures { let position = N.position network.now in
+        IsTrue result ↔ IsAccepted position company trains.now claim.now bits.now }
+{
+    if !claim_holds(network, company, trains, claim) {
+        return false;
+    }
+    marks_hold(network, company, trains, claim.revenue, bits.reader())
+}
 
 /// Whether bits are marks that hold for a revenue of a company's trains, and at most three 0 bits
 /// behind them. It takes no memory.

@@ -28,6 +28,7 @@ ghost use Rattle.certificate.specs.HoldingLaws.{
   MarksHoldWhereRead,
   WrittenMarksHold,
 };
+ghost use Rattle.certificate.specs.InTurn.{ClaimHoldsInTurn};
 ghost use Rattle.certificate.specs.TreeLaws.{
   BoundsFall,
   LeavesAreLegalSets,
@@ -174,4 +175,10 @@ pub fn digits_and_bits()
     ensures prints_again { PrintsWhatWasRead }
     ensures prints_lower { PrintsInLowerCase }
     ensures reads_again { ReadsWhatWasPrinted }
+{}
+
+/// A claim holds exactly where its trains are no more than there are, and its runs are legal one after
+/// the other and together earn what is claimed.
+pub fn claim_holds_in_turn()
+    ensures { ClaimHoldsInTurn }
 {}

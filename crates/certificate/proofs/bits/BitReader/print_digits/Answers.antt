@@ -1,4 +1,4 @@
-use Rattle.std.proofs.Common.{◌-◌, ◌*◌, ◌<◌, ◌++◌, take, drop, arith}
+use Rattle.std.proofs.Common.{◌*◌, ◌<◌, ◌++◌, take, drop, arith}
 use Rattle.certificate.specs.Digits.{digits_of}
 use Rattle.certificate.proofs.Digits.{print_more}
 use Rattle.certificate.proofs.bits.BitReader.print_digits.Goals as goal

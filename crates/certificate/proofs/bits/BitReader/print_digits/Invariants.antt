@@ -1,4 +1,4 @@
-use Rattle.std.proofs.Common.{ℕ, ◌-◌, ◌*◌, ◌++◌, take, drop}
+use Rattle.std.proofs.Common.{◌-◌, ◌*◌, ◌++◌, take, drop}
 use Rattle.certificate.specs.Digits.{digits_of}
 use Rattle.certificate.proofs.Digits.{Prints}
 use Rattle.certificate.proofs.bits.BitReader.print_digits.Given as goal
