@@ -65,7 +65,7 @@ module _ (test : Step → Bool) (node : Node) (steps : List Step) where
       among_for_each (λ (step : Step). node_if (test step) (with_step node step)) steps step (with_step node step) among (among_node_if (test step) (with_step node step) passes)
 
 -- a step enters a link where it should
-ways_are : (end : End) (link : Link) (step : Step) → IsAmong step (ways_by end link) → (step.link ≡ link) × ((entered_at step).end ≡ end)
+pub ways_are : (end : End) (link : Link) (step : Step) → IsAmong step (ways_by end link) → (step.link ≡ link) × ((entered_at step).end ≡ end)
 ways_are end link step among =
     by_tests (end_order link.a == end_order end) (end_order link.b == end_order end) refl refl among
   where

@@ -9,7 +9,15 @@ pub mod Greatest
 pub mod Claim
 pub mod Tree
 pub mod TreeLaws
+pub mod Holding
+pub mod HoldingLaws
+pub mod Digits
 pub mod Example
 pub mod Tally
 pub mod Law
 pub mod TwoTrain
+pub mod Ranking
+pub mod Walked
+pub mod Walking
+pub mod Read
+pub mod InTurn

@@ -51,7 +51,7 @@ pub fn check_run<N: Network>(
 }
 
 /// A sum of dollars.
-fn money(amount: Amount) -> Money
+pub(crate) fn money(amount: Amount) -> Money
     ensures { result ≡ pos amount }
 {
     amount as Money

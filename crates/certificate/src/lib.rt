@@ -13,34 +13,60 @@
 //!
 //! `Set` says what a legal set of runs is, what it earns and what the greatest revenue is, and
 //! `Greatest` what holds of it; `Claim` says when a claim of runs holds. `Tree` is the choice tree
-//! with the bound of a node, and `TreeLaws` joins it to the legal sets.
+//! with the bound of a node, and `TreeLaws` joins it to the legal sets. `Ranking` is a table of the
+//! values of reached stops, from which that bound is found in a few steps.
+//! with the bound of a node, and `TreeLaws` joins it to the legal sets. `Holding` says which marks
+//! hold at a node, how they are read over the nodes ahead, and when a claim is accepted by them;
+//! `HoldingLaws` says that it then has the greatest revenue. `Digits` is how marks stand in a text.
 //!
 //! Reading order: `check` (the public call), `run_fault`, `used`, `leg` (from place to place),
 //! `tally`, `laws`; `claim` (a revenue with runs that earn it), `write` (a run by its places, from
 //! its walk), `runner` (what tells the greatest revenue), `two_train` (whether a company can run at
-//! all).
+//! all), `ranking` (what a run may still earn).
+//! all); `in_turn` (whether a claim holds), `hex` (marks in a text), `bits` (marks as they are kept).
+//!
+//! `accept` is the check of a claim by marks, and their writing: both are one walk over the choice tree
+//! (`tree_walk`, over `tree`), which asks a `decider` at each node: a `reader` of marks or a `writer`.
+//! `Walked` says what a walk is, and `Walking` where it stands, by what it keeps in place.
 #![tactic(auto)]
 
+mod accept;
+mod bits;
 mod check;
 mod claim;
+mod decider;
+mod hex;
+mod in_turn;
 mod laws;
 mod leg;
+mod ranking;
+mod reader;
 mod run_fault;
 mod runner;
 mod tally;
+mod tree;
+mod tree_walk;
 mod two_train;
 mod used;
 mod write;
+mod writer;
 
+pub use accept::{accepts, accepts_bits, write_marks};
+pub use bits::{BitReader, Bits};
 pub use check::check_run;
 pub use claim::{Claim, ClaimedRun, ClaimedRuns};
+pub use hex::{HexFault, print_hex, read_hex};
+pub use in_turn::claim_holds;
 pub use laws::{
-    a_greatest_exists, borders_are_told_apart, bounds_fall, crossed_borders_are_used,
-    each_legal_run_is_named, greater_trains_earn_no_less, leaves_are_legal_sets,
-    leaves_earn_their_bounds, legal_by_marks, legal_sets_are_leaves, legal_where_no_rule_is_broken,
+    a_greatest_exists, accepted_is_greatest, borders_are_told_apart, bounds_fall,
+    claim_holds_in_turn, crossed_borders_are_used, digits_and_bits, each_legal_run_is_named,
+    greater_trains_earn_no_less, leaves_are_legal_sets, leaves_earn_their_bounds, legal_by_marks,
+    legal_sets_are_leaves, legal_where_no_rule_is_broken, marks_are_read, marks_hold_where_read,
     more_trains_earn_no_less, no_leaf_earns_more, one_greatest, order_of_trains_changes_nothing,
-    runs_earn_by_borders, runs_share_no_border, walks_are_written, worked_tree,
+    runs_earn_by_borders, runs_share_no_border, walks_are_written, worked_marks, worked_tree,
+    written_marks_hold,
 };
+pub use ranking::Ranking;
 pub use run_fault::RunFault;
 pub use runner::{Runner, RunnerFault};
 pub use two_train::can_run;

@@ -14,7 +14,7 @@ use reach::{Network, Spot, Step};
 use tables::{Amount, Company, Kind};
 
 /// How many stops the hexes of the map may have.
-const STOPS: usize = 2 * HEXES;
+pub(crate) const STOPS: usize = 2 * HEXES;
 
 /// How many of its borders a hex numbers: those at its sides 0, 1 and 2.
 const NUMBERED: usize = 3;
@@ -207,7 +207,7 @@ pub(crate) fn border(hex: Hex, side: Side) -> usize
 }
 
 /// What a stop is worth, in dollars.
-fn worth<N: Network>(network: &N, stop: Stop) -> Amount
+pub(crate) fn worth<N: Network>(network: &N, stop: Stop) -> Amount
     ensures value { result ≡ value_of (N.position network.now) stop }
     ensures bound { result ≤ 80 }
 {
@@ -216,14 +216,14 @@ fn worth<N: Network>(network: &N, stop: Stop) -> Amount
 }
 
 /// Whether a company has a token at a stop.
-fn has_token<N: Network>(network: &N, company: Company, stop: Stop) -> bool
+pub(crate) fn has_token<N: Network>(network: &N, company: Company, stop: Stop) -> bool
     ensures { result ≡ has_token (N.position network.now) company stop }
 {
     network.token(stop, company)
 }
 
 /// Whether a stop is a city that is full for a company.
-fn is_full<N: Network>(network: &N, company: Company, stop: Stop) -> bool
+pub(crate) fn is_full<N: Network>(network: &N, company: Company, stop: Stop) -> bool
     ensures { result ≡ is_full (N.position network.now) company stop }
 {
     network.full(stop, company)

@@ -1,4 +1,4 @@
-ghost use Rattle.std.specs.Prelude.{◌≡◌, ◌<◌, false, replicate, IfSome, count_by, not};
+ghost use Rattle.std.specs.Prelude.{◌≡◌, ◌<◌, true, false, get_or, replicate, set, IfSome, count_by, not};
 ghost use Rattle.certificate.specs.TwoTrain.{crossing};
 
 use crate::tally::border;
@@ -55,5 +55,32 @@ impl Used {
         let mut over = *self;
         over.crossed[number] = true;
         Some(over)
+    }
+
+    /// Whether a border is used, by its number.
+    pub(crate) fn has(&self, border: usize) -> bool
+        requires { border < 279 }
+        ensures { result ≡ get_or self.now border false }
+    {
+        self.crossed[border]
+    }
+
+    /// A border is used from now on.
+    #[tactic(auto, using(crate::proofs::Fewer::fewer_free))]
+    pub(crate) fn add(&mut self, border: usize)
+        requires { border < 279 }
+        ensures marked { self.new ≡ set self.old border true }
+        ensures fewer { get_or self.old border false ≡ false →
+            count_by not self.new < count_by not self.old }
+    {
+        self.crossed[border] = true;
+    }
+
+    /// A border is not used any more.
+    pub(crate) fn remove(&mut self, border: usize)
+        requires { border < 279 }
+        ensures { self.new ≡ set self.old border false }
+    {
+        self.crossed[border] = false;
     }
 }

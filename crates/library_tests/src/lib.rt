@@ -5,7 +5,8 @@
 //! Reading order: `lines` (lines read and printed), `boards` (tiles and tokens), `best` (the greatest
 //! revenue), `best_agrees` (the same beside a slow search, on small boards and on four stops),
 //! `four_stops` (a network that is no board), `slow_search` (that search), `claims` (the runs of a
-//! claim, checked one after the other), `books` (money, tenths, events).
+//! claim, checked one after the other), `marks` (bits kept, read and printed), `books` (money, tenths,
+//! events).
 #![tactic(auto)]
 
 #[cfg(test)]
@@ -21,5 +22,7 @@ mod claims;
 mod four_stops;
 #[cfg(test)]
 mod lines;
+#[cfg(test)]
+mod marks;
 #[cfg(test)]
 mod slow_search;

@@ -12,8 +12,8 @@ use Rattle.map_tables.specs.declared.place.Stop.{Stop}
 use Rattle.map_tables.specs.declared.place.StopNumber.{StopNumber}
 use Rattle.map_tables.specs.declared.track.End.TheVariants.{Stop as AtStop}
 use Rattle.map_tables.specs.declared.track.Link.{Link}
-use Rattle.operating.proofs.Found.{Decided, Search, among_decided, any_among, any_number, both_decided, can_enter_decided, decided_by, either_decided}
-use Rattle.operating.proofs.Found.{found, mark_decided}
+use Rattle.operating.proofs.Found.{Search, any_among, any_number, found}
+use Rattle.reach.proofs.Decided.{Decided, among_decided, both_decided, can_enter_decided, decided_by, either_decided, mark_decided}
 use Rattle.reach.proofs.Equal.{link_same, same_link}
 use Rattle.reach.proofs.Reaching.{link_marked, link_reached, stop_marked, stop_reached}
 use Rattle.reach.proofs.Spots.{same_order}

@@ -1,12 +1,10 @@
 -- What a company reaches in a lawful position can be found out: links are followed from its tokens until nothing is
 -- added.
-use Rattle.std.proofs.Common.{◌≡◌, ℕ, zero, suc, ◌+◌, ◌<◌, ◌≤◌, Bool, true, false, cond, ◌⊎◌, inl, inr, Option, Some, None, List, [], ◌∷◌}
-use Rattle.std.proofs.Common.{length, get_or, set, replicate, nat_le, refl, sym, ap, subst, ◌∙◌, arith}
+use Rattle.std.proofs.Common.{◌≡◌, ℕ, zero, suc, ◌+◌, ◌<◌, ◌≤◌, Bool, true, false, ◌⊎◌, inl, inr, List, [], ◌∷◌}
+use Rattle.std.proofs.Common.{length, get_or, set, replicate, refl, sym, subst, ◌∙◌, arith}
 use Rattle.std.proofs.lemmas.Bool.{cases_eq}
-use Rattle.std.proofs.lemmas.Bool.Decides.{nat_tests}
 use Rattle.std.proofs.lemmas.List.{length-replicate, length-set}
-use Rattle.std.proofs.lemmas.List.Sums.{count_by-le-length, sum_by-set}
-use Rattle.std.specs.List.{list_any}
+use Rattle.std.proofs.lemmas.List.Sums.{count_by-le-length}
 use Rattle.map_tables.proofs.HexTables.{hexes_at}
 use Rattle.map_tables.specs.Hex.{hexes, index_of}
 use Rattle.map_tables.specs.Place.{joined_stop_of, stop_at}
@@ -19,50 +17,16 @@ use Rattle.map_tables.specs.declared.track.End.{End}
 use Rattle.map_tables.specs.declared.track.End.TheVariants.{Side as AtSide, Stop as AtStop}
 use Rattle.map_tables.specs.declared.track.Link.{Link}
 use Rattle.reach.proofs.Collected.{all_tokens, none_marked, own_hex, spot_of, token_arrives}
+use Rattle.reach.proofs.Decided.{Decided, both_decided, can_enter_decided, either_decided, mark_decided, not_decided, token_decided}
 use Rattle.reach.proofs.Hexes.{index_low, same_index, side_low, stop_index_low}
-use Rattle.reach.proofs.Lists.{among_found, found_among}
-use Rattle.reach.proofs.Marking.{spreads_followed}
+use Rattle.reach.proofs.Marking.{one_more, spreads_followed}
 use Rattle.reach.specs.Lawful.{IsLawful}
-use Rattle.reach.specs.Position.{HasToken, IsAmong, IsFull, Position, at_stop, links_of}
+use Rattle.reach.specs.Position.{HasToken, IsAmong, Position, links_of}
 use Rattle.reach.specs.Reached.{stop_order}
-use Rattle.reach.specs.Search.{AllArrive, CanEnter, CanEnterAt, HasAllTokens, IsClosed, IsMarked, IsMarking, marked, number_at, spot_number}
-use Rattle.reach.specs.Walk.{IsTrack, across_end, entered_at, left_at, spot_at}
-use Rattle.reach.specs.declared.walk.Spot.{Spot}
+use Rattle.reach.specs.Search.{AllArrive, CanEnter, HasAllTokens, IsClosed, IsKept, IsMarked, IsMarking, marked, number_at, spot_number}
+use Rattle.reach.specs.Walk.{IsTrack, entered_at, left_at}
 use Rattle.reach.specs.declared.walk.Step.{Step}
-use Rattle.tables.proofs.Companies.{company_is, company_is_same}
-use Rattle.tables.specs.Roster.{same_company}
 use Rattle.tables.specs.declared.roster.Company.{Company}
-
--- something is so, or is not
-abbrev pub Decided : Type 0 → Type 0
-Decided P = P ⊎ ¬ P
-
--- what is the same as something decided is decided
-pub decided_by : (P Q : Type 0) → (P → Q) → (Q → P) → Decided P → Decided Q
-decided_by P Q there back (inl is) = inl (there is)
-decided_by P Q there back (inr off) = inr (λ is. off (back is))
-
--- a test is passed or is not
-test_decided : (b : Bool) → Decided (b ≡ true)
-test_decided true = inl refl
-test_decided false = inr (λ (is : false ≡ true). let no : ⊥ = cc in no)
-
--- what is not so
-not_decided : (P : Type 0) → Decided P → Decided (¬ P)
-not_decided P (inl is) = inr (λ off. off is)
-not_decided P (inr off) = inl off
-
--- both of two
-pub both_decided : (P Q : Type 0) → Decided P → Decided Q → Decided (P × Q)
-both_decided P Q (inl first) (inl second) = inl (first, second)
-both_decided P Q (inl first) (inr second) = inr (λ both. second both.1)
-both_decided P Q (inr first) second = inr (λ both. first both.0)
-
--- either of two
-pub either_decided : (P Q : Type 0) → Decided P → Decided Q → Decided (P ⊎ Q)
-either_decided P Q (inl first) second = inl (inl first)
-either_decided P Q (inr first) (inl second) = inl (inr second)
-either_decided P Q (inr first) (inr second) = inr (λ either. elim either [ inl one ↦ first one | inr other ↦ second other ])
 
 -- one of a list is so
 pub any_among : {A : Type 0} (P : A → Type 0) → ((a : A) → Decided (P a)) → (things : List A) → Decided ((a : A) × IsAmong a things × P a)
@@ -119,59 +83,6 @@ any_number P each =
       ]
     ]
 
--- a thing is among some
-pub among_decided : {A : Type 0} (same : A → A → Bool) → ((a b : A) → same a b ≡ true → a ≡ b) → ((a b : A) → a ≡ b → same a b ≡ true) →
-    (thing : A) (things : List A) → Decided (IsAmong thing things)
-among_decided same exact alike thing things =
-    let test = list_any (λ other. same other thing) things in
-    decided_by (test ≡ true) (IsAmong thing things) (among_found same exact things thing) (found_among same alike things thing) (test_decided test)
-
--- one number is at most another
-most_decided : (a b : ℕ) → Decided (a ≤ b)
-most_decided a b =
-    decided_by (nat_le a b ≡ true) (a ≤ b) (λ is. grind (arith, nat_tests, is)) (λ is. grind (arith, nat_tests, is)) (test_decided (nat_le a b))
-
--- a company has a token at a stop
-token_decided : (position : Position) (stop : Stop) (company : Company) → Decided (HasToken position stop company)
-token_decided position stop company = among_decided same_company company_is company_is_same company (at_stop position stop).tokens
-
--- a city is full for a company
-full_decided : (position : Position) (stop : Stop) (company : Company) → Decided (IsFull position stop company)
-full_decided position stop company =
-    let there = at_stop position stop in
-    let slots : Type 0 = 1 ≤ there.slots in
-    let taken : Type 0 = there.slots ≤ length there.tokens in
-    let others : Type 0 = ¬ HasToken position stop company in
-    decided_by (slots × (taken × others)) (IsFull position stop company)
-    (λ all. record { is_city = (let some = all.0 in omega arith); all_taken = all.1.0; by_others = all.1.1 })
-    (λ full. ((let some = full.is_city in omega arith), (full.all_taken, full.by_others)))
-    (both_decided slots (taken × others) (most_decided 1 there.slots)
-    (both_decided taken others (most_decided there.slots (length there.tokens))
-    (not_decided (HasToken position stop company) (token_decided position stop company))))
-
--- a spot is marked
-pub mark_decided : (marks : List Bool) (spot : Spot) → Decided (IsMarked marks spot)
-mark_decided marks spot = test_decided (get_or marks (spot_number spot) false)
-
--- the other side of a border is marked
-across_decided : (marks : List Bool) (found : Option Spot) → Decided ((from : Spot) × (found ≡ Some from) × IsMarked marks from)
-across_decided marks None = inr (λ any. let wrong : None ≡ Some any.0 = any.1 in let no : ⊥ = cc in no)
-across_decided marks (Some spot) =
-    decided_by (IsMarked marks spot) ((from : Spot) × (Some spot ≡ Some from) × IsMarked marks from) (λ is. (spot, refl, is))
-    (λ any. let same : spot ≡ any.0 = (let both : Some spot ≡ Some any.0 = any.1 in cc) in subst (IsMarked marks) (sym same) any.2) (mark_decided marks spot)
-
--- a link may be entered at an end
-enter_decided : (position : Position) (company : Company) (marks : List Bool) (hex : Hex) (end : End) → Decided (CanEnterAt position company marks hex end)
-enter_decided position company marks hex (AtSide side) = across_decided marks (across_end hex (AtSide side))
-enter_decided position company marks hex (AtStop number) =
-    let stop = joined_stop_of (stop_at hex number) in
-    both_decided (IsMarked marks (spot_at hex (AtStop number))) (¬ IsFull position stop company) (mark_decided marks (spot_at hex (AtStop number)))
-    (not_decided (IsFull position stop company) (full_decided position stop company))
-
--- at a spot
-pub can_enter_decided : (position : Position) (company : Company) (marks : List Bool) (spot : Spot) → Decided (CanEnter position company marks spot)
-can_enter_decided position company marks spot = enter_decided position company marks spot.hex spot.end
-
 -- each end of a hex has a number under 744
 number_low : (hex : Hex) (end : End) → number_at hex end < 744
 number_low hex (AtSide side) = omega (arith, index_low hex, side_low side)
@@ -182,12 +93,6 @@ number_low hex (AtStop number) =
 unmarked : (mark : Bool) → ¬ (mark ≡ true) → mark ≡ false
 unmarked true off = absurd (off refl)
 unmarked false off = refl
-
--- one more mark
-one_more : (marks : List Bool) (n : ℕ) → n < length marks → get_or marks n false ≡ false → marked marks < marked (set marks n true)
-one_more marks n low was =
-    let count : Bool → ℕ = λ mark. cond mark 1 0 in
-    omega (arith, sum_by-set count marks n true false low, ap count was)
 
 -- marks of all that walks of the company come to
 pub record Search (position : Position) (company : Company) : Type 0 where
@@ -248,7 +153,7 @@ module _ (position : Position) (company : Company) (lawful : IsLawful position) 
         new = set old number true;
         long = length-set old number true ∙ long;
         arrive = token_arrives position company old stop (stop_order stop) refl is.0 arrive (set old number true) refl;
-        more = one_more old number (omega (arith, long, number_low stop.hex (AtStop stop.number))) (unmarked (get_or old number false) is.1);
+        more = omega (arith, one_more old number (omega (arith, long, number_low stop.hex (AtStop stop.number))) (unmarked (get_or old number false) is.1));
       }
 
   -- the end of a step is
@@ -260,10 +165,17 @@ module _ (position : Position) (company : Company) (lawful : IsLawful position) 
       let off = unmarked (get_or old number false) is.1 in
       let marking : IsMarking (left_at step) old [] (set old number true) (left_at step ∷ []) =
       record { low = low; marks = rw off refl; waits = rw off refl } in
+      let any : Link → Type 0 = λ link. Unit {0} in
+      let kept : IsKept step.link any any = record { here = tt; stay = λ other is. tt; only = λ other is. inl tt } in
       let spreads =
-      spreads_followed position company lawful step track (entered_at step) old [] [] (set old number true) (left_at step ∷ []) (step.link ∷ []) is.0
-      (record { entered = λ same. marking; link = λ same. refl; other = λ apart. absurd (apart refl) }) in
-      record { new = set old number true; long = spreads.length_kept ∙ long; arrive = spreads.arrive arrive; more = one_more old number low off }
+      spreads_followed position company lawful step track (entered_at step) old [] any (set old number true) (left_at step ∷ []) any is.0
+      (record { entered = λ same. marking; link = λ same. kept; other = λ apart. absurd (apart refl) }) in
+      record {
+        new = set old number true;
+        long = spreads.length_kept ∙ long;
+        arrive = spreads.arrive arrive;
+        more = omega (arith, one_more old number low off);
+      }
 
   by_link : (old : List Bool) → length old ≡ 744 → AllArrive position company old → (link : Link) → IsAmong link (links_of position link.hex) →
       IsNewLink old link → Further position company old

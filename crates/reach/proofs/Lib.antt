@@ -7,3 +7,6 @@ pub mod Reaching
 pub mod Collected
 pub mod Equal
 pub mod Looking
+pub mod Decided
+pub mod Taken
+pub mod StopLists

@@ -125,7 +125,7 @@ module _ (position : Position) (company : Company) where
       }
 
   -- once one that waited has been looked at
-  pub looked_on : (rest : List Spot) (from : Spot) (old : List Bool) (first : List Link) (new : List Bool) (waiting : List Spot) (links : List Link) → AreLookedAt position company old (rest ++ from ∷ []) first → Spreads position company (λ taken. IsTrack position taken × LeadsTo position company from (entered_at taken)) old rest first new waiting links → AreLookedAt position company new waiting links
+  pub looked_on : (rest : List Spot) (from : Spot) (old : List Bool) (first : Link → Type 0) (new : List Bool) (waiting : List Spot) (links : Link → Type 0) → AreLookedAt position company old (rest ++ from ∷ []) first → Spreads position company (λ taken. IsTrack position taken × LeadsTo position company from (entered_at taken)) old rest first new waiting links → AreLookedAt position company new waiting links
   looked_on rest from old first new waiting links so_far spreads =
       record {
         known = λ spot waits. elim (spreads.known spot waits) [
@@ -153,7 +153,7 @@ module _ (position : Position) (company : Company) where
       (spot_at hex (AtStop number), can.0, record { joined = inl (joined_stop_of (stop_at hex number), refl, refl); may_pass = can.1 })
 
   -- once nothing waits, all steps that may be taken were followed
-  all_followed : IsLawful position → (marks : List Bool) (links : List Link) → AreLookedAt position company marks [] links → (step : Step) → IsTrack position step → CanEnter position company marks (entered_at step) → WasFollowed marks links step
+  all_followed : IsLawful position → (marks : List Bool) (links : Link → Type 0) → AreLookedAt position company marks [] links → (step : Step) → IsTrack position step → CanEnter position company marks (entered_at step) → WasFollowed marks links step
   all_followed lawful marks links looked step track can =
       let came : (from : Spot) × IsMarked marks from × LeadsTo position company from (entered_at step) =
       arrived_from lawful marks (entered_at step).hex (entered_at step).end can in
@@ -163,11 +163,11 @@ module _ (position : Position) (company : Company) where
       ]
 
   -- so what is marked holds all walks
-  pub all_looked_at : IsLawful position → (marks : List Bool) (links : List Link) → AreLookedAt position company marks [] links → IsClosed position company (IsTrack position) marks
+  pub all_looked_at : IsLawful position → (marks : List Bool) (links : Link → Type 0) → AreLookedAt position company marks [] links → IsClosed position company (IsTrack position) marks
   all_looked_at lawful marks links looked step track can = (all_followed lawful marks links looked step track can).0
 
   -- and the links that are kept are those that may be taken
-  pub all_taken : IsLawful position → (marks : List Bool) (links : List Link) → AreLookedAt position company marks [] links → CanTakeAll position company marks links → AreTaken position company marks links
+  pub all_taken : IsLawful position → (marks : List Bool) (links : Link → Type 0) → AreLookedAt position company marks [] links → CanTakeAll position company marks links → AreTaken position company marks links
   all_taken lawful marks links looked taken link = (
     taken link,
     λ can. elim can.1 [

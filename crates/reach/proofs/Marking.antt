@@ -9,18 +9,17 @@ use Rattle.map_tables.specs.declared.track.End.TheVariants.{Side as AtSide, Stop
 use Rattle.reach.specs.Lawful.{IsLawful}
 use Rattle.map_tables.specs.declared.track.Link.{Link}
 use Rattle.reach.specs.Position.{Position, IsFull}
-use Rattle.reach.specs.Search.{spot_number, number_at, IsMarked, IsMarking, IsEnteredAt, IsFollowed, CanEnter, CanEnterAt, CanTake, CanTakeAll, marked, Waits, AllWait, WasFollowed, Spreads}
+use Rattle.reach.specs.Search.{spot_number, number_at, IsMarked, IsMarking, IsEnteredAt, IsFollowed, IsKept, KeepsAsMany, CanEnter, CanEnterAt, CanTake, CanTakeAll, marked, Waits, AllWait, WasFollowed, Spreads}
 use Rattle.reach.specs.Walk.{spot_at, entered_at, left_at, IsTrack}
 use Rattle.reach.specs.declared.walk.Spot.{Spot}
 use Rattle.reach.specs.declared.walk.Step.{Step}
 use Rattle.reach.proofs.Following.{walk_by, arrives_same}
-use Rattle.reach.proofs.Lists.{among_end, among_before, among_cases}
 use Rattle.reach.proofs.Reaching.{entered_either}
 use Rattle.reach.proofs.Spots.{are_one}
 use Rattle.tables.specs.declared.roster.Company.{Company}
 
 -- one more mark: there is one more
-one_more : (marks : List Bool) (n : ℕ) → n < length marks → get_or marks n false ≡ false → marked (set marks n true) ≡ marked marks + 1
+pub one_more : (marks : List Bool) (n : ℕ) → n < length marks → get_or marks n false ≡ false → marked (set marks n true) ≡ marked marks + 1
 one_more marks n low was =
     let count : Bool → ℕ = λ mark. cond mark 1 0 in
     omega (arith, sum_by-set count marks n true false low, ap count was)
@@ -108,14 +107,14 @@ wait_on spot old waited new waiting wait marking =
 
 module _ (position : Position) (company : Company) where
   -- no steps
-  pub spreads_none : (P : Step → Type 0) (marks : List Bool) (waiting : List Spot) (links : List Link) → ((step : Step) → ¬ P step) → Spreads position company P marks waiting links marks waiting links
-  spreads_none P marks waiting links none =
+  spreads_same : (P : Step → Type 0) (marks : List Bool) (waiting : List Spot) (first links : Link → Type 0) → KeepsAsMany first links → ((step : Step) → ¬ P step) → Spreads position company P marks waiting first marks waiting links
+  spreads_same P marks waiting first links same none =
       record {
         length_kept = refl;
         kept = λ spot is. is;
         arrive = λ arrive. arrive;
-        stay = λ link among. among;
-        taken = λ taken. taken;
+        stay = λ link is. (same link).0 is;
+        taken = λ taken link is. taken link ((same link).1 is);
         followed = λ step is. absurd (none step is);
         fresh = λ spot is. inl is;
         still = λ spot waits. waits;
@@ -123,6 +122,10 @@ module _ (position : Position) (company : Company) where
         balance = refl;
         grown = omega arith;
       }
+
+  pub spreads_none : (P : Step → Type 0) (marks : List Bool) (waiting : List Spot) (links : Link → Type 0) → ((step : Step) → ¬ P step) → Spreads position company P marks waiting links marks waiting links
+  spreads_none P marks waiting links none =
+      spreads_same P marks waiting links links (λ link. (λ is. is, λ is. is)) none
 
   enters_still : (old new : List Bool) → ((spot : Spot) → IsMarked old spot → IsMarked new spot) → (hex : Hex) (end : End) → CanEnterAt position company old hex end → CanEnterAt position company new hex end
   enters_still old new kept hex (AtSide side) can = (can.0, can.1, kept can.0 can.2)
@@ -133,9 +136,9 @@ module _ (position : Position) (company : Company) where
   can_still old new kept at can = enters_still old new kept at.hex at.end can
 
   -- what may be taken may be once more is marked
-  takes_still : (old new : List Bool) → ((spot : Spot) → IsMarked old spot → IsMarked new spot) → (links : List Link) → CanTakeAll position company old links → CanTakeAll position company new links
-  takes_still old new kept links taken link among =
-      let was : CanTake position company old link = taken link among in (
+  takes_still : (old new : List Bool) → ((spot : Spot) → IsMarked old spot → IsMarked new spot) → (links : Link → Type 0) → CanTakeAll position company old links → CanTakeAll position company new links
+  takes_still old new kept links taken link is =
+      let was : CanTake position company old link = taken link is in (
         was.0,
         elim was.1 [
           | inl first ↦ inl (can_still old new kept (spot_at link.hex link.a) first)
@@ -144,23 +147,23 @@ module _ (position : Position) (company : Company) where
       )
 
   -- and the link of a step that may be taken
-  takes_more : (step : Step) → IsTrack position step → (marks : List Bool) (links : List Link) → CanEnter position company marks (entered_at step) → CanTakeAll position company marks links → CanTakeAll position company marks (links ++ step.link ∷ [])
-  takes_more step track marks links can taken link among =
-      elim (among_cases links link step.link among) [
+  takes_more : (step : Step) → IsTrack position step → (marks : List Bool) (first links : Link → Type 0) → IsKept step.link first links → CanEnter position company marks (entered_at step) → CanTakeAll position company marks first → CanTakeAll position company marks links
+  takes_more step track marks first links more can taken link is =
+      elim (more.only link is) [
         | inl before ↦ taken link before
         | inr last ↦ subst (λ l. CanTake position company marks l) last (track, entered_either position company marks step.link step.turned can)
       ]
 
   -- a step that may be taken, and leads to what is marked
-  spreads_old : (step : Step) → IsTrack position step → (marks : List Bool) (waiting : List Spot) (first : List Link) → CanEnter position company marks (entered_at step) → IsMarked marks (left_at step) → Spreads position company (λ taken. taken ≡ step) marks waiting first marks waiting (first ++ step.link ∷ [])
-  spreads_old step track marks waiting first can was =
+  spreads_old : (step : Step) → IsTrack position step → (marks : List Bool) (waiting : List Spot) (first links : Link → Type 0) → IsKept step.link first links → CanEnter position company marks (entered_at step) → IsMarked marks (left_at step) → Spreads position company (λ taken. taken ≡ step) marks waiting first marks waiting links
+  spreads_old step track marks waiting first links more can was =
       record {
         length_kept = refl;
         kept = λ spot is. is;
         arrive = λ arrive. arrive;
-        stay = λ link among. among_before first link step.link among;
-        taken = λ taken. takes_more step track marks first can taken;
-        followed = λ taken is. subst (λ (s : Step). WasFollowed marks (first ++ step.link ∷ []) s) (sym is) (was, among_end first step.link);
+        stay = more.stay;
+        taken = λ taken. takes_more step track marks first links more can taken;
+        followed = λ taken is. subst (λ (s : Step). WasFollowed marks links s) (sym is) (was, more.here);
         fresh = λ spot is. inl is;
         still = λ spot waits. waits;
         known = λ spot waits. inl waits;
@@ -169,8 +172,8 @@ module _ (position : Position) (company : Company) where
       }
 
   -- a step that may be taken, and leads to what is not marked
-  spreads_new : IsLawful position → (step : Step) → IsTrack position step → (old : List Bool) (waited : List Spot) (first : List Link) → spot_number (left_at step) < length old → CanEnter position company old (entered_at step) → get_or old (spot_number (left_at step)) false ≡ false → Spreads position company (λ taken. taken ≡ step) old waited first (set old (spot_number (left_at step)) true) (waited ++ left_at step ∷ []) (first ++ step.link ∷ [])
-  spreads_new lawful step track old waited first low can was =
+  spreads_new : IsLawful position → (step : Step) → IsTrack position step → (old : List Bool) (waited : List Spot) (first links : Link → Type 0) → IsKept step.link first links → spot_number (left_at step) < length old → CanEnter position company old (entered_at step) → get_or old (spot_number (left_at step)) false ≡ false → Spreads position company (λ taken. taken ≡ step) old waited first (set old (spot_number (left_at step)) true) (waited ++ left_at step ∷ []) links
+  spreads_new lawful step track old waited first links kept low can was =
       let n : ℕ = spot_number (left_at step) in
       let more : marked (set old n true) ≡ marked old + 1 = one_more old n low was in
       let keeps : (spot : Spot) → IsMarked old spot → IsMarked (set old n true) spot = λ spot is. set_keeps old n (spot_number spot) low is in
@@ -182,11 +185,11 @@ module _ (position : Position) (company : Company) where
               (let by : (before : List Step) × _ = walk_by position company lawful old arrive step track can in inr (step, by.0, by.1, refl))
           | inr before ↦ arrive spot before
         ];
-        stay = λ link among. among_before first link step.link among;
-        taken = λ taken. takes_more step track (set old n true) first (can_still old (set old n true) keeps (entered_at step) can)
+        stay = kept.stay;
+        taken = λ taken. takes_more step track (set old n true) first links kept (can_still old (set old n true) keeps (entered_at step) can)
             (takes_still old (set old n true) keeps first taken);
-        followed = λ taken is. subst (λ (s : Step). WasFollowed (set old n true) (first ++ step.link ∷ []) s) (sym is)
-            (get_or-set_same old n true false low, among_end first step.link);
+        followed = λ taken is. subst (λ (s : Step). WasFollowed (set old n true) links s) (sym is)
+            (get_or-set_same old n true false low, kept.here);
         fresh = λ spot is. elim (set_cases old n (spot_number spot) is) [
           | inl same ↦ inr (waits_end waited (left_at step) spot same)
           | inr before ↦ inl before
@@ -201,20 +204,19 @@ module _ (position : Position) (company : Company) where
       }
 
   -- a step that may be taken marks where it is left, and its link is kept
-  spreads_step : IsLawful position → (step : Step) → IsTrack position step → (old : List Bool) (waited : List Spot) (first : List Link) (new : List Bool) (waiting : List Spot) → CanEnter position company old (entered_at step) → IsMarking (left_at step) old waited new waiting → Spreads position company (λ taken. taken ≡ step) old waited first new waiting (first ++ step.link ∷ [])
-  spreads_step lawful step track old waited first new waiting can marking =
-      let links : List Link = first ++ step.link ∷ [] in
+  spreads_step : IsLawful position → (step : Step) → IsTrack position step → (old : List Bool) (waited : List Spot) (first : Link → Type 0) (new : List Bool) (waiting : List Spot) (links : Link → Type 0) → IsKept step.link first links → CanEnter position company old (entered_at step) → IsMarking (left_at step) old waited new waiting → Spreads position company (λ taken. taken ≡ step) old waited first new waiting links
+  spreads_step lawful step track old waited first new waiting links kept can marking =
       elim (marking_cases (left_at step) old waited new waiting marking) [
         | inl was ↦ subst (λ m. Spreads position company (λ taken. taken ≡ step) old waited first m waiting links) (sym was.1)
             (subst (λ w. Spreads position company (λ taken. taken ≡ step) old waited first old w links) (sym was.2)
-            (spreads_old step track old waited first can was.0))
+            (spreads_old step track old waited first links kept can was.0))
         | inr not_yet ↦ subst (λ m. Spreads position company (λ taken. taken ≡ step) old waited first m waiting links) (sym not_yet.1)
             (subst (λ w. Spreads position company (λ taken. taken ≡ step) old waited first (set old (spot_number (left_at step)) true) w links) (sym not_yet.2)
-            (spreads_new lawful step track old waited first marking.low can not_yet.0))
+            (spreads_new lawful step track old waited first links kept marking.low can not_yet.0))
       ]
 
   -- steps after others
-  pub spreads_on : (P Q R : Step → Type 0) (a : List Bool) (u : List Spot) (x : List Link) (b : List Bool) (v : List Spot) (y : List Link) (c : List Bool) (w : List Spot) (z : List Link) → Spreads position company P a u x b v y → Spreads position company Q b v y c w z → ((step : Step) → R step → P step ⊎ Q step) → Spreads position company R a u x c w z
+  pub spreads_on : (P Q R : Step → Type 0) (a : List Bool) (u : List Spot) (x : Link → Type 0) (b : List Bool) (v : List Spot) (y : Link → Type 0) (c : List Bool) (w : List Spot) (z : Link → Type 0) → Spreads position company P a u x b v y → Spreads position company Q b v y c w z → ((step : Step) → R step → P step ⊎ Q step) → Spreads position company R a u x c w z
   spreads_on P Q R a u x b v y c w z first next either =
       record {
         length_kept = next.length_kept ∙ first.length_kept;
@@ -241,7 +243,7 @@ module _ (position : Position) (company : Company) where
       }
 
   -- fewer steps
-  pub spreads_fewer : (P R : Step → Type 0) (a : List Bool) (u : List Spot) (x : List Link) (b : List Bool) (v : List Spot) (y : List Link) → Spreads position company P a u x b v y → ((step : Step) → R step → P step) → Spreads position company R a u x b v y
+  pub spreads_fewer : (P R : Step → Type 0) (a : List Bool) (u : List Spot) (x : Link → Type 0) (b : List Bool) (v : List Spot) (y : Link → Type 0) → Spreads position company P a u x b v y → ((step : Step) → R step → P step) → Spreads position company R a u x b v y
   spreads_fewer P R a u x b v y spreads within =
       record {
         length_kept = spreads.length_kept;
@@ -269,20 +271,18 @@ module _ (position : Position) (company : Company) where
       absurd (let apart : _ = (are_one (spot_at hex (AtStop number)) (spot_at other (AtSide side)) same).0 in cc)
 
   -- a step is followed from a spot where links may be entered
-  pub spreads_followed : IsLawful position → (step : Step) → IsTrack position step → (at : Spot) (old : List Bool) (waited : List Spot) (first : List Link) (new : List Bool) (waiting : List Spot) (links : List Link) → CanEnter position company old at → IsFollowed step at old waited first new waiting links → Spreads position company (λ taken. (taken ≡ step) × IsEnteredAt at taken) old waited first new waiting links
+  pub spreads_followed : IsLawful position → (step : Step) → IsTrack position step → (at : Spot) (old : List Bool) (waited : List Spot) (first : Link → Type 0) (new : List Bool) (waiting : List Spot) (links : Link → Type 0) → CanEnter position company old at → IsFollowed step at old waited first new waiting links → Spreads position company (λ taken. (taken ≡ step) × IsEnteredAt at taken) old waited first new waiting links
   spreads_followed lawful step track at old waited first new waiting links can followed =
       let P : Step → Type 0 = λ taken. (taken ≡ step) × IsEnteredAt at taken in
       elim (cases_eq (spot_number (entered_at step)) (spot_number at)) [
         | inl same ↦ spreads_fewer (λ taken. taken ≡ step) P old waited first new waiting links
-            (subst (λ ls. Spreads position company (λ taken. taken ≡ step) old waited first new waiting ls) (sym (followed.link same))
-            (spreads_step lawful step track old waited first new waiting
+            (spreads_step lawful step track old waited first new waiting links (followed.link same)
             (enters_same old at.hex at.end (entered_at step).hex (entered_at step).end (sym same) can)
-            (followed.entered same)))
+            (followed.entered same))
             (λ taken is. is.0)
         | inr apart ↦
-            let unchanged : (new ≡ old) × (waiting ≡ waited) × (links ≡ first) = followed.other apart in
+            let unchanged : (new ≡ old) × (waiting ≡ waited) × KeepsAsMany first links = followed.other apart in
             subst (λ m. Spreads position company P old waited first m waiting links) (sym unchanged.0)
             (subst (λ w. Spreads position company P old waited first old w links) (sym unchanged.1)
-            (subst (λ ls. Spreads position company P old waited first old waited ls) (sym unchanged.2)
-            (spreads_none P old waited first (λ taken is. apart (subst (λ (s : Step). IsEnteredAt at s) is.0 is.1)))))
+            (spreads_same P old waited first links unchanged.2 (λ taken is. apart (subst (λ (s : Step). IsEnteredAt at s) is.0 is.1))))
       ]

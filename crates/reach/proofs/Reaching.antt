@@ -8,8 +8,8 @@ use Rattle.map_tables.specs.declared.track.End.TheVariants.{Side as AtSide, Stop
 use Rattle.map_tables.specs.declared.track.Link.{Link}
 use Rattle.reach.specs.Lawful.{IsLawful}
 use Rattle.reach.specs.Position.{Position, HasToken, IsAmong, links_of}
-use Rattle.reach.specs.Reached.{IsWalkOf, ReachesLink, ReachesStop}
-use Rattle.reach.specs.Search.{IsMarked, IsMarkedStop, CanEnterAt, CanEnter, CanEnterEither, CanTake, AllArrive, IsClosed, HasAllTokens}
+use Rattle.reach.specs.Reached.{IsReach, IsWalkOf, ReachesLink, ReachesStop, StandInOrder, stop_order}
+use Rattle.reach.specs.Search.{IsMarked, IsMarkedStop, AreMarkedStops, CanEnterAt, CanEnter, CanEnterEither, CanTake, AllArrive, AreTaken, IsClosed, HasAllTokens}
 use Rattle.reach.specs.Walk.{spot_at, entered_at, left_at, stop_at_end, stop_of, IsTrack, TouchesLink, TouchesStop}
 use Rattle.reach.specs.declared.walk.Spot.{Spot}
 use Rattle.reach.specs.declared.walk.Step.{Step}
@@ -90,3 +90,12 @@ module _ (position : Position) (company : Company) (lawful : IsLawful position) 
         | inl here ↦ inl (is.0, (let same : here.0 ≡ stop = (let both : Some here.0 ≡ Some stop = sym here.1 ∙ named in cc) in subst (λ s. HasToken position s company) same here.2))
         | inr came ↦ inr (came.0 ∷ came.1, came.2, inl (inr ((are_one (left_at came.0) spot came.3).0 ∙ named)))
       ]
+
+  -- so the stops that are marked, and the links that may be taken, are what is reached
+  pub marked_reach : (stops : List Stop) (links : List Link) → AreMarkedStops marks stops → StandInOrder stop_order stops → AreTaken position company marks (λ link. IsAmong link links) → IsReach position company (record { stops = stops; links = links })
+  marked_reach stops links are in_order taken =
+      record {
+        stops = λ stop. (λ among. stop_reached stop ((are stop).0 among), λ reaches. (are stop).1 (stop_marked stop reaches));
+        in_order = in_order;
+        links = λ link. (λ among. link_reached link ((taken link).0 among), λ reaches. (taken link).1 (link_marked link reaches));
+      }

@@ -3,3 +3,4 @@ pub mod Lawful
 pub mod Walk
 pub mod Reached
 pub mod Search
+pub mod Stops

@@ -61,15 +61,27 @@ abbrev pub CanTake : Position → Company → List Bool → Link → Type 0
 CanTake position company marks link =
     IsAmong link (links_of position link.hex) × CanEnterEither position company marks link
 
--- such a walk may take each of these links
-abbrev pub CanTakeAll : Position → Company → List Bool → List Link → Type 0
-CanTakeAll position company marks links =
-    (link : Link) → IsAmong link links → CanTake position company marks link
+-- such a walk may take each link that is kept
+abbrev pub CanTakeAll : Position → Company → List Bool → (Link → Type 0) → Type 0
+CanTakeAll position company marks kept = (link : Link) → kept link → CanTake position company marks link
 
--- these are all links of the position that such a walk may take
-abbrev pub AreTaken : Position → Company → List Bool → List Link → Type 0
-AreTaken position company marks links =
-    (link : Link) → IsAmong link links ↔ CanTake position company marks link
+-- what is kept is all links of the position that such a walk may take
+abbrev pub AreTaken : Position → Company → List Bool → (Link → Type 0) → Type 0
+AreTaken position company marks kept = (link : Link) → kept link ↔ CanTake position company marks link
+
+-- no link is kept
+abbrev pub KeepsNone : (Link → Type 0) → Type 0
+KeepsNone kept = (link : Link) → ¬ kept link
+
+-- one link more is kept
+pub record IsKept (link : Link) (old new : Link → Type 0) : Type 0 where
+  pub here : new link
+  pub stay : (other : Link) → old other → new other
+  pub only : (other : Link) → new other → old other ⊎ (link ≡ other)
+
+-- the same links are kept
+abbrev pub KeepsAsMany : (Link → Type 0) → (Link → Type 0) → Type 0
+KeepsAsMany old new = (link : Link) → old link ↔ new link
 
 -- a walk of the company arrives at a spot: it has a token there, or its latest link is left there
 abbrev pub Arrives : Position → Company → Spot → Type 0
@@ -125,10 +137,10 @@ abbrev pub IsEnteredAt : Spot → Step → Type 0
 IsEnteredAt at step = spot_number (entered_at step) ≡ spot_number at
 
 -- a step is followed from a spot: where it is left is marked, and its link is kept, if it is entered there
-pub record IsFollowed (step : Step) (at : Spot) (old : List Bool) (waited : List Spot) (kept : List Link) (new : List Bool) (waiting : List Spot) (links : List Link) : Type 0 where
+pub record IsFollowed (step : Step) (at : Spot) (old : List Bool) (waited : List Spot) (first : Link → Type 0) (new : List Bool) (waiting : List Spot) (kept : Link → Type 0) : Type 0 where
   pub entered : IsEnteredAt at step → IsMarking (left_at step) old waited new waiting
-  pub link : IsEnteredAt at step → links ≡ kept ++ step.link ∷ []
-  pub other : ¬ IsEnteredAt at step → (new ≡ old) × (waiting ≡ waited) × (links ≡ kept)
+  pub link : IsEnteredAt at step → IsKept step.link first kept
+  pub other : ¬ IsEnteredAt at step → (new ≡ old) × (waiting ≡ waited) × KeepsAsMany first kept
 
 -- the other hex in which the stop of a hex lies
 abbrev pub twin_of : Hex → Option Hex
@@ -147,26 +159,26 @@ pub record LeadsTo (position : Position) (company : Company) (from at : Spot) : 
   pub may_pass : IfSome (stop_of at) (λ stop. ¬ IsFull position stop company)
 
 -- a step was followed: where it leads is marked, and its link is kept
-abbrev pub WasFollowed : List Bool → List Link → Step → Type 0
-WasFollowed marks links step = IsMarked marks (left_at step) × IsAmong step.link links
+abbrev pub WasFollowed : List Bool → (Link → Type 0) → Step → Type 0
+WasFollowed marks kept step = IsMarked marks (left_at step) × kept step.link
 
 -- the steps were followed by which a walk that has arrived at a spot may go on
-abbrev pub IsLookedAt : Position → Company → List Bool → List Link → Spot → Type 0
-IsLookedAt position company marks links from =
-    (step : Step) → IsTrack position step → LeadsTo position company from (entered_at step) → WasFollowed marks links step
+abbrev pub IsLookedAt : Position → Company → List Bool → (Link → Type 0) → Spot → Type 0
+IsLookedAt position company marks kept from =
+    (step : Step) → IsTrack position step → LeadsTo position company from (entered_at step) → WasFollowed marks kept step
 
 -- each spot that is marked waits to be looked at, or was looked at; and what waits is marked
-pub record AreLookedAt (position : Position) (company : Company) (marks : List Bool) (waiting : List Spot) (links : List Link) : Type 0 where
+pub record AreLookedAt (position : Position) (company : Company) (marks : List Bool) (waiting : List Spot) (kept : Link → Type 0) : Type 0 where
   pub known : (spot : Spot) → Waits waiting spot → IsMarked marks spot
-  pub looked : (spot : Spot) → IsMarked marks spot → Waits waiting spot ⊎ IsLookedAt position company marks links spot
+  pub looked : (spot : Spot) → IsMarked marks spot → Waits waiting spot ⊎ IsLookedAt position company marks kept spot
 
 -- What it is to follow such steps: what is marked or kept stays so, walks still arrive at all of it and may take all
 -- those links, the steps were followed, and as many more wait as are marked, each of those that are new among them.
-pub record Spreads (position : Position) (company : Company) (P : Step → Type 0) (old : List Bool) (waited : List Spot) (first : List Link) (new : List Bool) (waiting : List Spot) (links : List Link) : Type 0 where
+pub record Spreads (position : Position) (company : Company) (P : Step → Type 0) (old : List Bool) (waited : List Spot) (first : Link → Type 0) (new : List Bool) (waiting : List Spot) (links : Link → Type 0) : Type 0 where
   pub length_kept : length new ≡ length old
   pub kept : (spot : Spot) → IsMarked old spot → IsMarked new spot
   pub arrive : AllArrive position company old → AllArrive position company new
-  pub stay : (link : Link) → IsAmong link first → IsAmong link links
+  pub stay : (link : Link) → first link → links link
   pub taken : CanTakeAll position company old first → CanTakeAll position company new links
   pub followed : (step : Step) → P step → WasFollowed new links step
   pub fresh : (spot : Spot) → IsMarked new spot → IsMarked old spot ⊎ Waits waiting spot

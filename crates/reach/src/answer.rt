@@ -3,13 +3,18 @@ ghost use Rattle.reach.specs.Position.{IsAmong};
 ghost use Rattle.reach.specs.Reached.{IsReach};
 
 use crate::network::Network;
-use crate::search::{Marks, reached_stops, search};
+use crate::search::search;
+use crate::stops::marked_stops;
 use map_tables::{Link, Stop};
 use std::alloc::{AllocError, Global};
 use std::marker::Model;
 use tables::Company;
 
-/// What a company reaches: stops and links. To a contract it is the two lists.
+/// How much room a search begins with for links. A usual map needs no more.
+const LINKS_ROOM: usize = 96;
+
+/// What a company reaches: stops and links. To a contract it is the two lists. Each link stands
+/// there once, or twice where it was followed in both directions.
 #[derive(Drop)]
 pub struct Reach {
     stops: Vec<Stop>,
@@ -43,7 +48,7 @@ impl Reach {
 
 /// What a company reaches: the stops with a token of it, and each stop and link that a walk from
 /// there touches. Such a walk may end in a city that is full for the company and may not pass
-/// one; it may pass a red stop. The only error is want of memory, for the search and the lists of the answer.
+/// one; it may pass a red stop. The only error is want of memory, for the lists of the answer.
 pub fn reached<N: Network>(
     alloc: Global,
     network: &N,
@@ -52,10 +57,8 @@ pub fn reached<N: Network>(
     ensures { IfOk result (IsReach (N.position network.now) company) }
 {
     network.keeps_laws();
-    let marks = search(alloc, network, company)?;
-    let stops = reached_stops(alloc, &marks)?;
-    Ok(Reach {
-        stops,
-        links: marks.followed(),
-    })
+    let mut links = Vec::with_capacity(alloc, LINKS_ROOM)?;
+    let marks = search(network, company, &mut links)?;
+    let stops = marked_stops(&marks).stops().to_vec(alloc)?;
+    Ok(Reach { stops, links })
 }

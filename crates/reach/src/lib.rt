@@ -4,20 +4,26 @@
 //! whether it is red, its slots and its tokens. `Network` is any value that keeps a position; to
 //! a contract it is that position and nothing else. `reached` answers what the walks of a company
 //! touch, exactly: whatever a walk touches is in the answer, and whatever is in the answer is
-//! touched by a walk.
+//! touched by a walk. `reached_stops` answers the stops alone, and takes no memory.
 //!
 //! The definitions, in `specs/`: `Position` and its laws, `Lawful`; `Walk`, which knows nothing
 //! of a company or a search and serves legal runs too; `Reached`. `Search` is what the search
-//! keeps.
+//! keeps; `Stops` has stops as marks.
 //!
-//! Reading order: `network`, `walk`, `answer` (the public call), `search`.
+//! Reading order: `network`, `walk`, `answer` and `stops` (the public calls), `search`,
+//! `keeper` (what it does with links), `stop_marks`.
 #![tactic(auto)]
 
 mod answer;
+mod keeper;
 mod network;
 mod search;
+mod stop_marks;
+mod stops;
 mod walk;
 
 pub use answer::{Reach, reached};
 pub use network::Network;
+pub use stop_marks::StopMarks;
+pub use stops::{ReachedStops, reached_stops};
 pub use walk::{Spot, Step};

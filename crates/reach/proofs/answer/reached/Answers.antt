@@ -1,27 +1,24 @@
 -- What is marked at the end is what is reached.
-use Rattle.std.proofs.Common.{sym, subst}
+use Rattle.std.proofs.Common.{◌≡◌, List, [], sym, ◌∙◌, subst}
+use Rattle.map_tables.specs.declared.track.Link.{Link}
 use Rattle.reach.specs.Position.{IsAmong}
-use Rattle.reach.proofs.Reaching.{link_marked, link_reached, stop_marked, stop_reached}
+use Rattle.reach.specs.Reached.{StandInOrder, stop_order}
+use Rattle.reach.specs.Search.{AreMarkedStops, KeepsNone}
+use Rattle.reach.proofs.Reaching.{marked_reach}
 use Rattle.reach.proofs.answer.reached.Goals as goal
+
+-- nothing is among an empty list
+none_among : (links : List Link) → links ≡ [] → KeepsNone (λ link. IsAmong link links)
+none_among links none link among = subst (λ ls. IsAmong link ls) none among
 
 pub returns : goal.returns
 returns g c =
     let position = g.N.Network.position c.args.network.now in
-    let company = c.args.company in
-    let lawful = c.keeps_laws.ensures in
     let marks = c.in_ok-marks.marks.marks in
-    let arrive = c.in_ok-marks.ensures.arrive in
-    let tokens = c.in_ok-marks.ensures.tokens in
-    let closed = c.in_ok-marks.ensures.closed in
-    let taken = c.in_ok-marks.ensures.taken in
-    record {
-      stops = λ stop. (
-        λ among. stop_reached position company lawful marks arrive tokens closed stop ((c.in_ok-stops.ensures.marked stop).0 among),
-        λ reaches. (c.in_ok-stops.ensures.marked stop).1 (stop_marked position company lawful marks arrive tokens closed stop reaches),
-      );
-      in_order = c.in_ok-stops.ensures.in_order;
-      links = λ link. (
-        λ among. link_reached position company lawful marks arrive tokens closed link ((taken link).0 (subst (λ ls. IsAmong link ls) c.followed.ensures among)),
-        λ reaches. subst (λ ls. IsAmong link ls) (sym c.followed.ensures) ((taken link).1 (link_marked position company lawful marks arrive tokens closed link reaches)),
-      );
-    }
+    let found = c.in_ok-marks.ensures in
+    let copied : c.in_ok-stops.stops.items ≡ c.marked_stops.result = c.in_ok-stops.ensures.items_if_clones_equal (λ x y same. same) ∙ c.stops.ensures.value in
+    marked_reach position c.args.company c.keeps_laws.ensures marks found.arrive found.tokens found.closed
+    c.in_ok-stops.stops.items c.search.new.keeper.items
+    (subst (λ ls. AreMarkedStops marks ls) (sym copied) c.marked_stops.ensures.marked)
+    (subst (λ ls. StandInOrder stop_order ls) (sym copied) c.marked_stops.ensures.in_order)
+    (found.taken (none_among c.in_ok-links.links.items c.in_ok-links.ensures.items))

@@ -7,4 +7,5 @@ use Rattle.reach.proofs.search.follow_from.Given as goal
 abbrev pub invariant-loop-link : goal.invariant-loop-link
 invariant-loop-link g l =
     let position = g.N.Network.position l.network in
-    Spreads position l.company (λ taken. IsAmong taken.link (take l.link-index (links_of position l.fn.at.hex)) × IsEnteredAt l.fn.at taken) l.initial.marks.marks l.initial.marks.waiting.items l.initial.marks.links.items l.marks.marks l.marks.waiting.items l.marks.links.items
+    let keeps = g.K.Keeper.keeps in
+    Spreads position l.company (λ taken. IsAmong taken.link (take l.link-index (links_of position l.fn.at.hex)) × IsEnteredAt l.fn.at taken) l.initial.marks.marks l.initial.marks.waiting.items (keeps l.initial.keeper) l.marks.marks l.marks.waiting.items (keeps l.keeper)

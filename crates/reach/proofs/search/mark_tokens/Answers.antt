@@ -11,31 +11,26 @@ unmarked marks is n found =
 
 pub loop-index-init : goal.loop-index-init
 loop-index-init g c =
+    let marks = c.none-marks.result.marks in
     record {
-      tokens = record {
-        arrive = λ spot is. absurd (unmarked c.in_ok-marks.marks.marks c.in_ok-marks.ensures.marks (spot_number spot) is);
-        tokens = λ stop low token. absurd (omega arith);
-        wait = record {
-          all = λ spot is. absurd (unmarked c.in_ok-marks.marks.marks c.in_ok-marks.ensures.marks (spot_number spot) is);
-          known = λ spot waits. absurd (subst (λ w. Waits w spot) c.in_ok-marks.ensures.waiting waits);
-        };
+      arrive = λ spot is. absurd (unmarked marks c.none-marks.ensures.marks (spot_number spot) is);
+      tokens = λ stop low token. absurd (omega arith);
+      wait = record {
+        all = λ spot is. absurd (unmarked marks c.none-marks.ensures.marks (spot_number spot) is);
+        known = λ spot waits. absurd (subst (λ w. Waits w spot) c.none-marks.ensures.waiting waits);
       };
-      links = c.in_ok-marks.ensures.links;
     }
 
 pub loop-index-preserved : goal.loop-index-preserved
 loop-index-preserved g c =
-    record {
-      tokens = tokens_added (g.N.Network.position c.args.network.now) c.args.company _ _ c.at_index-hex.result c.loop-index.index c.at_index-hex.ensures c.loop-index.invariant.tokens _ _ c.in_ok-mark_token.ensures.marking _ _ c.in_ok-mark_token-2.ensures.marking;
-      links = c.in_ok-mark_token-2.ensures.links ∙ c.in_ok-mark_token.ensures.links ∙ c.loop-index.invariant.links;
-    }
+    tokens_added (g.N.Network.position c.args.network.now) c.args.company _ _ c.at_index-hex.result c.loop-index.index c.at_index-hex.ensures c.loop-index.invariant _ _ c.mark_token.ensures _ _ c.mark_token-in-loop-index.ensures
 
 pub returns-clause-arrive : goal.returns-clause-arrive
-returns-clause-arrive g c = c.loop-index.invariant.tokens.arrive
+returns-clause-arrive g c = c.loop-index.invariant.arrive
 
 pub returns-clause-tokens : goal.returns-clause-tokens
 returns-clause-tokens g c =
-    all_tokens (g.N.Network.position c.args.network.now) c.args.company c.loop-index.marks.marks (2 * c.loop-index.index) (omega (arith, c.loop-index-test.false)) c.loop-index.invariant.tokens.tokens
+    all_tokens (g.N.Network.position c.args.network.now) c.args.company c.loop-index.marks.marks (2 * c.loop-index.index) (omega (arith, c.loop-index-test.false)) c.loop-index.invariant.tokens
 
 pub returns-clause-wait : goal.returns-clause-wait
-returns-clause-wait g c = c.loop-index.invariant.tokens.wait
+returns-clause-wait g c = c.loop-index.invariant.wait

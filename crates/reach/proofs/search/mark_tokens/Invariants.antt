@@ -1,11 +1,8 @@
--- The stops of the hexes before the next one have been looked at, and no link was followed.
-use Rattle.std.proofs.Common.{◌≡◌, ◌*◌, []}
+-- The stops of the hexes before the next one have been looked at.
+use Rattle.std.proofs.Common.{◌*◌}
 use Rattle.reach.proofs.Collected.{TokensMarked}
 use Rattle.reach.proofs.search.mark_tokens.Given as goal
 
 abbrev pub invariant-loop-index : goal.invariant-loop-index
 invariant-loop-index g l =
-    record {
-      tokens : TokensMarked (g.N.Network.position l.network) l.company l.marks.marks l.marks.waiting.items (2 * l.index);
-      links : l.marks.links.items ≡ [];
-    }
+    TokensMarked (g.N.Network.position l.network) l.company l.marks.marks l.marks.waiting.items (2 * l.index)

@@ -1,16 +1,18 @@
--- Walks arrive at all that is marked and may take all links that are kept, all tokens are marked, and each spot that is
--- marked waits or was looked at. Each time one fewer waits, but for those that are marked for it.
+-- Walks arrive at all that is marked, all tokens are marked, and each spot that is marked waits or was looked at; walks may
+-- take all links that are kept, if none was before. Each time one fewer waits, but for those that are marked for it.
 use Rattle.std.proofs.Common.{◌+◌, ◌-◌, ◌*◌, length}
-use Rattle.reach.specs.Search.{AllArrive, CanTakeAll, HasAllTokens, AreLookedAt, marked}
+use Rattle.reach.specs.Search.{AllArrive, CanTakeAll, HasAllTokens, AreLookedAt, KeepsNone, marked}
 use Rattle.reach.proofs.search.search.Given as goal
 
 abbrev pub invariant-loop-spot : goal.invariant-loop-spot
 invariant-loop-spot g l =
+    let position = g.N.Network.position l.network in
+    let keeps = g.K.Keeper.keeps in
     record {
-      arrive : AllArrive (g.N.Network.position l.network) l.company l.marks.marks;
-      tokens : HasAllTokens (g.N.Network.position l.network) l.company l.marks.marks;
-      looked : AreLookedAt (g.N.Network.position l.network) l.company l.marks.marks l.marks.waiting.items l.marks.links.items;
-      taken : CanTakeAll (g.N.Network.position l.network) l.company l.marks.marks l.marks.links.items;
+      arrive : AllArrive position l.company l.marks.marks;
+      tokens : HasAllTokens position l.company l.marks.marks;
+      looked : AreLookedAt position l.company l.marks.marks l.marks.waiting.items (keeps l.keeper);
+      taken : KeepsNone (keeps l.initial.keeper) → CanTakeAll position l.company l.marks.marks (keeps l.keeper);
     }
 
 abbrev pub decreases-loop-spot : goal.decreases-loop-spot

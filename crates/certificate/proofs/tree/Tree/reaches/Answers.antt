@@ -1,0 +1,16 @@
+-- A stop is found by its place in the order of the map.
+use Rattle.std.proofs.Common.{◌≡◌, ◌↔◌, Bool, true, false, refl, sym, ◌∙◌}
+use Rattle.certificate.specs.Fault.{has_stop}
+use Rattle.certificate.specs.Walking.{reached_in}
+use Rattle.certificate.proofs.Joined.{has_stop_is}
+use Rattle.certificate.proofs.tree.Tree.reaches.Goals as goal
+
+same_test : (a b : Bool) → (a ≡ true → b ≡ true) → (b ≡ true → a ≡ true) → a ≡ b
+same_test true b there back = sym (there refl)
+same_test false true there back = back refl
+same_test false false there back = refl
+
+pub returns : goal.returns
+returns c =
+    let found = has_stop_is c.args.stop (reached_in c.args.self.now) in
+    same_test c.has.result (has_stop c.args.stop (reached_in c.args.self.now)) (λ yes. found.1 (c.has.ensures.0 yes)) (λ yes. c.has.ensures.1 (found.0 yes))

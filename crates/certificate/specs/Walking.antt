@@ -1,0 +1,151 @@
+-- Where a walk over the choice tree stands, by what it keeps in place: marks of the borders that were crossed and of
+-- the stops that the run begun has visited, and a few numbers. `Stands` joins these to the settled runs and the steps
+-- of the run begun, which no code keeps.
+use Rattle.std.specs.Prelude.{◌≡◌, ℕ, zero, suc, ◌+◌, ◌-◌, ◌*◌, ◌<◌, ◌≤◌, nat_lt, ◌==◌, Bool, true, false, if◌then◌else◌, Option, Some, None, option_map, List, [], ◌∷◌, ◌++◌, length, drop, get_or, replicate}
+use Rattle.std.specs.List.{list_any}
+use Rattle.map_tables.specs.Place.{joined_stop_of}
+use Rattle.map_tables.specs.declared.hex.Hex.{Hex}
+use Rattle.map_tables.specs.declared.hex.Hex.TheVariants.{A9, A11, I1, J2}
+use Rattle.map_tables.specs.declared.place.Stop.{Stop}
+use Rattle.map_tables.specs.declared.side.Side.{Side}
+use Rattle.map_tables.specs.declared.track.End.{End}
+use Rattle.map_tables.specs.declared.track.End.TheVariants.{Side as AtSide, Stop as AtStop}
+use Rattle.reach.specs.Lawful.{IsLawful}
+use Rattle.reach.specs.Position.{Position, IsAmong, value_of}
+use Rattle.reach.specs.Reached.{stop_order}
+use Rattle.reach.specs.Walk.{entered_at, left_at, stop_of}
+use Rattle.reach.specs.declared.walk.Spot.{Spot}
+use Rattle.reach.specs.declared.walk.Step.{Step}
+use Rattle.tables.specs.Train.{stops_of}
+use Rattle.tables.specs.declared.rolling_stock.Kind.{Kind}
+use Rattle.tables.specs.declared.roster.Company.{Company}
+use Rattle.certificate.specs.Fault.{has_border, has_stop, has_token}
+use Rattle.certificate.specs.Legal.{border_at, listed, visited, worth}
+use Rattle.certificate.specs.Ranking.{ranked_of}
+use Rattle.certificate.specs.Set.{TrainRun, revenue_of}
+use Rattle.certificate.specs.Tree.{Node, bound, children, goes_over, gone_over, greatest_sum, leads_on, may_all_earn, may_earn, new_values, node_if, node_of, run_borders, setting_out, taken_borders, total, with_step, with_steps, ways_at, ways_from}
+use Rattle.certificate.specs.Walked.{LeavesAhead, Walks, capped}
+use Rattle.certificate.specs.declared.decider.Decision.{Decision}
+use Rattle.certificate.specs.declared.tree.Group.{Group}
+use Rattle.certificate.specs.declared.tree.Tree.{Tree}
+use Rattle.certificate.specs.declared.tree_walk.Begun.{Begun}
+
+-- the marks of borders are those of these
+abbrev pub AreCrossed : List Bool → List ℕ → Type 0
+AreCrossed marks borders =
+    (length marks ≡ 279) × ((border : ℕ) → get_or marks border false ≡ has_border border borders)
+
+-- the marks of stops, by their places in the order of the map, are those of these
+abbrev pub AreVisited : List Bool → List Stop → Type 0
+AreVisited marks stops =
+    (length marks ≡ 186) × ((stop : Stop) → get_or marks (stop_order stop) false ≡ has_stop stop stops)
+
+-- the trains of some groups, one group after the other
+abbrev pub trains_in : List Group → List Kind
+trains_in [] = []
+trains_in (group ∷ groups) = replicate group.count group.kind ++ trains_in groups
+
+-- the kind of the train at a place
+abbrev pub kind_from : List Group → ℕ → Option Kind
+kind_from [] place = None
+kind_from (group ∷ groups) place =
+    if nat_lt place group.count then Some group.kind else kind_from groups (place - group.count)
+
+-- what the trains from a place on may earn
+abbrev pub earned_from : List Group → ℕ → ℕ
+earned_from [] place = 0
+earned_from (group ∷ groups) place = (group.count - place) * group.may_earn + earned_from groups (place - group.count)
+
+-- how many stops a run may still visit that has visited so many
+abbrev pub still_left : Option ℕ → ℕ → Option ℕ
+still_left most count = option_map (λ n. n - count) most
+
+-- no stop is left
+abbrev pub is_none_left : Option ℕ → Bool
+is_none_left (Some left) = left == 0
+is_none_left None = false
+
+-- the other hex in which a stop lies that is named by a hex
+abbrev pub other_hex_of : Hex → Option Hex
+other_hex_of J2 = Some I1
+other_hex_of A11 = Some A9
+other_hex_of hex = None
+
+-- the stops that are reached, and the trains in their order
+abbrev pub reached_in : Tree → List Stop
+reached_in tree = tree.reached
+
+abbrev pub trains_of_tree : Tree → List Kind
+trains_of_tree tree = trains_in tree.groups
+
+-- what each train of a group may earn is told
+abbrev pub TellEarnings : Position → List Stop → List Group → Type 0
+TellEarnings position reached [] = Unit {0}
+TellEarnings position reached (group ∷ groups) =
+    (group.may_earn ≡ may_earn position reached group.kind []) × TellEarnings position reached groups
+
+-- what a walk is told of the tree is so at a position
+pub record IsTree (position : Position) (tree : Tree) : Type 0 where
+  pub lawful : IsLawful position
+  pub named : (stop : Stop) → IsAmong stop (reached_in tree) → joined_stop_of stop ≡ stop
+  pub earnings : TellEarnings position (reached_in tree) tree.groups
+  pub count : tree.count ≡ length (trains_of_tree tree)
+  pub fits : length (trains_of_tree tree) ≤ 18446744073709551615
+  pub ranking : tree.ranking ≡ ranked_of position (reached_in tree)
+
+-- no run is begun, and the settled runs earn so much
+pub record StandsBetween (position : Position) (tree : Tree) (value : ℕ) (settled : List TrainRun) : Type 0 where
+  pub told : IsTree position tree
+  pub earns : value ≡ capped (revenue_of position settled)
+
+-- a run is begun that has visited these stops, the first of them also before its first step
+pub record Stands (position : Position) (tree : Tree) (begun : Begun) (used marks : List Bool) (settled : List TrainRun) (steps : List Step) (stops : List Stop) : Type 0 where
+  pub told : IsTree position tree
+  pub crossed : AreCrossed used (gone_over steps ++ run_borders settled)
+  pub seen : AreVisited marks stops
+  pub some : 1 ≤ length stops
+  pub value : begun.value ≡ capped (revenue_of position settled + worth position stops)
+  pub later : begun.later ≡ capped (may_all_earn position (reached_in tree) (drop begun.next (trains_of_tree tree)))
+  pub within : begun.next ≤ length (trains_of_tree tree)
+  pub left : begun.left ≡ still_left (stops_of begun.kind) (length stops)
+  pub own : begun.own_token ≡ list_any (has_token position tree.company) stops
+
+-- a step goes on from these steps, which have visited these stops
+pub record Continues (steps : List Step) (stops : List Stop) (step : Step) : Type 0 where
+  pub visits : visited (step ∷ steps) ≡ listed (stop_of (left_at step)) ++ stops
+  pub crosses : gone_over (step ∷ steps) ≡ border_at (left_at step).hex (left_at step).end ++ gone_over steps
+  pub same : (side : Side) → (entered_at step).end ≡ AtSide side → visited steps ≡ stops
+
+-- the node there
+abbrev pub node_at : Tree → Begun → List TrainRun → List Step → Node
+node_at tree begun settled steps = node_of settled steps (begun.kind ∷ drop begun.next (trains_of_tree tree))
+
+-- the node at which the trains from a place on have not begun
+abbrev pub node_from : Tree → List TrainRun → ℕ → Node
+node_from tree settled place = node_of settled [] (drop place (trains_of_tree tree))
+
+-- a step may be taken that is entered at an end: from a border or from a stop
+abbrev pub may_take : List Stop → Node → End → Step → Bool
+may_take reached node (AtSide side) step = leads_on reached node step
+may_take reached node (AtStop number) step = goes_over (taken_borders node) step
+
+-- the nodes at which the trains have set out from a place on, so many of them, the last train first
+abbrev pub set_outs : Position → Tree → List TrainRun → ℕ → ℕ → List Node
+set_outs position tree settled first zero = []
+set_outs position tree settled first (suc count) =
+    setting_out position tree.company (reached_in tree) (node_from tree settled (first + count)) ++ set_outs position tree settled first count
+
+module _ {S : Type 0} (decides : S → ℕ → Bool → Decision → S → Type 0) (position : Position) (tree : Tree) where
+  -- a walk over nodes of the tree
+  abbrev pub WalksOver : S → List Node → Bool → S → Type 0
+  WalksOver s nodes whole t = Walks decides position tree.company (reached_in tree) s nodes whole t
+
+  abbrev pub LeavesOver : S → List Node → S → List Node → Type 0
+  LeavesOver s all t rest = LeavesAhead decides position tree.company (reached_in tree) s all t rest
+
+  -- how far a walk comes over the nodes at which no run is begun, each the first child of the one before
+  abbrev pub Descends : List TrainRun → ℕ → S → Option ℕ → S → Type 0
+  Descends settled first s None t = WalksOver s (node_from tree settled first ∷ []) false t
+  Descends settled first s (Some deepest) t =
+      (first ≤ deepest) × (deepest ≤ length (trains_of_tree tree))
+      × LeavesOver s (node_from tree settled first ∷ []) t (set_outs position tree settled first (deepest - first))

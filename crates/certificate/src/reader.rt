@@ -1,0 +1,76 @@
+//! Who decides by marks that are read.
+ghost use Rattle.std.specs.Prelude.{◌≡◌, Bool, List, MatchOption, [], ◌∷◌, drop};
+ghost use Rattle.certificate.specs.Read.{IsRead};
+
+use crate::bits::BitReader;
+use crate::decider::{Decider, Decision};
+use tables::Amount;
+
+/// Marks that are read one after the other.
+pub(crate) trait Marks {
+    /// The marks that are left.
+    ghost left: { Self → List Bool };
+
+    /// The next mark; `None` where none is left.
+    fn next_mark(&mut self) -> Option<bool>
+        ensures { MatchOption result ((left self.old ≡ []) × (left self.new ≡ []))
+            (λ mark. left self.old ≡ mark ∷ left self.new) };
+}
+
+impl Marks for BitReader<'_> {
+    ghost left = { λ reader. reader };
+
+    fn next_mark(&mut self) -> Option<bool> {
+        self.read()
+    }
+}
+
+/// Marks of a slice.
+#[derive(Drop)]
+pub(crate) struct SliceMarks<'a> {
+    pub(crate) marks: &'a [bool],
+}
+
+impl Marks for SliceMarks<'_> {
+    ghost left = { λ slice. slice.marks.now };
+
+    fn next_mark(&mut self) -> Option<bool> {
+        let (first, later) = self.marks.split_first()?;
+        self.marks = later;
+        Some(*first)
+    }
+}
+
+/// Decides by marks: 0 cuts a node, where its bound is at most a revenue, and 1 splits one that is no
+/// leaf. Where the next mark does neither, or there is none, the walk ends.
+#[derive(Drop)]
+pub(crate) struct Reader<M: Drop> {
+    pub(crate) marks: M,
+    pub(crate) revenue: Amount,
+}
+
+impl<M: Marks + Drop> Decider for Reader<M> {
+    ghost decides = { λ old bound leaf decision new.
+        IsRead (M.left old.marks) old.revenue bound leaf decision (M.left new.marks)
+        × (new.revenue ≡ old.revenue) };
+
+    fn decide(&mut self, bound: u64, is_leaf: bool) -> Decision {
+        match self.marks.next_mark() {
+            None => Decision::Stop,
+            Some(true) => {
+                if is_leaf {
+                    Decision::Stop
+                } else {
+                    Decision::Split
+                }
+            }
+            Some(false) => {
+                if bound <= self.revenue as u64 {
+                    Decision::Cut
+                } else {
+                    Decision::Stop
+                }
+            }
+        }
+    }
+}

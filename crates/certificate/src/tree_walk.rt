@@ -1,0 +1,462 @@
+//! The walk over the choice tree of a company's trains. It stands at a node, and changes what it has
+//! marked in place: it marks a border or a stop, goes on, and takes the mark away again.
+ghost use Rattle.std.specs.Prelude.{◌≡◌, ◌+◌, ◌-◌, ◌*◌, ◌<◌, ◌≤◌, ◌∷◌, [], ◌++◌, ◌||◌, ◌==◌, List, Bool, Option, None, Some, false, length, drop, option_map, not, nat_lt};
+ghost use Rattle.std.specs.List.{list_any};
+ghost use Rattle.map_tables.specs.Place.{joined_stop_of};
+ghost use Rattle.map_tables.specs.declared.place.Stop.{Stop};
+ghost use Rattle.reach.specs.Position.{IsAmong, Position, is_red, links_of, value_of};
+ghost use Rattle.reach.specs.Walk.{across, entered_at, left_at, stop_of};
+ghost use Rattle.reach.specs.declared.walk.Step.{Step};
+ghost use Rattle.certificate.specs.Fault.{has_token, is_full};
+ghost use Rattle.certificate.specs.Legal.{listed, visited};
+ghost use Rattle.certificate.specs.Set.{TrainRun, revenue_of};
+ghost use Rattle.certificate.specs.Tree.{bound, from_stop, goes_over, leads_on, node_if, run_borders, setting_out, taken_borders, with_step, with_steps, ways_at, ways_by, ways_from};
+ghost use Rattle.certificate.specs.Walked.{capped};
+ghost use Rattle.certificate.specs.Walking.{AreCrossed, AreVisited, Continues, Descends, IsTree, is_none_left, Stands, StandsBetween, WalksOver, may_take, node_at, node_from, other_hex_of, reached_in, trains_of_tree};
+
+use crate::decider::{Decider, Decision};
+use crate::tally::{border, has_token, is_full, worth};
+use crate::tree::Tree;
+use crate::used::Used;
+use map_tables::{End, Hex, Link, Stop};
+use reach::{Network, Spot, Step, StopMarks};
+use tables::{Company, Kind};
+
+/// A run that is begun, and the trains after it.
+#[derive(Clone, Copy)]
+pub(crate) struct Begun {
+    /// The train.
+    pub(crate) kind: Kind,
+    /// The place of the next train in the order of the trains.
+    pub(crate) next: usize,
+    /// What the trains from there on may earn, in dollars.
+    pub(crate) later: u64,
+    /// What the settled runs and the stops of this run earn, in dollars.
+    pub(crate) value: u64,
+    /// How many stops the run may still visit; `None` for any number.
+    pub(crate) left: Option<usize>,
+    /// The company has a token at a stop of the run.
+    pub(crate) own_token: bool,
+}
+
+impl Begun {
+    /// The run, once it has visited one stop more.
+    fn visiting<N: Network>(self, network: &N, company: Company, stop: Stop) -> Begun
+        ensures train { result.kind ≡ self.kind }
+        ensures next { result.next ≡ self.next }
+        ensures later { result.later ≡ self.later }
+        ensures value { let position = N.position network.now in
+            result.value ≡ capped (self.value + value_of position stop) }
+        ensures left { result.left ≡ option_map (λ n. n - 1) self.left }
+        ensures own { let position = N.position network.now in
+            result.own_token ≡ (has_token position company stop || self.own_token) }
+    {
+        Begun {
+            kind: self.kind,
+            next: self.next,
+            later: self.later,
+            value: self.value.saturating_add(worth(network, stop) as u64),
+            left: match self.left {
+                Some(most) => Some(most.saturating_sub(1)),
+                None => None,
+            },
+            own_token: has_token(network, company, stop) || self.own_token,
+        }
+    }
+
+    /// Whether the run ends at a stop to which it has come.
+    fn ends_at<N: Network>(&self, network: &N, company: Company, stop: Stop) -> bool
+        ensures { let position = N.position network.now in
+            result ≡ (is_red position stop || (is_full position company stop
+            || is_none_left self.now.left)) }
+    {
+        network.red(stop) || is_full(network, company, stop) || self.left == Some(0)
+    }
+}
+
+/// The other hex in which a stop lies that is named by a hex.
+fn other_hex(hex: Hex) -> Option<Hex>
+    ensures { result ≡ other_hex_of hex }
+{
+    match hex {
+        Hex::J2 => Some(Hex::I1),
+        Hex::A11 => Some(Hex::A9),
+        _ => None,
+    }
+}
+
+/// The step that enters a link at an end.
+fn step_into(link: Link, end: End) -> Option<Step>
+    ensures { listed result ≡ ways_by end link }
+{
+    if link.a == end {
+        return Some(Step {
+            link,
+            turned: false,
+        });
+    }
+    if link.b == end {
+        return Some(Step { link, turned: true });
+    }
+    None
+}
+
+/// Asks at a node where a run is begun.
+fn ask<D: Decider>(tree: &Tree, begun: &Begun, seen: &StopMarks, decider: &mut D) -> Decision
+    ensures { (position : Position) (crossed : List Bool) (settled : List TrainRun)
+        (steps : List Step) →
+        Stands position tree.now begun.now crossed seen.now settled steps (visited steps) →
+        let node = node_at tree.now begun.now settled steps in
+        let amount = capped (bound position (reached_in tree.now) node) in
+        D.decides decider.old amount false result decider.new }
+{
+    let still = tree.may_earn(begun.left, seen) as u64;
+    let bound = begun
+        .value
+        .saturating_add(still)
+        .saturating_add(begun.later);
+    decider.decide(bound, false)
+}
+
+/// Asks at the nodes at which no run is begun, from a place in the order of the trains on, each node
+/// the first child of the one before: down to the first that is not split, or to the leaf. The answer
+/// is how far it came: the trains before that place are to set out. It is `None` where the walk ends.
+fn descend<D: Decider>(tree: &Tree, value: u64, first: usize, decider: &mut D) -> Option<usize>
+    ensures { (position : Position) (settled : List TrainRun) →
+        StandsBetween position tree.now value settled →
+        first ≤ length (trains_of_tree tree.now) →
+        Descends D.decides position tree.now settled first decider.old result decider.new }
+{
+    for place in first..tree.count {
+        let bound = value.saturating_add(tree.may_earn_from(place));
+        match decider.decide(bound, false) {
+            Decision::Cut => return Some(place),
+            Decision::Split => {}
+            Decision::Stop => return None,
+        }
+    }
+    match decider.decide(value, true) {
+        Decision::Cut => Some(tree.count),
+        Decision::Split => Some(tree.count),
+        Decision::Stop => None,
+    }
+}
+
+/// Walks over a node at which no run is begun.
+#[cycle(walk)]
+pub(crate) fn choose<N: Network, D: Decider>(
+    network: &N,
+    tree: &Tree,
+    value: u64,
+    first: usize,
+    used: &mut Used,
+    decider: &mut D,
+) -> bool
+    ensures walks { (settled : List TrainRun) →
+        StandsBetween (N.position network.now) tree.now value settled →
+        AreCrossed used.old (run_borders settled) →
+        first ≤ length (trains_of_tree tree.now) →
+        let nodes = node_from tree.now settled first ∷ [] in
+        WalksOver D.decides (N.position network.now) tree.now decider.old nodes result decider.new }
+    ensures used { used.new ≡ used.old }
+{
+    let Some(deepest) = descend(tree, value, first, decider) else {
+        return false;
+    };
+    let mut place = deepest;
+    'trains: while first < place {
+        place -= 1;
+        if !set_out(network, tree, value, place, used, decider) {
+            return false;
+        }
+    }
+    true
+}
+
+/// Walks over the nodes at which the train at a place has set out, from each reached stop.
+#[cycle(walk)]
+fn set_out<N: Network, D: Decider>(
+    network: &N,
+    tree: &Tree,
+    value: u64,
+    place: usize,
+    used: &mut Used,
+    decider: &mut D,
+) -> bool
+    ensures walks { (settled : List TrainRun) →
+        StandsBetween (N.position network.now) tree.now value settled →
+        AreCrossed used.old (run_borders settled) →
+        place < length (trains_of_tree tree.now) →
+        let position = N.position network.now in
+        let node = node_from tree.now settled place in
+        let nodes = setting_out position tree.now.company (reached_in tree.now) node in
+        WalksOver D.decides position tree.now decider.old nodes result decider.new }
+    ensures used { used.new ≡ used.old }
+{
+    let Some(kind) = tree.kind_at(place) else {
+        return true;
+    };
+    let next = place.saturating_add(1);
+    let still = Begun {
+        kind,
+        next,
+        later: tree.may_earn_from(next),
+        value,
+        left: kind.stops(),
+        own_token: false,
+    };
+    let mut seen = StopMarks::none();
+    for stop in tree.reached.stops() {
+        let begun = still.visiting(network, tree.company, *stop);
+        seen.mark(*stop);
+        let whole = leave(network, tree, *stop, &begun, used, &mut seen, decider);
+        seen.unmark(*stop);
+        if !whole {
+            return false;
+        }
+    }
+    true
+}
+
+/// Walks over the nodes at which the run has left a stop, in each hex where it lies.
+#[cycle(walk)]
+fn leave<N: Network, D: Decider>(
+    network: &N,
+    tree: &Tree,
+    stop: Stop,
+    begun: &Begun,
+    used: &mut Used,
+    seen: &mut StopMarks,
+    decider: &mut D,
+) -> bool
+    ensures walks { (settled : List TrainRun) (steps : List Step) (stops : List Stop) →
+        Stands (N.position network.now) tree.now begun.now used.old seen.old settled steps stops →
+        ((step : Step) → stop_of (entered_at step) ≡ Some stop → Continues steps stops step) →
+        joined_stop_of stop ≡ stop →
+        let position = N.position network.now in
+        let node = node_at tree.now begun.now settled steps in
+        let nodes = with_steps (goes_over (taken_borders node)) node (ways_from position stop) in
+        WalksOver D.decides position tree.now decider.old nodes result decider.new }
+    ensures used { used.new ≡ used.old }
+    ensures seen { seen.new ≡ seen.old }
+{
+    let end = End::Stop(stop.number);
+    let hex = stop.hex;
+    let Some(other) = other_hex(hex) else {
+        return follow(network, tree, Spot { hex, end }, begun, used, seen, decider);
+    };
+    let hex_first = Spot { hex: other, end };
+    if !follow(network, tree, hex_first, begun, used, seen, decider) {
+        return false;
+    }
+    follow(network, tree, Spot { hex, end }, begun, used, seen, decider)
+}
+
+/// Walks over the nodes at which the run has gone on by a link at a spot.
+#[cycle(walk)]
+fn follow<N: Network, D: Decider>(
+    network: &N,
+    tree: &Tree,
+    at: Spot,
+    begun: &Begun,
+    used: &mut Used,
+    seen: &mut StopMarks,
+    decider: &mut D,
+) -> bool
+    ensures walks { (settled : List TrainRun) (steps : List Step) (stops : List Stop) →
+        Stands (N.position network.now) tree.now begun.now used.old seen.old settled steps stops →
+        ((step : Step) → entered_at step ≡ at → Continues steps stops step) →
+        let position = N.position network.now in
+        let node = node_at tree.now begun.now settled steps in
+        let test = may_take (reached_in tree.now) node at.end in
+        let nodes = with_steps test node (ways_at position at.hex at.end) in
+        WalksOver D.decides position tree.now decider.old nodes result decider.new }
+    ensures used { used.new ≡ used.old }
+    ensures seen { seen.new ≡ seen.old }
+{
+    let links = network.links(at.hex);
+    for link in links.as_slice() {
+        if !take(network, tree, *link, at, begun, used, seen, decider) {
+            return false;
+        }
+    }
+    true
+}
+
+/// Walks over the node at which the run has gone on by a link at a spot, if it may: over a border that
+/// was not crossed, or from a border to a reached stop that it has not visited.
+#[cycle(walk)]
+fn take<N: Network, D: Decider>(
+    network: &N,
+    tree: &Tree,
+    link: Link,
+    at: Spot,
+    begun: &Begun,
+    used: &mut Used,
+    seen: &mut StopMarks,
+    decider: &mut D,
+) -> bool
+    ensures walks { (settled : List TrainRun) (steps : List Step) (stops : List Stop) →
+        Stands (N.position network.now) tree.now begun.now used.old seen.old settled steps stops →
+        IsAmong link (links_of (N.position network.now) at.hex) →
+        ((step : Step) → entered_at step ≡ at → Continues steps stops step) →
+        let node = node_at tree.now begun.now settled steps in
+        let test = may_take (reached_in tree.now) node at.end in
+        let nodes = with_steps test node (ways_by at.end link) in
+        WalksOver D.decides (N.position network.now) tree.now
+        decider.old nodes result decider.new }
+    ensures used { used.new ≡ used.old }
+    ensures seen { seen.new ≡ seen.old }
+{
+    let Some(step) = step_into(link, at.end) else {
+        return true;
+    };
+    let left = step.left();
+    let Some(stop) = left.stop() else {
+        return cross(network, tree, left, begun, used, seen, decider);
+    };
+    let End::Side(_) = at.end else {
+        return true;
+    };
+    if !tree.reaches(stop) {
+        return true;
+    }
+    if seen.has(stop) {
+        return true;
+    }
+    let here = begun.visiting(network, tree.company, stop);
+    seen.mark(stop);
+    let whole = at_stop(network, tree, stop, &here, used, seen, decider);
+    seen.unmark(stop);
+    whole
+}
+
+/// Walks over the node at which the run has its head at a border, if the border was not crossed.
+#[cycle(walk)]
+fn cross<N: Network, D: Decider>(
+    network: &N,
+    tree: &Tree,
+    head: Spot,
+    begun: &Begun,
+    used: &mut Used,
+    seen: &mut StopMarks,
+    decider: &mut D,
+) -> bool
+    ensures walks { (settled : List TrainRun) (steps : List Step) (stops : List Stop) →
+        (step : Step) →
+        Stands (N.position network.now) tree.now begun.now used.old seen.old settled steps stops →
+        Continues steps stops step → left_at step ≡ head → stop_of head ≡ None →
+        let node = node_at tree.now begun.now settled steps in
+        let nodes = node_if (goes_over (taken_borders node) step) (with_step node step) in
+        WalksOver D.decides (N.position network.now) tree.now
+        decider.old nodes result decider.new }
+    ensures used { used.new ≡ used.old }
+    ensures seen { seen.new ≡ seen.old }
+{
+    let Some(beyond) = head.across() else {
+        return true;
+    };
+    let End::Side(side) = head.end else {
+        return true;
+    };
+    let number = border(head.hex, side);
+    if used.has(number) {
+        return true;
+    }
+    used.add(number);
+    let whole = at_border(network, tree, beyond, begun, used, seen, decider);
+    used.remove(number);
+    whole
+}
+
+/// Walks over the node at which the run has its head at a border, and the other side of it is this.
+#[cycle(walk)]
+fn at_border<N: Network, D: Decider>(
+    network: &N,
+    tree: &Tree,
+    beyond: Spot,
+    begun: &Begun,
+    used: &mut Used,
+    seen: &mut StopMarks,
+    decider: &mut D,
+) -> bool
+    ensures walks { (settled : List TrainRun) (before : List Step) (step : Step) →
+        let steps = step ∷ before in let stops = visited steps in
+        Stands (N.position network.now) tree.now begun.now used.old seen.old settled steps stops →
+        stop_of (left_at step) ≡ None → across (left_at step) ≡ Some beyond →
+        let nodes = node_at tree.now begun.now settled steps ∷ [] in
+        WalksOver D.decides (N.position network.now) tree.now
+        decider.old nodes result decider.new }
+    ensures used { used.new ≡ used.old }
+    ensures seen { seen.new ≡ seen.old }
+{
+    match ask(tree, begun, seen, decider) {
+        Decision::Cut => true,
+        Decision::Split => follow(network, tree, beyond, begun, used, seen, decider),
+        Decision::Stop => false,
+    }
+}
+
+/// Walks over the node at which the run has come to a stop.
+#[cycle(walk)]
+fn at_stop<N: Network, D: Decider>(
+    network: &N,
+    tree: &Tree,
+    stop: Stop,
+    begun: &Begun,
+    used: &mut Used,
+    seen: &mut StopMarks,
+    decider: &mut D,
+) -> bool
+    ensures walks { (settled : List TrainRun) (before : List Step) (step : Step) →
+        let steps = step ∷ before in let stops = visited steps in
+        Stands (N.position network.now) tree.now begun.now used.old seen.old settled steps stops →
+        2 ≤ length stops → stop_of (left_at step) ≡ Some stop →
+        let nodes = node_at tree.now begun.now settled steps ∷ [] in
+        WalksOver D.decides (N.position network.now) tree.now
+        decider.old nodes result decider.new }
+    ensures used { used.new ≡ used.old }
+    ensures seen { seen.new ≡ seen.old }
+{
+    match ask(tree, begun, seen, decider) {
+        Decision::Cut => return true,
+        Decision::Split => {}
+        Decision::Stop => return false,
+    }
+    if !begun.own_token {
+        return pass(network, tree, stop, begun, used, seen, decider);
+    }
+    if !choose(network, tree, begun.value, begun.next, used, decider) {
+        return false;
+    }
+    pass(network, tree, stop, begun, used, seen, decider)
+}
+
+/// Walks over the nodes at which the run has passed the stop to which it has come.
+#[cycle(walk)]
+fn pass<N: Network, D: Decider>(
+    network: &N,
+    tree: &Tree,
+    stop: Stop,
+    begun: &Begun,
+    used: &mut Used,
+    seen: &mut StopMarks,
+    decider: &mut D,
+) -> bool
+    ensures walks { (settled : List TrainRun) (before : List Step) (step : Step) →
+        let steps = step ∷ before in let stops = visited steps in
+        Stands (N.position network.now) tree.now begun.now used.old seen.old settled steps stops →
+        stop_of (left_at step) ≡ Some stop →
+        let position = N.position network.now in
+        let node = node_at tree.now begun.now settled steps in
+        let reached = reached_in tree.now in
+        let nodes = from_stop position tree.now.company reached node begun.now.kind stop in
+        WalksOver D.decides position tree.now decider.old nodes result decider.new }
+    ensures used { used.new ≡ used.old }
+    ensures seen { seen.new ≡ seen.old }
+{
+    if begun.ends_at(network, tree.company, stop) {
+        return true;
+    }
+    leave(network, tree, stop, begun, used, seen, decider)
+}

@@ -1,0 +1,124 @@
+//! The stops that a company reaches, found without memory.
+ghost use Rattle.std.specs.Prelude.{◌≡◌, ◌+◌, ◌<◌, ◌≤◌, ◌↔◌, ◌++◌, ◌∷◌, [], IsTrue, length};
+ghost use Rattle.reach.specs.Position.{IsAmong};
+ghost use Rattle.reach.specs.Reached.{StandInOrder, stop_order};
+ghost use Rattle.reach.specs.Search.{AreMarkedStops, IsPushed};
+ghost use Rattle.reach.specs.Stops.{AreReachedStops};
+
+use crate::keeper::Forgetful;
+use crate::network::Network;
+use crate::search::{Marks, search};
+use crate::stop_marks::{STOPS, StopMarks};
+use map_tables::{HEXES, Hex, Stop, StopNumber};
+use std::marker::Model;
+use tables::Company;
+
+/// The stops that a company reaches. To a contract it is the list of them, in the order of the map.
+/// A stop that lies in two hexes stands once, as the one that names it.
+#[derive(Drop)]
+pub struct ReachedStops {
+    stops: [Stop; STOPS],
+    count: usize,
+    marks: StopMarks,
+}
+
+impl Model for ReachedStops {
+    ghost use Rattle.std.specs.Prelude.{◌≡◌, ◌≤◌, List, length, take};
+    ghost use Rattle.map_tables.specs.declared.place.Stop.{Stop};
+    ghost use Rattle.reach.specs.Stops.{marks_of};
+
+    ghost Value = { List Stop };
+
+    ghost view = { λ reached. take reached.count reached.stops };
+
+    ghost invariant = { λ reached. (reached.count ≤ 186) × (length reached.stops ≡ 186)
+        × (reached.marks ≡ marks_of (take reached.count reached.stops)) };
+}
+
+impl ReachedStops {
+    /// No stop is reached.
+    fn none() -> ReachedStops
+        ensures { result ≡ [] }
+    {
+        let any = Stop {
+            hex: Hex::A9,
+            number: StopNumber::First,
+        };
+        ReachedStops {
+            stops: [any; STOPS],
+            count: 0,
+            marks: StopMarks::none(),
+        }
+    }
+
+    /// Appends a stop.
+    fn push(&mut self, stop: Stop)
+        requires { length self.old < 186 }
+        ensures { self.new ≡ self.old ++ stop ∷ [] }
+    {
+        self.stops[self.count] = stop;
+        self.count += 1;
+        self.marks.mark(stop);
+    }
+
+    /// The stops, in the order of the map, 186 at most.
+    pub fn stops(&self) -> &[Stop]
+        ensures value { result.now ≡ self.now }
+        ensures bound { length self.now ≤ 186 }
+    {
+        &self.stops[..self.count]
+    }
+
+    /// Whether a stop is one of them.
+    pub fn has(&self, stop: Stop) -> bool
+        ensures { IsTrue result ↔ IsAmong stop self.now }
+    {
+        self.marks.has(stop)
+    }
+}
+
+/// The stops that a company reaches: those with a token of it, and each stop that a walk from there
+/// touches, just as `reached` finds them. It takes no memory.
+pub fn reached_stops<N: Network>(network: &N, company: Company) -> ReachedStops
+    ensures { AreReachedStops (N.position network.now) company result }
+{
+    network.keeps_laws();
+    match search(network, company, &mut Forgetful) {
+        Ok(marks) => marked_stops(&marks),
+        Err(never) => match never {},
+    }
+}
+
+/// The stops that are marked, in the order of the map.
+pub(crate) fn marked_stops(marks: &Marks) -> ReachedStops
+    ensures marked { AreMarkedStops marks.now.marks result }
+    ensures in_order { StandInOrder stop_order result }
+{
+    let mut stops = ReachedStops::none();
+    for index in 0..HEXES {
+        let hex = Hex::at_index(index);
+        let first = StopNumber::First;
+        let second = StopNumber::Second;
+        push_marked(marks, Stop { hex, number: first }, &mut stops);
+        push_marked(
+            marks,
+            Stop {
+                hex,
+                number: second,
+            },
+            &mut stops,
+        );
+    }
+    stops
+}
+
+/// Appends a stop if it is marked and stands under its own name.
+fn push_marked(marks: &Marks, stop: Stop, stops: &mut ReachedStops)
+    requires { length stops.old < 186 }
+    ensures pushed { IsPushed marks.now.marks stop stops.old stops.new }
+    ensures few { length stops.new ≤ length stops.old + 1 }
+{
+    if marks.has_stop(stop) {
+        stops.push(stop);
+    }
+}
