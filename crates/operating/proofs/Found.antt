@@ -25,6 +25,7 @@ use Rattle.reach.specs.Position.{HasToken, IsAmong, Position, links_of}
 use Rattle.reach.specs.Reached.{stop_order}
 use Rattle.reach.specs.Search.{AllArrive, CanEnter, HasAllTokens, IsClosed, IsKept, IsMarked, IsMarking, marked, number_at, spot_number}
 use Rattle.reach.specs.Walk.{IsTrack, entered_at, left_at}
+use Rattle.reach.specs.declared.walk.Spot.{Spot}
 use Rattle.reach.specs.declared.walk.Step.{Step}
 use Rattle.tables.specs.declared.roster.Company.{Company}
 

@@ -1,5 +1,5 @@
 -- The numbers of hexes: each hex has its own, under 93.
-use Rattle.std.proofs.Common.{◌≡◌, ℕ, ◌<◌, get_or, refl, ap, sym, ◌∙◌, arith, lit<}
+use Rattle.std.proofs.Common.{◌≡◌, ◌<◌, get_or, refl, ap, sym, ◌∙◌, lit<}
 use Rattle.map_tables.proofs.HexTables.{hex_at_index}
 use Rattle.map_tables.specs.Hex.{hexes, index_of}
 use Rattle.map_tables.specs.Place.{joined_hex, joined_stop_of, stop_index_of}

@@ -1,11 +1,11 @@
 -- The links that a walk may take which arrives where the marks say, in one list.
-use Rattle.std.proofs.Common.{◌≡◌, ℕ, zero, suc, ◌+◌, ◌<◌, ◌≤◌, ◌↔◌, Bool, ◌⊎◌, inl, inr, List, [], ◌∷◌, ◌++◌, get_or, refl, sym, ◌∙◌, subst, arith}
+use Rattle.std.proofs.Common.{◌≡◌, ℕ, zero, suc, ◌<◌, ◌≤◌, Bool, ◌⊎◌, inl, inr, List, [], ◌∷◌, ◌++◌, get_or, sym, subst, arith}
 use Rattle.map_tables.proofs.HexTables.{hexes_at}
 use Rattle.map_tables.specs.Hex.{hexes, index_of}
 use Rattle.map_tables.specs.declared.hex.Hex.{Hex}
 use Rattle.map_tables.specs.declared.hex.Hex.TheVariants.{A9}
 use Rattle.map_tables.specs.declared.track.Link.{Link}
-use Rattle.reach.proofs.Collected.{hexes_more, lies_there, own_hex}
+use Rattle.reach.proofs.Collected.{hexes_more, own_hex}
 use Rattle.reach.proofs.Decided.{Decided, can_enter_decided, either_decided}
 use Rattle.reach.proofs.Hexes.{index_low}
 use Rattle.reach.specs.Lawful.{IsLawful}

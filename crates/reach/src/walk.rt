@@ -1,10 +1,10 @@
 ghost use Rattle.std.specs.Prelude.{◌≡◌};
 ghost use Rattle.map_tables.specs.declared.hex.Hex.TheVariants.{A9};
-ghost use Rattle.map_tables.specs.declared.place.StopNumber.TheVariants.{First};
-ghost use Rattle.map_tables.specs.declared.track.End.TheVariants.{Stop as AtStop};
+ghost use Rattle.map_tables.specs.declared.side.Side.TheVariants.{SouthWest};
+ghost use Rattle.map_tables.specs.declared.track.End.TheVariants.{Side as AtSide};
 ghost use Rattle.reach.specs.Walk.{across, entered_at, left_at, stop_of};
 
-use map_tables::{End, Hex, Link, Stop, StopNumber, joined_stop, neighbour};
+use map_tables::{End, Hex, Link, Side, Stop, joined_stop, neighbour};
 
 /// An end in a hex: one of its sides, or one of its stops.
 #[derive(Clone, Copy, Debug, PartialEq, Eq, Hash)]
@@ -14,13 +14,13 @@ pub struct Spot {
 }
 
 impl Default for Spot {
-    ghost is_default = { λ spot. spot ≡ record { hex = A9; end = AtStop First } };
+    ghost is_default = { λ spot. spot ≡ record { hex = A9; end = AtSide SouthWest } };
 
-    /// The first stop of the map, which fills a table where nothing stands.
+    /// What fills a table that has room for more.
     fn default() -> Spot {
         Spot {
             hex: Hex::A9,
-            end: End::Stop(StopNumber::First),
+            end: End::Side(Side::SouthWest),
         }
     }
 }

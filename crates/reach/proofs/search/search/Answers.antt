@@ -1,5 +1,5 @@
 -- A spot that has been looked at waits no more, and once none waits what is marked holds all walks.
-use Rattle.std.proofs.Common.{◌≡◌, ◌+◌, ◌-◌, ◌*◌, ◌<◌, ◌≤◌, ℕ, List, [], ◌∷◌, ◌++◌, Bool, true, false, inl, refl, length, ap, sym, subst, arith, length-append}
+use Rattle.std.proofs.Common.{◌≡◌, ◌+◌, ◌-◌, ◌*◌, ◌<◌, ◌≤◌, List, [], ◌∷◌, ◌++◌, Bool, true, false, inl, refl, length, ap, sym, subst, arith, length-append}
 use Rattle.std.proofs.lemmas.List.Sums.{count_by-le-length}
 use Rattle.map_tables.specs.declared.track.Link.{Link}
 use Rattle.reach.specs.Position.{Position}

@@ -1,5 +1,5 @@
 -- What is marked at the end is what is reached.
-use Rattle.std.proofs.Common.{◌≡◌, refl}
+use Rattle.std.proofs.Common.{refl}
 use Rattle.reach.proofs.Reaching.{marked_reach}
 use Rattle.reach.proofs.Taken.{taken_links}
 use Rattle.reach.proofs.stops.reached_stops.Goals as goal

@@ -1,5 +1,5 @@
 -- A spot that is not marked leaves room: no more wait than are marked.
-use Rattle.std.proofs.Common.{◌≡◌, ℕ, ◌<◌, ◌≤◌, Bool, true, false, List, length, get_or, set, sym, ◌∙◌, arith, length-set, lit<}
+use Rattle.std.proofs.Common.{◌≡◌, ℕ, ◌<◌, Bool, true, false, List, length, get_or, set, arith, length-set, lit<}
 use Rattle.std.proofs.lemmas.List.Sums.{count_by-le-length}
 use Rattle.reach.specs.Search.{marked}
 use Rattle.reach.proofs.Marking.{one_more}

@@ -1,6 +1,5 @@
 -- The marks are those of the stops.
-use Rattle.std.proofs.Common.{◌≡◌, Bool, true, false, List, get_or, ap, sym, ◌∙◌}
-use Rattle.map_tables.specs.declared.place.Stop.{Stop}
+use Rattle.std.proofs.Common.{◌≡◌, Bool, false, List, get_or, ap, sym, ◌∙◌}
 use Rattle.reach.specs.Reached.{stop_order}
 use Rattle.reach.specs.Stops.{marks_of}
 use Rattle.reach.proofs.StopLists.{among_mark, mark_among}
