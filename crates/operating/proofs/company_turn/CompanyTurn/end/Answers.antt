@@ -1,6 +1,6 @@
 -- A purchase is due, or none is.
 use Rattle.std.proofs.Common.{◌≡◌, true, false, inl, inr, sym, ◌∙◌}
-use Rattle.operating.proofs.forced.end_turn.Goals as goal
+use Rattle.operating.proofs.company_turn.CompanyTurn.end.Goals as goal
 
 pub buy_by_force-requires-clause-due : goal.buy_by_force-requires-clause-due
 buy_by_force-requires-clause-due c = c.in_ok-due.ensures.0 c.if-due.true

@@ -6,19 +6,19 @@ use Rattle.operating.proofs.PrivateSales.{same_after_line, sold_steps}
 use Rattle.operating.proofs.Told.{told_as}
 use Rattle.operating.specs.InTurn.{in_turn}
 use Rattle.order_grammar.specs.declared.order.Order.{Order}
-use Rattle.operating.proofs.private.rule_private.Goals as goal
+use Rattle.operating.proofs.company_turn.CompanyTurn.rule_private.Goals as goal
 
 pub buy_private-requires-clause-may : goal.buy_private-requires-clause-may
 buy_private-requires-clause-may c =
     let none : c.judge_private-broken.result ≡ None = cc in
-    same_after_line c.args.history.now c.tell_ruling-2.new.history c.args.by.president c.args.line c.args.by.company c.args.private c.args.price
-    (told_as c.args.history.now _ c.args.by.president c.args.line c.obeyed.result _ c.in_ok-tell_ruling-2.ensures.event c.obeyed.ensures
-    ∙ ap (λ (its : Order). with_event c.args.history.now (event.Ruled c.args.by.president c.args.line (Obeyed its))) c.in_ok-kept.ensures)
+    same_after_line c.args.self.now.history c.tell_ruling-2.new.history c.args.self.now.by.president c.args.line c.args.self.now.by.company c.args.private c.args.price
+    (told_as c.args.self.now.history _ c.args.self.now.by.president c.args.line c.obeyed.result _ c.in_ok-tell_ruling-2.ensures.event c.obeyed.ensures
+    ∙ ap (λ (its : Order). with_event c.args.self.now.history (event.Ruled c.args.self.now.by.president c.args.line (Obeyed its))) c.in_ok-kept.ensures)
     ∙ sym c.judge_private-broken.ensures
     ∙ none
 
 pub returns-clause-turn : goal.returns-clause-turn
 returns-clause-turn c =
     let none : c.judge_private-broken.result ≡ None = cc in
-    sold_steps c.args.by (in_turn c.args.history.now c.args.progress) c.args.line c.args.private c.args.price _ c.tell_ruling-2.new.history c.buy_private.new.history c.in_ok-kept.ensures (sym c.judge_private-broken.ensures ∙ none)
-    (told_as c.args.history.now _ c.args.by.president c.args.line c.obeyed.result _ c.in_ok-tell_ruling-2.ensures.event c.obeyed.ensures) c.in_ok-buy_private.ensures.after
+    sold_steps c.args.self.now.by (in_turn c.args.self.now.history c.args.self.now.progress) c.args.line c.args.private c.args.price _ c.tell_ruling-2.new.history c.buy_private.new.history c.in_ok-kept.ensures (sym c.judge_private-broken.ensures ∙ none)
+    (told_as c.args.self.now.history _ c.args.self.now.by.president c.args.line c.obeyed.result _ c.in_ok-tell_ruling-2.ensures.event c.obeyed.ensures) c.in_ok-buy_private.ensures.after
