@@ -7,9 +7,13 @@ use crate::fit::fault_of;
 use crate::index::Index;
 use crate::lying::Lying;
 use map_tables::{Hex, Lay, Links, Place, Stop, printed_links};
+use smallvec::SmallVec;
 use std::alloc::{AllocError, Global};
 use std::marker::Model;
 use tables::{Company, Kind};
+
+/// How many tokens there are: 25, of all companies.
+const TOKENS: usize = 25;
 
 /// The tiles and tokens that lie on the map, in a phase. To a contract it is those that were laid,
 /// oldest first: what is replaced is remembered. Beside the lists it keeps an index, so that it
@@ -17,7 +21,8 @@ use tables::{Company, Kind};
 #[derive(Drop)]
 pub struct Board {
     pub(crate) lays: Vec<Lay>,
-    pub(crate) tokens: Vec<(Place, Company)>,
+    /// No more than `TOKENS` lie in a game: those stand in the value.
+    pub(crate) tokens: SmallVec<(Place, Company), TOKENS>,
     phase: Kind,
     index: Index,
 }
@@ -83,7 +88,7 @@ impl Board {
     {
         Board {
             lays: Vec::new(alloc),
-            tokens: Vec::new(alloc),
+            tokens: SmallVec::new(alloc),
             phase,
             index: Index::none(),
         }
@@ -126,6 +131,8 @@ impl Board {
         ensures err { OnErr result (self.new ≡ self.old) }
     {
         self.tokens.push((place, company))?;
+        // No index counts more tokens than lie.
+        let _lie = self.tokens.len();
         self.index.add_token(place, company);
         Ok(())
     }

@@ -83,6 +83,7 @@ impl Board {
         ensures { result ≡ laid_by self.now.tokens company }
     {
         self.tokens
+            .as_slice()
             .iter()
             .filter(|token| same_company(token.1, company))
             .count()
@@ -150,7 +151,8 @@ impl Board {
     fn has_token_in(&self, hex: Hex, company: Company) -> bool
         ensures { result ≡ has_token_in self.now.tokens hex company }
     {
-        self.tokens.iter().any(|token| same_hex(token.0.hex, hex) && same_company(token.1, company))
+        self.tokens.as_slice().iter().any(|token| same_hex(token.0.hex, hex)
+            && same_company(token.1, company))
     }
 }
 

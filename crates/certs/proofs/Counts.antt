@@ -29,6 +29,13 @@ few_less value tenths is small =
     let over = small.not_over in
     record { not_under = omega (arith, ints, is, under, over); not_over = omega (arith, ints, is, under, over) }
 
+-- small tenths are small once they are kept
+pub small_kept : (value tenths : ℤ) → value ≡ tenths → IsSmall tenths → IsSmall (kept value)
+small_kept value tenths is small =
+    let under = small.not_under in
+    let over = small.not_over in
+    record { not_under = omega (arith, ints, is, under, over); not_over = omega (arith, ints, is, under, over) }
+
 -- a count so far that is not large
 pub record IsLow (count : ℤ) (companies_so_far : ℕ) : Type 0 where
   pub not_under : neg_ℤ (pos (companies_so_far * 2 ^ 105)) ≤ℤ count

@@ -67,11 +67,16 @@ counted_in holdings seat =
     pos (privates_owned (owner_in holdings.owners) seat)
     +ℤ certificates_in (λ company. certificates_by holdings seat company) companies
 
+-- the certificates of a company that a seat has, by the events of a game
+abbrev pub certificates_now : List Event → Seat → Company → ℤ
+certificates_now events seat company =
+    certificates_of seat (square_of events company) (president_of events company) (shares_of events company (OfSeat seat))
+
 -- how many count, by the events of a game
 abbrev pub counted_of : List Event → Seat → ℤ
 counted_of events seat =
     pos (privates_owned (owner_of events) seat)
-    +ℤ certificates_in (λ company. certificates_of seat (square_of events company) (president_of events company) (shares_of events company (OfSeat seat))) companies
+    +ℤ certificates_in (λ company. certificates_now events seat company) companies
 
 -- as many count by the holdings of a game as by its events
 abbrev pub CountsByGame : Type 0

@@ -1,12 +1,62 @@
-ghost use Rattle.std.specs.Prelude.{◌≡◌, ◌≤◌};
-ghost use Rattle.certs.specs.Counted.{certificates_by, counted_in, counts_on, one_owned, presides as presides_over, privates_owned};
-ghost use Rattle.certs.specs.Holdings.{president_in, square_in};
-ghost use Rattle.certs.specs.Rows.{IsFew};
+//! The certificates of a seat that count against the limit.
+ghost use Rattle.std.specs.Prelude.{◌≡◌, ◌≤◌, ◌+ℤ◌, ℤ, pos};
+ghost use Rattle.certs.specs.Counted.{certificates_by, certificates_in, certificates_now, certificates_of, counted_in, counted_of, counts_on, one_owned, presides as presides_over, privates_owned};
+ghost use Rattle.certs.specs.Rows.{IsFew, IsSmall};
 ghost use Rattle.history.specs.LookBack.{owner_in};
+ghost use Rattle.tables.specs.Roster.{companies};
+ghost use Rattle.tables.specs.declared.roster.Company.{Company};
 
 use crate::holdings::Holdings;
-use history::{Holder, Shareholder, Tenths};
-use tables::{Company, Private, Seat, Zone, zone};
+use history::{Holder, Owners, Past, Shareholder, Tenths};
+use tables::{Company, Private, Seat, Square, Zone, zone};
+
+/// What tells how many certificates of each company a seat has that count.
+trait Certificates {
+    ghost certificates: { Self → Company → ℤ };
+
+    /// Those of a company.
+    fn certificates_of(&self, company: Company) -> Tenths
+        ensures certificates { result ≡ certificates self.now company }
+        ensures small { IsFew result };
+}
+
+/// The certificates of a seat by the holdings.
+#[derive(Drop)]
+struct InHoldings<'a> {
+    holdings: &'a Holdings,
+    seat: Seat,
+}
+
+impl Certificates for InHoldings<'_> {
+    ghost certificates = { λ its. certificates_by its.holdings.now its.seat };
+
+    fn certificates_of(&self, company: Company) -> Tenths {
+        let place = company.place();
+        let tenths = self.holdings.tenths(company, Shareholder::Seat(self.seat));
+        let (square, president) = (
+            self.holdings.squares[place],
+            self.holdings.presidents[place],
+        );
+        certificates_of(self.seat, square, president, tenths)
+    }
+}
+
+/// The certificates of a seat by the events.
+#[derive(Drop)]
+struct InEvents<'a> {
+    past: &'a Past<'a>,
+    seat: Seat,
+}
+
+impl Certificates for InEvents<'_> {
+    ghost certificates = { λ its. certificates_now its.past.now.events.now its.seat };
+
+    fn certificates_of(&self, company: Company) -> Tenths {
+        let tenths = self.past.shares(company, Shareholder::Seat(self.seat));
+        let (square, president) = (self.past.square(company), self.past.president(company));
+        certificates_of(self.seat, square, president, tenths)
+    }
+}
 
 impl Holdings {
     /// How many certificates of a seat count against the limit: its privates, and of each company
@@ -15,69 +65,93 @@ impl Holdings {
     pub fn counted(&self, seat: Seat) -> Tenths
         ensures { result ≡ counted_in self.now seat }
     {
-        let mut count = Tenths::from(self.privates_owned(seat));
-        for company in Company::ALL {
-            count += self.certificates(company, seat);
-        }
-        count
+        let held = InHoldings {
+            holdings: self,
+            seat,
+        };
+        counted(&self.owners, &held, seat)
     }
+}
 
-    /// How many privates a seat owns.
-    fn privates_owned(&self, seat: Seat) -> u8
-        ensures count { result ≡ privates_owned (owner_in self.now.owners) seat }
-        ensures few { result ≤ 6 }
-    {
-        let mut count = 0;
-        for private in Private::ALL {
-            count += self.one_owned(private, seat);
-        }
-        count
+/// As many by the events of a game, of which the totals are read.
+pub(crate) fn counted_now(past: &Past, seat: Seat) -> Tenths
+    ensures { result ≡ counted_of past.now.events.now seat }
+{
+    counted(&past.owners(), &InEvents { past, seat }, seat)
+}
+
+/// How many certificates of a seat count: its privates, and those of each company.
+fn counted<C: Certificates>(owners: &Owners, held: &C, seat: Seat) -> Tenths
+    ensures { result ≡ pos (privates_owned (owner_in owners.now) seat)
+        +ℤ certificates_in (C.certificates held.now) companies }
+{
+    let mut count = Tenths::from(privates_owned(owners, seat));
+    for company in Company::ALL {
+        count += held.certificates_of(company);
     }
+    count
+}
 
-    /// 1 where a seat owns a private, else 0.
-    fn one_owned(&self, private: Private, seat: Seat) -> u8
-        ensures one { result ≡ one_owned seat (owner_in self.now.owners private) }
-        ensures few { result ≤ 1 }
-    {
-        match self.owners.owner(private) {
-            Some(Holder::Seat(owner)) if owner == seat => 1,
-            _ => 0,
-        }
+/// How many privates a seat owns.
+fn privates_owned(owners: &Owners, seat: Seat) -> u8
+    ensures count { result ≡ privates_owned (owner_in owners.now) seat }
+    ensures few { result ≤ 6 }
+{
+    let mut count = 0;
+    for private in Private::ALL {
+        count += one_owned(seat, owners.owner(private));
     }
+    count
+}
 
-    /// How many certificates of a company a seat has that count.
-    fn certificates(&self, company: Company, seat: Seat) -> Tenths
-        ensures certificates { result ≡ certificates_by self.now seat company }
-        ensures small { IsFew result }
-    {
-        if !self.is_counted(company) {
-            return 0;
-        }
-        let tenths = self.tenths(company, Shareholder::Seat(seat));
-        if self.presides(seat, company) {
-            tenths - 1
-        } else {
-            tenths
-        }
+/// 1 where a seat is this owner of a private, else 0.
+fn one_owned(seat: Seat, owner: Option<Holder>) -> u8
+    ensures one { result ≡ one_owned seat owner }
+    ensures few { result ≤ 1 }
+{
+    match owner {
+        Some(Holder::Seat(owner)) if owner == seat => 1,
+        _ => 0,
     }
+}
 
-    /// Whether the certificates of a company count.
-    fn is_counted(&self, company: Company) -> bool
-        ensures { result ≡ counts_on (square_in self.now company) }
-    {
-        match self.squares[company.place()] {
-            Some(square) => zone(square) == Zone::White,
-            None => true,
-        }
+/// How many certificates so many tenths of a company are that count, for a seat.
+fn certificates_of(
+    seat: Seat,
+    square: Option<Square>,
+    president: Option<Seat>,
+    tenths: Tenths,
+) -> Tenths
+    requires { IsSmall tenths }
+    ensures certificates { result ≡ certificates_of seat square president tenths }
+    ensures small { IsFew result }
+{
+    if !counts_on(square) {
+        return 0;
     }
+    if presides(seat, president) {
+        tenths - 1
+    } else {
+        tenths
+    }
+}
 
-    /// Whether a seat presides over a company, as it was said last.
-    fn presides(&self, seat: Seat, company: Company) -> bool
-        ensures { result ≡ presides_over seat (president_in self.now company) }
-    {
-        match self.presidents[company.place()] {
-            Some(president) => president == seat,
-            None => false,
-        }
+/// Whether the certificates of a company on this square count.
+pub(crate) fn counts_on(square: Option<Square>) -> bool
+    ensures { result ≡ counts_on square }
+{
+    match square {
+        Some(square) => zone(square) == Zone::White,
+        None => true,
+    }
+}
+
+/// Whether a seat is this president.
+fn presides(seat: Seat, president: Option<Seat>) -> bool
+    ensures { result ≡ presides_over seat president }
+{
+    match president {
+        Some(president) => president == seat,
+        None => false,
     }
 }

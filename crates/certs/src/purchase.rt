@@ -1,13 +1,13 @@
-ghost use Rattle.std.specs.Prelude.{◌≡◌, ◌≤◌, ◌<◌, ◌+ℤ◌, pos};
+ghost use Rattle.std.specs.Prelude.{◌≡◌, ◌≤◌, ◌<◌, ◌+ℤ◌, pos, unwrap_or};
 ghost use Rattle.std.specs.Int.Signed.{le_z};
-ghost use Rattle.certs.specs.Counted.{counted_of, counts_on};
+ghost use Rattle.certs.specs.Counted.{counted_of};
 ghost use Rattle.certs.specs.Purchase.{allowed, allows_several as several, cost_of, in_zone, is_at_limit as limit_reached, is_none_there as none_there, is_no_par as no_par, is_over_six as over_six, is_second as second_purchase, is_short as short_of_cash, is_wrong_start as wrong_start, lifts_six as lifts, market_price_of, purchase_judgement, tenth_price_of};
-ghost use Rattle.history.specs.Shares.{shares_of, square_of};
+ghost use Rattle.history.specs.Shares.{par_of, shares_of, square_of};
 ghost use Rattle.history.specs.declared.event.Shareholder.TheVariants.{Seat as OfSeat};
 ghost use Rattle.tables.specs.Roster.{certificate_limit_of};
 
+use crate::counted::{counted_now, counts_on};
 use crate::deal::Purchase;
-use crate::holdings::Holdings;
 use history::{History, Past, Shareholder, StockRule, Tenths};
 use order_grammar::ShareSource;
 use tables::{Amount, Company, Money, Seat, Zone, certificate_limit, par_square, price, zone};
@@ -121,7 +121,9 @@ fn cost(now: &Past, purchase: Purchase) -> Money
 /// What a tenth of a company costs: the par value in the initial offering, the market price in the
 /// pool.
 pub fn tenth_price(now: &Past, company: Company, from: ShareSource) -> Money
-    ensures { result ≡ pos (tenth_price_of now.now.events.now company from) }
+    ensures price { result ≡ pos (tenth_price_of now.now.events.now company from) }
+    ensures small { unwrap_or (par_of now.now.events.now company) 0 ≤ 350 →
+        tenth_price_of now.now.events.now company from ≤ 350 }
 {
     match from {
         ShareSource::InitialOffering => now.par(company).unwrap_or(0),
@@ -152,31 +154,17 @@ fn is_short(now: &Past, seat: Seat, purchase: Purchase) -> bool
 /// Whether a certificate of a company would count, and a seat has reached the limit.
 #[tactic(auto, unfolding(crate::specs::Purchase::is_at_limit))]
 fn is_at_limit(now: &Past, seat: Seat, company: Company) -> bool
-    requires few { now.now.seats ≤ 6 }
-    requires at_table { seat.0 < now.now.seats }
     ensures { result ≡ limit_reached now.now.seats now.now.events.now seat company }
 {
-    counts(now, company) && has_full_hand(now, seat)
-}
-
-/// Whether the certificates of a company count.
-fn counts(now: &Past, company: Company) -> bool
-    ensures { result ≡ counts_on (square_of now.now.events.now company) }
-{
-    match now.square(company) {
-        Some(square) => zone(square) == Zone::White,
-        None => true,
-    }
+    counts_on(now.square(company)) && has_full_hand(now, seat)
 }
 
 /// Whether a seat has as many certificates that count as the limit.
 fn has_full_hand(now: &Past, seat: Seat) -> bool
-    requires few { now.now.seats ≤ 6 }
-    requires at_table { seat.0 < now.now.seats }
     ensures { result ≡ le_z (pos (certificate_limit_of now.now.seats))
         (counted_of now.now.events.now seat) }
 {
-    Holdings::at(now).counted(seat) >= certificate_limit(now.seats) as Tenths
+    counted_now(now, seat) >= certificate_limit(now.seats) as Tenths
 }
 
 /// Whether with so many tenths more a seat would have over six of a company, where the zone of the

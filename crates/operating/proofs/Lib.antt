@@ -52,3 +52,5 @@ pub mod ForcedTrains
 pub mod NoRuns
 pub mod BestEarnings
 pub mod Raises
+pub mod Going
+pub mod Begun

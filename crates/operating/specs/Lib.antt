@@ -13,6 +13,7 @@ pub mod Standing
 pub mod Privates
 pub mod Forced
 pub mod Turn
+pub mod CompanyTurn
 pub mod LegalRuns
 pub mod Laws
 pub mod TrainLaws

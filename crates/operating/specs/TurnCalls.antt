@@ -12,11 +12,10 @@ use Rattle.history.specs.declared.ruling.Ruling.TheVariants.{Faulty}
 use Rattle.history.specs.declared.ruling.RunRule.{RunRule}
 use Rattle.operating.specs.Best.{BestRuled, best_earned, best_judgement, trains_now}
 use Rattle.operating.specs.Calls.{Call, Course, Then, Unasked}
-use Rattle.operating.specs.InTurn.{InTurn, in_turn, told}
+use Rattle.operating.specs.InTurn.{InTurn, told}
 use Rattle.operating.specs.Runs.{position_now}
 use Rattle.operating.specs.Turn.{BlockEnds, OrderLeads, begun, settled}
 use Rattle.operating.specs.declared.operator.Operator.{Operator}
-use Rattle.operating.specs.declared.progress.Progress.{Progress}
 use Rattle.order_grammar.specs.declared.fault.Fault.{Fault}
 use Rattle.order_grammar.specs.declared.order.Order.{Order}
 use Rattle.order_grammar.specs.declared.order.Order.TheVariants as order
@@ -96,7 +95,7 @@ abbrev pub TurnCalls : List ℕ → Round → Company → Course Game Game Runne
 TurnCalls file round company old =
     Then (Unasked Memory (λ game turn. turn ≡ begun game company)) (BegunCalls file round company (president_of old.events company)) old
 
--- where a turn has led with this game, if it was not broken off
-abbrev pub led_to : Game → Result Progress RunnerFault → Result InTurn RunnerFault
-led_to game (Ok progress) = Ok (in_turn game progress)
-led_to game (Err fault) = Err fault
+-- where a turn has led that has come so far, if it was not broken off
+abbrev pub led_to : InTurn → Result (Unit {0}) RunnerFault → Result InTurn RunnerFault
+led_to turn (Ok done) = Ok turn
+led_to turn (Err fault) = Err fault

@@ -5,8 +5,10 @@ ghost use Rattle.history.specs.declared.event.Party.TheVariants as party;
 ghost use Rattle.operating.specs.Dividend.{after_pay, after_withhold, all_paid, dividend_of, paid_for};
 ghost use Rattle.operating.specs.Dividend.{paid_out, paid_to, pay_judgement, withhold_judgement};
 ghost use Rattle.history.specs.Sound.{IsSound};
+ghost use Rattle.operating.specs.CompanyTurn.{GoesOn, IsInOrder, state};
 ghost use Rattle.operating.specs.InTurn.{in_turn};
 
+use crate::company_turn::CompanyTurn;
 use crate::operator::Operator;
 use crate::progress::Progress;
 use crate::ruling::tell_ruling;
@@ -20,9 +22,48 @@ use tables::{Amount, Company, Seat};
 /// How many tenths a company has.
 const TENTHS: Amount = 10;
 
+impl CompanyTurn {
+    /// Rules an order to pay in a line with this number, and pays if it is obeyed.
+    pub(crate) fn rule_pay(&mut self, line: u32, order: &Order) -> Result<(), AllocError>
+        requires few { self.old.history.seats ≤ 6 }
+        requires order { IsInOrder self.old }
+        ensures turn { OnOk result (state self.new
+            ≡ after_pay self.old.by (state self.old) line order.now) }
+        ensures order { OnOk result (GoesOn self.old self.new) }
+    {
+        self.progress = rule_pay(&mut self.history, self.by, line, order, self.progress)?;
+        Ok(())
+    }
+
+    /// Rules an order to withhold in a line with this number, and withholds if it is obeyed.
+    pub(crate) fn rule_withhold(&mut self, line: u32, order: &Order) -> Result<(), AllocError>
+        requires { IsInOrder self.old }
+        ensures turn { OnOk result (state self.new
+            ≡ after_withhold self.old.by (state self.old) line order.now) }
+        ensures order { OnOk result (GoesOn self.old self.new) }
+    {
+        let by = self.by;
+        let kept = self.history.keep(order)?;
+        if let Some(rule) = withhold_rule(&self.progress) {
+            let refused = KeptRuling::refused(Refusal::Pay(rule), kept);
+            tell_ruling(&mut self.history, by.president, line, refused)?;
+            return Ok(());
+        }
+        tell_ruling(
+            &mut self.history,
+            by.president,
+            line,
+            KeptRuling::obeyed(kept),
+        )?;
+        withhold(&mut self.history, by.company, self.progress.runs.revenue)?;
+        self.progress = self.progress.with_pay();
+        Ok(())
+    }
+}
+
 /// Rules an order to pay in a line with this number, and pays if it is obeyed. Answers how far the
 /// turn has come then.
-pub(crate) fn rule_pay(
+fn rule_pay(
     history: &mut History,
     by: Operator,
     line: u32,
@@ -43,31 +84,6 @@ pub(crate) fn rule_pay(
     }
     tell_ruling(history, by.president, line, KeptRuling::obeyed(kept))?;
     pay_out(history, by.company, progress.runs.revenue)?;
-    Ok(progress.with_pay())
-}
-
-/// Rules an order to withhold in a line with this number, and withholds if it is obeyed. Answers
-/// how far the turn has come then.
-pub(crate) fn rule_withhold(
-    history: &mut History,
-    by: Operator,
-    line: u32,
-    order: &Order,
-    progress: Progress,
-) -> Result<Progress, AllocError>
-    requires sound { IsSound history.old }
-    ensures turn { IfOk result (λ now. in_turn history.new now
-        ≡ after_withhold by (in_turn history.old progress) line order.now) }
-    ensures sound { OnOk result (IsSound history.new) }
-{
-    let kept = history.keep(order)?;
-    if let Some(rule) = withhold_rule(&progress) {
-        let refused = KeptRuling::refused(Refusal::Pay(rule), kept);
-        tell_ruling(history, by.president, line, refused)?;
-        return Ok(progress);
-    }
-    tell_ruling(history, by.president, line, KeptRuling::obeyed(kept))?;
-    withhold(history, by.company, progress.runs.revenue)?;
     Ok(progress.with_pay())
 }
 

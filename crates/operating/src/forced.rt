@@ -2,11 +2,13 @@
 ghost use Rattle.std.specs.Prelude.{◌≡◌, ◌≤◌, ◌<◌, ◌↔◌, IfOk, IsTrue, OnOk, false};
 ghost use Rattle.history.specs.Sound.{IsSound};
 ghost use Rattle.history.specs.Trains.{so_many as as_many};
+ghost use Rattle.operating.specs.CompanyTurn.{IsInOrder};
 ghost use Rattle.operating.specs.Forced.{EndLeads, IsDue, after_forced, after_raise, after_raise_line, after_raises, cheapest as the_cheapest, concluded, falls_short as president_falls_short, first_on_sale as the_first_on_sale, first_to_sell as the_first_to_sell, has_trains as has_any_trains, lack_of, next_to_sell as the_next_to_sell, one_tenth, plain as plain_purchase, raise_rule as rule_of_raise, sale_rule as rule_of_sale, sold_further, sold_singly, with_aid, with_one_sold};
 ghost use Rattle.operating.specs.Ground.{IsFront};
 ghost use Rattle.operating.specs.Trains.{IsSmallPurchase};
 ghost use Rattle.sheets.specs.Part.{line_read, line_unread};
 
+use crate::company_turn::CompanyTurn;
 use crate::ground::catch_up;
 use crate::operator::Operator;
 use crate::phases::buy_train;
@@ -21,29 +23,25 @@ use sheets::{NumberedLine, PartsLeft, UnreadLine};
 use std::alloc::{AllocError, Global};
 use tables::{Amount, Company, Kind, Money};
 
-/// Ends the turn of a company that has paid or withheld: it buys a train if it must, and the RAISE
-/// lines of its block are ruled. An `Err` comes from want of memory alone.
-pub(crate) fn end_turn(
-    alloc: Global,
-    board: &mut Board,
-    history: &mut History,
-    by: Operator,
-    block: &mut PartsLeft,
-) -> Result<(), AllocError>
-    requires few { history.old.seats ≤ 6 }
-    requires at_table { by.president.0 < history.old.seats }
-    requires sound { IsSound history.old }
-    requires front { IsFront board.old history.old.events }
-    ensures turn { OnOk result (EndLeads by block.old.before history.old history.new) }
-    ensures sound { OnOk result (IsSound history.new) }
-{
-    let due = is_due(board, history, by.company)?;
-    if due {
-        buy_by_force(alloc, history, by, block)?;
-        return Ok(());
+impl CompanyTurn {
+    /// Ends the turn once the company has paid or withheld: it buys a train if it must, and the RAISE
+    /// lines of its orders are ruled. An `Err` comes from want of memory alone.
+    pub(crate) fn end(&mut self, orders: &mut PartsLeft) -> Result<(), AllocError>
+        requires few { self.old.history.seats ≤ 6 }
+        requires at_table { self.old.by.president.0 < self.old.history.seats }
+        requires order { IsInOrder self.old }
+        ensures turn { OnOk result (EndLeads self.old.by orders.old.before self.old.history
+            self.new.history) }
+        ensures sound { OnOk result (IsSound self.new.history) }
+    {
+        let due = is_due(&mut self.board, &self.history, self.by.company)?;
+        if due {
+            buy_by_force(self.alloc, &mut self.history, self.by, orders)?;
+            return Ok(());
+        }
+        rule_raises(&mut self.history, self.by, orders, false)?;
+        Ok(())
     }
-    rule_raises(history, by, block, false)?;
-    Ok(())
 }
 
 /// Whether a company must buy a train: it has none, and could run one of kind 2.

@@ -2,45 +2,52 @@
 ghost use Rattle.std.specs.Prelude.{◌≡◌, IfOk, OnOk, None, Some};
 ghost use Rattle.history.specs.LookBack.{owner_of};
 ghost use Rattle.history.specs.Sound.{IsSound};
-ghost use Rattle.operating.specs.InTurn.{in_turn};
+ghost use Rattle.operating.specs.CompanyTurn.{GoesOn, IsInOrder, state};
 ghost use Rattle.operating.specs.Privates.{after_private, private_bought, private_judgement, sold_by};
 ghost use Rattle.operating.specs.Privates.{is_given as is_sale_given, is_given_by as is_sale_given_by};
 ghost use Rattle.operating.specs.Privates.{is_too_dear as too_dear, is_too_early as too_early};
 ghost use Rattle.operating.specs.Privates.{is_wrong_price as wrong_price};
 
-use crate::operator::Operator;
-use crate::progress::Progress;
+use crate::company_turn::CompanyTurn;
 use crate::ruling::tell_ruling;
 use history::{Event, History, Holder, KeptRuling, Party, Past, PrivateRule, Refusal};
 use order_grammar::{Offer, Order};
 use std::alloc::AllocError;
 use tables::{Amount, Company, Kind, Money, Private, Seat, face};
 
-/// Rules a PRIVATE of a line with this number, and buys the private if it is obeyed. The turn has
-/// come as far as before.
-pub(crate) fn rule_private(
-    history: &mut History,
-    by: Operator,
-    line: u32,
-    private: Private,
-    price: Amount,
-    progress: Progress,
-) -> Result<Progress, AllocError>
-    requires { IsSound history.old }
-    ensures turn { IfOk result (λ now. in_turn history.new now
-        ≡ after_private by (in_turn history.old progress) line private price) }
-    ensures sound { OnOk result (IsSound history.new) }
-{
-    let broken = judge_private(history, by.company, private, price);
-    let kept = history.keep(&Order::BuyOwnedPrivate { private, price })?;
-    if let Some(rule) = broken {
-        let refused = KeptRuling::refused(Refusal::Private(rule), kept);
-        tell_ruling(history, by.president, line, refused)?;
-        return Ok(progress);
+impl CompanyTurn {
+    /// Rules a PRIVATE of a line with this number, and buys the private if it is obeyed. The turn has
+    /// come as far as before.
+    pub(crate) fn rule_private(
+        &mut self,
+        line: u32,
+        private: Private,
+        price: Amount,
+    ) -> Result<(), AllocError>
+        requires { IsInOrder self.old }
+        ensures turn { OnOk result (state self.new
+            ≡ after_private self.old.by (state self.old) line private price) }
+        ensures order { OnOk result (GoesOn self.old self.new) }
+    {
+        let by = self.by;
+        let broken = judge_private(&self.history, by.company, private, price);
+        let kept = self
+            .history
+            .keep(&Order::BuyOwnedPrivate { private, price })?;
+        if let Some(rule) = broken {
+            let refused = KeptRuling::refused(Refusal::Private(rule), kept);
+            tell_ruling(&mut self.history, by.president, line, refused)?;
+            return Ok(());
+        }
+        tell_ruling(
+            &mut self.history,
+            by.president,
+            line,
+            KeptRuling::obeyed(kept),
+        )?;
+        buy_private(&mut self.history, by.company, private, price)?;
+        Ok(())
     }
-    tell_ruling(history, by.president, line, KeptRuling::obeyed(kept))?;
-    buy_private(history, by.company, private, price)?;
-    Ok(progress)
 }
 
 /// A company buys a private from the player who owns it, which nothing keeps it from.

@@ -5,14 +5,13 @@ ghost use Rattle.board.specs.Ground.{position_of};
 ghost use Rattle.history.specs.LookBack.{with_event};
 ghost use Rattle.history.specs.declared.event.Event.TheVariants as event;
 ghost use Rattle.history.specs.Sound.{IsSound};
-ghost use Rattle.operating.specs.Runs.{IsCounted, has_run, judged_run, ran_unless_fault, rule_of_run};
+ghost use Rattle.operating.specs.CompanyTurn.{GoesOn, IsInOrder, state};
+ghost use Rattle.operating.specs.Runs.{IsCounted, after_run, has_run, judged_run, ran_unless_fault, rule_of_run};
 ghost use Rattle.operating.specs.Runs.{rules_of_turn, run_ruled, runs_most};
-ghost use Rattle.operating.specs.Ground.{IsFront};
-ghost use Rattle.operating.specs.InTurn.{in_turn};
 ghost use Rattle.tables.specs.Rules.{first_broken};
 
+use crate::company_turn::CompanyTurn;
 use crate::ground::catch_up;
-use crate::operator::Operator;
 use crate::progress::Progress;
 use crate::ruling::tell_ruling;
 use crate::runs::{Ran, Runs};
@@ -25,27 +24,78 @@ use reach::Network;
 use std::alloc::AllocError;
 use tables::{Amount, Company, Kind};
 
-/// What a run of a company's train does, or the first rule that it breaks. The error is want of
-/// memory.
-pub(crate) fn judge_run(
-    board: &mut Board,
-    history: &History,
-    company: Company,
-    kind: Kind,
-    run: &Run,
-    progress: Progress,
-) -> Result<Result<Ran, RunRule>, AllocError>
-    requires { IsFront board.old history.now.events }
-    ensures judged { let turn = in_turn history.now progress in
-        IfOk result (λ judged. judged ≡ judged_run turn company kind run.now) }
-    ensures counted { IfOk result (λ judged. IfOk judged (λ ran. IsCounted progress.runs ran)) }
-    ensures front { OnOk result (IsFront board.new history.now.events) }
-{
-    if let Some(rule) = rule_of_turn(history, company, kind, &progress) {
-        return Ok(Err(rule));
+impl CompanyTurn {
+    /// Rules an order of a line with this number that a train of a kind runs, and lets it run if
+    /// it is obeyed.
+    pub(crate) fn rule_run(
+        &mut self,
+        line: u32,
+        order: &Order,
+        kind: Kind,
+        run: &Run,
+    ) -> Result<(), AllocError>
+        requires { IsInOrder self.old }
+        ensures turn { OnOk result (state self.new
+            ≡ after_run self.old.by (state self.old) line order.now kind run.now) }
+        ensures order { OnOk result (GoesOn self.old self.new) }
+    {
+        let judged = self.judge_run(kind, run)?;
+        self.settle_run(line, order, judged)
     }
-    catch_up(board, history)?;
-    Ok(run_on(board, company, kind, run, &progress.runs))
+
+    /// What a run of the company's train does, or the first rule that it breaks. The error is want
+    /// of memory.
+    fn judge_run(&mut self, kind: Kind, run: &Run) -> Result<Result<Ran, RunRule>, AllocError>
+        requires { IsInOrder self.old }
+        ensures judged { IfOk result (λ judged. judged
+            ≡ judged_run (state self.old) self.old.by.company kind run.now) }
+        ensures counted { IfOk result (λ judged.
+            IfOk judged (λ ran. IsCounted self.old.progress.runs ran)) }
+        ensures state { OnOk result (state self.new ≡ state self.old) }
+        ensures order { OnOk result (GoesOn self.old self.new) }
+    {
+        let company = self.by.company;
+        if let Some(rule) = rule_of_turn(&self.history, company, kind, &self.progress) {
+            return Ok(Err(rule));
+        }
+        catch_up(&mut self.board, &self.history)?;
+        Ok(run_on(&self.board, company, kind, run, &self.progress.runs))
+    }
+
+    /// Rules the order of a line with this number, by which a train has run or which broke a rule of
+    /// runs.
+    fn settle_run(
+        &mut self,
+        line: u32,
+        order: &Order,
+        judged: Result<Ran, RunRule>,
+    ) -> Result<(), AllocError>
+        requires order { IsInOrder self.old }
+        requires counted { IfOk judged (λ ran. IsCounted self.old.progress.runs ran) }
+        ensures turn { OnOk result (state self.new
+            ≡ run_ruled self.old.by (state self.old) line order.now judged) }
+        ensures order { OnOk result (GoesOn self.old self.new) }
+    {
+        let by = self.by;
+        let kept = self.history.keep(order)?;
+        match judged {
+            Ok(ran) => {
+                tell_ruling(
+                    &mut self.history,
+                    by.president,
+                    line,
+                    KeptRuling::obeyed(kept),
+                )?;
+                tell_runs(&mut self.history, by.company, ran.earned)?;
+                self.progress = self.progress.with_run(ran);
+                Ok(())
+            }
+            Err(rule) => {
+                let refused = KeptRuling::refused(Refusal::Run(rule), kept);
+                tell_ruling(&mut self.history, by.president, line, refused)
+            }
+        }
+    }
 }
 
 /// What a run does by what lies, or the first rule of runs that it breaks. Few trains of its kind
@@ -114,42 +164,6 @@ fn run_rule(fault: RunFault) -> RunRule
         RunFault::PassesFull => RunRule::PassesFull,
         RunFault::NoToken => RunRule::NoToken,
         RunFault::RedInside => RunRule::RedInside,
-    }
-}
-
-/// Rules the order of a line with this number, by which a train has run or which broke a rule of
-/// runs. Answers how far the turn has come then.
-pub(crate) fn rule_run(
-    history: &mut History,
-    by: Operator,
-    line: u32,
-    order: &Order,
-    judged: Result<Ran, RunRule>,
-    progress: Progress,
-) -> Result<Progress, AllocError>
-    requires sound { IsSound history.old }
-    requires counted { IfOk judged (λ ran. IsCounted progress.runs ran) }
-    ensures turn { IfOk result (λ now. in_turn history.new now
-        ≡ run_ruled by (in_turn history.old progress) line order.now judged) }
-    ensures sound { OnOk result (IsSound history.new) }
-{
-    let kept = history.keep(order)?;
-    match judged {
-        Ok(ran) => {
-            tell_ruling(history, by.president, line, KeptRuling::obeyed(kept))?;
-            tell_runs(history, by.company, ran.earned)?;
-            Ok(progress.with_run(ran))
-        }
-        Err(rule) => {
-            let refusal = Refusal::Run(rule);
-            tell_ruling(
-                history,
-                by.president,
-                line,
-                KeptRuling::refused(refusal, kept),
-            )?;
-            Ok(progress)
-        }
     }
 }
 

@@ -1,62 +1,51 @@
 ghost use Rattle.std.specs.Prelude.{◌≡◌, IfOk, IsErr, OnOk, Some};
-ghost use Rattle.history.specs.Sound.{IsSound};
+ghost use Rattle.operating.specs.CompanyTurn.{GoesOn, IsInOrder, state};
 ghost use Rattle.operating.specs.Judgement.{rule_of_token};
-ghost use Rattle.operating.specs.Ground.{IsFront};
-ghost use Rattle.operating.specs.InTurn.{in_turn};
 ghost use Rattle.operating.specs.Turn.{TokenLeads};
 
 use crate::asker::asker;
+use crate::company_turn::CompanyTurn;
 use crate::cost::amount_of;
 use crate::ground::catch_up;
-use crate::operator::Operator;
-use crate::progress::Progress;
 use crate::ruling::tell_ruling;
-use board::{Board, TokenFault};
-use history::{Event, History, KeptRuling, Refusal, TokenRule};
+use board::TokenFault;
+use history::{Event, KeptRuling, Refusal, TokenRule};
 use map_tables::Place;
 use order_grammar::Order;
 use std::alloc::AllocError;
 
-/// Rules a TOKEN of a line with this number, and places the token if it is obeyed. Answers how far
-/// the turn has come then.
-pub(crate) fn rule_token(
-    board: &mut Board,
-    history: &mut History,
-    by: Operator,
-    line: u32,
-    place: Place,
-    progress: Progress,
-) -> Result<Progress, AllocError>
-    requires sound { IsSound history.old }
-    requires front { IsFront board.old history.old.events }
-    ensures turn { IfOk result (λ now. TokenLeads by (in_turn history.old progress) line place
-        (in_turn history.new now)) }
-    ensures front { OnOk result (IsFront board.new history.old.events) }
-    ensures sound { OnOk result (IsSound history.new) }
-{
-    catch_up(board, history)?;
-    let order = history.keep(&Order::Token(place))?;
-    match board.try_token(&asker(history, by.company, progress), place) {
-        Ok(cost) => {
-            tell_ruling(history, by.president, line, KeptRuling::obeyed(order))?;
-            let company = by.company;
-            let cost = amount_of(cost);
-            history.append(Event::Token {
-                company,
-                place,
-                cost,
-            })?;
-            Ok(progress.with_token())
-        }
-        Err(fault) => {
-            let refusal = Refusal::Token(token_rule(fault)?);
-            tell_ruling(
-                history,
-                by.president,
-                line,
-                KeptRuling::refused(refusal, order),
-            )?;
-            Ok(progress)
+impl CompanyTurn {
+    /// Rules a TOKEN of a line with this number, and places the token if it is obeyed.
+    pub(crate) fn rule_token(&mut self, line: u32, place: Place) -> Result<(), AllocError>
+        requires { IsInOrder self.old }
+        ensures turn { OnOk result (TokenLeads self.old.by (state self.old) line place
+            (state self.new)) }
+        ensures order { OnOk result (GoesOn self.old self.new) }
+    {
+        catch_up(&mut self.board, &self.history)?;
+        let order = self.history.keep(&Order::Token(place))?;
+        let by = self.by;
+        let asker = asker(&self.history, by.company, self.progress);
+        match self.board.try_token(&asker, place) {
+            Ok(cost) => {
+                let obeyed = KeptRuling::obeyed(order);
+                tell_ruling(&mut self.history, by.president, line, obeyed)?;
+                let company = by.company;
+                let cost = amount_of(cost);
+                self.history.append(Event::Token {
+                    company,
+                    place,
+                    cost,
+                })?;
+                self.progress = self.progress.with_token();
+                Ok(())
+            }
+            Err(fault) => {
+                let refusal = Refusal::Token(token_rule(fault)?);
+                let refused = KeptRuling::refused(refusal, order);
+                tell_ruling(&mut self.history, by.president, line, refused)?;
+                Ok(())
+            }
         }
     }
 }

@@ -1,49 +1,53 @@
-ghost use Rattle.std.specs.Prelude.{◌≡◌, IfOk, OnOk};
-ghost use Rattle.history.specs.Sound.{IsSound};
-ghost use Rattle.operating.specs.InTurn.{in_turn};
+ghost use Rattle.std.specs.Prelude.{◌≡◌, OnOk};
+ghost use Rattle.operating.specs.CompanyTurn.{GoesOn, IsInOrder, state};
 ghost use Rattle.operating.specs.Trains.{IsSmallPurchase};
 ghost use Rattle.order_grammar.specs.declared.order.Order.TheVariants.{BuyTrain};
 ghost use Rattle.turns.specs.Small.{IsSmallOrder};
 ghost use Rattle.operating.specs.Turn.{after_buying, purchase_of as the_purchase_of};
 
-use crate::operator::Operator;
+use crate::company_turn::CompanyTurn;
 use crate::phases::buy_train;
-use crate::progress::Progress;
 use crate::purchase::{Purchase, judge_purchase};
 use crate::ruling::tell_ruling;
-use history::{History, KeptRuling, Refusal, TrainSeller};
+use history::{KeptRuling, Refusal, TrainSeller};
 use order_grammar::{Order, TrainSource};
-use std::alloc::{AllocError, Global};
+use std::alloc::AllocError;
 use tables::Kind;
 
-/// Rules a TRAIN of a line with this number, in a turn that is past its pay, and buys the train if
-/// it is obeyed. Answers how far the turn has come then.
-pub(crate) fn rule_train(
-    alloc: Global,
-    history: &mut History,
-    by: Operator,
-    line: u32,
-    kind: Kind,
-    from: TrainSource,
-    progress: Progress,
-) -> Result<Progress, AllocError>
-    requires small { IsSmallOrder (BuyTrain kind from) }
-    requires sound { IsSound history.old }
-    ensures turn { IfOk result (λ now. in_turn history.new now
-        ≡ after_buying by (in_turn history.old progress) line kind from) }
-    ensures sound { OnOk result (IsSound history.new) }
-{
-    let purchase = purchase_of(kind, from);
-    let broken = judge_purchase(history, by.company, purchase);
-    let kept = history.keep(&Order::BuyTrain { kind, from })?;
-    if let Some(rule) = broken {
-        let refused = KeptRuling::refused(Refusal::Train(rule), kept);
-        tell_ruling(history, by.president, line, refused)?;
-        return Ok(progress);
+impl CompanyTurn {
+    /// Rules a TRAIN of a line with this number, in a turn that is past its pay, and buys the train
+    /// if it is obeyed.
+    pub(crate) fn rule_train(
+        &mut self,
+        line: u32,
+        kind: Kind,
+        from: TrainSource,
+    ) -> Result<(), AllocError>
+        requires small { IsSmallOrder (BuyTrain kind from) }
+        requires order { IsInOrder self.old }
+        ensures turn { OnOk result (state self.new
+            ≡ after_buying self.old.by (state self.old) line kind from) }
+        ensures order { OnOk result (GoesOn self.old self.new) }
+        ensures board { OnOk result (self.new.board ≡ self.old.board) }
+    {
+        let by = self.by;
+        let purchase = purchase_of(kind, from);
+        let broken = judge_purchase(&self.history, by.company, purchase);
+        let kept = self.history.keep(&Order::BuyTrain { kind, from })?;
+        if let Some(rule) = broken {
+            let refused = KeptRuling::refused(Refusal::Train(rule), kept);
+            tell_ruling(&mut self.history, by.president, line, refused)?;
+            return Ok(());
+        }
+        tell_ruling(
+            &mut self.history,
+            by.president,
+            line,
+            KeptRuling::obeyed(kept),
+        )?;
+        buy_train(self.alloc, &mut self.history, by.company, purchase)?;
+        Ok(())
     }
-    tell_ruling(history, by.president, line, KeptRuling::obeyed(kept))?;
-    buy_train(alloc, history, by.company, purchase)?;
-    Ok(progress)
 }
 
 /// The purchase that a TRAIN line orders.

@@ -1,211 +1,131 @@
-ghost use Rattle.std.specs.Prelude.{◌≡◌, ◌≢◌, ◌≤◌, IfErr, IfOk, OnOk, true};
+ghost use Rattle.std.specs.Prelude.{◌≡◌, ◌≢◌, ◌≤◌, IfErr, OnOk, true};
 ghost use Rattle.certificate.specs.declared.runner.RunnerFault.TheVariants.{Refused};
-ghost use Rattle.history.specs.Sound.{IsSound};
+ghost use Rattle.history.specs.declared.ruling.Ruling.TheVariants.{Faulty};
 ghost use Rattle.operating.specs.Calls.{Makes};
-ghost use Rattle.operating.specs.Ground.{IsFront};
-ghost use Rattle.operating.specs.InTurn.{at_start, in_turn};
-ghost use Rattle.operating.specs.Runs.{after_run};
+ghost use Rattle.operating.specs.CompanyTurn.{GoesOn, IsInOrder, state};
+ghost use Rattle.operating.specs.InTurn.{told};
 ghost use Rattle.operating.specs.Turn.{LineLeads, LinesLead, OrderLeads};
 ghost use Rattle.operating.specs.TurnCalls.{LineCalls, LinesCall, OrderCalls, led_to};
 ghost use Rattle.order_grammar.specs.declared.order.Order.TheVariants.{RunBest};
 ghost use Rattle.sheets.specs.Part.{line_read};
 ghost use Rattle.turns.specs.Small.{AreSmall, IsSmallOrder, IsSmallReading};
 
-use crate::best::rule_best;
-use crate::dividend::{rule_pay, rule_withhold};
-use crate::lay::rule_lay;
-use crate::operator::Operator;
-use crate::private::rule_private;
-use crate::progress::Progress;
+use crate::company_turn::CompanyTurn;
 use crate::ruling::tell_ruling;
-use crate::running::{judge_run, rule_run};
-use crate::token::rule_token;
-use crate::train::rule_train;
-use crate::withholding::settle;
-use board::Board;
 use certificate::{Runner, RunnerFault};
-use history::{History, KeptRuling};
-use map_tables::Run;
+use history::KeptRuling;
 use order_grammar::{Fault, Order};
 use sheets::{NumberedLine, PartsLeft};
-use std::alloc::{AllocError, Global};
-use tables::{Kind, Round};
+use std::alloc::AllocError;
 
-/// Rules the lines of a company's block. Answers how far its turn has come then.
-pub(crate) fn rule_lines<R: Runner>(
-    alloc: Global,
-    board: &mut Board,
-    history: &mut History,
-    by: Operator,
-    round: Round,
-    block: &mut PartsLeft,
-    runner: &mut R,
-) -> Result<Progress, RunnerFault>
-    requires few { history.old.seats ≤ 6 }
-    requires small { AreSmall block.old.before }
-    requires sound { IsSound history.old }
-    requires front { IsFront board.old history.old.events }
-    ensures turn { IfOk result (λ now. LinesLead by (in_turn history.old at_start)
-        block.old.before (in_turn history.new now)) }
-    ensures calls { let begun = in_turn history.old at_start in
-        Makes R.earns runner.old (LinesCall by round block.old.before begun
-        (led_to history.new result)) runner.new }
-    ensures front { OnOk result (IsFront board.new history.new.events) }
-    ensures sound { OnOk result (IsSound history.new) }
-    ensures refuses { IfErr result (λ fault. fault ≡ Refused → R.may_refuse ≡ true) }
-{
-    let mut progress = Progress::start();
-    while let Some(line) = block.take_line() {
-        progress = rule_line(alloc, board, history, by, round, &line, progress, runner)?;
+impl CompanyTurn {
+    /// Rules the lines of the company's orders.
+    pub(crate) fn rule_lines<R: Runner>(
+        &mut self,
+        orders: &mut PartsLeft,
+        runner: &mut R,
+    ) -> Result<(), RunnerFault>
+        requires few { self.old.history.seats ≤ 6 }
+        requires small { AreSmall orders.old.before }
+        requires order { IsInOrder self.old }
+        ensures turn { OnOk result (LinesLead self.old.by (state self.old) orders.old.before
+            (state self.new)) }
+        ensures calls { Makes R.earns runner.old (LinesCall self.old.by self.old.round
+            orders.old.before (state self.old) (led_to (state self.new) result)) runner.new }
+        ensures by { OnOk result (self.new.by ≡ self.old.by) }
+        ensures order { OnOk result (IsInOrder self.new) }
+        ensures refuses { IfErr result (λ fault. fault ≡ Refused → R.may_refuse ≡ true) }
+    {
+        while let Some(line) = orders.take_line() {
+            self.rule_line(&line, runner)?;
+        }
+        Ok(())
     }
-    Ok(progress)
-}
 
-/// Rules a line of a company's block, and does what it orders if it is obeyed. Answers how far the
-/// turn has come then.
-fn rule_line<R: Runner>(
-    alloc: Global,
-    board: &mut Board,
-    history: &mut History,
-    by: Operator,
-    round: Round,
-    line: &NumberedLine,
-    progress: Progress,
-    runner: &mut R,
-) -> Result<Progress, RunnerFault>
-    requires few { history.old.seats ≤ 6 }
-    requires small { IsSmallReading (line_read line.now).reading }
-    requires sound { IsSound history.old }
-    requires front { IsFront board.old history.old.events }
-    ensures turn { IfOk result (λ now. LineLeads by (in_turn history.old progress)
-        (line_read line.now) (in_turn history.new now)) }
-    ensures calls { let turn = in_turn history.old progress in
-        Makes R.earns runner.old (LineCalls by round (line_read line.now) turn
-        (led_to history.new result)) runner.new }
-    ensures front { OnOk result (IsFront board.new history.old.events) }
-    ensures sound { OnOk result (IsSound history.new) }
-    ensures refuses { IfErr result (λ fault. fault ≡ Refused → R.may_refuse ≡ true) }
-{
-    match line.order() {
-        Ok(order) => rule_order(
-            alloc,
-            board,
-            history,
-            by,
-            round,
-            line.number,
-            order,
-            progress,
-            runner,
-        ),
-        Err(fault) => {
-            tell_ruling(
-                history,
-                by.president,
-                line.number,
-                KeptRuling::faulty(fault),
-            )?;
-            Ok(progress)
+    /// Rules a line of the company's orders, and does what it orders if it is obeyed.
+    fn rule_line<R: Runner>(
+        &mut self,
+        line: &NumberedLine,
+        runner: &mut R,
+    ) -> Result<(), RunnerFault>
+        requires few { self.old.history.seats ≤ 6 }
+        requires small { IsSmallReading (line_read line.now).reading }
+        requires order { IsInOrder self.old }
+        ensures turn { OnOk result (LineLeads self.old.by (state self.old) (line_read line.now)
+            (state self.new)) }
+        ensures calls { Makes R.earns runner.old (LineCalls self.old.by self.old.round
+            (line_read line.now) (state self.old) (led_to (state self.new) result)) runner.new }
+        ensures order { OnOk result (GoesOn self.old self.new) }
+        ensures refuses { IfErr result (λ fault. fault ≡ Refused → R.may_refuse ≡ true) }
+    {
+        match line.order() {
+            Ok(order) => self.rule_order(line.number, order, runner),
+            Err(fault) => Ok(self.rule_faulty(line.number, fault)?),
         }
     }
-}
 
-/// Rules an order of a company's block, in a line with this number, and does it if it is obeyed.
-/// Answers how far the turn has come then. The runner is asked for the best runs alone.
-fn rule_order<R: Runner>(
-    alloc: Global,
-    board: &mut Board,
-    history: &mut History,
-    by: Operator,
-    round: Round,
-    line: u32,
-    order: &Order,
-    progress: Progress,
-    runner: &mut R,
-) -> Result<Progress, RunnerFault>
-    requires few { history.old.seats ≤ 6 }
-    requires small { IsSmallOrder order.now }
-    requires sound { IsSound history.old }
-    requires front { IsFront board.old history.old.events }
-    ensures turn { IfOk result (λ now. OrderLeads by (in_turn history.old progress) line
-        order.now (in_turn history.new now)) }
-    ensures calls { let turn = in_turn history.old progress in
-        Makes R.earns runner.old (OrderCalls by round line order.now turn
-        (led_to history.new result)) runner.new }
-    ensures front { OnOk result (IsFront board.new history.old.events) }
-    ensures sound { OnOk result (IsSound history.new) }
-    ensures refuses { IfErr result (λ fault. fault ≡ Refused → R.may_refuse ≡ true) }
-{
-    match order {
-        Order::RunBest => rule_best(alloc, board, history, by, round, line, progress, runner),
-        _ => Ok(rule_other(alloc, board, history, by, line, order, progress)?),
+    /// Rules a line with this number that has a fault of its own.
+    fn rule_faulty(&mut self, line: u32, fault: Fault) -> Result<(), AllocError>
+        requires { IsInOrder self.old }
+        ensures turn { OnOk result (state self.new
+            ≡ told self.old.by (state self.old) line (Faulty fault)) }
+        ensures order { OnOk result (GoesOn self.old self.new) }
+    {
+        let faulty = KeptRuling::faulty(fault);
+        tell_ruling(&mut self.history, self.by.president, line, faulty)
     }
-}
 
-/// Rules an order other than RUN BEST. A RAISE is ruled at the end of the turn. An order that is not
-/// named here has no place.
-fn rule_other(
-    alloc: Global,
-    board: &mut Board,
-    history: &mut History,
-    by: Operator,
-    line: u32,
-    order: &Order,
-    progress: Progress,
-) -> Result<Progress, AllocError>
-    requires few { history.old.seats ≤ 6 }
-    requires small { IsSmallOrder order.now }
-    requires sound { IsSound history.old }
-    requires front { IsFront board.old history.old.events }
-    requires other { order.now ≢ RunBest }
-    ensures turn { IfOk result (λ now. OrderLeads by (in_turn history.old progress) line
-        order.now (in_turn history.new now)) }
-    ensures front { OnOk result (IsFront board.new history.old.events) }
-    ensures sound { OnOk result (IsSound history.new) }
-{
-    match order {
-        Order::Lay(lay) => rule_lay(board, history, by, line, *lay, progress),
-        Order::Token(place) => rule_token(board, history, by, line, *place, progress),
-        Order::Run { kind, run } => {
-            rule_run_order(board, history, by, line, order, *kind, run, &progress)
-        }
-        Order::Pay => rule_pay(history, by, line, order, progress),
-        Order::Withhold => rule_withhold(history, by, line, order, progress),
-        Order::BuyTrain { kind, from } => {
-            let progress = settle(history, by.company, progress)?;
-            Ok(rule_train(alloc, history, by, line, *kind, *from, progress)?)
-        }
-        Order::BuyOwnedPrivate { private, price } => {
-            rule_private(history, by, line, *private, *price, progress)
-        }
-        Order::Raise { .. } => Ok(progress),
-        _ => {
-            let fault = Fault::OutOfPlace;
-            tell_ruling(history, by.president, line, KeptRuling::faulty(fault))?;
-            Ok(progress)
+    /// Rules an order in a line with this number, and does it if it is obeyed. The runner is asked
+    /// for the best runs alone.
+    fn rule_order<R: Runner>(
+        &mut self,
+        line: u32,
+        order: &Order,
+        runner: &mut R,
+    ) -> Result<(), RunnerFault>
+        requires few { self.old.history.seats ≤ 6 }
+        requires small { IsSmallOrder order.now }
+        requires order { IsInOrder self.old }
+        ensures turn { OnOk result (OrderLeads self.old.by (state self.old) line order.now
+            (state self.new)) }
+        ensures calls { Makes R.earns runner.old (OrderCalls self.old.by self.old.round line
+            order.now (state self.old) (led_to (state self.new) result)) runner.new }
+        ensures order { OnOk result (GoesOn self.old self.new) }
+        ensures refuses { IfErr result (λ fault. fault ≡ Refused → R.may_refuse ≡ true) }
+    {
+        match order {
+            Order::RunBest => self.rule_best(line, runner),
+            _ => Ok(self.rule_other(line, order)?),
         }
     }
-}
 
-/// Rules an order of a line with this number that a train of a kind runs, and lets it run if it is
-/// obeyed. Answers how far the turn has come then.
-fn rule_run_order(
-    board: &mut Board,
-    history: &mut History,
-    by: Operator,
-    line: u32,
-    order: &Order,
-    kind: Kind,
-    run: &Run,
-    progress: &Progress,
-) -> Result<Progress, AllocError>
-    requires sound { IsSound history.old }
-    requires front { IsFront board.old history.old.events }
-    ensures turn { IfOk result (λ now. in_turn history.new now
-        ≡ after_run by (in_turn history.old progress.now) line order.now kind run.now) }
-    ensures front { OnOk result (IsFront board.new history.old.events) }
-    ensures sound { OnOk result (IsSound history.new) }
-{
-    let judged = judge_run(board, history, by.company, kind, run, *progress)?;
-    rule_run(history, by, line, order, judged, *progress)
+    /// Rules an order other than RUN BEST. A RAISE is ruled at the end of the turn. An order that is
+    /// not named here has no place.
+    fn rule_other(&mut self, line: u32, order: &Order) -> Result<(), AllocError>
+        requires few { self.old.history.seats ≤ 6 }
+        requires small { IsSmallOrder order.now }
+        requires order { IsInOrder self.old }
+        requires other { order.now ≢ RunBest }
+        ensures turn { OnOk result (OrderLeads self.old.by (state self.old) line order.now
+            (state self.new)) }
+        ensures order { OnOk result (GoesOn self.old self.new) }
+    {
+        match order {
+            Order::Lay(lay) => self.rule_lay(line, *lay),
+            Order::Token(place) => self.rule_token(line, *place),
+            Order::Run { kind, run } => self.rule_run(line, order, *kind, run),
+            Order::Pay => self.rule_pay(line, order),
+            Order::Withhold => self.rule_withhold(line, order),
+            Order::BuyTrain { kind, from } => {
+                self.settle()?;
+                self.rule_train(line, *kind, *from)?;
+                Ok(())
+            }
+            Order::BuyOwnedPrivate { private, price } => {
+                self.rule_private(line, *private, *price)
+            }
+            Order::Raise { .. } => Ok(()),
+            _ => self.rule_faulty(line, Fault::OutOfPlace),
+        }
+    }
 }

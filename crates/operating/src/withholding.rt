@@ -1,32 +1,35 @@
-ghost use Rattle.std.specs.Prelude.{◌≡◌, ◌≤◌, IfOk, OnOk};
+ghost use Rattle.std.specs.Prelude.{◌≡◌, ◌≤◌, OnOk};
 ghost use Rattle.operating.specs.Act.{withheld};
 ghost use Rattle.history.specs.Sound.{IsSound};
-ghost use Rattle.operating.specs.InTurn.{in_turn};
+ghost use Rattle.operating.specs.CompanyTurn.{GoesOn, IsInOrder, state};
 ghost use Rattle.operating.specs.Turn.{settled};
 
-use crate::progress::Progress;
+use crate::company_turn::CompanyTurn;
 use history::{Event, History};
 use market::move_token_left;
 use std::alloc::AllocError;
 use tables::{Amount, Company};
 
-/// A company whose turn is not past its pay withholds by itself. Answers how far the turn has come
-/// then.
-pub(crate) fn settle(
-    history: &mut History,
-    company: Company,
-    progress: Progress,
-) -> Result<Progress, AllocError>
-    requires { IsSound history.old }
-    ensures turn { IfOk result (λ now. in_turn history.new now
-        ≡ settled company (in_turn history.old progress)) }
-    ensures sound { OnOk result (IsSound history.new) }
-{
-    if !progress.is_unpaid() {
-        return Ok(progress);
+impl CompanyTurn {
+    /// The company withholds by itself where its turn is not past its pay.
+    pub(crate) fn settle(&mut self) -> Result<(), AllocError>
+        requires { IsInOrder self.old }
+        ensures turn { OnOk result (state self.new
+            ≡ settled self.old.by.company (state self.old)) }
+        ensures order { OnOk result (GoesOn self.old self.new) }
+        ensures board { OnOk result (self.new.board ≡ self.old.board) }
+    {
+        if !self.progress.is_unpaid() {
+            return Ok(());
+        }
+        withhold(
+            &mut self.history,
+            self.by.company,
+            self.progress.runs.revenue,
+        )?;
+        self.progress = self.progress.with_pay();
+        Ok(())
     }
-    withhold(history, company, progress.runs.revenue)?;
-    Ok(progress.with_pay())
 }
 
 /// The bank pays a company what it withholds, and its token on the chart moves left.

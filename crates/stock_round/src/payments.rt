@@ -5,7 +5,7 @@ ghost use Rattle.stock_round.specs.Act.{bought, exchanged};
 ghost use Rattle.stock_round.specs.Allowed.{MayBuy, MayExchange};
 
 use crate::judgement::exchange_source;
-use crate::prices::tenth_price;
+use crate::prices::tenth_cost;
 use history::{Event, History};
 use order_grammar::ShareSource;
 use std::alloc::AllocError;
@@ -26,7 +26,7 @@ pub(crate) fn pay_for_tenth(
         ≡ bought history.old.events seat company from) }
     ensures sound { OnOk result (IsSound history.new) }
 {
-    let price = tenth_price(history, company, from);
+    let price = tenth_cost(history, company, from);
     history.append(Event::Bought {
         company,
         seat,

@@ -4,22 +4,18 @@ ghost use Rattle.certs.specs.Purchase.{tenth_price_of};
 ghost use Rattle.history.specs.Shares.{par_of};
 ghost use Rattle.history.specs.Sound.{IsLed};
 
-use certs::market_price;
+use certs::tenth_price;
 use history::History;
 use order_grammar::ShareSource;
 use tables::{Amount, Company, Money};
 
-/// What a tenth of a company that is started costs, in dollars: its par value in the initial
-/// offering, the market price in the pool.
-pub(crate) fn tenth_price(history: &History, company: Company, from: ShareSource) -> Amount
+/// What a seat pays for a tenth of a company that is started, in dollars.
+pub(crate) fn tenth_cost(history: &History, company: Company, from: ShareSource) -> Amount
     requires { IsLed history.now.events company }
     ensures price { result ≡ tenth_price_of history.now.events company from }
     ensures small { result ≤ 350 }
 {
-    match from {
-        ShareSource::InitialOffering => par_value(history, company),
-        ShareSource::BankPool => market_price(&history.now(), company),
-    }
+    amount_of(tenth_price(&history.now(), company, from))
 }
 
 /// The par value of a company that is started, in dollars.

@@ -2,7 +2,6 @@ use Rattle.std.proofs.Common.{ℤ, pos, ap, ◌∙◌, SFits, arith, ◌≡◌}
 use Rattle.std.specs.Int.{w128}
 use Rattle.std.specs.Int.Signed.{le_z}
 use Rattle.std.proofs.lemmas.Int.{ints, to_z-of_z}
-use Rattle.certs.proofs.ByGame.{counted_at}
 use Rattle.certs.specs.Counted.{counted_of}
 use Rattle.certs.proofs.purchase.has_full_hand.Goals as goal
 use mir.Val.{to_z}
@@ -10,8 +9,8 @@ use mir.Val.{to_z}
 pub returns : goal.returns
 returns c =
     let now = c.args.now.now in
-    let fits : SFits w128 c.counted.result = record { sfits = c.counted.type_inv } in
-    let counted = to_z-of_z w128 c.counted.result fits ∙ c.counted.ensures ∙ counted_at now c.at.result c.args.seat c.at.ensures (omega arith) in
+    let fits : SFits w128 c.counted_now.result = record { sfits = c.counted_now.type_inv } in
+    let counted = to_z-of_z w128 c.counted_now.result fits ∙ c.counted_now.ensures in
     let small = c.certificate_limit.type_inv in
     let is : to_z w128 c.certificate_limit.result ≡ pos c.certificate_limit.result = omega (arith, ints, small) in
     ap (λ (z : ℤ). le_z (to_z w128 c.certificate_limit.result) z) counted

@@ -1,0 +1,11 @@
+use Rattle.certs.proofs.Counts.{small_kept}
+use Rattle.certs.proofs.RowLemmas.{small_in}
+use Rattle.certs.specs.Rows.{index_of}
+use Rattle.history.specs.declared.event.Shareholder.TheVariants.{Seat as OfSeat}
+use Rattle.tables.specs.Roster.{place_of_company}
+use Rattle.certs.proofs.counted.InHoldingsCertificates.certificates_of.Goals as goal
+
+pub certificates_of-requires : goal.certificates_of-requires
+certificates_of-requires c =
+    let its = c.args.self.now in
+    small_kept c.tenths-tenths.result _ c.tenths-tenths.ensures (small_in _ (index_of (OfSeat its.seat)) (its.holdings.now.bounded (place_of_company c.args.company)))

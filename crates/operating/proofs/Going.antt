@@ -1,0 +1,41 @@
+-- A company's turn stays in order as it goes on.
+use Rattle.std.proofs.Common.{◌≡◌, ℕ, Result, subst}
+use Rattle.operating.proofs.Fronts.{front_on, line_adds, settled_adds}
+use Rattle.operating.specs.CompanyTurn.{GoesOn, IsInOrder, state}
+use Rattle.operating.proofs.Played.{train_leads}
+use Rattle.operating.specs.InTurn.{InTurn}
+use Rattle.operating.specs.Turn.{OrderLeads, ReadingLeads, after_buying, settled}
+use Rattle.operating.specs.declared.company_turn.CompanyTurn.{CompanyTurn}
+use Rattle.operating.specs.declared.operator.Operator.{Operator}
+use Rattle.order_grammar.specs.declared.fault.Fault.{Fault}
+use Rattle.order_grammar.specs.declared.order.Order.{Order}
+use Rattle.order_grammar.specs.declared.order.Order.TheVariants as order
+use Rattle.order_grammar.specs.declared.order.TrainSource.{TrainSource}
+use Rattle.tables.specs.declared.rolling_stock.Kind.{Kind}
+
+-- after a line
+pub after_line :
+    (old new : CompanyTurn) (number : ℕ) (reading : Result Order Fault) → ReadingLeads old.by (state old) number reading (state new) →
+    GoesOn old new → IsInOrder new
+after_line old new number reading leads on =
+    record {
+      sound = on.sound;
+      front = front_on new.board old.history new.history (line_adds old.by (state old) number reading (state new) leads) on.front;
+    }
+
+-- and after what the company withholds by itself
+pub after_settling : (old new : CompanyTurn) → state new ≡ settled old.by.company (state old) → GoesOn old new → IsInOrder new
+after_settling old new is on =
+    record {
+      sound = on.sound;
+      front = front_on new.board old.history new.history (settled_adds old.by.company old.history new.history old.progress new.progress is) on.front;
+    }
+
+-- a TRAIN line, where what the company withholds by itself leaves whose turn it is
+pub train_leads_on :
+    (by same : Operator) (turn paid : InTurn) (number : ℕ) (its : Order) (kind : Kind) (from : TrainSource) (new : InTurn) →
+    its ≡ order.BuyTrain kind from → same ≡ by → paid ≡ settled by.company turn → new ≡ after_buying same paid number kind from →
+    OrderLeads by turn number its new
+train_leads_on by same turn paid number its kind from new is is_by is_paid ruled =
+    train_leads by turn paid number its kind from new is is_paid
+    (subst (λ (b : Operator). new ≡ after_buying b paid number kind from) is_by ruled)

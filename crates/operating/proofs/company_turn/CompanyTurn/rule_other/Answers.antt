@@ -1,0 +1,31 @@
+use Rattle.std.proofs.Common.{◌≡◌, subst, sym, ◌∙◌}
+use Rattle.board.specs.Ground.{Ground}
+use Rattle.operating.proofs.Going.{after_settling, train_leads_on}
+use Rattle.operating.specs.CompanyTurn.{state}
+use Rattle.operating.specs.Ground.{IsFront}
+use Rattle.turns.specs.Small.{IsSmallOrder}
+use Rattle.operating.proofs.company_turn.CompanyTurn.rule_other.Goals as goal
+
+pub rule_train-requires-clause-small : goal.rule_train-requires-clause-small
+rule_train-requires-clause-small c = subst IsSmallOrder c.in-BuyTrain.is c.requires.small
+
+pub rule_train-requires-clause-order : goal.rule_train-requires-clause-order
+rule_train-requires-clause-order c =
+    after_settling c.args.self.now c.settle.new.self c.in_ok-settle-in-BuyTrain.ensures.turn c.in_ok-settle-in-BuyTrain.ensures.order
+
+pub returns-in_ok-rule_train-in-BuyTrain-clause-turn :
+    goal.returns-in_ok-rule_train-in-BuyTrain-clause-turn
+returns-in_ok-rule_train-in-BuyTrain-clause-turn c =
+    train_leads_on c.args.self.now.by c.settle.new.self.by (state c.args.self.now) (state c.settle.new.self) c.args.line c.args.order.now _ _ (state c.rule_train.new.self) c.in-BuyTrain.is c.in_ok-settle-in-BuyTrain.ensures.order.by c.in_ok-settle-in-BuyTrain.ensures.turn c.in_ok-rule_train-in-BuyTrain.ensures.turn
+
+pub returns-in_ok-rule_train-in-BuyTrain-clause-order :
+    goal.returns-in_ok-rule_train-in-BuyTrain-clause-order
+returns-in_ok-rule_train-in-BuyTrain-clause-order c =
+    let settled = c.in_ok-settle-in-BuyTrain.ensures in
+    let bought = c.in_ok-rule_train-in-BuyTrain.ensures in
+    record {
+      by = bought.order.by ∙ settled.order.by;
+      round = bought.order.round ∙ settled.order.round;
+      sound = bought.order.sound;
+      front = subst (λ (laid : Ground). IsFront laid c.args.self.now.history.events) (sym (bought.board ∙ settled.board)) c.requires.order.front;
+    }

@@ -1,0 +1,24 @@
+-- A company's turn as it is held while its lines are ruled: the company and its president, the round, the game so far,
+-- how far the turn has come, and a board that has the first of the tiles and tokens that were laid.
+use Rattle.std.specs.Prelude.{◌≡◌}
+use Rattle.history.specs.Sound.{IsSound}
+use Rattle.operating.specs.Ground.{IsFront}
+use Rattle.operating.specs.InTurn.{InTurn, in_turn}
+use Rattle.operating.specs.declared.company_turn.CompanyTurn.{CompanyTurn}
+
+-- the game, and how far the turn has come
+abbrev pub state : CompanyTurn → InTurn
+state turn = in_turn turn.history turn.progress
+
+-- a turn is in order
+pub record IsInOrder (turn : CompanyTurn) : Type 0 where
+  pub sound : IsSound turn.history
+  pub front : IsFront turn.board turn.history.events
+
+-- a turn has gone on: it is that of the same company in the same round, its list is sound, and its board has the first of
+-- what had been laid before
+pub record GoesOn (old new : CompanyTurn) : Type 0 where
+  pub by : new.by ≡ old.by
+  pub round : new.round ≡ old.round
+  pub sound : IsSound new.history
+  pub front : IsFront new.board old.history.events

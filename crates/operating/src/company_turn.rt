@@ -1,0 +1,48 @@
+//! The turn of a company: what lasts while it operates.
+ghost use Rattle.std.specs.Prelude.{◌≡◌, []};
+ghost use Rattle.board.specs.Ground.{ground_of};
+ghost use Rattle.operating.specs.InTurn.{at_start};
+ghost use Rattle.tables.specs.declared.rolling_stock.Kind.TheVariants as kind;
+
+use crate::operator::Operator;
+use crate::progress::Progress;
+use board::Board;
+use history::History;
+use std::alloc::Global;
+use tables::{Kind, Round};
+
+/// The turn of a company that has a president. The runner is no part of it: RUN BEST alone asks it.
+#[derive(Drop)]
+pub(crate) struct CompanyTurn {
+    pub(crate) alloc: Global,
+    /// The company, and the seat that gives its orders.
+    pub(crate) by: Operator,
+    /// The operating round.
+    pub(crate) round: Round,
+    /// The game so far.
+    pub(crate) history: History,
+    /// How far the turn has come.
+    pub(crate) progress: Progress,
+    /// The tiles and tokens that lie on the map, or the first of them.
+    pub(crate) board: Board,
+}
+
+impl CompanyTurn {
+    /// A turn that begins, once the company's home token lies.
+    pub(crate) fn begin(alloc: Global, by: Operator, round: Round, history: History) -> CompanyTurn
+        ensures by { result.by ≡ by }
+        ensures round { result.round ≡ round }
+        ensures history { result.history ≡ history }
+        ensures progress { result.progress ≡ at_start }
+        ensures board { result.board ≡ ground_of [] [] kind.Two }
+    {
+        CompanyTurn {
+            alloc,
+            by,
+            round,
+            history,
+            progress: Progress::start(),
+            board: Board::empty(alloc, Kind::Two),
+        }
+    }
+}
