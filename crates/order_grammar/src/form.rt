@@ -44,8 +44,8 @@ pub(crate) enum Repeated {
     Places,
 }
 
-/// The forms of lines: those of orders, then CERT and CLAIM, then those of a certificate's text alone.
-/// A line spells an order where its words fit a row.
+/// The forms of lines: those of orders, then CERT and CLAIM, then those of a certificate's text
+/// alone. A line spells an order where its words fit a row.
 const FORMS: [Form; 33] = [
     Form {
         keyword: Keyword::Game,
@@ -256,7 +256,8 @@ pub(crate) fn certificate_forms() -> &'static [Form]
 /// what comes nearest over some forms.
 pub(crate) fn read_order(forms: &[Form], words: &Words, order: &mut Order) -> Result<(), Fault>
     requires { IsTrue (list_all is_short (map row_of forms.now)) }
-    ensures { put_reading result order.new ≡ words_reading (map row_of forms.now) (texts_of words.now) }
+    ensures { put_reading result order.new
+        ≡ words_reading (map row_of forms.now) (texts_of words.now) }
 {
     let mut rest = words.duplicate();
     let Some(first) = rest.next() else {

@@ -1,9 +1,9 @@
-//! Lines of order sheets, and of the text of a certificate: a line is read as an order exactly where
-//! it has no fault, and an order is printed in its one spelling.
+//! Lines of order sheets and of the text of a certificate: a line is read as an order exactly where it
+//! has no fault, and an order is printed in its one spelling.
 //!
 //! A line's words are parted by spaces and end before the first `#`; letters of either case are
 //! equal. The forms of lines stand in one table; a line spells the order of the row that its words
-//! fit. An order file knows all forms but CERTS and MARKS; the text of a certificate knows these two,
+//! fit. An order file knows all forms but CERTS and MARKS, the text of a certificate these two and
 //! CERT and CLAIM. Reading takes no memory; printing takes it for its text alone.
 //!
 //! Reading order: `name`, `fault`, `words` (a line and its words), `keyword` (the literal words),

@@ -104,14 +104,15 @@ pub enum Order {
     Offer(Offer),
     /// `CERTS 1`: the text of a certificate begins, of version 1.
     Certs,
-    /// `CERT round co n`: what follows is the certificate of a company's best runs in a round, which
-    /// earn so many dollars.
+    /// `CERT round co n`: the certificate of a company's best runs in a round begins; they earn so
+    /// many dollars.
     Cert {
         round: Round,
         company: Company,
         revenue: Amount,
     },
-    /// `CLAIM kind place place ..`: one of those runs, of a train of a kind through 2 to 280 places.
+    /// `CLAIM kind place place ..`: one of those runs, of a train of a kind through 2 to 280
+    /// places.
     Claim {
         kind: Kind,
         run: Run,

@@ -9,8 +9,8 @@ use map_tables::Place;
 use std::alloc::{AllocError, Global};
 use tables::Round;
 
-/// The one spelling of an order: upper case, single spaces, no leading zeros. (`Marks` has none: its
-/// digits stand in the line that was read.)
+/// The one spelling of an order: upper case, single spaces, no leading zeros. (`Marks` has none:
+/// its digits stand in the line that was read.)
 pub fn print_line(alloc: Global, order: &Order) -> Result<Vec<u8>, AllocError>
     ensures { IfOk result (λ text. text.items ≡ spelling_of order.now) }
 {

@@ -37,8 +37,8 @@ pub fn read_line(line: &[u8]) -> Result<Line<'_>, Fault>
     read_by(LINE_MOST, order_forms(), line)
 }
 
-/// Reads a line of the text of a certificate, without its LF and a CR before that: CERTS, CERT, CLAIM
-/// and MARKS are its forms, and all other words unknown. A line without words is `Blank`.
+/// Reads a line of the text of a certificate, without its LF and a CR before that. CERTS, CERT,
+/// CLAIM and MARKS lines have a form, all other words are unknown. A line without words is `Blank`.
 pub fn read_cert_line(line: &[u8]) -> Result<Line<'_>, Fault>
     // What the line says, or the fault.
     ensures order { order_of result ≡ cert_reading_of line.now }
