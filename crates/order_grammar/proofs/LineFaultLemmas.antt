@@ -1,8 +1,8 @@
 -- The fault of a line is what it is read as.
-use Rattle.std.proofs.Common.{◌≡◌, ℕ, suc, ◌<◌, ◌≤◌, Bool, true, false, ltb, fold, ◌⊎◌, inl, inr, List, [], ◌∷◌, Some, None, lit≤, Result, Ok, Err, Any, Contains, length, get_or, refl, sym, ap, subst, ◌∙◌, arith}
-use Rattle.std.specs.List.{list_all, list_any}
-use Rattle.std.proofs.lemmas.Bool.{cases_Bool, cases_lt, le-ltb, lt-ltb, and_cases, or_parts, false≢true}
-use Rattle.std.proofs.lemmas.List.Folds.{list_all_at, Any-from_list_any}
+use Rattle.std.proofs.Common.{◌≡◌, ℕ, suc, ◌<◌, ◌≤◌, true, false, ltb, fold, ◌⊎◌, inl, inr, List, [], ◌∷◌, Some, None, lit≤, Result, Ok, Err, Any, length, refl, sym, ap, subst, ◌∙◌, arith}
+use Rattle.std.specs.List.{list_all}
+use Rattle.std.proofs.lemmas.Bool.{cases_Bool, cases_lt, le-ltb, lt-ltb, and_cases, false≢true}
+use Rattle.std.proofs.lemmas.List.Folds.{list_all_at}
 use Rattle.order_grammar.specs.Form.{Row, values_reading, nearness, nearer, order_of_values, row_reading, words_reading}
 use Rattle.order_grammar.specs.Keyword.{text_of_keyword}
 use Rattle.order_grammar.specs.Line.{reading_by}

@@ -1,6 +1,6 @@
 -- The forms of a kind of text are a part of the table: words that begin with one of their first words are
 -- by them what they are by all forms, other words are unknown.
-use Rattle.std.proofs.Common.{◌≡◌, ℕ, ◌≤◌, Bool, true, false, not, ltb, fold, inl, inr, ◌⊎◌, List, [], ◌∷◌, ◌++◌, Result, Ok, Err, Contains, get_or, take, drop, refl, sym, ap, subst, ◌∙◌, arith}
+use Rattle.std.proofs.Common.{◌≡◌, ℕ, Bool, true, false, not, ltb, fold, inl, inr, ◌⊎◌, List, [], ◌∷◌, ◌++◌, Result, Err, Contains, get_or, take, drop, refl, sym, ap, subst, ◌∙◌, arith}
 use Rattle.std.specs.List.{list_all, list_any}
 use Rattle.std.proofs.lemmas.Bool.{cases_Bool, le-ltb, or_parts, false≢true}
 use Rattle.std.proofs.lemmas.List.Folds.{list_all_at, Any-from_list_any}
@@ -15,7 +15,7 @@ use Rattle.order_grammar.specs.declared.fault.Fault.TheVariants.{UnknownWord}
 use Rattle.order_grammar.specs.declared.order.Order.{Order}
 use Rattle.order_grammar.proofs.FormLemmas.{with_row, all_reading}
 use Rattle.order_grammar.proofs.KeywordLemmas.{same_word-is}
-use Rattle.order_grammar.proofs.RowLemmas.{IsAmong, among_any, all_among}
+use Rattle.order_grammar.proofs.RowLemmas.{among_any, all_among}
 
 -- whether some form begins with the word
 abbrev pub begins_form : List ℕ → Row → Bool

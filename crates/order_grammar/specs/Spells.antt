@@ -15,7 +15,7 @@ use Rattle.tables.specs.declared.roster.Private.{Private}
 use Rattle.tables.specs.declared.round.Round.{Round}
 use Rattle.tables.specs.declared.round.Round.TheVariants.{Opening, Stock, Operating}
 use Rattle.order_grammar.specs.Class.{are_digits, are_hex_digits, value_of_digits}
-use Rattle.order_grammar.specs.Texts.{TextKind, order_file, certificate}
+use Rattle.order_grammar.specs.Texts.{TextKind, order_file}
 use Rattle.tables.specs.Round.{number_most, operating_most}
 use Rattle.order_grammar.specs.Name.{is_name}
 use Rattle.order_grammar.specs.Print.{spelling_of, words_of_order}
