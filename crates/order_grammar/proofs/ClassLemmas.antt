@@ -4,8 +4,8 @@ use Rattle.std.specs.List.{list_all}
 use Rattle.std.proofs.lemmas.Bool.{cases_Bool, le-leb, lt-leb, and_parts}
 use Rattle.std.proofs.lemmas.Bool.Decides.{nat_tests}
 use Rattle.std.proofs.lemmas.List.{drop_more}
-use Rattle.std.specs.Char.{to_ascii_uppercase}
-use Rattle.order_grammar.specs.Class.{are_digits, value_of_digits, capped_value, digits_reading, round_of_series, round_number_reading, code_reading}
+use Rattle.std.specs.Char.{to_ascii_uppercase, is_ascii_hexdigit}
+use Rattle.order_grammar.specs.Class.{is_hex_digit, are_digits, value_of_digits, capped_value, digits_reading, round_of_series, round_number_reading, code_reading}
 use Rattle.order_grammar.specs.Name.{is_digit}
 use Rattle.order_grammar.specs.Words.{raised, same_word}
 use Rattle.order_grammar.specs.declared.class.Reading.TheVariants.{Value, TooLarge, Wrong}
@@ -30,6 +30,14 @@ raised-digits (digit ∷ digits) h =
 all_digits-raised : (word : List ℕ) → list_all is_digit (raised word) ≡ list_all is_digit word
 all_digits-raised [] = refl
 all_digits-raised (digit ∷ digits) = rw (is_digit-raised digit, all_digits-raised digits) refl
+
+-- hexadecimal digits, raised
+is_hex_digit-raised : (byte : ℕ) → is_hex_digit (to_ascii_uppercase byte) ≡ is_ascii_hexdigit byte
+is_hex_digit-raised byte = grind (arith, nat_tests)
+
+pub hex_digits-raised : (word : List ℕ) → list_all is_hex_digit (raised word) ≡ list_all is_ascii_hexdigit word
+hex_digits-raised [] = refl
+hex_digits-raised (byte ∷ bytes) = rw (is_hex_digit-raised byte, hex_digits-raised bytes) refl
 
 -- a reading of digits does not ask for their case
 pub digits_reading-raised : (stands_for : ℕ → values.Value) (word : List ℕ) → digits_reading stands_for (raised word) ≡ digits_reading stands_for word

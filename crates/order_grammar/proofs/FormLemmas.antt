@@ -20,6 +20,10 @@ use Rattle.order_grammar.specs.declared.order.Value.{Value}
 use Rattle.order_grammar.specs.declared.words.Token.{Token}
 use Rattle.order_grammar.proofs.WordLemmas.{next_words}
 
+-- what the words of a line are by all forms
+abbrev pub all_reading : List (List ℕ) → Result Order Fault
+all_reading words = words_reading forms words
+
 -- what the nearest is after one more row
 abbrev pub with_row : List ℕ → List (List ℕ) → Result Order Fault → Row → Result Order Fault
 with_row first rest nearest row = nearer nearest (row_reading row first rest)
@@ -102,10 +106,9 @@ values_reading-tail front too_large classes r i words found t le is some =
     ∙ rw (yes, values_reading)
     (ap (λ (all : List Value). cond {A = Result (List Value × Tail) Fault} too_large (Err NumberTooLarge) (Ok (all, t))) (append-nil front))
 
--- the first of a line's words and the others, read by the rows of the table, are what the words are
+-- the first of a line's words and the others, read by some rows, are what the words are by them
 pub table_read : (words left : List Placed) (given : Option Token) (first : Token) (rows : List Row) (found : Result Order Fault) →
-    GivesFirst words given left → given ≡ Some first → rows ≡ forms → found ≡ rows_reading rows (raised first.text.now) (texts_of left) →
-    found ≡ words_reading (texts_of words)
-table_read words left given first rows found gives is same by =
-    by ∙ ap (λ (rs : List Row). rows_reading rs (raised first.text.now) (texts_of left)) same
-    ∙ sym (ap words_reading (next_words words left given first gives is))
+    GivesFirst words given left → given ≡ Some first → found ≡ rows_reading rows (raised first.text.now) (texts_of left) →
+    found ≡ words_reading rows (texts_of words)
+table_read words left given first rows found gives is by =
+    by ∙ sym (ap (words_reading rows) (next_words words left given first gives is))

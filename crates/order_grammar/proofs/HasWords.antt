@@ -1,5 +1,5 @@
 -- The parts of an order that has a spelling are those of a form, and have words.
-use Rattle.std.proofs.Common.{◌≡◌, Bool, true, nat_le, ◌&&◌, Option, Some, None, length, refl}
+use Rattle.std.proofs.Common.{◌≡◌, Bool, true, false, nat_le, ◌&&◌, Option, Some, None, length, refl}
 use Rattle.std.specs.List.{list_all}
 use Rattle.std.proofs.lemmas.Bool.{le-leb}
 use Rattle.map_tables.specs.declared.hex.Hex.{Hex}
@@ -11,7 +11,7 @@ use Rattle.order_grammar.specs.Order.{lay_of, parts_of}
 use Rattle.order_grammar.specs.Spells.{HasSpelling, is_round_of_line}
 use Rattle.order_grammar.specs.declared.order.Offer.TheVariants as offer
 use Rattle.order_grammar.specs.declared.order.Order.{Order}
-use Rattle.order_grammar.specs.declared.order.Order.TheVariants.{Game, Players, Sheet, Bid, Limit, Par, BuyShare, Sell, Lay, Run, BuyTrain, BuyOwnedPrivate, Raise, Offer}
+use Rattle.order_grammar.specs.declared.order.Order.TheVariants.{Game, Players, Sheet, Bid, Limit, Par, BuyShare, Sell, Lay, Run, BuyTrain, BuyOwnedPrivate, Raise, Offer, Cert, Claim, Marks}
 use Rattle.order_grammar.specs.declared.order.Parts.{Parts}
 use Rattle.order_grammar.specs.declared.order.ShareSource.TheVariants.{InitialOffering, BankPool}
 use Rattle.order_grammar.specs.declared.order.TrainSource.TheVariants as source
@@ -24,6 +24,7 @@ abbrev pub has_word : Value → Bool
 has_word (value.Number number) = nat_le number number_most
 has_word (value.Name name) = is_name name
 has_word (value.Round round) = is_round_of_line round
+has_word value.HexDigits = false
 has_word other = true
 
 -- whether parts are those of a form, and have words
@@ -66,4 +67,12 @@ has_words (BuyOwnedPrivate private price) has = rw (le-leb price number_most has
 has_words (Raise company tenths) has = rw (le-leb tenths number_most has) refl
 has_words (Offer (offer.Private private buyer price)) has = rw (le-leb price number_most has) refl
 has_words (Offer (offer.Train kind seller buyer price)) has = rw (le-leb price number_most has) refl
+has_words (Cert round company revenue) has =
+    let numbered : is_round_of_line round ≡ true = has.0 in
+    rw (numbered, le-leb revenue number_most has.1) refl
+has_words (Claim kind run) has =
+    let least = le-leb 2 (length run) has.0 in
+    let most = le-leb (length run) 280 has.1 in
+    rw (least, most) refl
+has_words Marks has = absurd has
 has_words other has = refl

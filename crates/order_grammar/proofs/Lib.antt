@@ -8,6 +8,7 @@ pub mod ShapeLemmas
 pub mod ApartLemmas
 pub mod FormLemmas
 pub mod RowLemmas
+pub mod PartLemmas
 pub mod RunLemmas
 pub mod SpellsLemmas
 pub mod LineFaultLemmas

@@ -1,15 +1,15 @@
 -- The fault of a line is what it is read as.
-use Rattle.std.proofs.Common.{◌≡◌, ℕ, suc, ◌≤◌, Bool, true, false, ltb, fold, ◌⊎◌, inl, inr, List, [], ◌∷◌, Some, None, lit≤, Result, Ok, Err, Any, Contains, length, get_or, refl, sym, ap, subst, ◌∙◌, arith}
-use Rattle.std.specs.List.{list_all, list_any}
-use Rattle.std.proofs.lemmas.Bool.{cases_Bool, cases_lt, le-ltb, lt-ltb, and_cases, or_parts, false≢true}
-use Rattle.std.proofs.lemmas.List.Folds.{list_all_at, Any-from_list_any}
-use Rattle.order_grammar.specs.Form.{Row, forms, values_reading, nearness, nearer, order_of_values, row_reading, words_reading}
+use Rattle.std.proofs.Common.{◌≡◌, ℕ, suc, ◌<◌, ◌≤◌, true, false, ltb, fold, ◌⊎◌, inl, inr, List, [], ◌∷◌, Some, None, lit≤, Result, Ok, Err, Any, length, refl, sym, ap, subst, ◌∙◌, arith}
+use Rattle.std.specs.List.{list_all}
+use Rattle.std.proofs.lemmas.Bool.{cases_Bool, cases_lt, le-ltb, lt-ltb, and_cases, false≢true}
+use Rattle.std.proofs.lemmas.List.Folds.{list_all_at}
+use Rattle.order_grammar.specs.Form.{Row, values_reading, nearness, nearer, order_of_values, row_reading, words_reading}
 use Rattle.order_grammar.specs.Keyword.{text_of_keyword}
-use Rattle.order_grammar.specs.Limits.{line_most}
-use Rattle.order_grammar.specs.Line.{reading_of}
-use Rattle.order_grammar.specs.LineFault.{IsTooLong, HasStrayByte, first_words_of_forms, BeginsNoForm, IsFaultOf}
+use Rattle.order_grammar.specs.Line.{reading_by}
+use Rattle.order_grammar.specs.LineFault.{IsTooLong, HasStrayByte, BeginWithOther, IsFaultIn}
 use Rattle.order_grammar.specs.Order.{parts_of, order_from}
-use Rattle.order_grammar.specs.Spells.{AreWordsFor}
+use Rattle.order_grammar.specs.Spells.{AreWordsFor, BeginWithOneOf}
+use Rattle.order_grammar.specs.Texts.{TextKind}
 use Rattle.order_grammar.specs.Words.{same_word, before_comment, is_printable, words_of}
 use Rattle.order_grammar.specs.declared.fault.Fault.{Fault}
 use Rattle.order_grammar.specs.declared.fault.Fault.TheVariants.{TooLong, StrayByte, UnknownWord, WrongWords, NumberTooLarge}
@@ -17,9 +17,9 @@ use Rattle.order_grammar.specs.declared.keyword.Keyword.{Keyword}
 use Rattle.order_grammar.specs.declared.order.Order.{Order}
 use Rattle.order_grammar.specs.declared.order.Tail.{Tail}
 use Rattle.order_grammar.specs.declared.order.Value.{Value}
-use Rattle.order_grammar.proofs.FormLemmas.{with_row}
-use Rattle.order_grammar.proofs.KeywordLemmas.{same_word-is}
-use Rattle.order_grammar.proofs.RowLemmas.{IsAmong, among_any, all_among, nearest_has, words_say}
+use Rattle.order_grammar.proofs.FormLemmas.{with_row, all_reading}
+use Rattle.order_grammar.proofs.PartLemmas.{AreRowsOf, begins_form, listed_is_begun, known_read, unknown_read, known_or_other, read_known}
+use Rattle.order_grammar.proofs.RowLemmas.{IsAmong, among_any, nearest_has, words_say}
 use Rattle.order_grammar.proofs.ShapeLemmas.{ReadThus, values_made}
 use Rattle.order_grammar.proofs.SmallLemmas.{are_small, small_by_parts, small_of_parts}
 use Rattle.order_grammar.proofs.SpellsLemmas.{spelt_words_read, large_words_read, words_read_spell}
@@ -52,49 +52,11 @@ all_printable line clean =
     ]
 
 -- a line that is not too long and has no stray byte is what its words are
-words_decide : (line : List ℕ) → (IsTooLong line → ⊥) → (HasStrayByte line → ⊥) → reading_of line ≡ words_reading (words_of line)
-words_decide line short clean =
-    let test : ltb line_most (length line) ≡ false = le-ltb line_most (length line) (omega arith) in
+words_decide : (most : ℕ) (rows : List Row) (line : List ℕ) → (most < length line → ⊥) → (HasStrayByte line → ⊥) →
+    reading_by most rows line ≡ words_reading rows (words_of line)
+words_decide most rows line short clean =
+    let test : ltb most (length line) ≡ false = le-ltb most (length line) (omega arith) in
     rw (test, all_printable line clean) refl
-
--- whether some form begins with the word
-abbrev begins_form : List ℕ → Row → Bool
-begins_form first row = same_word first (text_of_keyword row.keyword)
-
--- the first words of the forms are those that are listed
-forms_listed : list_all (λ (row : Row). list_any (same_word (text_of_keyword row.keyword)) first_words_of_forms) forms ≡ true
-forms_listed = refl
-
-listed_begin : list_all (λ (word : List ℕ). list_any (begins_form word) forms) first_words_of_forms ≡ true
-listed_begin = refl
-
--- a word that is among some
-contained : (words : List (List ℕ)) (word : List ℕ) → list_any (same_word word) words ≡ true → Contains words word
-contained words word some =
-    let one = Any-from_list_any (same_word word) words some in
-    let same = same_word-is word one.1 one.4 in
-    subst (Contains words) (sym same) (one.0, one.2, one.3)
-
--- a word that a form begins with is listed
-begun_is_listed : (first : List ℕ) → list_any (begins_form first) forms ≡ true → Contains first_words_of_forms first
-begun_is_listed first begun =
-    let row = among_any (begins_form first) forms begun in
-    let listed = all_among (λ (r : Row). list_any (same_word (text_of_keyword r.keyword)) first_words_of_forms) forms row.0 forms_listed row.1 in
-    subst (Contains first_words_of_forms) (sym (same_word-is first (text_of_keyword row.0.keyword) row.2))
-    (contained first_words_of_forms (text_of_keyword row.0.keyword) listed)
-
--- a form begins with a listed word
-listed_is_begun : (first : List ℕ) → Contains first_words_of_forms first → list_any (begins_form first) forms ≡ true
-listed_is_begun first listed =
-    elim (cases_Bool (list_any (begins_form first) forms)) [
-      | inl begun ↦ begun
-      | inr none ↦
-          let at : list_any (begins_form (get_or first_words_of_forms listed.0 first)) forms ≡ false =
-          ap (λ (word : List ℕ). list_any (begins_form word) forms) listed.2 ∙ none in
-          let wrong : false ≡ true =
-          sym (list_all_at (λ (word : List ℕ). list_any (begins_form word) forms) first_words_of_forms listed.0 first listed.1 at) ∙ listed_begin in
-          absurd (false≢true wrong)
-    ]
 
 -- a value or wrong words: what comes after the first word is no unknown word
 order_near : (k : Keyword) (read : List Value × Tail) → 1 ≤ nearness (order_of_values k (Ok read))
@@ -140,31 +102,16 @@ row-le (other ∷ rows) row first rest start (inl is) =
     (arith, ap (λ (r : Row). nearness (row_reading r first rest)) is, (nearer-le start (row_reading other first rest)).1, rows-le first rest (nearer start (row_reading other first rest)) rows)
 row-le (other ∷ rows) row first rest start (inr later) = row-le rows row first rest (nearer start (row_reading other first rest)) later
 
--- a word that no form begins with is unknown
-unknown : (rows : List Row) (first : List ℕ) (rest : List (List ℕ)) → list_any (begins_form first) rows ≡ false →
-    fold (with_row first rest) (Err UnknownWord) rows ≡ Err UnknownWord
-unknown [] first rest none = refl
-unknown (row ∷ rows) first rest none =
-    let parts = or_parts (begins_form first row) (list_any (begins_form first) rows) none in
-    rw parts.0 (unknown rows first rest parts.1)
-
--- words begin no form exactly where they are read as an unknown word
-unknown_begins : (words : List (List ℕ)) → words_reading words ≡ Err UnknownWord → BeginsNoForm words
-unknown_begins [] e = absurd cc
-unknown_begins (first ∷ rest) e = λ listed.
-    let row = among_any (begins_form first) forms (listed_is_begun first listed) in
+-- words of a text that are read as an unknown word begin with another
+unknown_begins : (text : TextKind) (rows : List Row) → AreRowsOf text rows → (words : List (List ℕ)) → words_reading rows words ≡ Err UnknownWord →
+    BeginWithOther text.first_words words
+unknown_begins text rows of [] e = absurd cc
+unknown_begins text rows of (first ∷ rest) e = λ listed.
+    let row = among_any (begins_form first) rows (listed_is_begun text rows first of listed) in
     let near = row_near row.0 first rest row.2 in
-    let le = row-le forms row.0 first rest (Err UnknownWord) row.1 in
-    let wrong : 1 ≤ 0 = rw e at (let all : 1 ≤ nearness (words_reading (first ∷ rest)) = omega (arith, near, le) in all) in
+    let le = row-le rows row.0 first rest (Err UnknownWord) row.1 in
+    let wrong : 1 ≤ 0 = rw e at (let all : 1 ≤ nearness (words_reading rows (first ∷ rest)) = omega (arith, near, le) in all) in
     omega arith
-
-no_form_read : (words : List (List ℕ)) → BeginsNoForm words → words_reading words ≡ Err UnknownWord
-no_form_read [] none = absurd none
-no_form_read (first ∷ rest) none =
-    elim (cases_Bool (list_any (begins_form first) forms)) [
-      | inl begun ↦ absurd (none (begun_is_listed first begun))
-      | inr other ↦ unknown forms first rest other
-    ]
 
 -- what words are read as: an order, an unknown word, wrong words or a number that is too large
 abbrev IsOfWords : Result Order Fault → Type 0
@@ -177,14 +124,15 @@ row_of_words row first rest =
       | inr other ↦ inl (rw other refl)
     ]
 
-reading_of_words : (words : List (List ℕ)) → IsOfWords (words_reading words)
-reading_of_words [] = inr (lit≤ tt)
-reading_of_words (first ∷ rest) = nearest_has IsOfWords forms first rest (Err UnknownWord) (inl refl) (λ row among. row_of_words row first rest)
+reading_of_words : (rows : List Row) (words : List (List ℕ)) → IsOfWords (words_reading rows words)
+reading_of_words rows [] = inr (lit≤ tt)
+reading_of_words rows (first ∷ rest) = nearest_has IsOfWords rows first rest (Err UnknownWord) (inl refl) (λ row among. row_of_words row first rest)
 
 -- no other fault is of words
-other_fault : (words : List (List ℕ)) (fault : Fault) → nearness (Err fault) ≡ 0 → (fault ≡ UnknownWord → ⊥) → words_reading words ≡ Err fault → ⊥
-other_fault words fault none other e =
-    elim (reading_of_words words) [
+other_fault : (rows : List Row) (words : List (List ℕ)) (fault : Fault) → nearness (Err fault) ≡ 0 → (fault ≡ UnknownWord → ⊥) →
+    words_reading rows words ≡ Err fault → ⊥
+other_fault rows words fault none other e =
+    elim (reading_of_words rows words) [
       | inl unknown ↦
           let same : ◌≡◌ {A = Result Order Fault} (Err fault) (Err UnknownWord) = sym e ∙ unknown in
           other cc
@@ -192,7 +140,7 @@ other_fault words fault none other e =
     ]
 
 -- words that would spell an order, if numbers had no greatest value, are near to it
-loosely_near : (words : List (List ℕ)) (order : Order) → AreWordsFor order words → (words_reading words ≡ Err WrongWords) → ⊥
+loosely_near : (words : List (List ℕ)) (order : Order) → AreWordsFor order words → (all_reading words ≡ Err WrongWords) → ⊥
 loosely_near words order spelt wrong =
     elim (cases_Bool (are_small (parts_of order))) [
       | inl small ↦
@@ -204,87 +152,121 @@ loosely_near words order spelt wrong =
           cc
     ]
 
--- words with another fault begin a form
-begins_some_form : (words : List (List ℕ)) (fault : Fault) → (fault ≡ UnknownWord → ⊥) → words_reading words ≡ Err fault → BeginsNoForm words → ⊥
-begins_some_form words fault other e none =
-    let same : ◌≡◌ {A = Result Order Fault} (Err fault) (Err UnknownWord) = sym e ∙ no_form_read words none in
+-- words that begin with one of some words begin with no other
+not_other : (known : List (List ℕ)) (words : List (List ℕ)) → BeginWithOneOf known words → BeginWithOther known words → ⊥
+not_other known [] one other = other
+not_other known (first ∷ rest) one other = other one
+
+-- words that begin with no other begin with one of them
+some_known : (text : TextKind) (rows : List Row) → AreRowsOf text rows → (words : List (List ℕ)) → (BeginWithOther text.first_words words → ⊥) →
+    BeginWithOneOf text.first_words words
+some_known text rows of words no_other =
+    elim (known_or_other text rows words of) [
+      | inl known ↦ known
+      | inr other ↦ absurd (no_other other)
+    ]
+
+-- words of a text with another fault begin one of its forms
+begins_some_form : (text : TextKind) (rows : List Row) → AreRowsOf text rows → (words : List (List ℕ)) (fault : Fault) → (fault ≡ UnknownWord → ⊥) →
+    words_reading rows words ≡ Err fault → BeginWithOther text.first_words words → ⊥
+begins_some_form text rows of words fault other e none =
+    let same : ◌≡◌ {A = Result Order Fault} (Err fault) (Err UnknownWord) = sym e ∙ unknown_read text rows words of none in
     other cc
 
+-- so they are read by all forms
+read_by_all : (text : TextKind) (rows : List Row) → AreRowsOf text rows → (words : List (List ℕ)) (fault : Fault) → (fault ≡ UnknownWord → ⊥) →
+    words_reading rows words ≡ Err fault → BeginWithOneOf text.first_words words × (all_reading words ≡ Err fault)
+read_by_all text rows of words fault other e =
+    let known = read_known text rows words of (λ unknown.
+    let same : ◌≡◌ {A = Result Order Fault} (Err fault) (Err UnknownWord) = sym e ∙ unknown in
+    other cc) in
+    (known, sym (known_read text rows words of known) ∙ e)
+
 -- words of which a number is too large would spell an order
-large_spell : (words : List (List ℕ)) → words_reading words ≡ Err NumberTooLarge → (order : Order) × AreWordsFor order words
+large_spell : (words : List (List ℕ)) → all_reading words ≡ Err NumberTooLarge → (order : Order) × AreWordsFor order words
 large_spell [] e = absurd cc
 large_spell (first ∷ rest) e =
     let says = words_say first rest in
     rw e at says
 
 -- the fault of words is that of their line
-words_fault : (line : List ℕ) (fault : Fault) → (IsTooLong line → ⊥) → (HasStrayByte line → ⊥) → words_reading (words_of line) ≡ Err fault →
-    IsFaultOf line fault
-words_fault line UnknownWord short clean e = (short, clean, unknown_begins (words_of line) e)
-words_fault line WrongWords short clean e = (
-  short,
-  clean,
-  begins_some_form (words_of line) WrongWords (λ same. cc) e,
-  λ loosely. loosely_near (words_of line) loosely.0 loosely.1.words e,
-)
-words_fault line NumberTooLarge short clean e =
-    let some = large_spell (words_of line) e in (
+words_fault : (text : TextKind) (rows : List Row) → AreRowsOf text rows → (line : List ℕ) (fault : Fault) → (IsTooLong text line → ⊥) →
+    (HasStrayByte line → ⊥) → words_reading rows (words_of line) ≡ Err fault → IsFaultIn text line fault
+words_fault text rows of line UnknownWord short clean e = (short, clean, unknown_begins text rows of (words_of line) e)
+words_fault text rows of line WrongWords short clean e =
+    let read = read_by_all text rows of (words_of line) WrongWords (λ same. cc) e in (
       short,
       clean,
-      begins_some_form (words_of line) NumberTooLarge (λ same. cc) e,
-      (some.0, record { short = omega arith; printable = all_printable line clean; words = some.1 }),
+      begins_some_form text rows of (words_of line) WrongWords (λ same. cc) e,
+      λ loosely. loosely_near (words_of line) loosely.0 loosely.1.words read.1,
+    )
+words_fault text rows of line NumberTooLarge short clean e =
+    let read = read_by_all text rows of (words_of line) NumberTooLarge (λ same. cc) e in
+    let some = large_spell (words_of line) read.1 in (
+      short,
+      clean,
+      begins_some_form text rows of (words_of line) NumberTooLarge (λ same. cc) e,
+      (some.0, record { short = omega arith; printable = all_printable line clean; known = read.0; words = some.1 }),
       λ spelt.
           let wrong : ◌≡◌ {A = Result Order Fault} (Ok spelt.0) (Err NumberTooLarge) =
-          sym (spelt_words_read (words_of line) spelt.0 spelt.1.loosely.words spelt.1.small) ∙ e in
+          sym (spelt_words_read (words_of line) spelt.0 spelt.1.loosely.words spelt.1.small) ∙ read.1 in
           cc,
     )
-words_fault line other short clean e = absurd (other_fault (words_of line) other refl (λ same. cc) e)
+words_fault text rows of line other short clean e = absurd (other_fault rows (words_of line) other refl (λ same. cc) e)
 
--- a line that is read as a fault has it
-pub fault_had : (line : List ℕ) (fault : Fault) → reading_of line ≡ Err fault → IsFaultOf line fault
-fault_had line fault e =
-    elim (cases_lt line_most (length line)) [
+-- a line that is read as a fault by the forms of a text has it there
+pub fault_had : (text : TextKind) (rows : List Row) → AreRowsOf text rows → (line : List ℕ) (fault : Fault) →
+    reading_by text.most rows line ≡ Err fault → IsFaultIn text line fault
+fault_had text rows of line fault e =
+    elim (cases_lt text.most (length line)) [
       | inl long ↦
-          let test : ltb line_most (length line) ≡ true = lt-ltb line_most (length line) long in
+          let test : ltb text.most (length line) ≡ true = lt-ltb text.most (length line) long in
           let same : ◌≡◌ {A = Result Order Fault} (Err TooLong) (Err fault) = rw test at e in
-          subst (IsFaultOf line) (let is : TooLong ≡ fault = cc in is) long
+          subst (IsFaultIn text line) (let is : TooLong ≡ fault = cc in is) long
       | inr short ↦
           elim (cases_Bool (list_all is_printable (before_comment line))) [
             | inl printable ↦
                 let clean : HasStrayByte line → ⊥ = λ stray. let wrong : true ≡ false = sym printable ∙ not_printable (before_comment line) stray in cc in
-                let not_long : IsTooLong line → ⊥ = λ long. omega arith in
-                words_fault line fault not_long clean (sym (words_decide line not_long clean) ∙ e)
+                let not_long : IsTooLong text line → ⊥ = λ long. omega arith in
+                words_fault text rows of line fault not_long clean (sym (words_decide text.most rows line not_long clean) ∙ e)
             | inr stray ↦
-                let test : ltb line_most (length line) ≡ false = le-ltb line_most (length line) short in
+                let test : ltb text.most (length line) ≡ false = le-ltb text.most (length line) short in
                 let same : ◌≡◌ {A = Result Order Fault} (Err StrayByte) (Err fault) = rw (test, stray) at e in
-                subst (IsFaultOf line) (let is : StrayByte ≡ fault = cc in is) ((λ long. omega arith), stray_byte (before_comment line) stray)
+                subst (IsFaultIn text line) (let is : StrayByte ≡ fault = cc in is) ((λ long. omega arith), stray_byte (before_comment line) stray)
           ]
     ]
 
--- words that begin a form, and would spell no order, are wrong words
-wrong_words : (words : List (List ℕ)) (reading : Result Order Fault) → words_reading words ≡ reading → (BeginsNoForm words → ⊥) →
-    ((order : Order) → AreWordsFor order words → ⊥) → reading ≡ Err WrongWords
-wrong_words words (Ok order) e known none = absurd (none order (words_read_spell words order e).0)
-wrong_words words (Err NumberTooLarge) e known none = let some = large_spell words e in absurd (none some.0 some.1)
-wrong_words words (Err WrongWords) e known none = refl
-wrong_words words (Err UnknownWord) e known none = absurd (known (unknown_begins words e))
-wrong_words words (Err other) e known none = absurd (other_fault words other refl (λ same. cc) e)
+-- words that begin a form of the text, and would spell no order, are wrong words
+wrong_words : (text : TextKind) (rows : List Row) → AreRowsOf text rows → (words : List (List ℕ)) (reading : Result Order Fault) →
+    words_reading rows words ≡ reading → BeginWithOneOf text.first_words words → ((order : Order) → AreWordsFor order words → ⊥) → reading ≡ Err WrongWords
+wrong_words text rows of words (Ok order) e known none =
+    absurd (none order (words_read_spell words order (sym (known_read text rows words of known) ∙ e)).0)
+wrong_words text rows of words (Err NumberTooLarge) e known none =
+    let some = large_spell words (sym (known_read text rows words of known) ∙ e) in absurd (none some.0 some.1)
+wrong_words text rows of words (Err WrongWords) e known none = refl
+wrong_words text rows of words (Err UnknownWord) e known none = absurd (not_other text.first_words words known (unknown_begins text rows of words e))
+wrong_words text rows of words (Err other) e known none = absurd (other_fault rows words other refl (λ same. cc) e)
 
--- a line that has a fault is read as it
-pub fault_read : (line : List ℕ) (fault : Fault) → IsFaultOf line fault → reading_of line ≡ Err fault
-fault_read line TooLong long = let test : ltb line_most (length line) ≡ true = lt-ltb line_most (length line) long in rw test refl
-fault_read line StrayByte is =
+-- a line that has a fault in a text is read as it by its forms
+pub fault_read : (text : TextKind) (rows : List Row) → AreRowsOf text rows → (line : List ℕ) (fault : Fault) → IsFaultIn text line fault →
+    reading_by text.most rows line ≡ Err fault
+fault_read text rows of line TooLong long =
+    let test : ltb text.most (length line) ≡ true = lt-ltb text.most (length line) long in
+    rw test refl
+fault_read text rows of line StrayByte is =
     let short = is.0 in
-    let test : ltb line_most (length line) ≡ false = le-ltb line_most (length line) (omega arith) in
+    let test : ltb text.most (length line) ≡ false = le-ltb text.most (length line) (omega arith) in
     rw (test, not_printable (before_comment line) is.1) refl
-fault_read line UnknownWord is = words_decide line is.0 is.1 ∙ no_form_read (words_of line) is.2
-fault_read line WrongWords is =
+fault_read text rows of line UnknownWord is = words_decide text.most rows line is.0 is.1 ∙ unknown_read text rows (words_of line) of is.2
+fault_read text rows of line WrongWords is =
     let short = is.0 in
-    words_decide line is.0 is.1
-    ∙ wrong_words (words_of line) (words_reading (words_of line)) refl is.2
-    (λ order are. is.3 (order, record { short = omega arith; printable = all_printable line is.1; words = are }))
-fault_read line NumberTooLarge is =
+    let known = some_known text rows of (words_of line) is.2 in
+    words_decide text.most rows line is.0 is.1
+    ∙ wrong_words text rows of (words_of line) (words_reading rows (words_of line)) refl known
+    (λ order are. is.3 (order, record { short = omega arith; printable = all_printable line is.1; known = known; words = are }))
+fault_read text rows of line NumberTooLarge is =
     let order = is.3.0 in
     let loosely = is.3.1 in
-    words_decide line is.0 is.1 ∙ large_words_read (words_of line) order loosely.words (λ small. is.4 (order, record { loosely = loosely; small = small }))
-fault_read line other none = absurd none
+    words_decide text.most rows line is.0 is.1 ∙ known_read text rows (words_of line) of loosely.known
+    ∙ large_words_read (words_of line) order loosely.words (λ small. is.4 (order, record { loosely = loosely; small = small }))
+fault_read text rows of line other none = absurd none

@@ -11,11 +11,11 @@ use Rattle.tables.specs.declared.rolling_stock.Kind.{Kind}
 use Rattle.order_grammar.specs.Form.{forms, is_row_of, is_run_length, has_form, are_names}
 use Rattle.order_grammar.specs.Keyword.{text_of_keyword}
 use Rattle.order_grammar.specs.Order.{lay_of, made_of, parts_of, order_from}
-use Rattle.order_grammar.specs.Spells.{IsWord, IsNumber, IsName, IsRoundOfLine, IsPrivate, IsCompany, IsKind, IsTile, IsHex, IsRotation, IsPlace, AreNames, Then, End, AreWordsFor}
+use Rattle.order_grammar.specs.Spells.{IsWord, IsNumber, IsName, IsRoundOfLine, IsPrivate, IsCompany, IsKind, IsTile, IsHex, IsRotation, IsPlace, AreHexDigits, AreNames, Then, End, AreWordsFor}
 use Rattle.order_grammar.specs.declared.keyword.Keyword.{Keyword}
 use Rattle.order_grammar.specs.declared.keyword.Keyword.TheVariants as keyword
 use Rattle.order_grammar.specs.declared.order.Order.{Order}
-use Rattle.order_grammar.specs.declared.order.Order.TheVariants.{Blank, Game, Players, Sheet, Turn, BuyPrivate, Bid, Limit, Par, BuyShare, Sell, ExchangeMohawk, Company as CompanyTurn, Lay, Token, Run, RunBest, Pay, Withhold, BuyTrain, Discard, BuyOwnedPrivate, Raise, Offer}
+use Rattle.order_grammar.specs.declared.order.Order.TheVariants.{Blank, Game, Players, Sheet, Turn, BuyPrivate, Bid, Limit, Par, BuyShare, Sell, ExchangeMohawk, Company as CompanyTurn, Lay, Token, Run, RunBest, Pay, Withhold, BuyTrain, Discard, BuyOwnedPrivate, Raise, Offer, Certs, Cert, Claim, Marks}
 use Rattle.order_grammar.specs.declared.order.Offer.TheVariants as offer
 use Rattle.order_grammar.specs.declared.order.Parts.{Parts}
 use Rattle.order_grammar.specs.declared.order.ShareSource.TheVariants.{InitialOffering, BankPool}
@@ -73,6 +73,11 @@ formed keyword.Offer ((value.Word keyword.Private) ∷ (value.Private private) �
     record { order = Offer (offer.Private private buyer price); made = refl; parts = refl }
 formed keyword.Offer ((value.Word keyword.Train) ∷ (value.Kind kind) ∷ (value.Company seller) ∷ (value.Company buyer) ∷ (value.Number price) ∷ []) tail.Nothing h =
     record { order = Offer (offer.Train kind seller buyer price); made = refl; parts = refl }
+formed keyword.Certs ((value.Word keyword.One) ∷ []) tail.Nothing h = record { order = Certs; made = refl; parts = refl }
+formed keyword.Cert ((value.Round round) ∷ (value.Company company) ∷ (value.Number revenue) ∷ []) tail.Nothing h =
+    record { order = Cert round company revenue; made = refl; parts = refl }
+formed keyword.Claim ((value.Kind kind) ∷ []) (tail.Places run) h = record { order = Claim kind run; made = refl; parts = refl }
+formed keyword.Marks (value.HexDigits ∷ []) tail.Nothing h = record { order = Marks; made = refl; parts = refl }
 formed k values t h = absurd (false≢true h)
 
 -- an order is made again of its parts
@@ -110,6 +115,7 @@ IsTextOf (value.Tile tile) text = IsTile tile text
 IsTextOf (value.Hex hex) text = IsHex hex text
 IsTextOf (value.Rotation rotation) text = IsRotation rotation text
 IsTextOf (value.Place place) text = IsPlace place text
+IsTextOf value.HexDigits text = AreHexDigits text
 IsTextOf (value.Word k) text = IsWord (text_of_keyword k) text
 
 -- the words of what is repeated
@@ -148,7 +154,7 @@ run_by_parts (first ∷ second ∷ words) kind run h =
     let most = le-leb _ 280 h.1.1.most in
     ((h.0, (h.1.0, h.1.1.named)), rw (least, most) refl)
 
--- of the forms only that of a run has places
+-- of the forms that begin as it does, only that of a run has places
 run_counted : (kind : Kind) (run : List Place) →
     has_form (record { keyword = keyword.Run; values = record { items = value.Kind kind ∷ [] }; tail = tail.Places run }) ≡ true →
     is_run_length (length run) ≡ true
@@ -157,6 +163,34 @@ run_counted kind run h =
       | inl some ↦ some
       | inr none ↦ let wrong = rw none at h in absurd (false≢true wrong)
     ]
+
+-- the words of a claim
+claim_by_parts : (words : List (List ℕ)) (kind : Kind) (run : List Place) → AreWordsFor (Claim kind run) words →
+    AreWordsByParts (parts_of (Claim kind run)) words
+claim_by_parts [] kind run h = absurd h
+claim_by_parts (first ∷ []) kind run h = absurd h.1
+claim_by_parts (first ∷ second ∷ words) kind run h =
+    let least = le-leb 2 _ h.1.1.least in
+    let most = le-leb _ 280 h.1.1.most in
+    ((h.0, (h.1.0, h.1.1.named)), rw (least, most) refl)
+
+-- of the forms that begin as it does, only that of a claim has places
+claim_counted : (kind : Kind) (run : List Place) →
+    has_form (record { keyword = keyword.Claim; values = record { items = value.Kind kind ∷ [] }; tail = tail.Places run }) ≡ true →
+    is_run_length (length run) ≡ true
+claim_counted kind run h =
+    elim (cases_Bool (is_run_length (length run))) [
+      | inl some ↦ some
+      | inr none ↦ let wrong = rw none at h in absurd (false≢true wrong)
+    ]
+
+claim_of_parts : (words : List (List ℕ)) (kind : Kind) (run : List Place) → AreWordsByParts (parts_of (Claim kind run)) words →
+    AreWordsFor (Claim kind run) words
+claim_of_parts [] kind run h = absurd h.0
+claim_of_parts (first ∷ []) kind run h = absurd h.0.1
+claim_of_parts (first ∷ second ∷ words) kind run h =
+    let counted = and_parts _ _ (claim_counted kind run h.1) in
+    (h.0.0, (h.0.1.0, record { named = h.0.1.1; least = leb-true 2 _ counted.0; most = leb-true _ 280 counted.1 }))
 
 run_of_parts : (words : List (List ℕ)) (kind : Kind) (run : List Place) → AreWordsByParts (parts_of (Run kind run)) words → AreWordsFor (Run kind run) words
 run_of_parts [] kind run h = absurd h.0
@@ -183,6 +217,7 @@ by_parts (Players names) words h = players_by_parts words names.items h
 by_parts (BuyShare company InitialOffering) words h = (h, refl)
 by_parts (BuyShare company BankPool) words h = (h, refl)
 by_parts (Run kind run) words h = run_by_parts words kind run h
+by_parts (Claim kind run) words h = claim_by_parts words kind run h
 by_parts (BuyTrain kind source.Bank) words h = (h, refl)
 by_parts (BuyTrain kind (source.Trade other)) words h = (h, refl)
 by_parts (BuyTrain kind source.BankPool) words h = (h, refl)
@@ -217,6 +252,7 @@ of_parts (Players names) words h = players_of_parts words names.items h
 of_parts (BuyShare company InitialOffering) words h = h.0
 of_parts (BuyShare company BankPool) words h = h.0
 of_parts (Run kind run) words h = run_of_parts words kind run h
+of_parts (Claim kind run) words h = claim_of_parts words kind run h
 of_parts (BuyTrain kind source.Bank) words h = h.0
 of_parts (BuyTrain kind (source.Trade other)) words h = h.0
 of_parts (BuyTrain kind source.BankPool) words h = h.0

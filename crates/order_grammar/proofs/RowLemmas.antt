@@ -3,7 +3,7 @@
 use Rattle.std.proofs.Common.{◌≡◌, ℕ, ◌≤◌, Bool, true, false, cond, ltb, nat_lt, fold, lit≤, inl, inr, ◌⊎◌, List, [], ◌∷◌, Option, Some, None, Result, Ok, Err, refl, sym, ap, subst, ◌∙◌, arith}
 use Rattle.std.specs.List.{list_all, list_any}
 use Rattle.std.proofs.lemmas.Bool.{cases_Bool, cases_lt, le-ltb, lt-ltb, and_parts, and_from, or_cases, or_left, or_right, false≢true}
-use Rattle.order_grammar.specs.Form.{Row, forms, values_reading, order_of_values, nearness, nearer, row_reading, words_reading, is_row_of}
+use Rattle.order_grammar.specs.Form.{Row, forms, values_reading, order_of_values, nearness, nearer, row_reading, is_row_of}
 use Rattle.order_grammar.specs.Keyword.{text_of_keyword}
 use Rattle.order_grammar.specs.Order.{made_of, parts_of, order_from}
 use Rattle.order_grammar.specs.Spells.{HasSmallNumbers, AreWordsFor}
@@ -16,7 +16,7 @@ use Rattle.order_grammar.specs.declared.order.Parts.{Parts}
 use Rattle.order_grammar.specs.declared.order.Tail.{Tail}
 use Rattle.order_grammar.specs.declared.order.Value.{Value}
 use Rattle.order_grammar.proofs.ApartLemmas.{are_rows_apart, are_all_apart, forms_apart, IsNear, rows_apart}
-use Rattle.order_grammar.proofs.FormLemmas.{with_row}
+use Rattle.order_grammar.proofs.FormLemmas.{with_row, all_reading}
 use Rattle.order_grammar.proofs.KeywordLemmas.{same_keyword, same_word-is, same_word-self}
 use Rattle.order_grammar.proofs.OrderLemmas.{formed, IsMadeAgain, made_again, AreTextsOf, AreWordsByParts, by_parts, of_parts}
 use Rattle.order_grammar.proofs.SmallLemmas.{is_small, are_small, small_of_parts}
@@ -123,7 +123,7 @@ rows_read (other ∷ rows) row first rest start found apart (inr later) read nea
 
 -- words of an order's parts are read so
 parts_read : (order : Order) (parts : Option Parts) (words : List (List ℕ)) → IsMadeAgain order parts → AreWordsByParts parts words →
-    words_reading words ≡ read_as order (are_small parts)
+    all_reading words ≡ read_as order (are_small parts)
 parts_read order None [] made are = ap (λ (o : Order). Ok o) (sym made)
 parts_read order None (word ∷ words) made are = absurd are
 parts_read order (Some parts) [] made are = absurd are.0
@@ -134,7 +134,7 @@ parts_read order (Some parts) (first ∷ rest) made are =
     (near_read_as order (list_all is_small parts.values.items)) (omega arith)
 
 -- words that spell an order, but that its numbers may be too large, are read so
-pub words_for_read : (words : List (List ℕ)) (order : Order) → AreWordsFor order words → words_reading words ≡ read_as order (are_small (parts_of order))
+pub words_for_read : (words : List (List ℕ)) (order : Order) → AreWordsFor order words → all_reading words ≡ read_as order (are_small (parts_of order))
 words_for_read words order are = parts_read order (parts_of order) words (made_again order) (by_parts order words are)
 
 -- what a near reading of words says of them
@@ -194,5 +194,5 @@ nearest_has P (row ∷ rows) first rest start begun each =
     nearest_has P rows first rest (nearer start (row_reading row first rest)) next (λ other among. each other (inr among))
 
 -- what words are read as says of them
-pub words_say : (first : List ℕ) (rest : List (List ℕ)) → SaysOf first rest (words_reading (first ∷ rest))
+pub words_say : (first : List ℕ) (rest : List (List ℕ)) → SaysOf first rest (all_reading (first ∷ rest))
 words_say first rest = nearest_has (SaysOf first rest) forms first rest (Err UnknownWord) tt (λ row among. row_says row first rest among)

@@ -9,7 +9,7 @@ use Rattle.order_grammar.specs.Order.{parts_of, swap_values}
 use Rattle.order_grammar.specs.Spells.{HasSmallNumbers, IsSmallRound}
 use Rattle.order_grammar.specs.declared.order.Offer.TheVariants as offer
 use Rattle.order_grammar.specs.declared.order.Order.{Order}
-use Rattle.order_grammar.specs.declared.order.Order.TheVariants.{Game, Sheet, Bid, Limit, Par, Sell, Lay, BuyTrain, BuyOwnedPrivate, Raise, Offer}
+use Rattle.order_grammar.specs.declared.order.Order.TheVariants.{Game, Sheet, Bid, Limit, Par, Sell, Lay, BuyTrain, BuyOwnedPrivate, Raise, Offer, Cert}
 use Rattle.order_grammar.specs.declared.order.Parts.{Parts}
 use Rattle.order_grammar.specs.declared.order.TrainSource.TheVariants as source
 use Rattle.order_grammar.specs.declared.order.Value.{Value}
@@ -64,6 +64,7 @@ small_by_parts (BuyOwnedPrivate private price) small = rw (le-leb price number_m
 small_by_parts (Raise company tenths) small = rw (le-leb tenths number_most small) refl
 small_by_parts (Offer (offer.Private private buyer price)) small = rw (le-leb price number_most small) refl
 small_by_parts (Offer (offer.Train kind seller buyer price)) small = rw (le-leb price number_most small) refl
+small_by_parts (Cert round company revenue) small = rw (round_by_parts round small.0, le-leb revenue number_most small.1) refl
 small_by_parts other small = refl
 
 -- an order whose parts are small has small numbers
@@ -86,4 +87,7 @@ small_of_parts (Offer (offer.Private private buyer price)) small =
     leb-true price number_most (and_parts (nat_le price number_most) true small).0
 small_of_parts (Offer (offer.Train kind seller buyer price)) small =
     leb-true price number_most (and_parts (nat_le price number_most) true small).0
+small_of_parts (Cert round company revenue) small =
+    let first = and_parts (is_small_round round) (nat_le revenue number_most && true) small in
+    (round_of_parts round first.0, leb-true revenue number_most (and_parts (nat_le revenue number_most) true first.1).0)
 small_of_parts other small = tt

@@ -32,16 +32,16 @@ use Rattle.tables.specs.declared.roster.Private.TheVariants as private
 use Rattle.tables.specs.declared.round.Round.{Round}
 use Rattle.tables.specs.declared.round.Round.TheVariants.{Opening, Stock, Operating}
 use Rattle.order_grammar.specs.Class.{are_digits, value_of_digits, is_of_class}
-use Rattle.order_grammar.specs.Form.{forms, words_reading, is_row_of, has_form, are_of_classes, is_of_repeated}
+use Rattle.order_grammar.specs.Form.{Row, forms, words_reading, is_row_of, has_form, are_of_classes, is_of_repeated}
 use Rattle.order_grammar.specs.Keyword.{text_of_keyword}
-use Rattle.order_grammar.specs.Limits.{line_most}
 use Rattle.tables.specs.Round.{number_most, operating_most}
-use Rattle.order_grammar.specs.Line.{reading_of}
+use Rattle.order_grammar.specs.Line.{reading_by}
 use Rattle.order_grammar.specs.Name.{is_name, is_capital, is_digit, is_letter_or_digit}
 use Rattle.order_grammar.specs.Order.{made_of, parts_of}
 use Rattle.order_grammar.specs.Print.{spaced, joined, text_of_value, words_of_tail, words_of_parts, spelling_of}
 use Rattle.order_grammar.specs.Row.{has_room, is_short}
-use Rattle.order_grammar.specs.Spells.{IsNumber, IsNumbered, is_round_of_line, FitsLine, IsOrder}
+use Rattle.order_grammar.specs.Spells.{IsNumber, IsNumbered, is_round_of_line, BeginWithOneOf, FitsLineIn, IsOrderIn}
+use Rattle.order_grammar.specs.Texts.{TextKind}
 use Rattle.order_grammar.specs.Words.{before, with_word, words_from, raised, words_of, is_printable, same_word}
 use Rattle.order_grammar.specs.declared.class.Class.{Class}
 use Rattle.order_grammar.specs.declared.form.Repeated.{Repeated}
@@ -49,7 +49,7 @@ use Rattle.order_grammar.specs.declared.form.Repeated.TheVariants as repeated
 use Rattle.order_grammar.specs.declared.keyword.Keyword.{Keyword}
 use Rattle.order_grammar.specs.declared.keyword.Keyword.TheVariants as keyword
 use Rattle.order_grammar.specs.declared.order.Order.{Order}
-use Rattle.order_grammar.specs.declared.order.Order.TheVariants.{Run}
+use Rattle.order_grammar.specs.declared.order.Order.TheVariants.{Run, Claim}
 use Rattle.order_grammar.specs.declared.order.Parts.{Parts}
 use Rattle.order_grammar.specs.declared.order.Tail.{Tail}
 use Rattle.order_grammar.specs.declared.order.Tail.TheVariants as tail
@@ -57,6 +57,7 @@ use Rattle.order_grammar.specs.declared.order.Value.{Value}
 use Rattle.order_grammar.specs.declared.order.Value.TheVariants as value
 use Rattle.order_grammar.proofs.HasWords.{has_word, has_words, have_words}
 use Rattle.order_grammar.proofs.OrderLemmas.{IsTextOf, AreTextsOf, AreWordsOfTail, AreWordsByParts, of_parts}
+use Rattle.order_grammar.proofs.PartLemmas.{AreRowsOf, known_read}
 use Rattle.order_grammar.proofs.RowLemmas.{among_any, all_among}
 use Rattle.order_grammar.proofs.SmallLemmas.{is_small, are_small, small_of_parts}
 use Rattle.order_grammar.proofs.SpellsLemmas.{spelt_words_read}
@@ -179,28 +180,29 @@ unfolding ArePlain
 raised-words [] h = refl
 raised-words (word ∷ words) h = rw (raised-plain word h.0.plain, raised-words words h.1) refl
 
--- 20 plain words fit a line
-few_fit : (words : List (List ℕ)) → ArePlain words → length words ≤ 20 → length (joined words) ≤ line_most
+-- 20 plain words are not long
+few_fit : (words : List (List ℕ)) → ArePlain words → length words ≤ 20 → length (joined words) ≤ 340
 unfolding ArePlain
 few_fit [] h few = omega arith
 few_fit (word ∷ words) h few = omega (arith, few, h.0.few, length-append word (spaced words), length-spaced words h.1)
 
 -- plain words that fit a line with single spaces between them are what the words are
-reading_of-joined : (words : List (List ℕ)) → ArePlain words → length (joined words) ≤ line_most → reading_of (joined words) ≡ words_reading words
+reading_by-joined : (most : ℕ) (rows : List Row) (words : List (List ℕ)) → ArePlain words → length (joined words) ≤ most →
+    reading_by most rows (joined words) ≡ words_reading rows words
 unfolding ArePlain
-reading_of-joined [] h fits = refl
-reading_of-joined (word ∷ words) h fits =
+reading_by-joined most rows [] h fits = let short : ltb most 0 ≡ false = le-ltb most 0 (omega arith) in rw short refl
+reading_by-joined most rows (word ∷ words) h fits =
     let line = joined (word ∷ words) in
     let clear : before 35 line ≡ line =
     before-plain 35 word (spaced words) (λ byte p. p.no_comment) h.0.plain ∙ ap (λ (bytes : List ℕ). word ++ bytes) (before-spaced words h.1) in
-    let short : ltb line_most (length line) ≡ false = le-ltb line_most (length line) fits in
+    let short : ltb most (length line) ≡ false = le-ltb most (length line) fits in
     let printable : list_all is_printable (before 35 line) ≡ true =
     ap (list_all is_printable) clear ∙ list_all-append is_printable word (spaced words)
     ∙ and_from _ _ (printable-plain word h.0.plain) (printable-spaced words h.1) in
     let here : words_of line ≡ word ∷ words =
     ap (λ (bytes : List ℕ). map raised (words_from [] bytes)) clear ∙ ap (map raised) (words_from-joined word words h.0 (words_from-spaced words h.1))
     ∙ raised-words (word ∷ words) h in
-    rw (short, printable) (ap words_reading here)
+    rw (short, printable) (ap (words_reading rows) here)
 
 -- letters in upper case and digits are plain
 plain_letter : (byte : ℕ) → is_letter_or_digit byte ≡ true → is_plain byte ≡ true
@@ -406,6 +408,7 @@ value_spelt (value.Hex hex) has = record { text = refl; small = refl; plain = he
 value_spelt (value.Rotation rotation) has =
     record { text = refl; small = refl; plain = decimal_plain (turns_of rotation) (leb-true (turns_of rotation) number_most (turns_small rotation)) }
 value_spelt (value.Place place) has = record { text = refl; small = refl; plain = place_plain_from place.hex place.stop }
+value_spelt value.HexDigits has = absurd (false≢true has)
 value_spelt (value.Word k) has = record { text = refl; small = refl; plain = plain_word (text_of_keyword k) (keyword_plain k) }
 
 -- the words of values and of what is repeated
@@ -471,36 +474,40 @@ forms_short : list_all is_short forms ≡ true
 forms_short = refl
 
 -- parts with the places of a run fit a line
-abbrev FitWithPlaces : Keyword → List Value → Tail → Type 0
-FitWithPlaces k values (tail.Places run) = length (joined (words_of_parts (made_of k values (tail.Places run)))) ≤ line_most
-FitWithPlaces k values t = Unit {0}
+abbrev FitWithPlaces : ℕ → Keyword → List Value → Tail → Type 0
+FitWithPlaces most k values (tail.Places run) = length (joined (words_of_parts (made_of k values (tail.Places run)))) ≤ most
+FitWithPlaces most k values t = Unit {0}
 
-abbrev FitsParts : Option Parts → Type 0
-FitsParts None = Unit {0}
-FitsParts (Some parts) = FitWithPlaces parts.keyword parts.values.items parts.tail
+abbrev FitsParts : ℕ → Option Parts → Type 0
+FitsParts most None = Unit {0}
+FitsParts most (Some parts) = FitWithPlaces most parts.keyword parts.values.items parts.tail
 
 -- so do those of an order that does
-fits_by_parts : (order : Order) → FitsLine order → FitsParts (parts_of order)
-fits_by_parts (Run k run) fits = fits
-fits_by_parts other fits = tt
+fits_by_parts : (text : TextKind) (order : Order) → FitsLineIn text order → FitsParts text.most (parts_of order)
+fits_by_parts text (Run k run) fits = fits
+fits_by_parts text (Claim k run) fits = fits
+fits_by_parts text other fits = tt
 
 -- parts of a form that have words fit a line
-parts_fit : (k : Keyword) (values : List Value) (t : Tail) → length values ≤ 5 → IsFew t → ArePlain (words_of_parts (made_of k values t)) →
-    FitWithPlaces k values t → length (joined (words_of_parts (made_of k values t))) ≤ line_most
-parts_fit k values tail.Nothing five few plain fits =
-    few_fit _ plain (omega (arith, length-append (map text_of_value values) [], length-map values text_of_value, five))
-parts_fit k values (tail.Names names) five few plain fits =
-    few_fit _ plain (omega (arith, length-append (map text_of_value values) names.items, length-map values text_of_value, five, few))
-parts_fit k values (tail.Places run) five few plain fits = fits
+parts_fit : (most : ℕ) (k : Keyword) (values : List Value) (t : Tail) → 340 ≤ most → length values ≤ 5 → IsFew t →
+    ArePlain (words_of_parts (made_of k values t)) → FitWithPlaces most k values t → length (joined (words_of_parts (made_of k values t))) ≤ most
+parts_fit most k values tail.Nothing room five few plain fits =
+    let short = few_fit _ plain (omega (arith, length-append (map text_of_value values) [], length-map values text_of_value, five)) in
+    omega (arith, short, room)
+parts_fit most k values (tail.Names names) room five few plain fits =
+    let short = few_fit _ plain (omega (arith, length-append (map text_of_value values) names.items, length-map values text_of_value, five, few)) in
+    omega (arith, short, room)
+parts_fit most k values (tail.Places run) room five few plain fits = fits
 
--- parts of a form that have words are read as what they make
-parts_read : (order : Order) (parts : Option Parts) → parts_of order ≡ parts → have_words parts ≡ true → FitsParts parts →
-    reading_of (joined (words_of_parts parts)) ≡ Ok order
+-- parts of a form that have words are read as what they make, by the forms of a text that knows the first of them
+parts_read : (text : TextKind) (rows : List Row) → AreRowsOf text rows → 340 ≤ text.most → (order : Order) (parts : Option Parts) →
+    parts_of order ≡ parts → have_words parts ≡ true → FitsParts text.most parts → BeginWithOneOf text.first_words (words_of_parts parts) →
+    reading_by text.most rows (joined (words_of_parts parts)) ≡ Ok order
 unfolding ArePlain
-parts_read order None is has fits =
-    reading_of-joined [] tt (omega arith)
+parts_read text rows of room order None is has fits known =
+    reading_by-joined text.most rows [] tt (omega arith)
     ∙ spelt_words_read [] order (of_parts order [] (subst (λ (p : Option Parts). AreWordsByParts p []) (sym is) tt)) (small_of_parts order (ap are_small is))
-parts_read order (Some parts) is has fits =
+parts_read text rows of room order (Some parts) is has fits known =
     let values = parts.values.items in
     let h = and_parts (has_form parts) (list_all has_word values) has in
     let row = among_any (is_row_of parts.keyword values parts.tail) forms h.0 in
@@ -512,10 +519,13 @@ parts_read order (Some parts) is has fits =
     let words = words_of_parts (Some parts) in
     let plain : ArePlain words = (plain_word (text_of_keyword parts.keyword) (keyword_plain parts.keyword), spelt.plain) in
     let five : length values ≤ 5 = omega (arith, counted.0, leb-true (length row.0.classes) 5 short.0) in
-    reading_of-joined words plain (parts_fit parts.keyword values parts.tail five counted.1.few plain fits)
+    reading_by-joined text.most rows words plain (parts_fit text.most parts.keyword values parts.tail room five counted.1.few plain fits)
+    ∙ known_read text rows words of known
     ∙ spelt_words_read words order (of_parts order words (subst (λ (p : Option Parts). AreWordsByParts p words) (sym is) ((refl, spelt.texts), h.0)))
     (small_of_parts order (ap are_small is ∙ spelt.small))
 
--- the spelling of an order is read as it
-pub spelling_read : (order : Order) → IsOrder order → reading_of (spelling_of order) ≡ Ok order
-spelling_read order is = parts_read order (parts_of order) refl (has_words order is.0) (fits_by_parts order is.1)
+-- the spelling of an order in a text is read as it
+pub spelling_read : (text : TextKind) (rows : List Row) → AreRowsOf text rows → 340 ≤ text.most → (order : Order) → IsOrderIn text order →
+    reading_by text.most rows (spelling_of order) ≡ Ok order
+spelling_read text rows of room order is =
+    parts_read text rows of room order (parts_of order) refl (has_words order is.0) (fits_by_parts text order is.1) is.2

@@ -19,7 +19,7 @@ use Rattle.tables.specs.declared.roster.Company.TheVariants as company
 use Rattle.tables.specs.declared.roster.Private.{Private}
 use Rattle.tables.specs.declared.roster.Private.TheVariants as private
 use Rattle.tables.specs.declared.round.Round.TheVariants.{Opening, Stock, Operating}
-use Rattle.order_grammar.specs.Class.{are_digits, value_of_digits, digits_reading, round_of_series, round_number_reading, number_in_set, operating_reading, round_reading, class_reading, code_reading, named_reading, private_reading, company_reading, kind_reading, is_of_class}
+use Rattle.order_grammar.specs.Class.{are_digits, are_hex_digits, value_of_digits, digits_reading, round_of_series, round_number_reading, number_in_set, operating_reading, round_reading, class_reading, code_reading, named_reading, private_reading, company_reading, kind_reading, is_of_class}
 use Rattle.order_grammar.specs.Keyword.{text_of_keyword}
 use Rattle.tables.specs.Round.{number_most, operating_most}
 use Rattle.order_grammar.specs.Name.{is_name}
@@ -142,6 +142,7 @@ value_read class.Tile (value.Tile tile) text of is small = ap (named_reading val
 value_read class.Hex (value.Hex hex) text of is small = ap (named_reading value.Hex) ((texts_read.hexes text hex).1 is)
 value_read class.Rotation (value.Rotation rotation) text of is small = ap (named_reading value.Rotation) ((texts_read.rotations text rotation).1 is)
 value_read class.Place (value.Place place) text of is small = ap (named_reading value.Place) ((texts_read.places text place).1 is)
+value_read class.HexDigits value.HexDigits text of is small = rw is refl
 value_read (class.Word k) (value.Word other) text of is small =
     let same : k ≡ other = same_keyword k other of in
     rw (is, ← same, same_word-self (text_of_keyword k)) refl
@@ -333,6 +334,11 @@ class_read class.Tile text = tile_as text (tile_of_text text) refl
 class_read class.Hex text = hex_as text (hex_of_text text) refl
 class_read class.Rotation text = rotation_as text (rotation_of_text text) refl
 class_read class.Place text = place_as text (place_of_text text) refl
+class_read class.HexDigits text =
+    elim (cases_Bool (are_hex_digits text)) [
+      | inl digits ↦ rw digits (record { of_class = refl; text_of = digits }, refl)
+      | inr other ↦ rw other tt
+    ]
 class_read (class.Word k) text =
     elim (cases_Bool (same_word text (text_of_keyword k))) [
       | inl same ↦ rw same (record { of_class = same_word-self (text_of_keyword k); text_of = same_word-is text (text_of_keyword k) same }, refl)

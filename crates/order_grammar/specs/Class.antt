@@ -1,6 +1,6 @@
 -- The classes of words: which texts may stand at a place of a form, and what each says. A word that
 -- would be such a text if numbers had no greatest value is too large.
-use Rattle.std.specs.Prelude.{ℕ, ◌+◌, ◌*◌, ◌-◌, ◌==◌, Bool, true, false, ◌&&◌, nat_le, if◌then◌else◌, List, [], ◌∷◌, length, codes, take, drop, fold, min, Option, Some, None}
+use Rattle.std.specs.Prelude.{ℕ, ◌+◌, ◌*◌, ◌-◌, ◌==◌, Bool, true, false, ◌&&◌, ◌||◌, nat_le, if◌then◌else◌, List, [], ◌∷◌, length, codes, take, drop, fold, min, Option, Some, None}
 use Rattle.std.specs.List.{list_all}
 use Rattle.tables.specs.declared.round.Round.{Round}
 use Rattle.tables.specs.declared.round.Round.TheVariants.{Opening, Stock, Operating}
@@ -9,6 +9,7 @@ use Rattle.tables.specs.Train.{code_of_kind, kinds}
 use Rattle.tables.specs.Roster.{companies, code_of_company, privates, code_of_private}
 use Rattle.order_grammar.specs.Keyword.{text_of_keyword}
 use Rattle.tables.specs.Round.{number_most, operating_most}
+use Rattle.order_grammar.specs.Limits.{marks_digits_most}
 use Rattle.order_grammar.specs.Name.{is_name, is_digit}
 use Rattle.order_grammar.specs.Words.{same_word}
 use Rattle.order_grammar.specs.declared.class.Class.{Class}
@@ -97,6 +98,18 @@ company_reading word = code_reading code_of_company value.Company companies word
 abbrev pub kind_reading : List ℕ → Reading
 kind_reading word = code_reading code_of_kind value.Kind kinds word
 
+-- a hexadecimal digit, letters raised
+abbrev pub is_hex_digit : ℕ → Bool
+is_hex_digit byte = is_digit byte || (nat_le 65 byte && nat_le byte 70)
+
+-- hexadecimal digits, as many as a line of marks has
+abbrev pub are_hex_digits : List ℕ → Bool
+are_hex_digits word = (nat_le 1 (length word) && nat_le (length word) marks_digits_most) && list_all is_hex_digit word
+
+-- hexadecimal digits, whose value stands in the word alone
+abbrev pub hex_digits_reading : List ℕ → Reading
+hex_digits_reading word = if are_hex_digits word then Value value.HexDigits else Wrong
+
 -- what stands for that which a word names, if it names any
 abbrev pub named_reading : {X : Type 0} → (X → values.Value) → Option X → Reading
 named_reading stands_for (Some one) = Value (stands_for one)
@@ -114,6 +127,7 @@ class_reading class.Tile word = named_reading value.Tile (tile_of_text word)
 class_reading class.Hex word = named_reading value.Hex (hex_of_text word)
 class_reading class.Rotation word = named_reading value.Rotation (rotation_of_text word)
 class_reading class.Place word = named_reading value.Place (place_of_text word)
+class_reading class.HexDigits word = hex_digits_reading word
 class_reading (class.Word keyword) word =
     if same_word word (text_of_keyword keyword) then Value (value.Word keyword) else Wrong
 
@@ -129,5 +143,6 @@ is_of_class class.Tile (value.Tile tile) = true
 is_of_class class.Hex (value.Hex hex) = true
 is_of_class class.Rotation (value.Rotation rotation) = true
 is_of_class class.Place (value.Place place) = true
+is_of_class class.HexDigits value.HexDigits = true
 is_of_class (class.Word keyword) (value.Word other) = same_word (text_of_keyword keyword) (text_of_keyword other)
 is_of_class class other = false

@@ -3,7 +3,7 @@ use Rattle.std.specs.Prelude.{⊤}
 use Rattle.order_grammar.specs.declared.keyword.Keyword.{Keyword}
 use Rattle.order_grammar.specs.declared.keyword.Keyword.TheVariants as keyword
 use Rattle.order_grammar.specs.declared.order.Order.{Order}
-use Rattle.order_grammar.specs.declared.order.Order.TheVariants.{Bid, BuyOwnedPrivate, Limit, Par, Raise, Sell}
+use Rattle.order_grammar.specs.declared.order.Order.TheVariants.{Bid, BuyOwnedPrivate, Cert, Certs, Limit, Marks, Par, Raise, Sell}
 
 -- a line of the file or a head of its sheets begins with it
 abbrev pub IsOfFile : Keyword → Type 0
@@ -41,6 +41,13 @@ IsOfTrains keyword.Withhold = ⊤
 IsOfTrains keyword.Discard = ⊤
 IsOfTrains other = ⊥
 
+-- a line of a certificate's text begins with it that has no places
+abbrev pub IsOfCertificate : Keyword → Type 0
+IsOfCertificate keyword.Certs = ⊤
+IsOfCertificate keyword.Cert = ⊤
+IsOfCertificate keyword.Marks = ⊤
+IsOfCertificate other = ⊥
+
 -- the order names a number of dollars or of tenths
 abbrev pub HasAmount : Order → Type 0
 HasAmount (Bid private amount) = ⊤
@@ -50,3 +57,10 @@ HasAmount (Sell company tenths) = ⊤
 HasAmount (BuyOwnedPrivate private price) = ⊤
 HasAmount (Raise company tenths) = ⊤
 HasAmount other = ⊥
+
+-- the order is such a line of a certificate's text
+abbrev pub IsCertificateLine : Order → Type 0
+IsCertificateLine Certs = ⊤
+IsCertificateLine (Cert round company revenue) = ⊤
+IsCertificateLine Marks = ⊤
+IsCertificateLine other = ⊥

@@ -1,6 +1,6 @@
 -- The table of forms, and what the words of a line are by it: the order that they spell, or why they
 -- spell none.
-use Rattle.std.specs.Prelude.{ℕ, List, [], ◌∷◌, Option, Some, None, Result, Ok, Err, nat_lt, nat_le, Bool, true, false, ◌&&◌, length, fold, if◌then◌else◌, option_map}
+use Rattle.std.specs.Prelude.{ℕ, List, [], ◌∷◌, Option, Some, None, Result, Ok, Err, nat_lt, nat_le, Bool, true, false, ◌&&◌, length, fold, take, drop, if◌then◌else◌, option_map}
 use Rattle.map_tables.specs.Text.{place_of_text}
 use Rattle.map_tables.specs.declared.place.Place.{Place}
 use Rattle.std.specs.List.{list_all, list_any}
@@ -36,7 +36,7 @@ pub record Row : Type 0 where
 abbrev pub row : Keyword → List Class → Repeated → Row
 row keyword classes repeated = record { keyword = keyword; classes = classes; repeated = repeated }
 
--- the forms of lines
+-- the forms of lines: those of orders, then CERT and CLAIM, then those of a certificate alone
 abbrev pub forms : List Row
 forms =
     row keyword.Game (class.Number ∷ class.Number ∷ []) repeated.Nothing
@@ -68,7 +68,19 @@ forms =
     ∷ row keyword.Raise (class.Company ∷ class.Number ∷ []) repeated.Nothing
     ∷ row keyword.Offer (class.Word keyword.Private ∷ class.Private ∷ class.Company ∷ class.Number ∷ []) repeated.Nothing
     ∷ row keyword.Offer (class.Word keyword.Train ∷ class.Kind ∷ class.Company ∷ class.Company ∷ class.Number ∷ []) repeated.Nothing
+    ∷ row keyword.Cert (class.Round ∷ class.Company ∷ class.Number ∷ []) repeated.Nothing
+    ∷ row keyword.Claim (class.Kind ∷ []) repeated.Places
+    ∷ row keyword.Certs (class.Word keyword.One ∷ []) repeated.Nothing
+    ∷ row keyword.Marks (class.HexDigits ∷ []) repeated.Nothing
     ∷ []
+
+-- the forms of an order file: all but CERTS and MARKS
+abbrev pub order_forms : List Row
+order_forms = take 31 forms
+
+-- the forms of the text of a certificate: CERT, CLAIM, CERTS and MARKS
+abbrev pub cert_forms : List Row
+cert_forms = drop 29 forms
 
 -- names, at least and at most so many
 abbrev pub are_names : ℕ → ℕ → List (List ℕ) → Bool
@@ -155,10 +167,10 @@ abbrev pub rows_reading : List Row → List ℕ → List (List ℕ) → Result O
 rows_reading rows first rest =
     fold (λ (nearest : Result Order Fault) (row : Row). nearer nearest (row_reading row first rest)) (Err UnknownWord) rows
 
--- the order that the words of a line spell, or why they spell none
-abbrev pub words_reading : List (List ℕ) → Result Order Fault
-words_reading [] = Ok Blank
-words_reading (first ∷ rest) = rows_reading forms first rest
+-- the order that the words of a line spell by some rows, or why they spell none
+abbrev pub words_reading : List Row → List (List ℕ) → Result Order Fault
+words_reading rows [] = Ok Blank
+words_reading rows (first ∷ rest) = rows_reading rows first rest
 
 -- whether what stands at the end is of the class that is repeated there
 abbrev pub is_of_repeated : Repeated → Tail → Bool

@@ -1,4 +1,5 @@
 pub mod Limits
+pub mod Texts
 pub mod Name
 pub mod Words
 pub mod Keyword

@@ -4,3 +4,11 @@ use Rattle.std.specs.Prelude.{ℕ}
 -- the most bytes of a line, without its LF and a CR before that
 abbrev pub line_most : ℕ
 line_most = 1024
+
+-- the same of the text of a certificate
+abbrev pub cert_line_most : ℕ
+cert_line_most = 2048
+
+-- the most hexadecimal digits of a MARKS line
+abbrev pub marks_digits_most : ℕ
+marks_digits_most = 1000

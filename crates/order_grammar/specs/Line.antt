@@ -2,20 +2,28 @@
 -- byte before the comment that is not printable, and then what its words are.
 use Rattle.std.specs.Prelude.{ℕ, nat_lt, if◌then◌else◌, List, length, Result, Ok, Err}
 use Rattle.std.specs.List.{list_all}
-use Rattle.order_grammar.specs.Form.{words_reading}
-use Rattle.order_grammar.specs.Limits.{line_most}
+use Rattle.order_grammar.specs.Form.{Row, order_forms, cert_forms, words_reading}
+use Rattle.order_grammar.specs.Limits.{line_most, cert_line_most}
 use Rattle.order_grammar.specs.Words.{words_of, before_comment, is_printable}
 use Rattle.order_grammar.specs.declared.fault.Fault.{Fault}
 use Rattle.order_grammar.specs.declared.fault.Fault.TheVariants.{TooLong, StrayByte}
 use Rattle.order_grammar.specs.declared.order.Order.{Order}
 use Rattle.order_grammar.specs.declared.read.Line.{Line}
 
--- the order of a line, or its first fault
-abbrev pub reading_of : List ℕ → Result Order Fault
-reading_of line =
-    if nat_lt line_most (length line)
+-- the order of a line of at most so many bytes by some forms, or its first fault
+abbrev pub reading_by : ℕ → List Row → List ℕ → Result Order Fault
+reading_by most rows line =
+    if nat_lt most (length line)
     then Err TooLong
-    else (if list_all is_printable (before_comment line) then words_reading (words_of line) else Err StrayByte)
+    else (if list_all is_printable (before_comment line) then words_reading rows (words_of line) else Err StrayByte)
+
+-- the order of a line of an order file, or its first fault
+abbrev pub reading_of : List ℕ → Result Order Fault
+reading_of line = reading_by line_most order_forms line
+
+-- what a line of a certificate's text says, or its first fault
+abbrev pub cert_reading_of : List ℕ → Result Order Fault
+cert_reading_of line = reading_by cert_line_most cert_forms line
 
 -- the order of a line that was read, without its words
 abbrev pub order_of : Result Line Fault → Result Order Fault

@@ -1,51 +1,48 @@
 -- Which fault a line has by itself, said without the table of forms: the first of five that applies.
-use Rattle.std.specs.Prelude.{ℕ, ◌<◌, IsTrue, List, [], ◌∷◌, length, codes, Any, Contains}
-use Rattle.order_grammar.specs.Limits.{line_most}
-use Rattle.order_grammar.specs.Spells.{LooselySpells, Spells}
+use Rattle.std.specs.Prelude.{ℕ, ◌<◌, IsTrue, List, [], ◌∷◌, length, Any, Contains}
+use Rattle.order_grammar.specs.Spells.{LooselySpellsIn, SpellsIn}
+use Rattle.order_grammar.specs.Texts.{TextKind, order_file}
 use Rattle.order_grammar.specs.Words.{words_of, before_comment, is_printable}
 use Rattle.order_grammar.specs.declared.fault.Fault.{Fault}
 use Rattle.order_grammar.specs.declared.fault.Fault.TheVariants.{TooLong, StrayByte, UnknownWord, WrongWords, NumberTooLarge}
 use Rattle.order_grammar.specs.declared.order.Order.{Order}
 
--- the line has too many bytes
-abbrev pub IsTooLong : List ℕ → Type 0
-IsTooLong line = line_most < length line
+-- the line has too many bytes for the text
+abbrev pub IsTooLong : TextKind → List ℕ → Type 0
+IsTooLong text line = text.most < length line
 
 -- a byte before its comment is not printable
 abbrev pub HasStrayByte : List ℕ → Type 0
 HasStrayByte line = Any (λ byte. ¬ IsTrue (is_printable byte)) (before_comment line)
 
--- the words that forms begin with
-abbrev pub first_words_of_forms : List (List ℕ)
-first_words_of_forms =
-    codes "GAME" ∷ codes "PLAYERS" ∷ codes "SHEET" ∷ codes "TURN" ∷ codes "BUY"
-    ∷ codes "BID" ∷ codes "LIMIT" ∷ codes "PAR" ∷ codes "SELL" ∷ codes "EXCHANGE" ∷ codes "COMPANY"
-    ∷ codes "LAY" ∷ codes "TOKEN" ∷ codes "RUN" ∷ codes "PAY" ∷ codes "WITHHOLD" ∷ codes "TRAIN" ∷ codes "DISCARD"
-    ∷ codes "PRIVATE" ∷ codes "RAISE" ∷ codes "OFFER" ∷ []
+-- there is a first word, and it is none of these
+abbrev pub BeginWithOther : List (List ℕ) → List (List ℕ) → Type 0
+BeginWithOther known [] = ⊥
+BeginWithOther known (first ∷ rest) = ¬ Contains known first
 
--- there is a first word, and no form begins with it
-abbrev pub BeginsNoForm : List (List ℕ) → Type 0
-BeginsNoForm [] = ⊥
-BeginsNoForm (first ∷ rest) = ¬ Contains first_words_of_forms first
-
--- the line's first word is of no form
-abbrev pub HasUnknownWord : List ℕ → Type 0
-HasUnknownWord line = BeginsNoForm (words_of line)
+-- the line's first word is of no form of the text
+abbrev pub HasUnknownWord : TextKind → List ℕ → Type 0
+HasUnknownWord text line = BeginWithOther text.first_words (words_of line)
 
 -- it would spell an order if numbers had no greatest value
-abbrev pub IsLooselySpelt : List ℕ → Type 0
-IsLooselySpelt line = (order : Order) × LooselySpells line order
+abbrev pub IsLooselySpelt : TextKind → List ℕ → Type 0
+IsLooselySpelt text line = (order : Order) × LooselySpellsIn text line order
 
 -- it spells an order
-abbrev pub IsSpelt : List ℕ → Type 0
-IsSpelt line = (order : Order) × Spells line order
+abbrev pub IsSpelt : TextKind → List ℕ → Type 0
+IsSpelt text line = (order : Order) × SpellsIn text line order
 
--- the fault that the line has: it applies, and none of those before it does
+-- the fault that the line of a text has: it applies, and none of those before it does
+abbrev pub IsFaultIn : TextKind → List ℕ → Fault → Type 0
+IsFaultIn text line TooLong = IsTooLong text line
+IsFaultIn text line StrayByte = ¬ IsTooLong text line × HasStrayByte line
+IsFaultIn text line UnknownWord = ¬ IsTooLong text line × ¬ HasStrayByte line × HasUnknownWord text line
+IsFaultIn text line WrongWords =
+    ¬ IsTooLong text line × ¬ HasStrayByte line × ¬ HasUnknownWord text line × ¬ IsLooselySpelt text line
+IsFaultIn text line NumberTooLarge =
+    ¬ IsTooLong text line × ¬ HasStrayByte line × ¬ HasUnknownWord text line × IsLooselySpelt text line × ¬ IsSpelt text line
+IsFaultIn text line other = ⊥
+
+-- the fault that the line of an order file has
 abbrev pub IsFaultOf : List ℕ → Fault → Type 0
-IsFaultOf line TooLong = IsTooLong line
-IsFaultOf line StrayByte = ¬ IsTooLong line × HasStrayByte line
-IsFaultOf line UnknownWord = ¬ IsTooLong line × ¬ HasStrayByte line × HasUnknownWord line
-IsFaultOf line WrongWords = ¬ IsTooLong line × ¬ HasStrayByte line × ¬ HasUnknownWord line × ¬ IsLooselySpelt line
-IsFaultOf line NumberTooLarge =
-    ¬ IsTooLong line × ¬ HasStrayByte line × ¬ HasUnknownWord line × IsLooselySpelt line × ¬ IsSpelt line
-IsFaultOf line other = ⊥
+IsFaultOf line fault = IsFaultIn order_file line fault

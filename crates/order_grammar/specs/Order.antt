@@ -11,7 +11,7 @@ use Rattle.order_grammar.specs.declared.keyword.Keyword.TheVariants as keyword
 use Rattle.order_grammar.specs.declared.order.Offer as offers
 use Rattle.order_grammar.specs.declared.order.Offer.TheVariants as offer
 use Rattle.order_grammar.specs.declared.order.Order.{Order}
-use Rattle.order_grammar.specs.declared.order.Order.TheVariants.{Blank, Game, Players, Sheet, Turn, BuyPrivate, Bid, Limit, Par, BuyShare, Sell, ExchangeMohawk, Company as CompanyTurn, Lay, Token, Run, RunBest, Pay, Withhold, BuyTrain, Discard, BuyOwnedPrivate, Raise, Offer}
+use Rattle.order_grammar.specs.declared.order.Order.TheVariants.{Blank, Game, Players, Sheet, Turn, BuyPrivate, Bid, Limit, Par, BuyShare, Sell, ExchangeMohawk, Company as CompanyTurn, Lay, Token, Run, RunBest, Pay, Withhold, BuyTrain, Discard, BuyOwnedPrivate, Raise, Offer, Certs, Cert, Claim, Marks}
 use Rattle.order_grammar.specs.declared.order.Parts.{Parts}
 use Rattle.order_grammar.specs.declared.order.ShareSource.{ShareSource}
 use Rattle.order_grammar.specs.declared.order.ShareSource.TheVariants.{InitialOffering, BankPool}
@@ -85,6 +85,11 @@ parts_of (Discard company kind) = made_of keyword.Discard (value.Company company
 parts_of (BuyOwnedPrivate private price) = made_of keyword.Private (value.Private private ∷ value.Number price ∷ []) tail.Nothing
 parts_of (Raise company tenths) = made_of keyword.Raise (value.Company company ∷ value.Number tenths ∷ []) tail.Nothing
 parts_of (Offer offer) = made_of keyword.Offer (offer_values offer) tail.Nothing
+parts_of Certs = made_of keyword.Certs (value.Word keyword.One ∷ []) tail.Nothing
+parts_of (Cert round company revenue) =
+    made_of keyword.Cert (value.Round round ∷ value.Company company ∷ value.Number revenue ∷ []) tail.Nothing
+parts_of (Claim kind run) = made_of keyword.Claim (value.Kind kind ∷ []) (tail.Places run)
+parts_of Marks = made_of keyword.Marks (value.HexDigits ∷ []) tail.Nothing
 
 -- the order of these parts, where there is one
 abbrev pub order_from : Keyword → List Value → Tail → Option Order
@@ -125,6 +130,11 @@ order_from keyword.Offer ((value.Word keyword.Private) ∷ (value.Private privat
 order_from keyword.Offer ((value.Word keyword.Train) ∷ (value.Kind kind) ∷ (value.Company seller) ∷ (value.Company buyer) ∷ (value.Number price) ∷ [])
     tail.Nothing =
     Some (Offer (offer.Train kind seller buyer price))
+order_from keyword.Certs ((value.Word keyword.One) ∷ []) tail.Nothing = Some Certs
+order_from keyword.Cert ((value.Round round) ∷ (value.Company company) ∷ (value.Number revenue) ∷ []) tail.Nothing =
+    Some (Cert round company revenue)
+order_from keyword.Claim ((value.Kind kind) ∷ []) (tail.Places run) = Some (Claim kind run)
+order_from keyword.Marks (value.HexDigits ∷ []) tail.Nothing = Some Marks
 order_from other values tail = None
 
 -- the order that was put in its place, if one was

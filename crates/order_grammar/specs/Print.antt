@@ -22,7 +22,7 @@ text_of_round (Opening number) = codes "PR" ++ decimal number
 text_of_round (Stock number) = codes "SR" ++ decimal number
 text_of_round (Operating set number) = codes "OR" ++ decimal set ++ codes "." ++ decimal number
 
--- the word of a value
+-- the word of a value; of hexadecimal digits nothing is kept
 abbrev pub text_of_value : Value → List ℕ
 text_of_value (value.Number number) = decimal number
 text_of_value (value.Name name) = name
@@ -34,6 +34,7 @@ text_of_value (value.Tile tile) = text_of_tile tile
 text_of_value (value.Hex hex) = text_of_hex hex
 text_of_value (value.Rotation rotation) = text_of_rotation rotation
 text_of_value (value.Place place) = text_of_place place
+text_of_value value.HexDigits = []
 text_of_value (value.Word keyword) = text_of_keyword keyword
 
 -- the words of a class that is repeated

@@ -1,6 +1,6 @@
 -- Which lines spell which orders, each form by itself, and which orders have a spelling. A line is
 -- loosely spelt where it would spell an order if numbers had no greatest value.
-use Rattle.std.specs.Prelude.{◌≡◌, ◌≢◌, ⊤, ℕ, ◌≤◌, Bool, true, false, ◌&&◌, nat_le, IsTrue, List, [], ◌∷◌, ◌++◌, length, map, codes, decimal, slice_index}
+use Rattle.std.specs.Prelude.{◌≡◌, ◌≢◌, ⊤, ℕ, ◌≤◌, Bool, true, false, ◌&&◌, nat_le, IsTrue, List, [], ◌∷◌, ◌++◌, length, map, codes, decimal, slice_index, Contains}
 use Rattle.std.specs.List.{list_all}
 use Rattle.map_tables.specs.Text.{text_of_hex, text_of_place, text_of_rotation, text_of_tile}
 use Rattle.map_tables.specs.declared.hex.Hex.{Hex}
@@ -14,16 +14,16 @@ use Rattle.tables.specs.declared.roster.Company.{Company}
 use Rattle.tables.specs.declared.roster.Private.{Private}
 use Rattle.tables.specs.declared.round.Round.{Round}
 use Rattle.tables.specs.declared.round.Round.TheVariants.{Opening, Stock, Operating}
-use Rattle.order_grammar.specs.Class.{are_digits, value_of_digits}
-use Rattle.order_grammar.specs.Limits.{line_most}
+use Rattle.order_grammar.specs.Class.{are_digits, are_hex_digits, value_of_digits}
+use Rattle.order_grammar.specs.Texts.{TextKind, order_file}
 use Rattle.tables.specs.Round.{number_most, operating_most}
 use Rattle.order_grammar.specs.Name.{is_name}
-use Rattle.order_grammar.specs.Print.{spelling_of}
+use Rattle.order_grammar.specs.Print.{spelling_of, words_of_order}
 use Rattle.order_grammar.specs.Words.{words_of, before_comment, is_printable}
 use Rattle.order_grammar.specs.declared.order.Offer as offers
 use Rattle.order_grammar.specs.declared.order.Offer.TheVariants as offer
 use Rattle.order_grammar.specs.declared.order.Order.{Order}
-use Rattle.order_grammar.specs.declared.order.Order.TheVariants.{Blank, Game, Players, Sheet, Turn, BuyPrivate, Bid, Limit, Par, BuyShare, Sell, ExchangeMohawk, Company as CompanyTurn, Lay, Token, Run, RunBest, Pay, Withhold, BuyTrain, Discard, BuyOwnedPrivate, Raise, Offer}
+use Rattle.order_grammar.specs.declared.order.Order.TheVariants.{Blank, Game, Players, Sheet, Turn, BuyPrivate, Bid, Limit, Par, BuyShare, Sell, ExchangeMohawk, Company as CompanyTurn, Lay, Token, Run, RunBest, Pay, Withhold, BuyTrain, Discard, BuyOwnedPrivate, Raise, Offer, Certs, Cert, Claim, Marks}
 use Rattle.order_grammar.specs.declared.order.ShareSource.TheVariants.{InitialOffering, BankPool}
 use Rattle.order_grammar.specs.declared.order.TrainSource.{TrainSource}
 use Rattle.order_grammar.specs.declared.order.TrainSource.TheVariants as source
@@ -87,6 +87,10 @@ IsRotation rotation text = text ≡ text_of_rotation rotation
 -- a hex, or the number of a stop behind it
 abbrev pub IsPlace : Place → List ℕ → Type 0
 IsPlace place text = text ≡ text_of_place place
+
+-- hexadecimal digits, as many as a line of marks has
+abbrev pub AreHexDigits : List ℕ → Type 0
+AreHexDigits text = IsTrue (are_hex_digits text)
 
 -- three to six names
 pub record AreNames (names : List (List ℕ)) (words : List (List ℕ)) : Type 0 where
@@ -170,11 +174,22 @@ AreWordsFor (BuyOwnedPrivate private price) words =
 AreWordsFor (Raise company tenths) words =
     Then (IsWord (codes "RAISE")) (Then (IsCompany company) (Then (IsNumber tenths) End)) words
 AreWordsFor (Offer offer) words = Then (IsWord (codes "OFFER")) (AreOfferWords offer) words
+AreWordsFor Certs words = Then (IsWord (codes "CERTS")) (Then (IsWord (codes "1")) End) words
+AreWordsFor (Cert round company revenue) words =
+    Then (IsWord (codes "CERT")) (Then (IsRoundOfLine round) (Then (IsCompany company) (Then (IsNumber revenue) End))) words
+AreWordsFor (Claim kind run) words = Then (IsWord (codes "CLAIM")) (Then (IsKind kind) (ArePlaces run)) words
+AreWordsFor Marks words = Then (IsWord (codes "MARKS")) (Then AreHexDigits End) words
 
--- the line would spell the order if numbers had no greatest value
-pub record LooselySpells (line : List ℕ) (order : Order) : Type 0 where
-  pub short : length line ≤ line_most
+-- the first of the words, if there is any, is one of these
+abbrev pub BeginWithOneOf : List (List ℕ) → List (List ℕ) → Type 0
+BeginWithOneOf known [] = Unit {0}
+BeginWithOneOf known (first ∷ rest) = Contains known first
+
+-- the line of a text would spell the order if numbers had no greatest value
+pub record LooselySpellsIn (text : TextKind) (line : List ℕ) (order : Order) : Type 0 where
+  pub short : length line ≤ text.most
   pub printable : IsTrue (list_all is_printable (before_comment line))
+  pub known : BeginWithOneOf text.first_words (words_of line)
   pub words : AreWordsFor order (words_of line)
 
 -- the number of a round, or that of its set, is one that a line may have
@@ -205,12 +220,17 @@ HasSmallNumbers (BuyTrain kind from) = HasSmallPrice from
 HasSmallNumbers (BuyOwnedPrivate private price) = price ≤ number_most
 HasSmallNumbers (Raise company tenths) = tenths ≤ number_most
 HasSmallNumbers (Offer offer) = HasSmallOffer offer
+HasSmallNumbers (Cert round company revenue) = IsSmallRound round × (revenue ≤ number_most)
 HasSmallNumbers other = Unit {0}
 
--- the line spells the order
-pub record Spells (line : List ℕ) (order : Order) : Type 0 where
-  pub loosely : LooselySpells line order
+-- the line of a text spells the order
+pub record SpellsIn (text : TextKind) (line : List ℕ) (order : Order) : Type 0 where
+  pub loosely : LooselySpellsIn text line order
   pub small : HasSmallNumbers order
+
+-- the line of an order file spells the order
+abbrev pub Spells : List ℕ → Order → Type 0
+Spells line order = SpellsIn order_file line order
 
 -- whether a line may name the round
 abbrev pub is_round_of_line : Round → Bool
@@ -219,18 +239,28 @@ is_round_of_line (Stock number) = nat_le 1 number && nat_le number number_most
 is_round_of_line (Operating set number) =
     (nat_le 1 set && nat_le set number_most) && (nat_le 1 number && nat_le number operating_most)
 
--- three to six names, a name and a round, small numbers, two to 280 places: what the form of the order asks
+-- three to six names, a name and a round, small numbers, two to 280 places: what the form of the order asks; the
+-- digits of marks are in the line alone
 abbrev pub HasSpelling : Order → Type 0
 HasSpelling (Players names) = (3 ≤ length names.items) × (length names.items ≤ 6) × IsTrue (list_all is_name names.items)
 HasSpelling (Sheet name round) = IsTrue (is_name name) × IsTrue (is_round_of_line round)
 HasSpelling (Run kind run) = (2 ≤ length run) × (length run ≤ 280)
+HasSpelling (Cert round company revenue) = IsTrue (is_round_of_line round) × (revenue ≤ number_most)
+HasSpelling (Claim kind run) = (2 ≤ length run) × (length run ≤ 280)
+HasSpelling Marks = ⊥
 HasSpelling other = HasSmallNumbers other
 
--- the spelling is no longer than a line: only a run may have too many places for that
-abbrev pub FitsLine : Order → Type 0
-FitsLine (Run kind run) = length (spelling_of (Run kind run)) ≤ line_most
-FitsLine other = ⊤
+-- the spelling is no longer than a line: only what has places may have too many for that
+abbrev pub FitsLineIn : TextKind → Order → Type 0
+FitsLineIn text (Run kind run) = length (spelling_of (Run kind run)) ≤ text.most
+FitsLineIn text (Claim kind run) = length (spelling_of (Claim kind run)) ≤ text.most
+FitsLineIn text other = ⊤
 
--- an order that has a spelling
+-- an order that has a spelling in a text
+abbrev pub IsOrderIn : TextKind → Order → Type 0
+IsOrderIn text order =
+    HasSpelling order × FitsLineIn text order × BeginWithOneOf text.first_words (words_of_order order)
+
+-- an order that has a spelling in an order file
 abbrev pub IsOrder : Order → Type 0
-IsOrder order = HasSpelling order × FitsLine order
+IsOrder order = IsOrderIn order_file order

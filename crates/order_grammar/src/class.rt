@@ -1,8 +1,11 @@
 ghost use Rattle.std.specs.Prelude.{◌≡◌};
+ghost use Rattle.std.specs.List.{list_all};
 ghost use Rattle.order_grammar.specs.Class.{
   capped_value,
   class_reading,
   company_reading,
+  hex_digits_reading,
+  is_hex_digit,
   kind_reading,
   number_in_set,
   number_reading,
@@ -20,6 +23,9 @@ use crate::order::Value;
 use crate::words::is_word;
 use map_tables::{Hex, Place, Rotation, TileNo};
 use tables::{Company, Kind, NUMBER_MOST, OPERATING_MOST, Private, Round};
+
+/// The most hexadecimal digits of a MARKS line.
+pub const MARKS_DIGITS_MOST: usize = 1000;
 
 /// A class of words: the texts that may stand at one place of a form.
 #[derive(Clone, Copy, Debug, PartialEq, Eq)]
@@ -45,6 +51,8 @@ pub(crate) enum Class {
     Rotation,
     /// A hex of the map, as `H12`, or one with the number of a stop, `H12.0` or `H12.1`.
     Place,
+    /// 1 to 1,000 hexadecimal digits, in either case.
+    HexDigits,
     /// This very word.
     Word(Keyword),
 }
@@ -115,6 +123,7 @@ impl Class {
                 Some(place) => Reading::Value(Value::Place(place)),
                 None => Reading::Wrong,
             },
+            Class::HexDigits => read_hex_digits(word),
             Class::Word(keyword) if is_word(word, keyword.text()) => {
                 Reading::Value(Value::Word(keyword))
             }
@@ -238,4 +247,20 @@ fn read_kind(word: &[u8]) -> Reading
         }
     }
     Reading::Wrong
+}
+
+fn read_hex_digits(word: &[u8]) -> Reading
+    ensures { result ≡ hex_digits_reading (raised word.now) }
+{
+    if word.is_empty() || word.len() > MARKS_DIGITS_MOST || !are_hex_digits(word) {
+        return Reading::Wrong;
+    }
+    Reading::Value(Value::HexDigits)
+}
+
+/// Whether each byte is a hexadecimal digit, in either case.
+fn are_hex_digits(word: &[u8]) -> bool
+    ensures { result ≡ list_all is_hex_digit (raised word.now) }
+{
+    word.iter().all(|byte| byte.is_ascii_hexdigit())
 }

@@ -6,8 +6,8 @@ use thiserror::Error;
 /// Why a line is not obeyed whatever the game: the first of these that applies.
 #[derive(Clone, Copy, Debug, PartialEq, Eq, Drop, Error)]
 pub enum Fault {
-    /// G1: the line has over 1,024 bytes.
-    #[error("the line has over 1,024 bytes")]
+    /// G1: the line has over 1,024 bytes, or over 2,048 in the text of a certificate.
+    #[error("the line has too many bytes")]
     TooLong,
     /// G2: a byte before the comment is no printable ASCII.
     #[error("a byte before the comment is no printable ASCII")]

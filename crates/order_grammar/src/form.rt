@@ -1,7 +1,9 @@
 ghost use Rattle.std.specs.Prelude.{◌≡◌, ◌≤◌, IsTrue, map};
 ghost use Rattle.std.specs.List.{list_all};
 ghost use Rattle.order_grammar.specs.Form.{
+  cert_forms,
   nearer,
+  order_forms,
   order_of_values,
   put_reading,
   row_reading,
@@ -42,8 +44,9 @@ pub(crate) enum Repeated {
     Places,
 }
 
-/// The forms of lines. A line spells an order where its words fit a row.
-pub(crate) const FORMS: [Form; 29] = [
+/// The forms of lines: those of orders, then CERT and CLAIM, then those of a certificate's text
+/// alone. A line spells an order where its words fit a row.
+const FORMS: [Form; 33] = [
     Form {
         keyword: Keyword::Game,
         classes: &[Class::Number, Class::Number],
@@ -213,22 +216,58 @@ pub(crate) const FORMS: [Form; 29] = [
         ],
         repeated: Repeated::Nothing,
     },
+    Form {
+        keyword: Keyword::Cert,
+        classes: &[Class::Round, Class::Company, Class::Number],
+        repeated: Repeated::Nothing,
+    },
+    Form {
+        keyword: Keyword::Claim,
+        classes: &[Class::Kind],
+        repeated: Repeated::Places,
+    },
+    Form {
+        keyword: Keyword::Certs,
+        classes: &[Class::Word(Keyword::One)],
+        repeated: Repeated::Nothing,
+    },
+    Form {
+        keyword: Keyword::Marks,
+        classes: &[Class::HexDigits],
+        repeated: Repeated::Nothing,
+    },
 ];
 
+/// The forms of an order file: all but CERTS and MARKS.
+pub(crate) fn order_forms() -> &'static [Form]
+    ensures { map row_of result.now ≡ order_forms }
+{
+    &FORMS[..31]
+}
+
+/// The forms of the text of a certificate: CERT, CLAIM, CERTS and MARKS.
+pub(crate) fn certificate_forms() -> &'static [Form]
+    ensures { map row_of result.now ≡ cert_forms }
+{
+    &FORMS[29..]
+}
+
 /// Puts the order that the words of a line spell in place of another; else tells why they spell none:
-/// what comes nearest over all the forms.
-pub(crate) fn read_order(words: &Words, order: &mut Order) -> Result<(), Fault>
-    ensures { put_reading result order.new ≡ words_reading (texts_of words.now) }
+/// what comes nearest over some forms.
+pub(crate) fn read_order(forms: &[Form], words: &Words, order: &mut Order) -> Result<(), Fault>
+    requires { IsTrue (list_all is_short (map row_of forms.now)) }
+    ensures { put_reading result order.new
+        ≡ words_reading (map row_of forms.now) (texts_of words.now) }
 {
     let mut rest = words.duplicate();
     let Some(first) = rest.next() else {
         *order = Order::Blank;
         return Ok(());
     };
-    read_nearest(&FORMS, first.text, &rest, order)
+    read_nearest(forms, first.text, &rest, order)
 }
 
-/// The same by some forms: what comes nearest over them.
+/// The same of a first word and those after it.
 fn read_nearest(forms: &[Form], first: &[u8], rest: &Words, order: &mut Order) -> Result<(), Fault>
     requires { IsTrue (list_all is_short (map row_of forms.now)) }
     ensures { put_reading result order.new

@@ -25,6 +25,10 @@ pub(crate) enum Keyword {
     Private,
     Raise,
     Offer,
+    Certs,
+    Cert,
+    Claim,
+    Marks,
     InitialOffering,
     Pool,
     Mohawk,
@@ -32,6 +36,7 @@ pub(crate) enum Keyword {
     Bank,
     Trade,
     Best,
+    One,
 }
 
 impl Keyword {
@@ -61,6 +66,10 @@ impl Keyword {
             Keyword::Private => b"PRIVATE",
             Keyword::Raise => b"RAISE",
             Keyword::Offer => b"OFFER",
+            Keyword::Certs => b"CERTS",
+            Keyword::Cert => b"CERT",
+            Keyword::Claim => b"CLAIM",
+            Keyword::Marks => b"MARKS",
             Keyword::InitialOffering => b"IPO",
             Keyword::Pool => b"POOL",
             Keyword::Mohawk => b"MH",
@@ -68,6 +77,7 @@ impl Keyword {
             Keyword::Bank => b"BANK",
             Keyword::Trade => b"TRADE",
             Keyword::Best => b"BEST",
+            Keyword::One => b"1",
         }
     }
 }

@@ -1,10 +1,10 @@
-ghost use Rattle.std.specs.Prelude.{◌≡◌, ◌≤◌, Some, length};
-ghost use Rattle.order_grammar.specs.Family.{HasAmount, IsOfAmount, IsOfFile, IsOfOne, IsOfTenths, IsOfTrains};
+ghost use Rattle.std.specs.Prelude.{◌≡◌, ◌≤◌, Some, [], ◌∷◌, length};
+ghost use Rattle.order_grammar.specs.Family.{HasAmount, IsCertificateLine, IsOfAmount, IsOfCertificate, IsOfFile, IsOfOne, IsOfTenths, IsOfTrains};
 ghost use Rattle.order_grammar.specs.declared.keyword.Keyword.TheVariants.{Buy, Lay as LayWord, Offer as OfferWord, Train};
-ghost use Rattle.order_grammar.specs.declared.order.Order.TheVariants.{BuyShare, BuyTrain, Discard, Lay as LayOrder, Offer as OfferOrder, Run as RunOrder};
-ghost use Rattle.order_grammar.specs.declared.order.Tail.TheVariants.{Nothing};
-ghost use Rattle.order_grammar.specs.declared.order.Value.TheVariants.{Number};
-ghost use Rattle.order_grammar.specs.Order.{keyword_of_source, order_from, parts_of, put_if, text_of_source};
+ghost use Rattle.order_grammar.specs.declared.order.Order.TheVariants.{BuyShare, BuyTrain, Discard, Lay as LayOrder, Offer as OfferOrder};
+ghost use Rattle.order_grammar.specs.declared.order.Tail.TheVariants.{Nothing, Places};
+ghost use Rattle.order_grammar.specs.declared.order.Value.TheVariants.{Kind as KindValue, Number};
+ghost use Rattle.order_grammar.specs.Order.{keyword_of_source, made_of, order_from, parts_of, put_if, text_of_source};
 
 use crate::keyword::Keyword;
 use crate::name::Name;
@@ -12,31 +12,52 @@ use arrayvec::ArrayVec;
 use map_tables::{Hex, Lay, Place, Rotation, Run, TileNo};
 use tables::{Amount, Company, Kind, PLAYERS_MOST, Private, Round};
 
-/// What a line orders or says.
+/// What a line orders or says, of an order file or of the text of a certificate.
 #[derive(Debug, Drop, PartialEq, Eq)]
 pub enum Order {
     /// A line without words.
     Blank,
     /// `GAME n n`: the game and the version of the file.
-    Game { game: u32, version: u32 },
+    Game {
+        game: u32,
+        version: u32,
+    },
     /// `PLAYERS name name name ..`: those who play, in the order of their seats.
     Players(ArrayVec<Name, PLAYERS_MOST>),
     /// `SHEET name round`: the sheet of a player for a round begins.
-    Sheet { name: Name, round: Round },
+    Sheet {
+        name: Name,
+        round: Round,
+    },
     /// `TURN`: a group of lines for one turn begins.
     Turn,
     /// `BUY p`: buy a private at its price.
     BuyPrivate(Private),
     /// `BID p n`: bid so many dollars for a private.
-    Bid { private: Private, amount: Amount },
+    Bid {
+        private: Private,
+        amount: Amount,
+    },
     /// `LIMIT p n`: bid up to so many dollars where a private is auctioned.
-    Limit { private: Private, amount: Amount },
+    Limit {
+        private: Private,
+        amount: Amount,
+    },
     /// `PAR co n`: start a company at a par value in dollars.
-    Par { company: Company, price: Amount },
+    Par {
+        company: Company,
+        price: Amount,
+    },
     /// `BUY co IPO` or `BUY co POOL`: buy one tenth of a company.
-    BuyShare { company: Company, from: ShareSource },
+    BuyShare {
+        company: Company,
+        from: ShareSource,
+    },
     /// `SELL co n`: sell so many tenths of a company as one block.
-    Sell { company: Company, tenths: Amount },
+    Sell {
+        company: Company,
+        tenths: Amount,
+    },
     /// `EXCHANGE MH`: give up the private MH for one tenth of NYC.
     ExchangeMohawk,
     /// `COMPANY co`: a group of lines for the turn of a company begins.
@@ -47,7 +68,10 @@ pub enum Order {
     /// `TOKEN place`: place a token at a stop.
     Token(Place),
     /// `RUN kind place place ..`: run a train of a kind through 2 to 280 places.
-    Run { kind: Kind, run: Run },
+    Run {
+        kind: Kind,
+        run: Run,
+    },
     /// `RUN BEST`: run the trains so that they earn the greatest revenue.
     RunBest,
     /// `PAY`: pay the revenue of the turn out.
@@ -56,16 +80,45 @@ pub enum Order {
     Withhold,
     /// `TRAIN kind BANK`, `TRAIN kind BANK TRADE kind`, `TRAIN kind POOL` or `TRAIN kind co n`: buy
     /// a train of a kind.
-    BuyTrain { kind: Kind, from: TrainSource },
+    BuyTrain {
+        kind: Kind,
+        from: TrainSource,
+    },
     /// `DISCARD co kind`: where a company has too many trains, give up one of this kind.
-    Discard { company: Company, kind: Kind },
+    Discard {
+        company: Company,
+        kind: Kind,
+    },
     /// `PRIVATE p n`: buy a private from the player who owns it, for so many dollars.
-    BuyOwnedPrivate { private: Private, price: Amount },
+    BuyOwnedPrivate {
+        private: Private,
+        price: Amount,
+    },
     /// `RAISE co n`: sell so many tenths of a company, should a train have to be bought that the
     /// company and its president cannot pay.
-    Raise { company: Company, tenths: Amount },
+    Raise {
+        company: Company,
+        tenths: Amount,
+    },
     /// `OFFER PRIVATE p co n` or `OFFER TRAIN kind co co n`: consent to a sale in this round.
     Offer(Offer),
+    /// `CERTS 1`: the text of a certificate begins, of version 1.
+    Certs,
+    /// `CERT round co n`: the certificate of a company's best runs in a round begins; they earn so
+    /// many dollars.
+    Cert {
+        round: Round,
+        company: Company,
+        revenue: Amount,
+    },
+    /// `CLAIM kind place place ..`: one of those runs, of a train of a kind through 2 to 280
+    /// places.
+    Claim {
+        kind: Kind,
+        run: Run,
+    },
+    /// `MARKS digits`: 1 to 1,000 hexadecimal digits, which stand in the words of the line alone.
+    Marks,
 }
 
 /// A sale to which a player consents before it is ordered.
@@ -140,6 +193,8 @@ pub(crate) enum Value {
     Hex(Hex),
     Rotation(Rotation),
     Place(Place),
+    /// Hexadecimal digits, which are not kept.
+    HexDigits,
     /// A literal word stands for itself.
     Word(Keyword),
 }
@@ -230,7 +285,7 @@ impl Order {
             Order::Company(company) => Parts::of(Keyword::Company, &[Value::Company(*company)]),
             Order::Lay(lay) => parts_of_lay(*lay),
             Order::Token(place) => Parts::of(Keyword::Token, &[Value::Place(*place)]),
-            Order::Run { kind, run } => parts_of_run(*kind, run),
+            Order::Run { kind, run } => parts_of_places(Keyword::Run, *kind, run),
             Order::RunBest => Parts::of(Keyword::Run, &[Value::Word(Keyword::Best)]),
             Order::Pay => Parts::of(Keyword::Pay, &[]),
             Order::Withhold => Parts::of(Keyword::Withhold, &[]),
@@ -238,6 +293,8 @@ impl Order {
             Order::Discard { company, kind } => parts_of_discard(*company, *kind),
             Order::BuyOwnedPrivate { .. } | Order::Raise { .. } => self.parts_of_amount(),
             Order::Offer(offer) => parts_of_offer(*offer),
+            Order::Certs | Order::Cert { .. } | Order::Marks => self.parts_of_certificate_line(),
+            Order::Claim { kind, run } => parts_of_places(Keyword::Claim, *kind, run),
         };
         Some(parts)
     }
@@ -259,6 +316,30 @@ impl Order {
             _ => unreachable!(),
         };
         Parts::of(keyword, &[of, Value::Number(amount)])
+    }
+
+    /// What a line of a certificate's text is made of that has no places.
+    fn parts_of_certificate_line(&self) -> Parts
+        requires { IsCertificateLine self.now }
+        ensures { Some result ≡ parts_of self.now }
+    {
+        match self {
+            Order::Certs => Parts::of(Keyword::Certs, &[Value::Word(Keyword::One)]),
+            Order::Cert {
+                round,
+                company,
+                revenue,
+            } => Parts::of(
+                Keyword::Cert,
+                &[
+                    Value::Round(*round),
+                    Value::Company(*company),
+                    Value::Number(*revenue),
+                ],
+            ),
+            Order::Marks => Parts::of(Keyword::Marks, &[Value::HexDigits]),
+            _ => unreachable!(),
+        }
     }
 }
 
@@ -286,12 +367,12 @@ fn parts_of_share(company: Company, from: ShareSource) -> Parts
     Parts::of(Keyword::Buy, &[company, from])
 }
 
-/// What the order of a run is made of.
-fn parts_of_run(kind: Kind, run: &Run) -> Parts
-    ensures { Some result ≡ parts_of (RunOrder kind run.now) }
+/// What a line is made of that has a kind of train and the places of a run.
+fn parts_of_places(keyword: Keyword, kind: Kind, run: &Run) -> Parts
+    ensures { Some result ≡ made_of keyword (KindValue kind ∷ []) (Places run.now) }
 {
     let places = Tail::Places(run.duplicate());
-    Parts::with_tail(Keyword::Run, &[Value::Kind(kind)], places)
+    Parts::with_tail(keyword, &[Value::Kind(kind)], places)
 }
 
 /// What the order to buy a train is made of.
@@ -378,6 +459,10 @@ pub(crate) fn put_order(keyword: Keyword, values: &[Value], tail: Tail, order: &
                 *order = Order::Run { kind: *kind, run };
                 true
             }
+            (Keyword::Claim, [Value::Kind(kind)]) => {
+                *order = Order::Claim { kind: *kind, run };
+                true
+            }
             _ => false,
         },
     }
@@ -403,7 +488,11 @@ pub(crate) fn put_plain(keyword: Keyword, values: &[Value], order: &mut Order) -
             keyword, values, order,
         ),
         Keyword::Train => put_train(values, order),
-        Keyword::Players | Keyword::Best => false,
+        Keyword::Certs | Keyword::Cert | Keyword::Marks => {
+            put_certificate_line(keyword, values, order)
+        }
+        Keyword::Players | Keyword::Claim => false,
+        Keyword::Best | Keyword::One => false,
         Keyword::InitialOffering | Keyword::Pool | Keyword::Mohawk | Keyword::Swap => false,
         Keyword::Bank | Keyword::Trade => false,
     }
@@ -618,6 +707,31 @@ fn put_offer(values: &[Value], order: &mut Order) -> bool
         _ => return false,
     };
     *order = Order::Offer(offer);
+    true
+}
+
+/// The line of these parts that is one of a certificate's text.
+fn put_certificate_line(keyword: Keyword, values: &[Value], order: &mut Order) -> bool
+    requires { IsOfCertificate keyword }
+    ensures { put_if result order.new ≡ order_from keyword values.now Nothing }
+{
+    *order = match (keyword, values) {
+        (Keyword::Certs, [Value::Word(Keyword::One)]) => Order::Certs,
+        (
+            Keyword::Cert,
+            [
+                Value::Round(round),
+                Value::Company(company),
+                Value::Number(revenue),
+            ],
+        ) => Order::Cert {
+            round: *round,
+            company: *company,
+            revenue: *revenue,
+        },
+        (Keyword::Marks, [Value::HexDigits]) => Order::Marks,
+        _ => return false,
+    };
     true
 }
 

@@ -9,7 +9,8 @@ use map_tables::Place;
 use std::alloc::{AllocError, Global};
 use tables::Round;
 
-/// The one spelling of an order: upper case, single spaces, no leading zeros.
+/// The one spelling of an order: upper case, single spaces, no leading zeros. (`Marks` has none:
+/// its digits stand in the line that was read.)
 pub fn print_line(alloc: Global, order: &Order) -> Result<Vec<u8>, AllocError>
     ensures { IfOk result (λ text. text.items ≡ spelling_of order.now) }
 {
@@ -96,6 +97,7 @@ fn print_value(text: &mut Vec<u8>, value: &Value) -> Result<(), AllocError>
         Value::Hex(hex) => text.extend_from_slice(hex.text().as_slice()),
         Value::Rotation(rotation) => print_number(text, rotation.turns()),
         Value::Place(place) => text.extend_from_slice(place.text().as_slice()),
+        Value::HexDigits => Ok(()),
         Value::Word(keyword) => text.extend_from_slice(keyword.text()),
     }
 }

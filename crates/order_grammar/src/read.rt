@@ -1,14 +1,19 @@
-ghost use Rattle.std.specs.Prelude.{◌≡◌, IfOk};
-ghost use Rattle.order_grammar.specs.Line.{order_of, reading_of};
+ghost use Rattle.std.specs.Prelude.{◌≡◌, IfOk, IsTrue, map};
+ghost use Rattle.std.specs.List.{list_all};
+ghost use Rattle.order_grammar.specs.Line.{cert_reading_of, order_of, reading_by, reading_of};
+ghost use Rattle.order_grammar.specs.Row.{is_short, row_of};
 ghost use Rattle.order_grammar.specs.Words.{AreWordsOf, is_printable};
 
 use crate::fault::Fault;
-use crate::form::read_order;
+use crate::form::{Form, certificate_forms, order_forms, read_order};
 use crate::order::Order;
 use crate::words::{Words, before_comment};
 
 /// The most bytes of a line, without its LF and a CR before that.
 pub const LINE_MOST: usize = 1024;
+
+/// The same of the text of a certificate.
+pub const CERT_LINE_MOST: usize = 2048;
 
 const _: () = prove!(size_of::<Line>() <= 1024);
 
@@ -21,14 +26,35 @@ pub struct Line<'a> {
     pub words: Words<'a>,
 }
 
-/// Reads a line, without its LF and a CR before that. A line without words is the order `Blank`.
+/// Reads a line of an order file, without its LF and a CR before that. A line without words is the
+/// order `Blank`. CERTS and MARKS are unknown words.
 pub fn read_line(line: &[u8]) -> Result<Line<'_>, Fault>
     // The order, or the fault.
     ensures order { order_of result ≡ reading_of line.now }
     // The words, at their places before the comment.
     ensures words { IfOk result (λ read. AreWordsOf line.now read.words) }
 {
-    if line.len() > LINE_MOST {
+    read_by(LINE_MOST, order_forms(), line)
+}
+
+/// Reads a line of the text of a certificate, without its LF and a CR before that. CERTS, CERT,
+/// CLAIM and MARKS lines have a form, all other words are unknown. A line without words is `Blank`.
+pub fn read_cert_line(line: &[u8]) -> Result<Line<'_>, Fault>
+    // What the line says, or the fault.
+    ensures order { order_of result ≡ cert_reading_of line.now }
+    // The words, at their places before the comment.
+    ensures words { IfOk result (λ read. AreWordsOf line.now read.words) }
+{
+    read_by(CERT_LINE_MOST, certificate_forms(), line)
+}
+
+/// Reads a line of at most so many bytes by some forms.
+fn read_by<'a>(most: usize, forms: &[Form], line: &'a [u8]) -> Result<Line<'a>, Fault>
+    requires { IsTrue (list_all is_short (map row_of forms.now)) }
+    ensures order { order_of result ≡ reading_by most (map row_of forms.now) line.now }
+    ensures words { IfOk result (λ read. AreWordsOf line.now read.words) }
+{
+    if line.len() > most {
         return Err(Fault::TooLong);
     }
     if !before_comment(line).iter().all(|byte| is_printable(*byte)) {
@@ -36,7 +62,7 @@ pub fn read_line(line: &[u8]) -> Result<Line<'_>, Fault>
     }
     let words = Words::of(line);
     let mut order = Order::Blank;
-    read_order(&words, &mut order)?;
+    read_order(forms, &words, &mut order)?;
     Ok(Line { order, words })
 }
 

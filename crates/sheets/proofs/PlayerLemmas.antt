@@ -1,21 +1,19 @@
 -- Names of players, and their seats.
-use Rattle.std.proofs.Common.{◌≡◌, ℕ, suc, ◌+◌, ◌-◌, ◌<◌, Bool, true, false, not, ◌&&◌, ◌||◌, cond, List, [], ◌∷◌, ◌++◌, length, take, drop, get_or, Option, Some, None, refl, sym, ap, subst, ◌∙◌, true≢false, add-one, drop-cons}
-use Rattle.std.proofs.lemmas.Bool.{and_parts, and_from}
+use Rattle.std.proofs.Common.{◌≡◌, ℕ, suc, ◌+◌, ◌-◌, ◌<◌, ◌≤◌, Bool, true, false, not, ◌&&◌, ◌||◌, cond, List, [], ◌∷◌, ◌++◌, length, take, drop, get_or, Option, Some, None, refl, sym, ap, subst, ◌∙◌, true≢false, length-take-le, arith, add-one, drop-cons}
+use Rattle.std.proofs.lemmas.Bool.{and_parts, and_from, le-leb}
 use Rattle.std.proofs.lemmas.Bool.Decides.{same_from_decides, Decides-eqb}
-use Rattle.std.proofs.lemmas.Iterator.Adapters.{position_from-zero}
 use Rattle.std.proofs.lemmas.List.{take-append-drop}
 use Rattle.std.proofs.lemmas.List.Folds.{list_any-append}
 use Rattle.std.proofs.lemmas.Slice.Eq.{bytes_eq-Decides}
 use Rattle.std.proofs.Math.Seq.{take-append_seam, take-suc}
 use Rattle.std.specs.Bool.{Decides}
 use Rattle.std.specs.Cmp.Lexicographic.{pointwise}
-use Rattle.std.specs.List.{list_any, position, position_from}
-use Rattle.std.specs.Option.{option_map}
-use Rattle.std.specs.Prelude.{nat_eq, nat_le, replicate}
+use Rattle.std.specs.List.{list_any}
+use Rattle.std.specs.Prelude.{nat_eq, nat_le, replicate, is_some}
 use Rattle.order_grammar.specs.Words.{same_word}
 use Rattle.order_grammar.specs.contracts.name.NamePartialEq.TheImpl as derived
-use Rattle.indexmap.specs.IndexSet.{insert_key}
-use Rattle.sheets.specs.File.{all_differ, players_from, seat_from}
+use Rattle.std.specs.Map.{keys_of, lookup}
+use Rattle.sheets.specs.File.{all_differ, players_from, seat_from, with_seats}
 use Rattle.tables.specs.declared.seat.Seat.{Seat}
 
 -- whether two names are equal, by the test that is derived for them
@@ -67,25 +65,44 @@ name_test a b =
     (equal_texts a b, λ e. subst (λ c. is_equal a c ≡ true) e (equal_itself a))
     (λ h. sym ((same_decides b a).0 h), λ e. (same_decides b a).1 (sym e))
 
--- one more player before the place
-seat_step : (t : Bool) (seat : ℕ) (o : Option Seat) (place : Option ℕ) → o ≡ option_map (λ i. record { 0 = i }) place →
-    cond t (Some (record { 0 = seat })) o ≡ option_map (λ i. record { 0 = i }) (cond t (Some seat) place)
-seat_step true seat o place e = refl
-seat_step false seat o place e = e
+-- players with their seats are those names
+pub keys_of-seats : (seat : ℕ) (players : List (List ℕ)) → keys_of (with_seats seat players) ≡ players
+keys_of-seats seat [] = refl
+keys_of-seats seat (player ∷ players) = ap (λ (l : List (List ℕ)). player ∷ l) (keys_of-seats (seat + 1) players)
 
--- the seat of a name, counted from a seat, is its place counted from there
-seat_is_place : (seat : ℕ) (players : List (List ℕ)) (name : List ℕ) →
-    seat_from seat players name ≡ option_map (λ i. record { 0 = i }) (position_from (is_equal name) seat players)
-seat_is_place seat [] name = refl
-seat_is_place seat (player ∷ players) name =
-    ap (λ t. cond t (Some (record { 0 = seat })) (seat_from (seat + 1) players name)) (sym (name_test name player))
-    ∙ seat_step (is_equal name player) seat (seat_from (seat + 1) players name) (position_from (is_equal name) (seat + 1) players)
-    (seat_is_place (seat + 1) players name)
+-- the seat that stands by a name is the name's
+pub seat_looked_up : (seat : ℕ) (players : List (List ℕ)) (name : List ℕ) →
+    lookup (is_equal name) (with_seats seat players) ≡ seat_from seat players name
+seat_looked_up seat [] name = refl
+seat_looked_up seat (player ∷ players) name = rw (name_test name player, seat_looked_up (seat + 1) players name) refl
 
--- the seat of a name is its place among the names
-pub seat_found : (players : List (List ℕ)) (name : List ℕ) (place : Option ℕ) → place ≡ position (is_equal name) players →
-    option_map (λ i. record { 0 = i }) place ≡ seat_from 0 players name
-seat_found players name place e = ap (option_map (λ i. record { 0 = i })) (e ∙ position_from-zero (is_equal name) players) ∙ sym (seat_is_place 0 players name)
+-- one player more, at the head
+seat_among_one : (t : Bool) (seat : Seat) (later : Option Seat) (others : Bool) → is_some later ≡ others → is_some (cond t (Some seat) later) ≡ (t || others)
+seat_among_one true seat later others e = refl
+seat_among_one false seat later others e = e
+
+-- there is one where the name is among the others
+seat_among : (test : List ℕ → Bool) (seat : ℕ) (players : List (List ℕ)) → is_some (lookup test (with_seats seat players)) ≡ list_any test players
+seat_among test seat [] = refl
+seat_among test seat (player ∷ players) =
+    seat_among_one (test player) (record { 0 = seat }) (lookup test (with_seats (seat + 1) players)) (list_any test players)
+    (seat_among test (seat + 1) players)
+
+-- so for the entries of a map
+pub seat_there : (entries : List (List ℕ × Seat)) (keys : List (List ℕ)) (name : List ℕ) (found : Option Seat) → entries ≡ with_seats 0 keys →
+    found ≡ lookup (is_equal name) entries → list_any (is_equal name) keys ≡ is_some found
+seat_there entries keys name found seated is =
+    sym (seat_among (is_equal name) 0 keys) ∙ ap is_some (ap (lookup (is_equal name)) (sym seated) ∙ sym is)
+
+-- a player more
+with_seats-more : (seat : ℕ) (players : List (List ℕ)) (name : List ℕ) →
+    with_seats seat (players ++ name ∷ []) ≡ with_seats seat players ++ (name, record { 0 = seat + length players }) ∷ []
+with_seats-more seat [] name = ap (λ n. (name, record { 0 = n }) ∷ []) (let e : seat ≡ seat + 0 = omega arith in e)
+with_seats-more seat (player ∷ players) name =
+    ap (λ (l : List (List ℕ × Seat)). (player, record { 0 = seat }) ∷ l)
+    (with_seats-more (seat + 1) players name
+    ∙ ap (λ n. with_seats (seat + 1) players ++ (name, record { 0 = n }) ∷ [])
+    (let e : seat + 1 + length players ≡ seat + length (player ∷ players) = omega arith in e))
 
 -- one name twice
 twice : (a l m n rest : Bool) → (a || l) ≡ true → (l ≡ true → rest ≡ false) → (not (m || (a || n)) && rest) ≡ false
@@ -119,16 +136,6 @@ differs (player ∷ before) name h d =
     (more (same_word player name) (list_any (is_equal name) before) (list_any (same_word player) before) (all_differ before) (all_differ (before ++ name ∷ []))
     (ap (λ t. t || list_any (is_equal name) before) (sym (name_test name player)) ∙ h) d (differs before name))
 
--- a name that was not put in was among the others
-pub was_among : (is_new among : Bool) → is_new ≡ not among → is_new ≡ false → among ≡ true
-was_among is_new true h n = refl
-was_among is_new false h n = absurd (true≢false (sym h ∙ n))
-
--- a name that was put in was not among the others
-pub was_new : (is_new among : Bool) → is_new ≡ not among → is_new ≡ true → among ≡ false
-was_new is_new true h n = absurd (true≢false (sym n ∙ h))
-was_new is_new false h n = refl
-
 module _ (names keys : List (List ℕ)) (i : ℕ) (name : List ℕ) (within : i < length names) (is : name ≡ get_or names i name) (kept : keys ≡ take i names) where
   -- a name that is among those before it
   pub repeated : list_any (is_equal name) keys ≡ true → all_differ names ≡ false
@@ -142,9 +149,15 @@ module _ (names keys : List (List ℕ)) (i : ℕ) (name : List ℕ) (within : i 
   one_more : take (i + 1) names ≡ take i names ++ name ∷ []
   one_more = ap (λ n. take n names) (add-one i) ∙ take-suc names i name within ∙ ap (λ n. take i names ++ n ∷ []) (sym is)
 
-  -- a name that is not goes behind them
-  pub now_kept : list_any (is_equal name) keys ≡ false → insert_key is_equal keys name ≡ take (i + 1) names
-  now_kept h = rw h (ap (λ l. l ++ name ∷ []) kept ∙ sym one_more)
+  -- a name that is not goes behind them, with the next seat
+  pub now_seated : (old new : List (List ℕ × Seat)) → old ≡ with_seats 0 (take i names) → new ≡ old ++ (name, record { 0 = i }) ∷ [] →
+      new ≡ with_seats 0 (take (i + 1) names)
+  now_seated old new seated added =
+      let size : length (take i names) ≡ i = length-take-le i names (omega arith) in
+      let seat : 0 + length (take i names) ≡ i = omega arith in
+      added ∙ ap (λ (l : List (List ℕ × Seat)). l ++ (name, record { 0 = i }) ∷ []) seated
+      ∙ ap (λ n. with_seats 0 (take i names) ++ (name, record { 0 = n }) ∷ []) (sym seat)
+      ∙ sym (with_seats-more 0 (take i names) name) ∙ ap (with_seats 0) (sym one_more)
 
   -- and they still differ
   pub now_differ : list_any (is_equal name) keys ≡ false → all_differ (take i names) ≡ true → all_differ (take (i + 1) names) ≡ true
@@ -159,3 +172,13 @@ refused false b d names h = refl
 -- so nobody plays
 pub no_players : (names : List (List ℕ)) → all_differ names ≡ false → None ≡ players_from names
 no_players names h = refused (nat_le 3 (length names)) (nat_le (length names) 6) (all_differ names) names h
+
+-- names that differ are players, if they are 3 to 6
+pub all_play : (names keys : List (List ℕ)) → 3 ≤ length names → length names ≤ 6 → all_differ names ≡ true → keys ≡ names → Some keys ≡ players_from names
+all_play names keys least most differ same =
+    rw (le-leb 3 (length names) least, le-leb (length names) 6 most, differ) (ap (λ (all : List (List ℕ)). Some all) same)
+
+-- there is none where there is not some
+pub none_from : (found : Option Seat) → is_some found ≡ false → found ≡ None
+none_from (Some seat) no_seat = absurd (true≢false no_seat)
+none_from None no_seat = refl

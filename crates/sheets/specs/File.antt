@@ -53,6 +53,11 @@ seat_from seat [] name = None
 seat_from seat (player ∷ players) name =
     if same_word player name then Some (record { 0 = seat }) else seat_from (seat + 1) players name
 
+-- players with their seats, of which the first has this one
+abbrev pub with_seats : ℕ → List (List ℕ) → List (List ℕ × Seat)
+with_seats seat [] = []
+with_seats seat (player ∷ players) = (player, record { 0 = seat }) ∷ with_seats (seat + 1) players
+
 -- a line whose first word is SHEET
 unfoldable pub is_sheet_line : List ℕ → Bool
 is_sheet_line line = same_word (first_of_words (words_of line)) (codes "SHEET")

@@ -7,13 +7,18 @@ use Rattle.order_grammar.specs.declared.fault.Fault.TheVariants.{OutOfPlace}
 use Rattle.order_grammar.specs.declared.order.Order.{Order}
 use Rattle.order_grammar.specs.declared.order.Order.TheVariants as order
 
--- the order belongs to the file and its sheets, and is none of play: in no part has it a place
+-- the order belongs to the file and its sheets, or to the text of a certificate, and is none of play: in no part has it a
+-- place
 abbrev pub is_of_file : Order → Bool
 is_of_file (order.Game game version) = true
 is_of_file (order.Players names) = true
 is_of_file (order.Sheet name round) = true
 is_of_file order.Turn = true
 is_of_file (order.Company company) = true
+is_of_file order.Certs = true
+is_of_file (order.Cert round company revenue) = true
+is_of_file (order.Claim kind run) = true
+is_of_file order.Marks = true
 is_of_file other = false
 
 -- what a line with this reading is, where the orders that pass this test have a place

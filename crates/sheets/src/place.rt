@@ -5,8 +5,9 @@ ghost use Rattle.sheets.specs.Place.{has_no_place, is_of_file as belongs_to_file
 use crate::sheet::NumberedLine;
 use order_grammar::{Fault, Order};
 
-/// Whether an order belongs to the file and its sheets and is none of play, so that no part of a
-/// sheet has a place for it: GAME, PLAYERS, SHEET, and TURN and COMPANY where they are no heads.
+/// Whether an order belongs to the file and its sheets, or to the text of a certificate, and is none
+/// of play, so that no part of a sheet has a place for it: GAME, PLAYERS, SHEET, TURN and COMPANY
+/// where they are no heads, CERTS, CERT, CLAIM and MARKS.
 pub fn is_of_file(order: &Order) -> bool
     ensures { result ≡ belongs_to_file order.now }
 {
@@ -17,6 +18,10 @@ pub fn is_of_file(order: &Order) -> bool
             | Order::Sheet { .. }
             | Order::Turn
             | Order::Company(_)
+            | Order::Certs
+            | Order::Cert { .. }
+            | Order::Claim { .. }
+            | Order::Marks
     )
 }
 

@@ -2,25 +2,30 @@ ghost use Rattle.std.specs.Prelude.{◌≡◌, ◌≤◌, length, slice_get, opt
 ghost use Rattle.order_grammar.specs.Line.{reading_of};
 ghost use Rattle.sheets.specs.File.{players_from, players_named, seat_from};
 
-use indexmap::IndexSet;
+use indexmap::IndexMap;
 use order_grammar::{Name, Order, read_line};
 use std::alloc::{AllocError, Global};
 use std::marker::Model;
 use tables::{PLAYERS_LEAST, PLAYERS_MOST, Seat};
 
-/// The players of a file, in the order of their seats.
+/// The players of a file, in the order of their seats, with their seats.
 #[derive(Drop)]
 pub(crate) struct Players {
-    names: IndexSet<Name>,
+    seats: IndexMap<Name, Seat>,
 }
 
 /// To a contract they are the list of their names.
 impl Model for Players {
-    ghost use Rattle.std.specs.Prelude.{ℕ, List};
+    ghost use Rattle.std.specs.Prelude.{◌≡◌, ℕ, List};
+    ghost use Rattle.indexmap.specs.IndexMap.{keys};
+    ghost use Rattle.sheets.specs.File.{with_seats};
 
     ghost Value = { List (List ℕ) };
 
-    ghost view = { λ players. players.names.keys };
+    ghost view = { λ players. keys players.seats };
+
+    ghost invariant = { λ players.
+        players.seats.entries ≡ with_seats 0 (keys players.seats) };
 }
 
 impl Players {
@@ -28,23 +33,22 @@ impl Players {
     pub(crate) fn len(&self) -> usize
         ensures { result ≡ length self.now }
     {
-        self.names.len()
+        self.seats.len()
     }
 
     /// The name of the player of a seat.
     pub(crate) fn name(&self, seat: Seat) -> Option<&Name>
         ensures { option_copied result ≡ slice_get self.now seat.0 }
     {
-        self.names.get_index(usize::from(seat.0))
+        let (name, _) = self.seats.get_index(usize::from(seat.0))?;
+        Some(name)
     }
 
     /// The seat of a player.
     pub(crate) fn seat_of(&self, name: &Name) -> Option<Seat>
-        requires { length self.now ≤ 6 }
         ensures { result ≡ seat_from 0 self.now name.now }
     {
-        let index = self.names.get_index_of(name)?;
-        Some(Seat(index as u8))
+        self.seats.get(name).copied()
     }
 }
 
@@ -68,12 +72,12 @@ fn players_from(alloc: Global, names: &[Name]) -> Result<Option<Players>, AllocE
     if names.len() < PLAYERS_LEAST || names.len() > PLAYERS_MOST {
         return Ok(None);
     }
-    let mut players = IndexSet::new(alloc);
-    for name in names {
-        let is_new = players.insert(*name)?;
-        if !is_new {
+    let mut seats = IndexMap::new(alloc);
+    for (index, name) in names.iter().enumerate() {
+        let earlier = seats.insert(*name, Seat(index as u8))?;
+        if earlier.is_some() {
             return Ok(None);
         }
     }
-    Ok(Some(Players { names: players }))
+    Ok(Some(Players { seats }))
 }

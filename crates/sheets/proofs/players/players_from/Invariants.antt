@@ -1,10 +1,10 @@
 use Rattle.std.proofs.Common.{◌≡◌, take, true}
-use Rattle.sheets.specs.File.{all_differ}
+use Rattle.sheets.specs.File.{all_differ, with_seats}
 use Rattle.sheets.proofs.players.players_from.Given as goal
 
--- the set has the names so far, which differ
-abbrev pub invariant-loop-name : goal.invariant-loop-name
-invariant-loop-name l = record {
-  kept : l.players.keys ≡ take l.name-index l.names;
-  differ : all_differ (take l.name-index l.names) ≡ true;
+-- the map has the names so far with their seats, and they differ
+abbrev pub invariant-loop-index : goal.invariant-loop-index
+invariant-loop-index l = record {
+  kept : l.seats.entries ≡ with_seats 0 (take l.index l.names);
+  differ : all_differ (take l.index l.names) ≡ true;
 }

@@ -1,9 +1,14 @@
-use Rattle.std.proofs.Common.{None, Some, ◌∙◌}
-use Rattle.sheets.proofs.PlayerLemmas.{seat_found}
+use Rattle.std.proofs.Common.{List, ℕ, ap, ◌∙◌}
+use Rattle.std.specs.HashMap.{keys}
+use Rattle.std.specs.Map.{lookup}
+use Rattle.sheets.proofs.PlayerLemmas.{is_equal, seat_looked_up}
 use Rattle.sheets.proofs.players.Players.seat_of.Goals as goal
-
-pub returns-in_err-index : goal.returns-in_err-index
-returns-in_err-index c = rw (← c.self.view_is) (c.from_residual.ensures ∙ seat_found c.self.inside.names.keys c.args.name.now None c.in_err-index.ensures.index)
+use Rattle.tables.specs.declared.seat.Seat.{Seat}
 
 pub returns : goal.returns
-returns c = rw (← c.self.view_is) (seat_found c.self.inside.names.keys c.args.name.now (Some c.in_ok-index.index) c.in_ok-index.ensures.index)
+returns c =
+    let name = c.args.name.now in
+    let seats = c.self.inside.seats in
+    rw (← c.self.view_is)
+    (c.copied.ensures ∙ c.get.ensures.value ∙ ap (λ (entries : List (List ℕ × Seat)). lookup (is_equal name) entries) c.self.invariant
+    ∙ seat_looked_up 0 (keys seats) name)

@@ -1,14 +1,15 @@
-use Rattle.std.proofs.Common.{◌≡◌, true, Result, Err, sym, ap, ◌∙◌, rules, tests}
+use Rattle.std.proofs.Common.{◌≡◌, true, Result, Err, map, sym, ap, ◌∙◌, rules, tests}
 use Rattle.std.specs.List.{list_all}
 use Rattle.std.proofs.lemmas.Iterator.{YieldsList-from_slice}
 use Rattle.std.proofs.lemmas.Iterator.Search.{all_from_yields_List}
 use Rattle.std.proofs.lemmas.Result.{err_from_is_err_and}
 use Rattle.order_grammar.specs.Form.{put_reading}
 use Rattle.order_grammar.specs.Line.{order_of}
+use Rattle.order_grammar.specs.Row.{row_of}
 use Rattle.order_grammar.specs.Words.{before_comment, is_printable}
 use Rattle.order_grammar.specs.declared.fault.Fault.{Fault}
 use Rattle.order_grammar.proofs.LineLemmas.{line_reading, line_words}
-use Rattle.order_grammar.proofs.read.read_line.Goals as goal
+use Rattle.order_grammar.proofs.read.read_by.Goals as goal
 
 pub returns-in_err-read_order-clause-order : goal.returns-in_err-read_order-clause-order
 returns-in_err-read_order-clause-order c =
@@ -22,7 +23,7 @@ returns-in_err-read_order-clause-order c =
     ap (list_all is_printable) (sym c.before_comment.ensures) ∙ sym all ∙ c.if-not-all.false in
     let fault : order_of c.from_residual.result ≡ Err c.in_err-read_order.field-0.0 = ap order_of p.1 ∙ ap (λ (f : Fault). Err f) p.2 in
     fault ∙ sym (ap (λ (r : Result Unit Fault). put_reading r order) c.in_err-read_order.was) ∙ c.read_order.ensures
-    ∙ line_reading line c.of-words.result c.if-line-gt-LINE_MOST.false printable c.of-words.ensures
+    ∙ line_reading c.args.most (map row_of c.args.forms.now) line c.of-words.result c.if-line-most.false printable c.of-words.ensures
 
 pub returns-clause-order : goal.returns-clause-order
 returns-clause-order c =
@@ -34,7 +35,7 @@ returns-clause-order c =
     let printable : list_all is_printable (before_comment line) ≡ true =
     ap (list_all is_printable) (sym c.before_comment.ensures) ∙ sym all ∙ c.if-not-all.false in
     sym (ap (λ (r : Result Unit Fault). put_reading r order) c.in_ok-read_order.was) ∙ c.read_order.ensures
-    ∙ line_reading line c.of-words.result c.if-line-gt-LINE_MOST.false printable c.of-words.ensures
+    ∙ line_reading c.args.most (map row_of c.args.forms.now) line c.of-words.result c.if-line-most.false printable c.of-words.ensures
 
 pub returns-clause-words : goal.returns-clause-words
 returns-clause-words c = line_words c.args.line.now c.of-words.result c.of-words.ensures
