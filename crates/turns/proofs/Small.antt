@@ -1,9 +1,12 @@
 -- Orders that were read name small sums, so the lines of a sheet do.
 use Rattle.std.proofs.Common.{◌≡◌, ℕ, ◌+◌, Bool, true, false, nat_lt, if◌then◌else◌, List, [], ◌∷◌, unwrap_or, Result, Ok, Err, refl, sym, subst, arith}
 use Rattle.std.proofs.lemmas.Bool.Decides.{nat_tests}
+use Rattle.order_grammar.proofs.PartLemmas.{rows_of_orders}
 use Rattle.order_grammar.proofs.SpellsLemmas.{read_spells}
+use Rattle.order_grammar.specs.Form.{order_forms}
 use Rattle.order_grammar.specs.Line.{reading_of}
 use Rattle.order_grammar.specs.Spells.{HasSmallNumbers}
+use Rattle.order_grammar.specs.Texts.{order_file}
 use Rattle.order_grammar.specs.declared.fault.Fault.{Fault}
 use Rattle.order_grammar.specs.declared.fault.Fault.TheVariants.{PastLastLine}
 use Rattle.order_grammar.specs.declared.order.Order.{Order}
@@ -27,7 +30,7 @@ small_order other small = tt
 
 -- what a line is read as is small
 small_reading : (line : List ℕ) (reading : Result Order Fault) → reading_of line ≡ reading → IsSmallReading reading
-small_reading line (Ok order) read = small_order order (read_spells line order read).small
+small_reading line (Ok order) read = small_order order (read_spells order_file order_forms rows_of_orders line order read).small
 small_reading line (Err fault) read = tt
 
 -- also where it stands
