@@ -13,7 +13,7 @@ use Rattle.tables.specs.Train.{same_kind}
 use Rattle.tables.specs.declared.rolling_stock.Kind.{Kind}
 use Rattle.tables.specs.declared.rolling_stock.Kind.TheVariants.{Two, Three, Four, Five, Six, Diesel}
 use Rattle.tables.specs.declared.roster.Company.{Company}
-use Rattle.certificate.specs.Set.{in_number, revenue_of}
+use Rattle.certificate.specs.Set.{IsLegalSet, in_number, revenue_of}
 use Rattle.certificate.specs.Tree.{IsBelow, IsWayDown, Node, bound, end_of, for_each, greatest_first, may_come, root_of}
 use Rattle.certificate.specs.TreeLaws.{BoundsFall, IsInTree, LeavesAreLegalSets, LeavesEarnTheirBounds, NoLeafEarnsMore}
 use Rattle.certificate.proofs.Nodes.{IsGoodChoice, IsGoodNode, choice_good, none_begun}
@@ -55,7 +55,7 @@ touched_named stop (step ∷ before) (inl (inl is)) = names_itself (entered_at s
 touched_named stop (step ∷ before) (inl (inr is)) = names_itself (left_at step) stop is
 touched_named stop (step ∷ before) (inr touches) = touched_named stop before touches
 
-reached_named : (position : Position) (company : Company) (stop : Stop) → ReachesStop position company stop → joined_stop_of stop ≡ stop
+pub reached_named : (position : Position) (company : Company) (stop : Stop) → ReachesStop position company stop → joined_stop_of stop ≡ stop
 reached_named position company stop (inl own) = own.0
 reached_named position company stop (inr walk) = touched_named stop walk.0 walk.2
 
@@ -116,7 +116,10 @@ no_leaf_more position company trains reach node leaf lawful is there below none 
     let earns : bound position reach.stops leaf ≡ revenue_of position leaf.settled = leaves_earn position reach leaf none in
     let falls = under.1 in omega arith
 
+-- the settled runs of a node are a legal set
+pub good_set : (position : Position) (company : Company) (trains : List Kind) (node : Node) → IsGoodNode position company trains node → IsLegalSet position company trains node.settled
+good_set position company trains node good = record { legal = good.legal; each_once = λ k. omega (arith, good.taken k); apart = good.apart }
+
 pub leaves_legal : LeavesAreLegalSets
 leaves_legal position company trains reach leaf lawful is there none =
-    let good : IsGoodNode position company trains leaf = good_in_tree position company trains reach leaf lawful is there in
-    record { legal = good.legal; each_once = λ k. omega (arith, good.taken k); apart = good.apart }
+    good_set position company trains leaf (good_in_tree position company trains reach leaf lawful is there)

@@ -23,6 +23,10 @@ pub mod Leaves
 pub mod RunReached
 pub mod RunBelow
 pub mod SetBelow
+pub mod Holding
+pub mod Accepted
+pub mod Digits
+pub mod Printed
 pub mod Example
 pub mod Fewer
 pub mod TwoTrain

@@ -5,16 +5,16 @@ use Rattle.std.specs.List.{AllByRecursion}
 use Rattle.map_tables.specs.declared.place.Stop.{Stop}
 use Rattle.reach.specs.Lawful.{IsLawful}
 use Rattle.reach.specs.Position.{Position, IsAmong}
-use Rattle.reach.specs.Reached.{Reaching, ReachesStop}
+use Rattle.reach.specs.Reached.{ReachesStop}
 use Rattle.reach.specs.declared.walk.Step.{Step}
 use Rattle.tables.specs.Train.{same_kind}
 use Rattle.tables.specs.declared.rolling_stock.Kind.{Kind}
 use Rattle.tables.specs.declared.rolling_stock.Kind.TheVariants.{Two, Three, Four, Five, Six, Diesel}
 use Rattle.tables.specs.declared.roster.Company.{Company}
 use Rattle.certificate.specs.Legal.{crossed, earned}
-use Rattle.certificate.specs.Set.{AreApart, RunsLegally, ShareNoBorder, TrainRun, in_number, revenue_of, trains_that_run}
+use Rattle.certificate.specs.Set.{AreApart, IsLegalSet, RunsLegally, ShareNoBorder, TrainRun, in_number, revenue_of, trains_that_run}
 use Rattle.certificate.specs.Tree.{IsBelow, IsLeaf, Node, greatest_first, node_of, root_of, run_borders}
-use Rattle.certificate.specs.TreeLaws.{AreItsRuns, IsInTree, LegalSetsAreLeaves}
+use Rattle.certificate.specs.TreeLaws.{AreItsRuns, LegalSetsAreLeaves}
 use Rattle.certificate.proofs.Leaves.{same_number}
 use Rattle.certificate.proofs.Marks.{among_both}
 use Rattle.certificate.proofs.Relabelled.{kind_is, of_kind}
@@ -231,10 +231,10 @@ free_at_first (run ∷ runs) = (λ border among none. none, free_at_first runs)
 
 -- a leaf with the runs of a set, where none was settled before
 its_leaf :
-    (position : Position) (lawful : IsLawful position) (company : Company) (trains : List Kind) (reach : Reaching) (exactly : (stop : Stop) → ReachesStop position company stop → IsAmong stop reach.stops) (runs : List TrainRun) →
-    IsLeafOf position lawful company reach.stops exactly (root_of trains) [] runs →
-    (leaf : Node) × IsInTree position company trains reach leaf × IsLeaf leaf × AreItsRuns position leaf.settled runs
-its_leaf position lawful company trains reach exactly runs found = (
+    (position : Position) (lawful : IsLawful position) (company : Company) (trains : List Kind) (reached : List Stop) (exactly : (stop : Stop) → ReachesStop position company stop → IsAmong stop reached) (runs : List TrainRun) →
+    IsLeafOf position lawful company reached exactly (root_of trains) [] runs →
+    (leaf : Node) × IsBelow position company reached (root_of trains) leaf × IsLeaf leaf × AreItsRuns position leaf.settled runs
+its_leaf position lawful company trains reached exactly runs found = (
   found.leaf,
   found.below,
   found.is_leaf,
@@ -247,13 +247,21 @@ its_leaf position lawful company trains reach exactly runs found = (
   },
 )
 
-pub sets_are_leaves : LegalSetsAreLeaves
-sets_are_leaves position company trains reach runs lawful is set =
-    its_leaf position lawful company trains reach (λ stop. (is.stops stop).1) runs
-    (all_settled position lawful company reach.stops (λ stop. (is.stops stop).1) (root_of trains) (greatest_first trains) [] runs ([], tt, refl)
+-- each legal set has one, where all stops are listed that are reached
+pub set_is_leaf :
+    (position : Position) → IsLawful position → (company : Company) (trains : List Kind) (reached : List Stop) →
+    ((stop : Stop) → ReachesStop position company stop → IsAmong stop reached) → (runs : List TrainRun) → IsLegalSet position company trains runs →
+    (leaf : Node) × IsBelow position company reached (root_of trains) leaf × IsLeaf leaf × AreItsRuns position leaf.settled runs
+set_is_leaf position lawful company trains reached exactly runs set =
+    its_leaf position lawful company trains reached exactly runs
+    (all_settled position lawful company reached exactly (root_of trains) (greatest_first trains) [] runs ([], tt, refl)
     (record {
       legal = set.legal;
       apart = set.apart;
       free = free_at_first runs;
       enough_trains = λ k. omega (arith, set.each_once k, same_number k trains);
     }))
+
+pub sets_are_leaves : LegalSetsAreLeaves
+sets_are_leaves position company trains reach runs lawful is set =
+    set_is_leaf position lawful company trains reach.stops (λ stop. (is.stops stop).1) runs set

@@ -1,7 +1,7 @@
 -- A small example of the choice tree. The Pennsylvania has its token on H12 and two 2-trains; a yellow city lies on H10,
 -- worth 20, beside its home, worth 10. Its runs can earn 30, since one border joins the two cities. In the order in which
 -- the tree is gone through, down to nodes whose bound is at most 30, these are the nodes with a greater bound.
-use Rattle.std.specs.Prelude.{◌≡◌, ℕ, zero, suc, nat_le, Bool, true, false, if◌then◌else◌, List, [], ◌∷◌, map}
+use Rattle.std.specs.Prelude.{◌≡◌, ℕ, zero, suc, nat_le, Bool, true, false, if◌then◌else◌, Option, Some, None, List, [], ◌∷◌, map, codes}
 use Rattle.map_tables.specs.Hex.{hexes}
 use Rattle.map_tables.specs.Place.{stop_at}
 use Rattle.map_tables.specs.declared.hex.Hex.{Hex}
@@ -13,6 +13,8 @@ use Rattle.map_tables.specs.declared.track.End.TheVariants.{Side as AtSide, Stop
 use Rattle.reach.specs.Position.{InHex, Position, empty_hex}
 use Rattle.tables.specs.declared.rolling_stock.Kind.TheVariants.{Two}
 use Rattle.tables.specs.declared.roster.Company.TheVariants.{Pennsylvania}
+use Rattle.certificate.specs.Digits.{bits_of_digits}
+use Rattle.certificate.specs.Holding.{left_over}
 use Rattle.certificate.specs.Tree.{Node, bound, children, for_each, root_of}
 
 -- what lies in a hex
@@ -48,3 +50,12 @@ abbrev pub WorkedTree : Type 0
 WorkedTree =
     over_bound 8 30 (root_of (Two ∷ Two ∷ [])) ≡
     true ∷ false ∷ true ∷ true ∷ true ∷ true ∷ true ∷ false ∷ true ∷ true ∷ true ∷ true ∷ true ∷ false ∷ true ∷ true ∷ true ∷ []
+
+-- the marks of the tree in hexadecimal digits: they are read over it for 30, three 0 bits being left over, and for no
+-- smaller revenue
+abbrev pub read_over_tree : ℕ → Option (List Bool)
+read_over_tree revenue =
+    left_over two_cities Pennsylvania both_cities revenue (root_of (Two ∷ Two ∷ []) ∷ []) (bits_of_digits (codes "befb8"))
+
+abbrev pub WorkedMarks : Type 0
+WorkedMarks = (read_over_tree 30 ≡ Some (false ∷ false ∷ false ∷ [])) × (read_over_tree 20 ≡ None)

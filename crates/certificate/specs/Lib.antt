@@ -9,6 +9,9 @@ pub mod Greatest
 pub mod Claim
 pub mod Tree
 pub mod TreeLaws
+pub mod Holding
+pub mod HoldingLaws
+pub mod Digits
 pub mod Example
 pub mod Tally
 pub mod Law

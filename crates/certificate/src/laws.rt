@@ -9,13 +9,24 @@ ghost use Rattle.certificate.specs.Law.{
   RunsShareNoBorder,
   WalksAreWritten,
 };
-ghost use Rattle.certificate.specs.Example.{WorkedTree};
+ghost use Rattle.certificate.specs.Digits.{
+  PrintsInLowerCase,
+  PrintsWhatWasRead,
+  ReadsWhatWasPrinted,
+};
+ghost use Rattle.certificate.specs.Example.{WorkedMarks, WorkedTree};
 ghost use Rattle.certificate.specs.Greatest.{
   AGreatestExists,
   GreaterTrainsEarnNoLess,
   MoreTrainsEarnNoLess,
   OneGreatest,
   OrderOfTrainsChangesNothing,
+};
+ghost use Rattle.certificate.specs.HoldingLaws.{
+  AcceptedIsGreatest,
+  MarksAreRead,
+  MarksHoldWhereRead,
+  WrittenMarksHold,
 };
 ghost use Rattle.certificate.specs.TreeLaws.{
   BoundsFall,
@@ -128,4 +139,39 @@ pub fn legal_sets_are_leaves()
 /// A small example of the choice tree: two trains, two cities, and one border between them.
 pub fn worked_tree()
     ensures { WorkedTree }
+{}
+
+/// Marks hold at a node exactly where they are read over it and none is left over.
+pub fn marks_hold_where_read()
+    ensures { MarksHoldWhereRead }
+{}
+
+/// Bits are marks exactly where they are read as such, at the stops that the company reaches.
+pub fn marks_are_read()
+    ensures { MarksAreRead }
+{}
+
+/// A claim that holds, with marks that hold for its revenue, has the greatest revenue, whoever made
+/// the marks.
+pub fn accepted_is_greatest()
+    ensures { AcceptedIsGreatest }
+{}
+
+/// What is written over the root for the greatest revenue are marks that hold for it, with at most
+/// three 0 bits behind them.
+pub fn written_marks_hold()
+    ensures { WrittenMarksHold }
+{}
+
+/// The marks of the small example, in hexadecimal digits.
+pub fn worked_marks()
+    ensures { WorkedMarks }
+{}
+
+/// `print_hex` of what `read_hex` reads from a text of digits in lower case is that text; it prints
+/// such texts alone; and what it printed is read as the bits, with at most three 0 bits behind them.
+pub fn digits_and_bits()
+    ensures prints_again { PrintsWhatWasRead }
+    ensures prints_lower { PrintsInLowerCase }
+    ensures reads_again { ReadsWhatWasPrinted }
 {}

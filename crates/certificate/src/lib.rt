@@ -21,8 +21,10 @@
 //! all).
 #![tactic(auto)]
 
+mod bits;
 mod check;
 mod claim;
+mod hex;
 mod laws;
 mod leg;
 mod run_fault;
@@ -32,14 +34,18 @@ mod two_train;
 mod used;
 mod write;
 
+pub use bits::{BitReader, Bits};
 pub use check::check_run;
 pub use claim::{Claim, ClaimedRun, ClaimedRuns};
+pub use hex::{HexFault, print_hex, read_hex};
 pub use laws::{
-    a_greatest_exists, borders_are_told_apart, bounds_fall, crossed_borders_are_used,
-    each_legal_run_is_named, greater_trains_earn_no_less, leaves_are_legal_sets,
-    leaves_earn_their_bounds, legal_by_marks, legal_sets_are_leaves, legal_where_no_rule_is_broken,
+    a_greatest_exists, accepted_is_greatest, borders_are_told_apart, bounds_fall,
+    crossed_borders_are_used, digits_and_bits, each_legal_run_is_named,
+    greater_trains_earn_no_less, leaves_are_legal_sets, leaves_earn_their_bounds, legal_by_marks,
+    legal_sets_are_leaves, legal_where_no_rule_is_broken, marks_are_read, marks_hold_where_read,
     more_trains_earn_no_less, no_leaf_earns_more, one_greatest, order_of_trains_changes_nothing,
-    runs_earn_by_borders, runs_share_no_border, walks_are_written, worked_tree,
+    runs_earn_by_borders, runs_share_no_border, walks_are_written, worked_marks, worked_tree,
+    written_marks_hold,
 };
 pub use run_fault::RunFault;
 pub use runner::{Runner, RunnerFault};

@@ -1,0 +1,198 @@
+ghost use Rattle.std.specs.Prelude.{◌≡◌, ◌↔◌, ◌*◌, ◌+◌, true, Err, OnOk, OnErr, IfErr, IfOk, IsTrue, MatchOption, [], ◌∷◌, ◌++◌, take, drop, get_or, false};
+ghost use Rattle.certificate.specs.Digits.{bits_of_digits, digits_of, has_other};
+ghost use Rattle.certificate.specs.declared.hex.HexFault.TheVariants.{Digit};
+
+use crate::hex::{HexFault, bit_number, bits_of_digit, digit_of, has_other};
+use std::alloc::{AllocError, Global};
+use std::marker::Model;
+
+/// Bits that are kept, eight in a byte. To a contract they are a list.
+#[derive(Drop)]
+pub struct Bits {
+    /// The bits of all bytes but the last, the first in the highest place.
+    bytes: Vec<u8>,
+    /// The bits behind them, the last in the lowest place.
+    last: u8,
+    /// How many these are, under eight.
+    count: u8,
+}
+
+impl Model for Bits {
+    ghost use Rattle.std.specs.Prelude.{Bool, List, ◌++◌, ◌<◌, ◌^◌};
+    ghost use Rattle.certificate.specs.Digits.{bits_of, bits_of_bytes};
+
+    ghost Value = { List Bool };
+
+    ghost view = { λ bits. bits_of_bytes bits.bytes.items ++ bits_of bits.count bits.last };
+
+    ghost invariant = { λ bits. (bits.count < 8) × (bits.last < 2 ^ bits.count) };
+}
+
+impl Bits {
+    /// No bits.
+    pub fn new(alloc: Global) -> Bits
+        ensures { result ≡ [] }
+    {
+        Bits {
+            bytes: Vec::new(alloc),
+            last: 0,
+            count: 0,
+        }
+    }
+
+    /// Adds a bit at the end. It fails only if memory is refused, and then the bits are as they were.
+    pub fn push(&mut self, bit: bool) -> Result<(), AllocError>
+        ensures added { OnOk result (self.new ≡ self.old ++ bit ∷ []) }
+        ensures kept { OnErr result (self.new ≡ self.old) }
+    {
+        let last = 2 * self.last + bit_number(bit);
+        if self.count < 7 {
+            self.last = last;
+            self.count += 1;
+            return Ok(());
+        }
+        self.bytes.push(last)?;
+        self.last = 0;
+        self.count = 0;
+        Ok(())
+    }
+
+    /// Adds the bits of hexadecimal digits, of upper or lower case: four bits from each, the highest
+    /// first. The error is `Digit` where a byte is no digit, which is looked at before memory is
+    /// asked for, and then the bits are as they were. Where memory is refused some may be added.
+    pub fn read_digits(&mut self, text: &[u8]) -> Result<(), HexFault>
+        ensures digit { (result ≡ Err Digit) ↔ (has_other text.now ≡ true) }
+        ensures added { OnOk result (self.new ≡ self.old ++ bits_of_digits text.now) }
+        ensures kept { IfErr result (λ fault. fault ≡ Digit → self.new ≡ self.old) }
+    {
+        if has_other(text) {
+            return Err(HexFault::Digit);
+        }
+        for digit in text {
+            self.push_all(&bits_of_digit(*digit))?;
+        }
+        Ok(())
+    }
+
+    /// Adds bits at the end.
+    fn push_all(&mut self, bits: &[bool]) -> Result<(), AllocError>
+        ensures { OnOk result (self.new ≡ self.old ++ bits.now) }
+    {
+        for bit in bits {
+            self.push(*bit)?;
+        }
+        Ok(())
+    }
+
+    /// Reads the bits from the first on.
+    pub fn reader(&self) -> BitReader<'_>
+        ensures { result ≡ self.now }
+    {
+        BitReader {
+            open: 0,
+            left: 0,
+            bytes: self.bytes.as_slice(),
+            last: self.last,
+            count: self.count,
+        }
+    }
+}
+
+/// Reads bits one after the other. To a contract it is the list of the bits that are left.
+#[derive(Drop)]
+pub struct BitReader<'a> {
+    /// The byte that is being read.
+    open: u8,
+    /// How many bits of it are left, the lowest ones.
+    left: u8,
+    /// The bytes after it.
+    bytes: &'a [u8],
+    /// The bits behind the bytes.
+    last: u8,
+    /// How many these are.
+    count: u8,
+}
+
+impl<'a> Model for BitReader<'a> {
+    ghost use Rattle.std.specs.Prelude.{Bool, List, ◌++◌, ◌≤◌};
+    ghost use Rattle.certificate.specs.Digits.{bits_of, bits_of_bytes};
+
+    ghost Value = { List Bool };
+
+    ghost view = { λ reader. bits_of reader.left reader.open
+        ++ (bits_of_bytes reader.bytes.now ++ bits_of reader.count reader.last) };
+
+    ghost invariant = { λ reader. (reader.left ≤ 8) × (reader.count ≤ 8) };
+}
+
+impl<'a> BitReader<'a> {
+    /// The next bit; `None` where none is left.
+    pub fn read(&mut self) -> Option<bool>
+        ensures { MatchOption result ((self.old ≡ []) × (self.new ≡ []))
+            (λ bit. self.old ≡ bit ∷ self.new) }
+    {
+        if self.left == 0 {
+            if let Some((first, later)) = self.bytes.split_first() {
+                self.open = *first;
+                self.left = 8;
+                self.bytes = later;
+            } else if self.count == 0 {
+                return None;
+            } else {
+                self.open = self.last;
+                self.left = self.count;
+                self.count = 0;
+            }
+        }
+        self.left -= 1;
+        Some((self.open >> self.left) % 2 == 1)
+    }
+
+    /// Whether no bit is left.
+    pub fn is_empty(&self) -> bool
+        ensures { IsTrue result ↔ (self.now ≡ []) }
+    {
+        if self.left > 0 || self.count > 0 {
+            return false;
+        }
+        self.bytes.is_empty()
+    }
+
+    /// Prints the next bits at the end of a text, in hexadecimal digits of lower case, as
+    /// `print_hex` prints them: so many digits, or all where fewer are left. It fails only if memory
+    /// is refused, and then some may be printed.
+    pub fn print_digits(&mut self, most: usize, text: &mut Vec<u8>) -> Result<(), AllocError>
+        ensures printed { OnOk result
+            (text.new.items ≡ text.old.items ++ digits_of (take (4 * most) self.old)) }
+        ensures left { OnOk result (self.new ≡ drop (4 * most) self.old) }
+    {
+        for _ in 0..most {
+            let Some(digit) = self.digit() else {
+                return Ok(());
+            };
+            text.push(digit)?;
+        }
+        Ok(())
+    }
+
+    /// The digit of the next four bits; `None` where no bit is left.
+    fn digit(&mut self) -> Option<u8>
+        ensures digit { MatchOption result (self.old ≡ [])
+            (λ digit. digits_of (take 4 self.old) ≡ digit ∷ []) }
+        ensures left { self.new ≡ drop 4 self.old }
+    {
+        let first = self.read()?;
+        let second = self.read_or_0();
+        let third = self.read_or_0();
+        let fourth = self.read_or_0();
+        Some(digit_of(first, second, third, fourth))
+    }
+
+    /// The next bit, or 0 where none is left.
+    fn read_or_0(&mut self) -> bool
+        ensures bit { result ≡ get_or self.old 0 false }
+        ensures left { self.new ≡ drop 1 self.old }
+    {
+        self.read().unwrap_or(false)
+    }
+}

@@ -1,0 +1,135 @@
+//! Marks in a text: four bits to a hexadecimal digit.
+ghost use Rattle.std.specs.Prelude.{◌≡◌, ◌↔◌, ◌*◌, ◌+◌, ◌<◌, ◌≤◌, length, take, drop, true, Err, IfOk, [], ◌∷◌};
+ghost use Rattle.certificate.specs.Digits.{bit_number, bits_of, bits_of_digit, bits_of_digits, digit_of, digit_value, digits_of, has_other, is_digit};
+ghost use Rattle.certificate.specs.declared.hex.HexFault.TheVariants.{Digit, Memory};
+
+use std::alloc::{AllocError, Global};
+
+/// Why a text of marks is not read.
+#[derive(Clone, Copy, Debug, PartialEq, Eq, Hash)]
+pub enum HexFault {
+    /// A byte is no hexadecimal digit.
+    Digit,
+    /// A request for memory was refused.
+    Memory,
+}
+
+impl From<AllocError> for HexFault {
+    ghost from_gives = { λ _ fault. fault ≡ Memory };
+
+    fn from(_error: AllocError) -> HexFault {
+        HexFault::Memory
+    }
+}
+
+/// The digits, in lower case.
+const DIGITS: &[u8; 16] = b"0123456789abcdef";
+
+/// Reads bits from hexadecimal digits of upper or lower case: four bits from each, the highest
+/// first. The error is `Digit` where a byte is no digit, which is looked at before memory is asked
+/// for.
+pub fn read_hex(alloc: Global, text: &[u8]) -> Result<Vec<bool>, HexFault>
+    ensures digit { (result ≡ Err Digit) ↔ (has_other text.now ≡ true) }
+    ensures bits { IfOk result (λ bits. bits.items ≡ bits_of_digits text.now) }
+{
+    if has_other(text) {
+        return Err(HexFault::Digit);
+    }
+    let mut bits = Vec::new(alloc);
+    for digit in text {
+        bits.extend_from_slice(&bits_of_digit(*digit))?;
+    }
+    Ok(bits)
+}
+
+/// Prints bits in hexadecimal digits of lower case: four bits in each, the highest first. The last
+/// digit is filled up with 0 bits.
+pub fn print_hex(alloc: Global, bits: &[bool]) -> Result<Vec<u8>, AllocError>
+    ensures { IfOk result (λ text. text.items ≡ digits_of bits.now) }
+{
+    let mut text = Vec::new(alloc);
+    let mut rest = bits;
+    while !rest.is_empty() {
+        let (four, later) = split_four(rest);
+        text.push(digit_at(four))?;
+        rest = later;
+    }
+    Ok(text)
+}
+
+/// The first four bits, or all where they are fewer, and those after them.
+fn split_four(bits: &[bool]) -> (&[bool], &[bool])
+    ensures first { result.0.now ≡ take 4 bits.now }
+    ensures later { result.1.now ≡ drop 4 bits.now }
+{
+    bits.split_at(usize::min(4, bits.len()))
+}
+
+/// The digit of up to four bits.
+fn digit_at(bits: &[bool]) -> u8
+    requires some { 0 < length bits.now }
+    requires most { length bits.now ≤ 4 }
+    ensures { digits_of bits.now ≡ result ∷ [] }
+{
+    match bits {
+        [a] => digit_of(*a, false, false, false),
+        [a, b] => digit_of(*a, *b, false, false),
+        [a, b, c] => digit_of(*a, *b, *c, false),
+        _ => digit_of(bits[0], bits[1], bits[2], bits[3]),
+    }
+}
+
+/// The digit of four bits.
+pub(crate) fn digit_of(a: bool, b: bool, c: bool, d: bool) -> u8
+    ensures { result ≡ digit_of a b c d }
+{
+    let value = 8 * bit_number(a) + 4 * bit_number(b) + 2 * bit_number(c) + bit_number(d);
+    DIGITS[usize::from(value)]
+}
+
+/// A bit as a number.
+pub(crate) fn bit_number(bit: bool) -> u8
+    ensures value { result ≡ bit_number bit }
+    ensures bound { result ≤ 1 }
+{
+    if bit { 1 } else { 0 }
+}
+
+/// Whether a byte is no digit.
+pub(crate) fn has_other(text: &[u8]) -> bool
+    ensures { result ≡ has_other text.now }
+{
+    text.iter().any(|byte| !is_digit(*byte))
+}
+
+/// Whether a byte is a hexadecimal digit.
+fn is_digit(byte: u8) -> bool
+    ensures { result ≡ is_digit byte }
+{
+    digit_value(byte).is_some()
+}
+
+/// What a hexadecimal digit stands for.
+fn digit_value(byte: u8) -> Option<u8>
+    ensures { result ≡ digit_value byte }
+{
+    match byte {
+        b'0'..=b'9' => Some(byte - b'0'),
+        b'a'..=b'f' => Some(byte - b'a' + 10),
+        b'A'..=b'F' => Some(byte - b'A' + 10),
+        _ => None,
+    }
+}
+
+/// The bits for which a digit stands.
+pub(crate) fn bits_of_digit(digit: u8) -> [bool; 4]
+    ensures { result ≡ bits_of_digit digit }
+{
+    let value = digit_value(digit).unwrap_or(0);
+    [
+        value / 8 % 2 == 1,
+        value / 4 % 2 == 1,
+        value / 2 % 2 == 1,
+        value % 2 == 1,
+    ]
+}
