@@ -68,6 +68,15 @@ impl Bits {
         if has_other(text) {
             return Err(HexFault::Digit);
         }
+        self.add_digits(text)?;
+        Ok(())
+    }
+
+    /// Adds the bits of bytes that are known to be hexadecimal digits; another byte adds four 0 bits.
+    /// It fails only if memory is refused, and then some may be added.
+    pub fn add_digits(&mut self, text: &[u8]) -> Result<(), AllocError>
+        ensures { OnOk result (self.new ≡ self.old ++ bits_of_digits text.now) }
+    {
         for digit in text {
             self.push_all(&bits_of_digit(*digit))?;
         }

@@ -1,12 +1,12 @@
 -- Where a text may be cut between two of its lines.
-use Rattle.std.proofs.Common.{◌≡◌, ℕ, ◌+◌, ◌-◌, ◌<◌, List, [], ◌∷◌, ◌++◌, true, false, cond, length, get_or, take, drop, refl, sym, ◌∙◌, ap, suc, add-one, get_or-take, append_assoc, arith, eqb, subst}
+use Rattle.std.proofs.Common.{◌≡◌, ℕ, ◌+◌, ◌-◌, ◌<◌, List, [], ◌∷◌, ◌++◌, true, false, cond, length, get_or, take, drop, refl, sym, ◌∙◌, ap, zero, suc, add-one, get_or-take, append_assoc, arith, eqb, subst}
 use Rattle.std.specs.Prelude.{not}
 use Rattle.std.proofs.lemmas.List.Elements.{filter-append}
 use Rattle.std.proofs.lemmas.List.{append-nil, length-append, take-append-drop, length-drop}
 use Rattle.std.proofs.lemmas.Bool.{ne_eqb}
 use Rattle.std.proofs.Math.Seq.{take-suc, take-append_seam, take-length}
 use Rattle.std.proofs.lemmas.Grind.{common_steps}
-use Rattle.sheets.specs.Text.{without_return, last_line, lines_from, lines_of, is_blank, written, written_lines, IsCut, BeginsWith}
+use Rattle.sheets.specs.Text.{without_return, last_line, lines_from, lines_of, rest_of, is_blank, written, written_lines, IsCut, BeginsWith}
 
 -- what follows an LF is read apart from what stands before it
 closed : (line front more : List ℕ) → lines_from line ((front ++ 10 ∷ []) ++ more) ≡ lines_from line (front ++ 10 ∷ []) ++ lines_from [] more
@@ -150,3 +150,41 @@ pub before_line : (front next line middle rest text : List ℕ) → is_blank lin
     BeginsWith next (written (line ∷ [])) rest middle → BeginsWith (front ++ next) (line ∷ []) rest text
 before_line front next line middle rest text blank a b =
     one_after_another front next [] (line ∷ []) middle rest text a (subst (λ t. BeginsWith next (cond (not t) (line ∷ []) []) rest middle) blank b)
+
+-- a text with an LF is the line before it, and then the lines behind it
+lines_by_newline : (line text : List ℕ) (end : ℕ) → end < length text → get_or text end 0 ≡ 10 → ((k : ℕ) → k < end → get_or text k 0 ≡ 10 → ⊥) →
+    lines_from line text ≡ without_return (line ++ take end text) ∷ lines_from [] (drop (suc end) text)
+lines_by_newline line [] end within here none = absurd (omega arith)
+lines_by_newline line (byte ∷ text) zero within here none = rw (here, append-nil line) refl
+lines_by_newline line (byte ∷ text) (suc end) within here none =
+    let other : eqb byte 10 ≡ false = ne_eqb byte 10 (none 0 (omega arith)) in
+    rw other (lines_by_newline (line ++ byte ∷ []) text end (omega arith) here (λ k h. none (suc k) (omega arith)) ∙ ap (λ l. without_return l ∷ lines_from [] (drop (suc end) text)) (append_assoc line (byte ∷ []) (take end text)))
+
+pub lines_at_newline : (text : List ℕ) (end : ℕ) → end < length text → get_or text end 0 ≡ 10 → ((k : ℕ) → k < end → get_or text k 0 ≡ 10 → ⊥) →
+    lines_of text ≡ without_return (take end text) ∷ lines_of (drop (end + 1) text)
+lines_at_newline text end within here none = rw (add-one) (lines_by_newline [] text end within here none)
+
+-- what is behind the first LF is the rest
+rest_by_newline : (text : List ℕ) (end : ℕ) → end < length text → get_or text end 0 ≡ 10 → ((k : ℕ) → k < end → get_or text k 0 ≡ 10 → ⊥) →
+    drop (suc end) text ≡ rest_of text
+rest_by_newline [] end within here none = absurd (omega arith)
+rest_by_newline (byte ∷ text) zero within here none = rw here refl
+rest_by_newline (byte ∷ text) (suc end) within here none =
+    let other : eqb byte 10 ≡ false = ne_eqb byte 10 (none 0 (omega arith)) in
+    rw other (rest_by_newline text end (omega arith) here (λ k h. none (suc k) (omega arith)))
+
+pub rest_at_newline : (text : List ℕ) (end : ℕ) → end < length text → get_or text end 0 ≡ 10 → ((k : ℕ) → k < end → get_or text k 0 ≡ 10 → ⊥) →
+    drop (end + 1) text ≡ rest_of text
+rest_at_newline text end within here none = rw (add-one) (rest_by_newline text end within here none)
+
+-- without an LF there is one line, and nothing behind it
+pub lines_without_newline : (text : List ℕ) → 0 < length text → ((k : ℕ) → k < length text → get_or text k 0 ≡ 10 → ⊥) →
+    lines_of text ≡ text ∷ []
+lines_without_newline [] some none = absurd (omega arith)
+lines_without_newline (byte ∷ text) some none = last_of [] (byte ∷ text) none
+
+pub rest_without_newline : (text : List ℕ) → ((k : ℕ) → k < length text → get_or text k 0 ≡ 10 → ⊥) → [] ≡ rest_of text
+rest_without_newline [] none = refl
+rest_without_newline (byte ∷ text) none =
+    let other : eqb byte 10 ≡ false = ne_eqb byte 10 (none 0 (omega arith)) in
+    rw other (rest_without_newline text (λ k h. none (suc k) (omega arith)))

@@ -25,6 +25,11 @@ lines_from line (byte ∷ bytes) =
 abbrev pub lines_of : List ℕ → List (List ℕ)
 lines_of text = lines_from [] text
 
+-- what follows the first line of a text, behind its LF
+abbrev pub rest_of : List ℕ → List ℕ
+rest_of [] = []
+rest_of (byte ∷ bytes) = if byte == 10 then bytes else rest_of bytes
+
 -- a line that counts nowhere
 unfoldable pub is_blank : List ℕ → Bool
 is_blank line = nat_le (length line) line_most && not (has_words (words_of line))

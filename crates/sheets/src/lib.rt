@@ -36,3 +36,4 @@ pub use laws::{
 pub use parts::PartsLeft;
 pub use place::{fault_out_of_place, is_of_file};
 pub use sheet::{LINES_MOST, Lines, NumberedLine, Sheet, UnreadLine};
+pub use text::{Piece, first_line};

@@ -1,21 +1,24 @@
 ghost use Rattle.std.specs.Prelude.{◌≡◌, ◌<◌, ℕ, List, [], ◌∷◌, ◌≢◌, EachIndex, IfSome, MatchOption, length, slice_index};
-ghost use Rattle.sheets.specs.Text.{BeginsWith, IsFirstLine, IsNewline, is_blank, lines_from, without_return, written, written_lines};
+ghost use Rattle.sheets.specs.Text.{BeginsWith, IsFirstLine, IsNewline, is_blank, lines_from, lines_of, rest_of, without_return, written, written_lines};
 
 use order_grammar::{LINE_MOST, has_word};
 
 /// A line of a text, and what follows it.
 #[derive(Clone, Copy, Debug)]
-pub(crate) struct Piece<'a> {
+pub struct Piece<'a> {
     /// The line, without its LF and a CR before that.
-    pub(crate) line: &'a [u8],
+    pub line: &'a [u8],
     /// The text after its LF.
-    pub(crate) rest: &'a [u8],
+    pub rest: &'a [u8],
 }
 
 /// The first line of a text; `None` where nothing is left. A last line without LF counts, and a CR
 /// at its end belongs to it.
-pub(crate) fn first_line(text: &[u8]) -> Option<Piece<'_>>
+pub fn first_line(text: &[u8]) -> Option<Piece<'_>>
     ensures shorter { IfSome result (λ piece. length piece.rest.now < length text.now) }
+    ensures lines { MatchOption result (text.now ≡ [])
+        (λ piece. lines_of text.now ≡ piece.line.now ∷ lines_of piece.rest.now) }
+    ensures rest { IfSome result (λ piece. piece.rest.now ≡ rest_of text.now) }
     ensures first { MatchOption result (text.now ≡ [])
         (λ piece. (front : List ℕ) ×
         BeginsWith front (written (piece.line.now ∷ [])) piece.rest.now text.now) }

@@ -11,7 +11,7 @@ use Rattle.sheets.specs.declared.fault.FileFault.TheVariants.{TooLong}
 use Rattle.umpire.specs.Failure.{AppendsFront}
 use Rattle.umpire.specs.Run.{IsReported, IsRefused, IsCutShort, IsFileOf, IsReadFault, Stops, as_read}
 use Rattle.umpire.specs.declared.fault.Fault.{Fault}
-use Rattle.umpire.specs.declared.fault.Fault.TheVariants.{Read, Write, Memory, File}
+use Rattle.umpire.specs.declared.fault.Fault.TheVariants.{Read, Write, Memory, File, Certificate}
 
 -- all of a file was read, or it is too long and so is what was read of it
 read_or_long : (bytes file : List ℕ) → file ≡ as_read bytes → (length bytes ≤ 4194304) ⊎ (4194304 < length bytes) → (bytes ≡ file) ⊎ ((content_of bytes ≡ Err TooLong) × (content_of file ≡ Err TooLong))
@@ -96,6 +96,7 @@ stops given old new file read_failed write_failed Read read unfailed known = abs
 stops given old new file read_failed write_failed Write read unfailed known = (unfailed, known.1, cut_short given old new file read known.2)
 stops given old new file read_failed write_failed Memory read unfailed known = (unfailed, known.1, cut_short given old new file read known.2)
 stops given old new file read_failed write_failed (File fault) read unfailed known = (unfailed, known.1, refused given old new file fault read known.2)
+stops given old new file read_failed write_failed (Certificate round company) read unfailed known = absurd known
 
 -- nothing of a report is a front of it
 front_of_none : (given old : Option (List ℕ)) (file : List ℕ) → IsFileOf given file → (text : List ℕ) × IsReport file text → IsCutShort given old old
@@ -114,3 +115,4 @@ read_stops some given old read_failed write_failed Read is unfailed = (is, unfai
 read_stops some given old read_failed write_failed Memory is unfailed = (is, unfailed, nothing_written some given old)
 read_stops some given old read_failed write_failed Write is unfailed = absurd is
 read_stops some given old read_failed write_failed (File fault) is unfailed = absurd is
+read_stops some given old read_failed write_failed (Certificate round company) is unfailed = absurd is

@@ -5,7 +5,7 @@ use Rattle.std.specs.Io.KnownBytes.{Appends, Consumes, IsAtEnd}
 use Rattle.std.proofs.KnownBytes.{Appends-trans, Consumes-trans}
 use Rattle.std.proofs.Math.Seq.{take-add}
 use Rattle.std.proofs.lemmas.Grind.{common_steps}
-use Rattle.umpire.specs.Failure.{TakesWithin}
+use Rattle.umpire.specs.Failure.{TakesAtMost}
 
 -- a further part of a text is added
 pub appends_part : (old mid new : Option (List ℕ)) (text rest : List ℕ) (done count : ℕ) → rest ≡ drop done text → Appends old mid (take done text) → Appends mid new (take count rest) → Appends old new (take (done + count) text)
@@ -26,6 +26,6 @@ enough_taken (Some all) None xs most taken many = elim taken [ ]
 enough_taken (Some all) (Some rest) xs most taken many = grind (arith, common_steps)
 
 -- a piece that was taken last is within the limit
-pub within_limit : (old mid new : Option (List ℕ)) (xs ys : List ℕ) → Consumes old mid xs → Consumes mid new ys → length xs + length ys ≤ 4194305 → TakesWithin old new
-within_limit old mid new xs ys taken then_taken few =
+pub within_limit : (old mid new : Option (List ℕ)) (xs ys : List ℕ) (most : ℕ) → Consumes old mid xs → Consumes mid new ys → length xs + length ys ≤ most → TakesAtMost most old new
+within_limit old mid new xs ys most taken then_taken few =
     record { taken = xs ++ ys; consumed = Consumes-trans old mid new xs ys taken then_taken; within = grind (arith, common_steps) }

@@ -1,3 +1,7 @@
 pub mod Known
 pub mod Parts
 pub mod Files
+pub mod PartingLemmas
+pub mod GroupLemmas
+pub mod WrittenLemmas
+pub mod LawLemmas

@@ -14,8 +14,12 @@ pub record AppendsFront (old new : Option (List ℕ)) (text : List ℕ) : Type 0
   pub within : count ≤ length text
   pub appended : Appends old new (take count text)
 
--- a reader gave no byte past the first that is over the limit of a file
-pub record TakesWithin (old new : Option (List ℕ)) : Type 0 where
+-- a reader gave so many bytes at most
+pub record TakesAtMost (most : ℕ) (old new : Option (List ℕ)) : Type 0 where
   pub taken : List ℕ
   pub consumed : Consumes old new taken
-  pub within : length taken ≤ 4194305
+  pub within : length taken ≤ most
+
+-- it gave no byte past the first that is over the limit of a file
+abbrev pub TakesWithin : Option (List ℕ) → Option (List ℕ) → Type 0
+TakesWithin old new = TakesAtMost 4194305 old new

@@ -6,13 +6,17 @@ use Rattle.sheets.specs.File.{IsAccepted, content_of}
 use Rattle.sheets.specs.declared.fault.FileFault.{FileFault}
 use Rattle.umpire.specs.Failure.{AppendsFront}
 use Rattle.umpire.specs.declared.fault.Fault.{Fault}
-use Rattle.umpire.specs.declared.fault.Fault.TheVariants.{Read, Write, Memory, File}
+use Rattle.umpire.specs.declared.fault.Fault.TheVariants.{Read, Write, Memory, File, Certificate}
 
 -- as much of a file as is read: one byte more than the most that a file may have
 unfoldable pub as_read : List ℕ → List ℕ
 as_read bytes = take 4194305 bytes
 
--- what was read of the bytes that a reader gives, where they are known
+-- the first of the bytes that a reader gives, so many at most, where they are known
+abbrev pub AreFirst : ℕ → Option (List ℕ) → List ℕ → Type 0
+AreFirst most given bytes = IfSome given (λ all. bytes ≡ take most all)
+
+-- what was read of a file
 abbrev pub IsAsRead : Option (List ℕ) → List ℕ → Type 0
 IsAsRead given file = IfSome given (λ bytes. file ≡ as_read bytes)
 
@@ -22,6 +26,7 @@ IsReadFault failed Read = failed ≡ true
 IsReadFault failed Memory = failed ≡ false
 IsReadFault failed Write = ⊥
 IsReadFault failed (File fault) = ⊥
+IsReadFault failed (Certificate round company) = ⊥
 
 -- why writing stopped early: a call failed or took nothing, or memory ran out
 abbrev pub IsWriteFault : Bool → Fault → Type 0
@@ -29,6 +34,7 @@ IsWriteFault failed Write = failed ≡ true
 IsWriteFault failed Memory = failed ≡ false
 IsWriteFault failed Read = ⊥
 IsWriteFault failed (File fault) = ⊥
+IsWriteFault failed (Certificate round company) = ⊥
 
 -- the file is all the bytes that the reader gives, where they are known
 abbrev pub IsFileOf : Option (List ℕ) → List ℕ → Type 0
@@ -64,3 +70,4 @@ Stops given old new read_failed write_failed Read = (read_failed ≡ true) × (w
 Stops given old new read_failed write_failed Write = (read_failed ≡ false) × (write_failed ≡ true) × IsCutShort given old new
 Stops given old new read_failed write_failed Memory = (read_failed ≡ false) × (write_failed ≡ false) × IsCutShort given old new
 Stops given old new read_failed write_failed (File fault) = (read_failed ≡ false) × (write_failed ≡ false) × IsRefused given old new fault
+Stops given old new read_failed write_failed (Certificate round company) = ⊥

@@ -4,6 +4,7 @@ ghost use Rattle.umpire.specs.declared.fault.Fault.TheVariants.{Memory};
 
 use sheets::FileFault;
 use std::alloc::AllocError;
+use tables::{Company, Round};
 use thiserror::Error;
 
 /// Why the umpire stopped before its report was written whole.
@@ -21,6 +22,10 @@ pub enum Fault {
     /// The order file is refused as a whole, and the line that says so is written.
     #[error("the order file is refused: {0}")]
     File(FileFault),
+    /// The best runs of a company in a round have no group that shows them, and the line that says
+    /// so is written.
+    #[error("a certificate is refused")]
+    Certificate(Round, Company),
 }
 
 impl From<AllocError> for Fault {
@@ -31,19 +36,21 @@ impl From<AllocError> for Fault {
     }
 }
 
-/// The exit status of the program: 0 for a report, 2 for a refused file, 4 where reading, writing
-/// or memory failed.
+/// The exit status of the program: 0 for a report, 2 for a refused file, 3 for a refused
+/// certificate, 4 where reading, writing or memory failed.
 pub fn status(outcome: &Result<(), Fault>) -> u8
     ensures { result ≡ status_of outcome.now }
 {
     match outcome {
         Ok(()) => 0,
         Err(Fault::File(_)) => 2,
+        Err(Fault::Certificate(..)) => 3,
         Err(Fault::Read | Fault::Write | Fault::Memory) => 4,
     }
 }
 
-/// The word for a fault on standard error; empty for a refused file, of which the report speaks.
+/// The word for a fault on standard error; empty for a refused file or certificate, of which what is
+/// written speaks.
 pub fn word(fault: &Fault) -> &'static str
     ensures { result.now ≡ word_of fault.now }
 {
@@ -51,6 +58,6 @@ pub fn word(fault: &Fault) -> &'static str
         Fault::Read => "Read",
         Fault::Write => "Write",
         Fault::Memory => "Memory",
-        Fault::File(_) => "",
+        Fault::File(_) | Fault::Certificate(..) => "",
     }
 }

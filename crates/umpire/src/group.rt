@@ -1,0 +1,12 @@
+use certificate::{Bits, Claim};
+use tables::{Company, Round};
+
+/// A group of a text of certificates: the round and the company whose best runs it is about, what it
+/// claims that they earn, and the bits by which this is checked.
+#[derive(Drop)]
+pub struct Group {
+    pub round: Round,
+    pub company: Company,
+    pub claim: Claim,
+    pub bits: Bits,
+}

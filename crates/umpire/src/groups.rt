@@ -1,0 +1,121 @@
+ghost use Rattle.std.specs.Prelude.{◌≡◌, IfOk, OnOk};
+ghost use Rattle.umpire.specs.Groups.{begins_group, group_begun, group_if, groups_of, second_of_words, with_line, with_lines, with_marks, with_run};
+ghost use Rattle.order_grammar.specs.Line.{cert_reading_of};
+ghost use Rattle.order_grammar.specs.Words.{texts_of};
+ghost use Rattle.sheets.specs.Text.{lines_of};
+
+use crate::group::Group;
+use certificate::{Bits, Claim, ClaimedRun, ClaimedRuns};
+use order_grammar::{Line, Order, Words, begins_with_word, read_cert_line};
+use sheets::first_line;
+use std::alloc::{AllocError, Global};
+
+/// Reads the groups of a text of certificates, in order; `None` is one that is malformed. The only
+/// error is want of memory.
+pub fn read_groups(alloc: Global, text: &[u8]) -> Result<Vec<Option<Group>>, AllocError>
+    ensures { IfOk result (λ groups. groups.items ≡ groups_of text.now) }
+{
+    let mut groups = Vec::new(alloc);
+    let mut rest = text;
+    while let Some(piece) = first_line(rest) {
+        if begins_group(piece.line) {
+            groups.push(read_group(alloc, piece.line, piece.rest)?)?;
+        }
+        rest = piece.rest;
+    }
+    Ok(groups)
+}
+
+/// Reads a group from its CERT line and the text behind that, up to the next CERT line.
+fn read_group(alloc: Global, head: &[u8], text: &[u8]) -> Result<Option<Group>, AllocError>
+    ensures { IfOk result (λ group. group ≡
+        with_lines (lines_of text.now) (group_begun (cert_reading_of head.now))) }
+{
+    let Some(mut group) = group_begun(alloc, head) else {
+        return Ok(None);
+    };
+    let mut rest = text;
+    while let Some(piece) = first_line(rest) {
+        if begins_group(piece.line) {
+            return Ok(Some(group));
+        }
+        if !take_line(&mut group, piece.line)? {
+            return Ok(None);
+        }
+        rest = piece.rest;
+    }
+    Ok(Some(group))
+}
+
+/// Whether the first word of a line is CERT.
+#[tactic(auto, unfolding(crate::specs::Groups::begins_group))]
+fn begins_group(line: &[u8]) -> bool
+    ensures { result ≡ begins_group line.now }
+{
+    begins_with_word(line, b"CERT")
+}
+
+/// What a CERT line begins; `None` where it is not spelt.
+fn group_begun(alloc: Global, head: &[u8]) -> Option<Group>
+    ensures { result ≡ group_begun (cert_reading_of head.now) }
+{
+    match read_cert_line(head).ok()?.order {
+        Order::Cert {
+            round,
+            company,
+            revenue,
+        } => Some(Group {
+            round,
+            company,
+            claim: Claim {
+                revenue,
+                runs: ClaimedRuns::new(alloc),
+            },
+            bits: Bits::new(alloc),
+        }),
+        _ => None,
+    }
+}
+
+/// Takes a line into a group. `false` says that the group is malformed with it, and then the group
+/// stays as it was.
+#[tactic(auto, unfolding(crate::specs::Groups::with_line))]
+fn take_line(group: &mut Group, line: &[u8]) -> Result<bool, AllocError>
+    ensures { IfOk result (λ taken. group_if taken group.new ≡ with_line group.old line.now) }
+{
+    let Ok(Line { order, words }) = read_cert_line(line) else {
+        return Ok(false);
+    };
+    match order {
+        Order::Blank => Ok(true),
+        Order::Claim { kind, run } => take_run(group, ClaimedRun { kind, run }),
+        Order::Marks => {
+            take_marks(group, words)?;
+            Ok(true)
+        }
+        _ => Ok(false),
+    }
+}
+
+/// Takes a run into a group, unless that has marks.
+fn take_run(group: &mut Group, run: ClaimedRun) -> Result<bool, AllocError>
+    ensures { IfOk result (λ taken. group_if taken group.new ≡ with_run group.old run group.old.bits) }
+{
+    if !group.bits.reader().is_empty() {
+        return Ok(false);
+    }
+    group.claim.runs.push(run)?;
+    Ok(true)
+}
+
+/// Takes the marks of a MARKS line into a group.
+fn take_marks(group: &mut Group, mut words: Words) -> Result<(), AllocError>
+    ensures { OnOk result
+        (group.new ≡ with_marks group.old (second_of_words (texts_of words.entry))) }
+{
+    words.next();
+    match words.next() {
+        Some(digits) => group.bits.add_digits(digits.text),
+        None => Ok(()),
+    }
+}

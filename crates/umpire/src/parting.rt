@@ -1,0 +1,76 @@
+ghost use Rattle.std.specs.Prelude.{◌≡◌, true, None, Some, MatchOption};
+ghost use Rattle.umpire.specs.Parting.{certificates_of, from_divider, is_divider, order_file_of, without_newline};
+
+use order_grammar::{Line, Order, read_cert_line};
+use sheets::first_line;
+
+/// The most bytes of the text of certificates.
+pub const CERTIFICATES_MOST: usize = 67_108_864;
+
+/// The two parts of the input of a check of certificates.
+#[derive(Clone, Copy, Debug)]
+pub struct Parted<'a> {
+    /// The order file.
+    pub file: &'a [u8],
+    /// The text of the certificates behind it, from its line `CERTS 1` on.
+    pub certificates: &'a [u8],
+}
+
+/// Parts the input of a check of certificates at its last line `CERTS 1` of at most 2,048 bytes. The
+/// order file is all before that line, without the one LF that ends it; it is the whole input
+/// where there is no such line, and there are no certificates then.
+pub fn part(input: &[u8]) -> Parted<'_>
+    ensures file { result.file.now ≡ order_file_of input.now }
+    ensures certificates { result.certificates.now ≡ certificates_of input.now }
+{
+    match from_divider(input) {
+        Some(certificates) => Parted {
+            file: without_newline(&input[..input.len() - certificates.len()]),
+            certificates,
+        },
+        None => Parted {
+            file: input,
+            certificates: &[],
+        },
+    }
+}
+
+/// What stands in a text from its last line `CERTS 1` on.
+fn from_divider(text: &[u8]) -> Option<&[u8]>
+    ensures { MatchOption result (from_divider true text.now ≡ None)
+        (λ found. from_divider true text.now ≡ Some found.now) }
+{
+    let mut found = None;
+    let mut rest = text;
+    while let Some(piece) = first_line(rest) {
+        if is_divider(piece.line) {
+            found = Some(rest);
+        }
+        rest = piece.rest;
+    }
+    found
+}
+
+/// Whether a line is `CERTS 1`, of at most 2,048 bytes.
+#[tactic(auto, unfolding(crate::specs::Parting::is_divider))]
+fn is_divider(line: &[u8]) -> bool
+    ensures { result ≡ is_divider line.now }
+{
+    matches!(
+        read_cert_line(line),
+        Ok(Line {
+            order: Order::Certs,
+            ..
+        })
+    )
+}
+
+/// A text without the one LF that ends it.
+fn without_newline(text: &[u8]) -> &[u8]
+    ensures { result.now ≡ without_newline text.now }
+{
+    let Some((last, front)) = text.split_last() else {
+        return text;
+    };
+    if *last == b'\n' { front } else { text }
+}
