@@ -2,7 +2,7 @@ use Rattle.std.proofs.Common.{sym, subst}
 use Rattle.operating.specs.Calls.{Makes}
 use Rattle.rounds.specs.GameCalls.{OperatingCalls, PlayedCalls}
 use Rattle.tables.specs.declared.round.Round.{Round}
-use Rattle.rounds.proofs.game.play_round.Goals as goal
+use Rattle.rounds.proofs.steps.play_round.Goals as goal
 
 pub returns-in-Operating-clause-calls : goal.returns-in-Operating-clause-calls
 returns-in-Operating-clause-calls g c =
