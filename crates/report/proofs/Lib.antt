@@ -3,5 +3,6 @@ pub mod OneReport
 pub mod Seats
 pub mod Rounds
 pub mod ByRound
-pub mod Taken
+pub mod LastRound
+pub mod Told
 pub mod Worths

@@ -1,10 +1,14 @@
 -- Laws of reports: in which order the sheets of different players arrive changes nothing in the report,
--- and the report is its parts, one after the other.
-use Rattle.std.specs.Prelude.{◌≡◌, ℕ, List, ◌++◌}
+-- and the report is its parts, one after the other, also as they are told while the game is played.
+use Rattle.std.specs.Prelude.{◌≡◌, ℕ, List, ◌++◌, Ok}
 use Rattle.std.specs.List.{flat_map}
+use Rattle.report.specs.Parts.{StepsTell, end_text_of}
 use Rattle.report.specs.Report.{IsReport, end_of_play, header, report_of, round_text_of, unread_lines}
 use Rattle.rounds.specs.Begun.{rounds_begun}
 use Rattle.rounds.specs.Play.{IsTheGame, Played}
+use Rattle.rounds.specs.Steps.{StepLeads, Underway, started}
+use Rattle.rounds.specs.declared.game.End.{End}
+use Rattle.rounds.specs.declared.steps.Step.TheVariants.{Ended}
 use Rattle.sheets.specs.File.{IsAccepted, players_of, unread_of}
 use Rattle.sheets.specs.Laws.{SentTheSame}
 
@@ -32,3 +36,21 @@ ReportIsItsParts =
     → report_of played
     ≡ header played.file ++ flat_map (round_text_of played) (rounds_begun played.game.events)
     ++ unread_lines 0 (unread_of played.file) ++ end_of_play played
+
+-- what was told so far as a file is played is the front of its report, and the rest is still to come
+pub record IsFront (file text whole : List ℕ) : Type 0 where
+  pub rest : List ℕ
+  pub is : whole ≡ header file ++ text ++ rest
+
+-- so it is after each step that plays a round
+abbrev pub PartsAreAFront : Type 0
+PartsAreAFront =
+    (file : List ℕ) (steps : ℕ) (play : Underway) (text whole : List ℕ)
+    → IsAccepted file → StepsTell steps (started file) play text → IsReport file whole → IsFront file text whole
+
+-- and once a step has answered that play has stopped, the parts are the report of the file
+abbrev pub PartsAreTheReport : Type 0
+PartsAreTheReport =
+    (file : List ℕ) (steps : ℕ) (last ended : Underway) (end : End) (text : List ℕ)
+    → IsAccepted file → StepsTell steps (started file) last text → StepLeads last (Ok (Ended end)) ended
+    → IsReport file (header file ++ text ++ end_text_of ended)

@@ -1,33 +1,52 @@
--- The text of a report that is still to come, and what is taken of it.
-use Rattle.std.specs.Global.{Global}
-use Rattle.std.specs.Prelude.{◌≡◌, ℕ, ◌≤◌, List, [], ◌++◌, Vec, length, take, drop, Option, Some, None}
-use Rattle.report.specs.Report.{end_of_play, report_of, rounds_in, texts_of_rounds, unread_lines}
-use Rattle.report.specs.declared.parts.Stage.{Stage}
-use Rattle.report.specs.declared.parts.Stage.TheVariants.{Header, Rounds, Done}
-use Rattle.rounds.specs.Play.{Played}
+-- The parts of a report as they are told while the game is played: the header; after each step that plays a round the
+-- text of that round; and at last what follows the rounds.
+use Rattle.std.specs.Prelude.{◌≡◌, ℕ, zero, suc, if◌then◌else◌, List, [], ◌∷◌, ◌++◌, Option, Some, None, Bool, is_some}
+use Rattle.std.specs.List.{flat_map, list_any}
+use Rattle.history.specs.Event.{round_of}
+use Rattle.history.specs.LookBack.{Game}
+use Rattle.history.specs.declared.event.Event.{Event}
+use Rattle.report.specs.Line.{event_line}
+use Rattle.report.specs.Report.{end_text, unread_lines}
+use Rattle.report.specs.Statement.{statement}
+use Rattle.rounds.specs.Steps.{PlaysNext, Underway, game_so_far}
+use Rattle.rounds.specs.declared.game.End.{End}
 use Rattle.sheets.specs.File.{unread_of}
+use Rattle.tables.specs.declared.round.Round as round
 
--- the rounds whose events stand from a place of a game on
-abbrev pub rounds_from : Played → ℕ → List ℕ
-rounds_from played begun =
-    texts_of_rounds played.file played.game.seats (take begun played.game.events) (rounds_in (drop begun played.game.events))
+-- the events of the round that began last: those from the last on that begins a round, all where none does
+abbrev pub last_round : List Event → List Event
+last_round [] = []
+last_round (event ∷ events) = if list_any (λ other. is_some (round_of other)) events then last_round events else event ∷ events
 
--- what follows the rounds: the unread lines and the end
-abbrev pub after_rounds : Played → List ℕ
-after_rounds played = unread_lines 0 (unread_of played.file) ++ end_of_play played
+-- the lines of its events, and the statement as the game stands; nothing before the first round
+abbrev pub last_round_text : List ℕ → ℕ → List Event → List ℕ
+last_round_text file seats [] = []
+last_round_text file seats (event ∷ events) =
+    flat_map (event_line file) (last_round (event ∷ events)) ++ statement file seats (event ∷ events)
 
--- the report from a stage on
-abbrev pub text_from : Played → Stage → List ℕ
-text_from played Header = report_of played
-text_from played (Rounds begun) = rounds_from played begun ++ after_rounds played
-text_from played Done = []
+-- that of a game, if there is one
+abbrev pub text_of_last : List ℕ → Option Game → List ℕ
+text_of_last file None = []
+text_of_last file (Some game) = last_round_text file game.seats game.events
 
--- a part, which is not empty, is the front of the text, and the rest of it is left
-pub record TakesFront (text part rest : List ℕ) : Type 0 where
-  pub some : 1 ≤ length part
-  pub whole : text ≡ part ++ rest
+-- the text of the round that was played last; nothing before the first, and once play was broken off
+abbrev pub next_text_of : Underway → List ℕ
+next_text_of play = text_of_last play.file (game_so_far play)
 
--- the next part is taken of a text; there is none where nothing is left of it
-abbrev pub TakesPart : List ℕ → Option (Vec ℕ Global) → List ℕ → Type 0
-TakesPart text None rest = (text ≡ []) × (rest ≡ [])
-TakesPart text (Some part) rest = TakesFront text part.items rest
+-- why play of a game stopped, where that is known
+abbrev pub end_told : List ℕ → Option Game → Option End → List ℕ
+end_told file (Some game) (Some end) = end_text file game.seats game.events end
+end_told file (Some game) None = []
+end_told file None end = []
+
+-- what follows the rounds: the unread lines, and why play stopped
+abbrev pub end_text_of : Underway → List ℕ
+end_text_of play = unread_lines 0 (unread_of play.file) ++ end_told play.file (game_so_far play) play.outcome
+
+-- so many steps, each of which played a round, lead from one play to another, and these are the texts of their rounds,
+-- one after the other
+abbrev pub StepsTell : ℕ → Underway → Underway → List ℕ → Type 0
+StepsTell zero old new text = (new ≡ old) × (text ≡ [])
+StepsTell (suc steps) old new text =
+    (mid : Underway) × (before : List ℕ) × StepsTell steps old mid before
+    × (round : round.Round) × PlaysNext mid round new × (text ≡ before ++ next_text_of new)

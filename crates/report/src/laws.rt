@@ -1,9 +1,12 @@
 //! Laws of the definitions, each the contract of a function that does nothing.
-ghost use Rattle.report.specs.Laws.{ArrivalChangesNoReport, ReportIsItsParts};
+ghost use Rattle.report.specs.Laws.{ArrivalChangesNoReport, PartsAreAFront, PartsAreTheReport, ReportIsItsParts};
 ghost use Rattle.report.specs.Report.{IsReport};
 ghost use Rattle.std.specs.Prelude.{◌≡◌, ℕ, List};
 
-use rounds::{arrival_changes_no_game, one_game, rounds_follow_in_order, some_game};
+use rounds::{
+    arrival_changes_no_game, one_game, rounds_follow_in_order, rounds_only_add, some_game,
+    steps_play_the_game,
+};
 use sheets::arrival_changes_nothing;
 
 /// A file has at most one report.
@@ -36,4 +39,16 @@ pub fn report_is_its_parts()
     ensures { ReportIsItsParts }
 {
     rounds_follow_in_order()
+}
+
+/// The parts that are told while a game is played are its report: the header, the text of each
+/// round as it was played, and, once play has stopped, what follows them. Until then they are a
+/// front of the report.
+pub fn parts_are_the_report()
+    ensures front { PartsAreAFront }
+    ensures whole { PartsAreTheReport }
+{
+    one_game();
+    rounds_only_add();
+    steps_play_the_game()
 }

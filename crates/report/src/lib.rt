@@ -2,13 +2,15 @@
 //! the header, the lines of each round's events and the statement after them, the lines that are
 //! in no sheet, and why play stopped, with what each player is worth where the game is over.
 //!
-//! `refusal_text` and `report` write it, `Parts` gives it part by part, and `round_text` writes one
-//! round of it: byte for byte the text that `specs/Report` defines, or the error that memory is
-//! refused. Each file has a report and no second.
+//! `refusal_text` and `report` write it, `header_text`, `next_text` and `end_text` write it part by
+//! part as the game is played, and `round_text` writes one round of it: byte for byte the text that
+//! `specs/Report` and `specs/Parts` define, or the error that memory is refused. Each file has a
+//! report and no second.
 //!
 //! Reading order: `column` (numbers and names in columns), `line` (an event as a line), `statement`
 //! (what each player and the bank hold), `worth` (what each player is worth at the end), `text`
-//! (`refusal_text`, `round_text`), `parts` (`Parts`, `report`), `laws`.
+//! (`refusal_text`, `report`, `round_text`), `parts` (`header_text`, `next_text`, `end_text`),
+//! `laws`.
 #![tactic(auto)]
 
 mod column;
@@ -19,6 +21,8 @@ mod statement;
 mod text;
 mod worth;
 
-pub use laws::{arrival_changes_no_report, one_report, report_is_its_parts, some_report};
-pub use parts::{Parts, report};
-pub use text::{refusal_text, round_text};
+pub use laws::{
+    arrival_changes_no_report, one_report, parts_are_the_report, report_is_its_parts, some_report,
+};
+pub use parts::{end_text, header_text, next_text};
+pub use text::{refusal_text, report, round_text};

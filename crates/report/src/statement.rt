@@ -6,15 +6,17 @@ ghost use Rattle.history.specs.LookBack.{owner_in};
 ghost use Rattle.report.specs.Column.{Adds};
 ghost use Rattle.report.specs.Statement.{AreOwnersIn, bank_line_at, cash_column_at, code_owned, codes_owned, company_figures_at, company_line_at, company_lines_at, counted_column, holdings, codes_of_kind, codes_of_trains, is_seat, player_line_at, player_lines_at, president_name, started_line_at, statement_at, tenths_column, trains_text};
 ghost use Rattle.sheets.specs.File.{players_of};
+ghost use Rattle.treasury.specs.Accounts.{AreAccountsAt, HasAccount};
 
 use crate::column::{push_left, push_right};
 use crate::line::{name, push_name};
 use certs::{Holdings, counted_by_the_game};
-use history::{Holder, Owners, Party, Past, Shareholder, Tenths, so_many};
+use history::{History, Holder, Owners, Party, Past, Shareholder, Tenths, so_many};
 use order_grammar::NAME_MOST;
 use sheets::Sheets;
 use std::alloc::AllocError;
 use tables::{Company, Kind, Money, Private, Seat, Square, price};
+use treasury::Accounts;
 
 /// The width of the column of names.
 const NAME_WIDTH: usize = NAME_MOST;
@@ -34,33 +36,58 @@ const COUNT_WIDTH: usize = 3;
 /// The width of the column of tokens.
 const TOKEN_WIDTH: usize = 2;
 
-/// A game as it stood, with who owns and holds what in it, looked up once.
+/// A game as it stood, with who owns and holds what in it and what each party has, read once.
 #[derive(Clone, Copy)]
-struct Standing<'a> {
+pub(crate) struct Standing<'a> {
     past: Past<'a>,
     owners: Owners,
+    accounts: Accounts,
     holdings: Holdings,
     ghost owned: { AreOwnersIn past.events.now owners },
+    ghost kept: { AreAccountsAt past accounts },
     ghost held: { AreHoldingsAt past holdings },
+}
+
+impl<'a> Standing<'a> {
+    /// A game as it stands.
+    pub(crate) fn of(history: &'a History) -> Standing<'a>
+        ensures seats { result.past.seats ≡ history.now.seats }
+        ensures events { result.past.events.now ≡ history.now.events }
+    {
+        Standing {
+            past: history.now(),
+            owners: history.owners(),
+            accounts: Accounts::of(history),
+            holdings: Holdings::of(history),
+        }
+    }
+
+    /// A game as it stood.
+    pub(crate) fn at(past: Past<'a>) -> Standing<'a>
+        ensures seats { result.past.seats ≡ past.entry.seats }
+        ensures events { result.past.events.now ≡ past.entry.events.now }
+    {
+        Standing {
+            past,
+            owners: past.owners(),
+            accounts: Accounts::at(&past),
+            holdings: Holdings::at(&past),
+        }
+    }
 }
 
 /// Adds the statement of what everybody holds.
 pub(crate) fn push_statement(
     out: &mut Vec<u8>,
     sheets: &Sheets,
-    past: &Past,
+    standing: &Standing,
 ) -> Result<(), AllocError>
-    requires { past.now.seats ≡ length (players_of sheets.now) }
-    ensures { OnOk result (Adds out.old out.new (statement_at sheets.now past.now)) }
+    requires { standing.now.past.seats ≡ length (players_of sheets.now) }
+    ensures { OnOk result (Adds out.old out.new (statement_at sheets.now standing.now.past)) }
 {
-    let standing = Standing {
-        past: *past,
-        owners: past.owners(),
-        holdings: Holdings::at(past),
-    };
-    push_players(out, sheets, &standing)?;
-    push_companies(out, sheets, &standing)?;
-    push_bank(out, &standing)
+    push_players(out, sheets, standing)?;
+    push_companies(out, sheets, standing)?;
+    push_bank(out, standing)
 }
 
 /// Adds the players' lines.
@@ -227,12 +254,13 @@ fn push_figures(
     push_right(out, standing.past.tokens_placed(company), TOKEN_WIDTH)
 }
 
-/// Adds the cash of a party in its column.
+/// Adds the cash of a party in its column. A seat is one of six.
 #[tactic(auto, unfolding(crate::specs::Statement::cash_column))]
 fn push_cash(out: &mut Vec<u8>, standing: &Standing, party: Party) -> Result<(), AllocError>
+    requires { HasAccount party }
     ensures { OnOk result (Adds out.old out.new (cash_column_at standing.now.past party)) }
 {
-    push_right(out, standing.past.cash(party), CASH_WIDTH)
+    push_right(out, standing.accounts.cash(party), CASH_WIDTH)
 }
 
 /// Adds the tenths of a company that lie at a place in their column. A seat is one of six.

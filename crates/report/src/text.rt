@@ -1,11 +1,13 @@
-ghost use Rattle.std.specs.Prelude.{◌≡◌, ◌≤◌, IfOk, OnOk, length};
+ghost use Rattle.std.specs.Prelude.{◌≡◌, ◌≤◌, IfOk, OnOk, drop, length};
 ghost use Rattle.report.specs.Column.{Adds};
-ghost use Rattle.report.specs.Report.{IsLengthOfRound, awaiting_text, end_of_play, ends_round as ends_a_round, header, is_round as is_the_round, name_owing, over_text, refusal_line, round_text_of, text_between, unread_lines};
+ghost use Rattle.report.specs.Parts.{last_round, last_round_text};
+ghost use Rattle.report.specs.Report.{IsLengthOfRound, awaiting_text, end_text, ends_round as ends_a_round, header, is_round as is_the_round, name_owing, over_text, refusal_line, report_of, round_text_of, rounds_text, text_between, unread_lines};
+ghost use Rattle.sheets.specs.File.{players_of};
 
 use crate::line::{push_event, push_name};
-use crate::statement::push_statement;
+use crate::statement::{Standing, push_statement};
 use crate::worth::push_worths;
-use history::{Event, Walk};
+use history::{Event, History, Walk};
 use order_grammar::{Fault, print_number, print_round};
 use rounds::{End, Game};
 use sheets::{FileFault, Sheets};
@@ -46,6 +48,18 @@ pub fn round_text(alloc: Global, game: &Game, round: Round) -> Result<Vec<u8>, A
     Ok(out)
 }
 
+/// The whole report of a game, or an error where memory is refused.
+pub fn report(alloc: Global, game: &Game) -> Result<Vec<u8>, AllocError>
+    ensures { IfOk result (λ text. text.items ≡ report_of game.now) }
+{
+    let mut out = Vec::new(alloc);
+    push_header(&mut out, game.sheets())?;
+    push_rounds(&mut out, game)?;
+    push_unread(&mut out, game.sheets().unread())?;
+    push_end(&mut out, game.sheets(), game.history(), game.outcome())?;
+    Ok(out)
+}
+
 #[tactic(auto, unfolding(crate::specs::Report::header))]
 pub(crate) fn push_header(out: &mut Vec<u8>, sheets: &Sheets) -> Result<(), AllocError>
     ensures { OnOk result (Adds out.old out.new (header sheets.now)) }
@@ -59,9 +73,26 @@ pub(crate) fn push_header(out: &mut Vec<u8>, sheets: &Sheets) -> Result<(), Allo
     Ok(())
 }
 
+/// Adds the texts of all rounds of a game.
+fn push_rounds(out: &mut Vec<u8>, game: &Game) -> Result<(), AllocError>
+    ensures { OnOk result (Adds out.old out.new
+        (rounds_text game.now.file game.now.game.seats game.now.game.events)) }
+{
+    let history = game.history();
+    let events = history.events();
+    let mut walk = Walk::along(events);
+    let mut begun = 0;
+    while begun < events.len() {
+        let end = begun + length_of_round(&events[begun..]);
+        push_round(out, game, begun, end, &mut walk)?;
+        begun = end;
+    }
+    Ok(())
+}
+
 /// Adds the text of the round whose events stand from `begun` up to `end`: their lines, and the
 /// statement after them, to which the walk along the events goes.
-pub(crate) fn push_round(
+fn push_round(
     out: &mut Vec<u8>,
     game: &Game,
     begun: usize,
@@ -80,11 +111,50 @@ pub(crate) fn push_round(
         push_event(out, game.sheets(), event)?;
     }
     walk.go(end);
-    push_statement(out, game.sheets(), &walk.past(history.seats()))
+    push_statement(
+        out,
+        game.sheets(),
+        &Standing::at(walk.past(history.seats())),
+    )
+}
+
+/// Adds the text of the round that began last, as the game stands; nothing before the first.
+pub(crate) fn push_last_round(
+    out: &mut Vec<u8>,
+    sheets: &Sheets,
+    history: &History,
+) -> Result<(), AllocError>
+    requires { history.now.seats ≡ length (players_of sheets.now) }
+    ensures { OnOk result (Adds out.old out.new
+        (last_round_text sheets.now history.now.seats history.now.events)) }
+{
+    let events = history.events();
+    if events.is_empty() {
+        return Ok(());
+    }
+    for event in &events[begin_of_last_round(events)..] {
+        push_event(out, sheets, event)?;
+    }
+    push_statement(out, sheets, &Standing::of(history))
+}
+
+/// The place from which on the events are those of the round that began last.
+fn begin_of_last_round(events: &[Event]) -> usize
+    ensures within { result ≤ length events.now }
+    ensures last { drop result events.now ≡ last_round events.now }
+{
+    let mut begun = events.len();
+    while begun > 0 {
+        begun -= 1;
+        if events[begun].round().is_some() {
+            return begun;
+        }
+    }
+    begun
 }
 
 /// How many events the first of these rounds has.
-pub(crate) fn length_of_round(events: &[Event]) -> usize
+fn length_of_round(events: &[Event]) -> usize
     requires { 1 ≤ length events.now }
     ensures some { 1 ≤ result }
     ensures within { result ≤ length events.now }
@@ -127,25 +197,38 @@ pub(crate) fn push_unread(out: &mut Vec<u8>, unread: &[Fault]) -> Result<(), All
     Ok(())
 }
 
-pub(crate) fn push_end(out: &mut Vec<u8>, game: &Game) -> Result<(), AllocError>
-    ensures { OnOk result (Adds out.old out.new (end_of_play game.now)) }
+pub(crate) fn push_end(
+    out: &mut Vec<u8>,
+    sheets: &Sheets,
+    history: &History,
+    end: End,
+) -> Result<(), AllocError>
+    requires { history.now.seats ≡ length (players_of sheets.now) }
+    ensures { OnOk result (Adds out.old out.new
+        (end_text sheets.now history.now.seats history.now.events end)) }
 {
-    match game.outcome() {
-        End::Awaiting(round) => push_awaiting(out, game.sheets(), &round),
-        End::Bank => push_over(out, game, "BANK"),
-        End::Bankrupt => push_over(out, game, "BANKRUPT"),
+    match end {
+        End::Awaiting(round) => push_awaiting(out, sheets, &round),
+        End::Bank => push_over(out, sheets, history, "BANK"),
+        End::Bankrupt => push_over(out, sheets, history, "BANKRUPT"),
     }
 }
 
 /// Adds that the game is over, for what a word names, and what each player is worth.
-fn push_over(out: &mut Vec<u8>, game: &Game, word: &str) -> Result<(), AllocError>
+fn push_over(
+    out: &mut Vec<u8>,
+    sheets: &Sheets,
+    history: &History,
+    word: &str,
+) -> Result<(), AllocError>
+    requires { history.now.seats ≡ length (players_of sheets.now) }
     ensures { OnOk result (Adds out.old out.new
-        (over_text game.now.file game.now.game.seats game.now.game.events word.now)) }
+        (over_text sheets.now history.now.seats history.now.events word.now)) }
 {
     out.extend_from_slice(b"END ")?;
     out.extend_from_slice(word.as_bytes())?;
     out.push(b'\n')?;
-    push_worths(out, game.sheets(), &game.history().now())
+    push_worths(out, sheets, &history.now())
 }
 
 /// Adds the line of the round that can't be played: the names of those who owe a sheet for it.

@@ -4,10 +4,11 @@ use Rattle.std.proofs.Common.{◌≡◌, ◌⊎◌, ℕ, zero, suc, ◌+◌, ◌
 use Rattle.std.proofs.lemmas.Bool.{cases_Bool}
 use Rattle.history.specs.LookBack.{Game}
 use Rattle.privates.specs.Opening as opening
-use Rattle.rounds.proofs.Forward.{fewer_to_come, places_to_come}
+use Rattle.rounds.proofs.Forward.{fewer_to_come}
 use Rattle.rounds.proofs.InSet.{StandsNext, first_stands, round_in_set}
 use Rattle.rounds.specs.OperatingRound as operating
 use Rattle.rounds.specs.Play.{AreRounds, Between, IsPlayed, IsRound, Plays, SomeGame, all_posted, before_play, coming, goes_on, in_set_before}
+use Rattle.rounds.specs.Sequence.{places_to_come}
 use Rattle.rounds.specs.declared.following.Next.{Next}
 use Rattle.rounds.specs.declared.following.Next.TheVariants as next
 use Rattle.sheets.specs.File.{players_of}

@@ -10,7 +10,7 @@ use Rattle.rounds.proofs.InSet.{StandsInSet, StandsNext, in_any_set}
 use Rattle.rounds.proofs.Posted.{posted_each}
 use Rattle.rounds.specs.Gifts.{GiftsWait}
 use Rattle.rounds.specs.Play.{Between, IsRound, all_posted}
-use Rattle.rounds.specs.Sequence.{SequenceGoesForward, following, turn_in_set}
+use Rattle.rounds.specs.Sequence.{SequenceGoesForward, following, places_left, places_to_come, turn_in_set}
 use Rattle.rounds.specs.declared.following.Next.{Next}
 use Rattle.rounds.specs.declared.following.Next.TheVariants as next
 use Rattle.sheets.specs.File.{players_of, sheet_of}
@@ -42,15 +42,6 @@ later_than round later in_set all_sold broken small turn comes =
 pub goes_forward : SequenceGoesForward
 goes_forward round later in_set all_sold broken small turn comes =
     lt-ltb (rank_of round) (rank_of later) (later_than round later in_set all_sold broken small turn comes)
-
--- how many places are left in the order of all rounds
-abbrev pub places_left : Round → ℕ
-places_left round = stock_rank (number_most + 1) - rank_of round
-
--- how many are left where this comes next
-abbrev pub places_to_come : Next → ℕ
-places_to_come (next.Round round) = places_left round
-places_to_come next.Ended = 0
 
 -- each round that a sheet may name has a place left
 before_the_last : (round : Round) → number_of round ≤ number_most → turn_in_set round ≤ operating_most → rank_of round < stock_rank (number_most + 1)

@@ -7,9 +7,10 @@ use Rattle.history.specs.declared.event.Event.{Event}
 use Rattle.history.specs.declared.event.Event.TheVariants as event
 use Rattle.operating.specs.Laws.{BeginsNoRound, TurnOnlyAdds}
 use Rattle.rounds.proofs.RoundSteps.{OfTurns, of_begun}
-use Rattle.rounds.specs.Begun.{rounds_begun, with_round}
+use Rattle.rounds.specs.Begun.{RoundsOnlyAdd, rounds_begun, with_round}
 use Rattle.rounds.specs.Play.{IsPlayed}
 use Rattle.tables.specs.declared.round.Round.{Round}
+use Rattle.tables.specs.declared.round.Round.TheVariants.{Opening, Stock, Operating}
 
 -- the list goes on, and nothing that is new begins a round
 pub record GoesOn (old new : List Event) : Type 0 where
@@ -65,3 +66,34 @@ round_goes_on adds file =
       aside = λ events event says. record { more = event ∷ []; longer = refl; quiet = ap (λ (round : Option Round). with_round round []) says.round };
     })
     (by_turns adds) file
+
+-- where events begin no round at all, each of them begins none
+begin_nothing : (first : Option Round) (more : List Round) (rest : Bool) → with_round first more ≡ [] → (more ≡ [] → rest ≡ false) →
+    (is_some first || rest) ≡ false
+begin_nothing None more rest none others = others none
+begin_nothing (Some round) more rest none others = absurd (cc)
+
+-- so no event does
+none_begins : (more : List Event) → rounds_begun more ≡ [] → BeginsNoRound more
+none_begins [] none = refl
+none_begins (event ∷ more) none = begin_nothing (round_of event) (rounds_begun more) _ none (none_begins more)
+
+-- a round leaves the seats as they are
+seats_of_round : (file : List ℕ) (round : Round) (old new : Game) → IsPlayed file round old new → new.seats ≡ old.seats
+seats_of_round file (Opening number) old new played = ap (λ (game : Game). game.seats) played.after
+seats_of_round file (Stock set) old new played = ap (λ (game : Game). game.seats) played.after
+seats_of_round file (Operating set number) old new played = ap (λ (game : Game). game.seats) played.after
+
+-- a round only adds its own events
+pub round_adds : TurnOnlyAdds → RoundsOnlyAdd
+round_adds adds file old new played =
+    let grows = round_goes_on adds file played.round old.game new.game played.played in
+    let longer : new.game.events ≡ old.game.events ++ event.Round played.round ∷ grows.more =
+    grows.longer ∙ append_assoc old.game.events (event.Round played.round ∷ []) grows.more
+    in
+    let seats = seats_of_round file played.round old.game new.game played.played in
+    record {
+      more = grows.more;
+      added = λ i. record { seats = seats i; events = longer i };
+      no_round = none_begins grows.more grows.quiet;
+    }

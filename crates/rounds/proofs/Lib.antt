@@ -28,3 +28,4 @@ mod OpeningSeats
 mod Closings
 mod Bids
 pub mod GameEnds
+mod StepByStep

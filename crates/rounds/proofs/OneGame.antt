@@ -46,7 +46,7 @@ module _ (one_opening : OneOpeningRound) (one_stock : OneStockRound) (one_operat
       between_same a b game in_set next
 
   -- so many rounds lead to one place
-  rounds_once : (n : ℕ) (old a b : Between) → AreRounds file n old a → AreRounds file n old b → a ≡ b
+  pub rounds_once : (n : ℕ) (old a b : Between) → AreRounds file n old a → AreRounds file n old b → a ≡ b
   rounds_once zero old a b first second = sym first ∙ second
   rounds_once (suc n) old a b first second =
       let mid : first.0 ≡ second.0 = rounds_once n old first.0 second.0 first.1 second.1 in
@@ -62,7 +62,7 @@ module _ (one_opening : OneOpeningRound) (one_stock : OneStockRound) (one_operat
       ]
 
   -- where the game stopped after k rounds, it didn't go on for more
-  not_more : (k n : ℕ) (old a b : Between) → AreRounds file k old a → goes_on file a.next ≡ false → AreRounds file n old b → k < n → ⊥
+  pub not_more : (k n : ℕ) (old a b : Between) → AreRounds file k old a → goes_on file a.next ≡ false → AreRounds file n old b → k < n → ⊥
   not_more k n old a b first stopped second more =
       let on = could_go_on n k old b second more in
       let same : a ≡ on.0 = rounds_once k old a on.0 first on.1 in

@@ -1,8 +1,11 @@
 -- The rounds that the events of a game begin.
-use Rattle.std.specs.Prelude.{◌≡◌, ℕ, true, List, [], ◌∷◌, Option, Some, None, IsSome, ⊤}
+use Rattle.std.specs.Prelude.{◌≡◌, ℕ, true, List, [], ◌∷◌, ◌++◌, Option, Some, None, IsSome, ⊤}
 use Rattle.history.specs.Event.{round_of}
+use Rattle.history.specs.LookBack.{Game}
 use Rattle.history.specs.declared.event.Event.{Event}
-use Rattle.rounds.specs.Play.{Between, Plays}
+use Rattle.history.specs.declared.event.Event.TheVariants as event
+use Rattle.operating.specs.Laws.{BeginsNoRound}
+use Rattle.rounds.specs.Play.{Between, IsRound, Plays}
 use Rattle.sheets.specs.File.{IsAccepted}
 use Rattle.tables.specs.Round.{is_before}
 use Rattle.tables.specs.declared.round.Round.{Round}
@@ -40,3 +43,14 @@ RoundsFollowInOrder =
     → IsAccepted file
     → Plays file last
     → BeginWithRound last.game.events × AreInOrder (rounds_begun last.game.events)
+
+-- a round adds its own ROUND event to the list, and then events none of which begins a round
+pub record AddsRound (round : Round) (old new : Game) : Type 0 where
+  pub more : List Event
+  pub added : new ≡ record { seats = old.seats; events = old.events ++ event.Round round ∷ more }
+  pub no_round : BeginsNoRound more
+
+-- so does each round that is played
+abbrev pub RoundsOnlyAdd : Type 0
+RoundsOnlyAdd =
+    (file : List ℕ) (old new : Between) (played : IsRound file old new) → AddsRound played.round old.game new.game

@@ -13,3 +13,4 @@ pub mod Tiles
 pub mod Privates
 pub mod Ends
 pub mod GameCalls
+pub mod Steps

@@ -1,10 +1,10 @@
 -- What comes after a round: opening rounds until all privates are sold, then sets of a stock round and
 -- some operating rounds, until a set has ended with the bank broken.
-use Rattle.std.specs.Prelude.{◌≡◌, ℕ, ◌+◌, ◌≤◌, Bool, true, false, nat_lt, if◌then◌else◌}
+use Rattle.std.specs.Prelude.{◌≡◌, ℕ, ◌+◌, ◌-◌, ◌≤◌, Bool, true, false, nat_lt, if◌then◌else◌}
 use Rattle.rounds.specs.declared.following.Next.{Next}
 use Rattle.rounds.specs.declared.following.Next.TheVariants as next
 use Rattle.sheets.specs.Laws.{number_of}
-use Rattle.tables.specs.Round.{is_before, number_most, operating_most}
+use Rattle.tables.specs.Round.{is_before, number_most, operating_most, rank_of, stock_rank}
 use Rattle.tables.specs.declared.round.Round.{Round}
 use Rattle.tables.specs.declared.round.Round.TheVariants.{Opening, Stock, Operating}
 
@@ -34,3 +34,12 @@ abbrev pub BankAloneEndsIt : Type 0
 BankAloneEndsIt =
     (round : Round) (in_set : ℕ) (all_sold : Bool)
     → (later : Round) × (following round in_set all_sold false ≡ next.Round later)
+
+-- how many places are left after a round in the order of all rounds that a sheet may name
+abbrev pub places_left : Round → ℕ
+places_left round = stock_rank (number_most + 1) - rank_of round
+
+-- how many are left where this comes next
+abbrev pub places_to_come : Next → ℕ
+places_to_come (next.Round round) = places_left round
+places_to_come next.Ended = 0

@@ -24,6 +24,13 @@ impl From<AllocError> for PlayFault {
 }
 
 impl PlayFault {
+    /// The fault of play whose runner never refuses to answer: memory was refused.
+    pub fn want_of_memory(self) -> AllocError
+        requires { self ≡ Memory }
+    {
+        AllocError
+    }
+
     /// Why play stops at the turn of a company in a round, by the fault of the runner.
     pub(crate) fn in_turn(fault: RunnerFault, round: Round, company: Company) -> PlayFault
         ensures { result ≡ fault_in_turn fault round company }

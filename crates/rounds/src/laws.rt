@@ -2,7 +2,7 @@
 ghost use Rattle.std.specs.Prelude.{◌≡◌, ℕ, List, [], Err};
 ghost use Rattle.history.specs.LookBack.{Game};
 ghost use Rattle.rounds.specs.Arrival.{ArrivalChangesNoGame};
-ghost use Rattle.rounds.specs.Begun.{RoundsFollowInOrder};
+ghost use Rattle.rounds.specs.Begun.{RoundsFollowInOrder, RoundsOnlyAdd};
 ghost use Rattle.rounds.specs.Causality.{LaterSheetsChangeNothing};
 ghost use Rattle.rounds.specs.Ends.{BankruptcyEndsGames, BrokenBankEndsSets, GamesEndOnce, NoSetAfterBroken, NoTurnAfterBankruptcy, NothingElseEndsGames};
 ghost use Rattle.rounds.specs.Example.{first_end, first_file, second_end, second_file};
@@ -12,6 +12,7 @@ ghost use Rattle.rounds.specs.Play.{OneGame, Plays, SomeGame};
 ghost use Rattle.rounds.specs.Privates.{BidsRiseInEachGame, ClosedForGood, SellersAgreeInEachGame};
 ghost use Rattle.rounds.specs.Sequence.{BankAloneEndsIt, SequenceGoesForward};
 ghost use Rattle.rounds.specs.Sets.{SetsKeepTheirNumber};
+ghost use Rattle.rounds.specs.Steps.{StepsPlayTheGame};
 ghost use Rattle.rounds.specs.Tiles.{TilesStandInEachGame};
 ghost use Rattle.rounds.specs.Trains.{PhasesGoOnInRounds, TrainsStandInEachGame};
 ghost use Rattle.sheets.specs.File.{content_of};
@@ -73,6 +74,24 @@ pub fn some_game()
     opening_round_ends();
     stock_round_ends();
     operating_round_ends()
+}
+
+/// The steps of a play play the one game of its file: after so many that played a round, from the
+/// start, the list is that of the game up to so many of its rounds.
+pub fn steps_play_the_game()
+    ensures { StepsPlayTheGame }
+{
+    one_opening_round();
+    one_stock_round();
+    one_operating_round();
+    some_game()
+}
+
+/// A round adds to the list its own ROUND event, and behind it events that begin no round.
+pub fn rounds_only_add()
+    ensures { RoundsOnlyAdd }
+{
+    turn_only_adds()
 }
 
 /// The round that follows a round comes later in the order of all rounds.

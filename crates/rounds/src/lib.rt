@@ -5,8 +5,8 @@
 //! ended. An opening and a stock round are played by crates of their own; an operating round is
 //! played here, company by company, each company's turn by the crate `operating`.
 //!
-//! Reading order: `following`, `sequence` (`next`), `fault`, `operating_round`, `game` (`Game`,
-//! `play_with`, `play`), `laws`.
+//! Reading order: `following`, `sequence` (`next`), `fault`, `operating_round`, `steps` (`Play`, a
+//! round at a time), `game` (`Game`, `play_with`, `play`), `laws`.
 #![tactic(auto)]
 
 mod fault;
@@ -15,6 +15,7 @@ mod game;
 mod laws;
 mod operating_round;
 mod sequence;
+mod steps;
 
 pub use fault::PlayFault;
 pub use following::Next;
@@ -24,7 +25,9 @@ pub use laws::{
     bank_alone_ends_it, bankruptcy_ends_games, bids_rise_in_each_game, broken_bank_ends_games,
     calls_are_of_the_game, closed_for_good_in_each_game, companies_operate_once, empty_example,
     first_example, games_end_once, later_sheets_change_nothing, one_game, one_operating_round,
-    operating_round_ends, phases_go_on_in_rounds, rounds_follow_in_order, second_example,
-    sellers_agree_in_each_game, sequence_goes_forward, sets_keep_their_number, some_game,
+    operating_round_ends, phases_go_on_in_rounds, rounds_follow_in_order, rounds_only_add,
+    second_example, sellers_agree_in_each_game, sequence_goes_forward, sets_keep_their_number,
+    some_game, steps_play_the_game,
 };
 pub use sequence::next;
+pub use steps::{Play, Step};

@@ -9,6 +9,7 @@ use Rattle.history.specs.declared.event.Event.{Event}
 use Rattle.history.specs.declared.event.Holder.TheVariants as holder
 use Rattle.history.specs.declared.event.Party.{Party}
 use Rattle.history.specs.declared.event.Party.TheVariants as party
+use Rattle.history.specs.declared.look_back.Past.{Past}
 use Rattle.tables.specs.Roster.{place_of_company}
 use Rattle.tables.specs.Seat.{seat_at}
 use Rattle.tables.specs.declared.roster.Company.{Company}
@@ -30,6 +31,10 @@ cash_in accounts (party.Holder (holder.Company company)) = slice_index_or accoun
 abbrev pub AreAccountsOf : Game → Accounts → Type 0
 AreAccountsOf game accounts =
     (party : Party) → HasAccount party → cash_in accounts party ≡ cash_of game.seats game.events party
+
+-- each holds what its party had in a game as it stood
+abbrev pub AreAccountsAt : Past → Accounts → Type 0
+AreAccountsAt past accounts = AreAccountsOf (record { seats = past.seats; events = past.events.now }) accounts
 
 -- and nobody has, or owes, more than 2 ^ 100
 abbrev pub AreModerate : Accounts → Type 0

@@ -3,6 +3,7 @@ ghost use Rattle.std.specs.Int.{w128};
 ghost use Rattle.history.specs.LookBack.{IsModerate};
 ghost use Rattle.history.specs.declared.event.Party.TheVariants as party;
 ghost use Rattle.treasury.specs.Accounts.{
+  AreAccountsAt,
   AreAccountsOf,
   AreModerate,
   AreModerateForCompanies,
@@ -40,11 +41,18 @@ impl Accounts {
         ensures accounts { AreAccountsOf history.now result }
         ensures moderate { AreModerate result }
     {
-        let now = history.now();
+        Accounts::at(&history.now())
+    }
+
+    /// The accounts of a game as it stood.
+    pub fn at(past: &Past) -> Accounts
+        ensures accounts { AreAccountsAt past.now result }
+        ensures moderate { AreModerate result }
+    {
         Accounts {
-            bank: now.cash(Party::Bank),
-            seats: cash_of_seats(&now),
-            companies: cash_of_companies(&now),
+            bank: past.cash(Party::Bank),
+            seats: cash_of_seats(past),
+            companies: cash_of_companies(past),
         }
     }
 

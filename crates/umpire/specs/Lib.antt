@@ -6,3 +6,4 @@ pub mod Parting
 pub mod Groups
 pub mod Written
 pub mod Laws
+pub mod Rounds

@@ -1,8 +1,11 @@
-ghost use Rattle.report.specs.Report.{report_of};
+ghost use Rattle.report.specs.Parts.{end_text_of};
+ghost use Rattle.report.specs.Report.{header};
+ghost use Rattle.rounds.specs.Steps.{ComesNearer, HasEnded, IsUnbroken, StepLeads, started};
 ghost use Rattle.sheets.specs.File.{IsAccepted};
 ghost use Rattle.std.specs.Io.KnownBytes.{Appends};
-ghost use Rattle.std.specs.Prelude.{◌≡◌, false, IfErr, OnErr, OnOk};
+ghost use Rattle.std.specs.Prelude.{◌≡◌, false, IfErr, IfOk, Ok, OnErr, OnOk};
 ghost use Rattle.umpire.specs.Failure.{AppendsFront, TakesWithin};
+ghost use Rattle.umpire.specs.Rounds.{TellsAllRounds, TellsFront};
 ghost use Rattle.umpire.specs.Run.{IsReported, IsWriteFault, Stops};
 ghost use Rattle.umpire.specs.Watched.{has_failed, inside};
 
@@ -10,10 +13,11 @@ use crate::fault::Fault;
 use crate::input::read_file;
 use crate::output::write_text;
 use crate::watched::Watched;
-use report::{Parts, refusal_text, some_report};
-use rounds::{Game, play};
+use best_run::Search;
+use report::{end_text, header_text, next_text, parts_are_the_report, refusal_text, some_report};
+use rounds::{Play, Step};
 use sheets::{FileFault, Sheets, collect};
-use std::alloc::Global;
+use std::alloc::{AllocError, Global};
 use std::io::{Read, Write};
 
 /// Reads an order file to its end, or to the first byte past the greatest size of a file, and
@@ -86,25 +90,83 @@ fn write_game<W: Write>(
         (W.contents (inside writer.old)) (W.contents (inside writer.new))
         false (has_failed writer.new)) }
 {
-    // The law of `run` again.
+    // Laws, which do nothing when they run: the file has a report, and its parts make it up.
     some_report();
-    let game = play(alloc, sheets)?;
-    write_report(alloc, &game, writer)
+    parts_are_the_report();
+    write_header(alloc, sheets, writer)?;
+    let mut play = Play::start(alloc, sheets)?;
+    write_rounds(alloc, &mut play, writer)?;
+    write_end(alloc, &play, writer)?;
+    Ok(())
 }
 
-/// Writes the report of a game: each part before the next is made.
-fn write_report<W: Write>(alloc: Global, game: &Game, writer: &mut Watched<W>) -> Result<(), Fault>
+/// Writes the header.
+fn write_header<W: Write>(
+    alloc: Global,
+    sheets: &Sheets,
+    writer: &mut Watched<W>,
+) -> Result<(), Fault>
     requires { has_failed writer.old ≡ false }
     ensures ok { OnOk result (Appends (W.contents (inside writer.old))
-        (W.contents (inside writer.new)) (report_of game.now)) }
+        (W.contents (inside writer.new)) (header sheets.now)) }
     ensures unfailed { OnOk result (has_failed writer.new ≡ false) }
     ensures err { IfErr result (IsWriteFault (has_failed writer.new)) }
     ensures front { OnErr result (AppendsFront (W.contents (inside writer.old))
-        (W.contents (inside writer.new)) (report_of game.now)) }
+        (W.contents (inside writer.new)) (header sheets.now)) }
 {
-    let mut parts = Parts::of(game);
-    while let Some(part) = parts.next(alloc)? {
-        write_text(writer, part.as_slice())?;
+    let text = header_text(alloc, sheets)?;
+    write_text(writer, text.as_slice())?;
+    Ok(())
+}
+
+/// Plays the game as far as its sheets go, and writes the text of each round before the next is
+/// played.
+fn write_rounds<W: Write>(
+    alloc: Global,
+    play: &mut Play,
+    writer: &mut Watched<W>,
+) -> Result<(), Fault>
+    requires unfailed { has_failed writer.old ≡ false }
+    requires started { play.old ≡ started play.old.file }
+    ensures ok { OnOk result (TellsAllRounds play.old.file play.new
+        (W.contents (inside writer.old)) (W.contents (inside writer.new))) }
+    ensures unfailed { OnOk result (has_failed writer.new ≡ false) }
+    ensures err { IfErr result (IsWriteFault (has_failed writer.new)) }
+    ensures front { OnErr result (TellsFront play.old.file
+        (W.contents (inside writer.old)) (W.contents (inside writer.new))) }
+{
+    let mut search = Search::new(alloc);
+    while let Step::Played(_) = step(play, &mut search)? {
+        let text = next_text(alloc, play)?;
+        write_text(writer, text.as_slice())?;
     }
+    Ok(())
+}
+
+/// A step of a play that was not broken off, in which the greatest revenue is searched for.
+fn step(play: &mut Play, search: &mut Search) -> Result<Step, AllocError>
+    requires { IsUnbroken play.old }
+    ensures step { IfOk result (λ step. StepLeads play.old (Ok step) play.new) }
+    ensures nearer { IfOk result (λ step. ComesNearer play.old (Ok step) play.new) }
+{
+    match play.step(search) {
+        Ok(step) => Ok(step),
+        Err(fault) => Err(fault.want_of_memory()),
+    }
+}
+
+/// Writes what follows the rounds.
+fn write_end<W: Write>(alloc: Global, play: &Play, writer: &mut Watched<W>) -> Result<(), Fault>
+    requires unfailed { has_failed writer.old ≡ false }
+    requires ended { HasEnded play.now }
+    ensures ok { OnOk result (Appends (W.contents (inside writer.old))
+        (W.contents (inside writer.new)) (end_text_of play.now)) }
+    ensures unfailed { OnOk result (has_failed writer.new ≡ false) }
+    ensures err { IfErr result (IsWriteFault (has_failed writer.new)) }
+    ensures front { OnErr result (AppendsFront (W.contents (inside writer.old))
+        (W.contents (inside writer.new)) (end_text_of play.now)) }
+{
+    let text = end_text(alloc, play)?;
+    write_text(writer, text.as_slice())?;
     Ok(())
 }

@@ -61,7 +61,7 @@ SHEET CYD OR2.1
 
 /// It refuses to answer.
 #[derive(Drop)]
-struct Refusing;
+pub(crate) struct Refusing;
 
 impl Runner for Refusing {
     ghost may_refuse = { true };
@@ -80,7 +80,7 @@ impl Runner for Refusing {
 }
 
 /// The order file of the game, in which this is the order to run.
-fn file(alloc: Global, run: &str) -> Result<Vec<u8>, AllocError> {
+pub(crate) fn file(alloc: Global, run: &str) -> Result<Vec<u8>, AllocError> {
     let mut text = Vec::new(alloc);
     text.extend_from_slice(BEFORE.as_bytes())?;
     text.extend_from_slice(run.as_bytes())?;

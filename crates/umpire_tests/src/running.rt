@@ -1,6 +1,64 @@
 use crate::support::{AfterEnd, Endless, FIRST, FIRST_REPORT, Sink, Source, Trouble, outcome_of};
 use sheets::FileFault;
+use std::cell::Cell;
+use std::io;
+use std::io::{Read, Write};
 use umpire::{Fault, Watched, run};
+
+/// A reader that tells a cell when it has told of its end.
+#[derive(Drop)]
+struct Telling<'a> {
+    source: Source<'a>,
+    ended: &'a Cell<bool>,
+}
+
+impl<'a> Read for Telling<'a> {
+    fn read(&mut self, buffer: &mut [u8]) -> io::Result<usize> {
+        let count = self.source.read(buffer)?;
+        self.ended.set(count == 0);
+        Ok(count)
+    }
+}
+
+/// A writer that counts its calls, and those before the reader had told of its end.
+#[derive(Drop)]
+struct Watching<'a> {
+    ended: &'a Cell<bool>,
+    calls: usize,
+    early: usize,
+}
+
+impl<'a> Write for Watching<'a> {
+    fn write(&mut self, bytes: &[u8]) -> io::Result<usize> {
+        self.calls = self.calls.saturating_add(1);
+        if !self.ended.get() {
+            self.early = self.early.saturating_add(1);
+        }
+        Ok(bytes.len())
+    }
+
+    fn flush(&mut self) -> io::Result<()> {
+        Ok(())
+    }
+}
+
+#[test]
+fn writes_part_by_part_once_all_is_read(rt: HostRuntime) {
+    let ended = Cell::new(false);
+    let mut reader = Watched::new(Telling {
+        source: Source::giving(FIRST, 7),
+        ended: &ended,
+    });
+    let mut sink = Watching {
+        ended: &ended,
+        calls: 0,
+        early: 0,
+    };
+    let mut writer = Watched::new(&mut sink);
+    assert_eq!(rt; run(rt.alloc(), &mut reader, &mut writer), Ok(()));
+    // The header, the round, and the end.
+    assert_eq!(rt; (sink.calls, sink.early), (3, 0));
+}
 
 #[test]
 fn reads_no_further_than_the_limit(rt: HostRuntime) {
