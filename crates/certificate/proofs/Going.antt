@@ -1,5 +1,5 @@
 -- A walk over the children of a node, group by group, and down the nodes at which no run is begun.
-use Rattle.std.proofs.Common.{◌≡◌, ℕ, zero, suc, ◌+◌, ◌-◌, ◌<◌, ◌≤◌, Bool, true, false, inl, Option, Some, None, List, [], ◌∷◌, ◌++◌, length, get_or, drop, refl, ap, sym, ◌∙◌, subst, arith, append-nil, append_assoc}
+use Rattle.std.proofs.Common.{◌≡◌, ℕ, suc, ◌+◌, ◌-◌, ◌<◌, ◌≤◌, Bool, true, false, inl, Option, Some, None, List, [], ◌∷◌, ◌++◌, length, get_or, drop, refl, ap, sym, ◌∙◌, subst, arith, append-nil, append_assoc}
 use Rattle.std.proofs.lemmas.List.{drop_all, drop_more}
 use Rattle.map_tables.specs.Place.{joined_hex}
 use Rattle.map_tables.specs.declared.hex.Hex.{Hex}
@@ -15,12 +15,11 @@ use Rattle.reach.specs.declared.walk.Spot.{Spot}
 use Rattle.reach.specs.declared.walk.Step.{Step}
 use Rattle.tables.specs.declared.rolling_stock.Kind.{Kind}
 use Rattle.tables.specs.declared.rolling_stock.Kind.TheVariants.{Two}
-use Rattle.tables.specs.declared.roster.Company.{Company}
 use Rattle.certificate.specs.Legal.{listed}
-use Rattle.certificate.specs.Set.{TrainRun, revenue_of}
+use Rattle.certificate.specs.Set.{TrainRun}
 use Rattle.certificate.specs.Tree.{Node, bound, children, choices_at, for_each, hexes_of, may_all_earn, may_come, node_if, node_of, setting_out, ways_at, ways_by, ways_from, with_step, with_steps}
-use Rattle.certificate.specs.Walked.{LeavesAhead, Walks, at_end, capped, cuts, ends, has_no_train, splits}
-use Rattle.certificate.specs.Walking.{IsTree, LeavesOver, StandsBetween, WalksOver, earned_from, node_from, other_hex_of, reached_in, set_outs, trains_of_tree}
+use Rattle.certificate.specs.Walked.{at_end, capped, cuts, ends, has_no_train, splits}
+use Rattle.certificate.specs.Walking.{LeavesOver, StandsBetween, WalksOver, earned_from, node_from, other_hex_of, reached_in, set_outs, trains_of_tree}
 use Rattle.certificate.specs.declared.decider.Decision.{Decision}
 use Rattle.certificate.specs.declared.decider.Decision.TheVariants.{Cut, Split, Stop as Ends}
 use Rattle.certificate.specs.declared.tree.Tree.{Tree}

@@ -1,5 +1,5 @@
 -- A walk by marks reads them over the nodes ahead; a walk that writes marks writes those of the nodes ahead.
-use Rattle.std.proofs.Common.{◌≡◌, ◌↔◌, ℕ, ◌-◌, ◌<◌, ◌≤◌, nat_le, length, Bool, true, false, inl, inr, Option, Some, None, if◌then◌else◌, List, [], ◌∷◌, ◌++◌, append_assoc, append-nil, refl, ap, sym, ◌∙◌, subst, arith}
+use Rattle.std.proofs.Common.{◌≡◌, ◌↔◌, ℕ, ◌-◌, ◌<◌, ◌≤◌, length, Bool, true, false, inl, inr, Option, Some, None, if◌then◌else◌, List, [], ◌∷◌, ◌++◌, append_assoc, append-nil, refl, ap, sym, ◌∙◌, subst, arith}
 use Rattle.std.proofs.lemmas.Bool.{le-leb, lt-leb}
 use Rattle.map_tables.specs.declared.place.Stop.{Stop}
 use Rattle.reach.specs.Position.{Position}
@@ -13,7 +13,7 @@ use Rattle.certificate.specs.Walked.{Walks, at_end, capped, cuts, ends, has_no_t
 use Rattle.certificate.specs.Walking.{IsTree, StandsBetween, node_from, trains_of_tree}
 use Rattle.certificate.specs.declared.tree.Tree.{Tree}
 use Rattle.certificate.specs.declared.decider.Decision.{Decision}
-use Rattle.certificate.specs.declared.decider.Decision.TheVariants.{Cut, Split, Stop as End}
+use Rattle.certificate.specs.declared.decider.Decision.TheVariants.{Stop as End}
 
 -- what is left over, or nothing where the walk ended
 abbrev pub if_whole : Bool → List Bool → Option (List Bool)

@@ -1,5 +1,5 @@
 -- What a walk knows where it stands once it has taken a step, and what the children are there.
-use Rattle.std.proofs.Common.{◌≡◌, ℕ, zero, suc, ◌+◌, ◌-◌, ◌<◌, ◌≤◌, ◌==◌, nat_lt, Bool, true, false, not, ◌&&◌, ◌||◌, Option, Some, None, is_some, option_map, replicate, if◌then◌else◌, List, [], ◌∷◌, ◌++◌, length, get_or, set, drop, refl, ap, sym, ◌∙◌, subst, arith, append-nil}
+use Rattle.std.proofs.Common.{◌≡◌, ℕ, suc, ◌+◌, ◌-◌, ◌<◌, ◌≤◌, nat_lt, Bool, true, false, not, ◌&&◌, ◌||◌, Option, Some, None, is_some, option_map, replicate, List, [], ◌∷◌, ◌++◌, length, set, drop, refl, ap, sym, ◌∙◌, subst, arith}
 use Rattle.std.specs.List.{list_any}
 use Rattle.std.proofs.lemmas.Bool.{ltb-true}
 use Rattle.map_tables.specs.Border.{neighbour_of}
@@ -20,13 +20,12 @@ use Rattle.reach.specs.declared.walk.Spot.{Spot}
 use Rattle.reach.specs.declared.walk.Step.{Step}
 use Rattle.tables.specs.Train.{stops_of}
 use Rattle.tables.specs.declared.rolling_stock.Kind.{Kind}
-use Rattle.tables.specs.declared.roster.Company.{Company}
 use Rattle.certificate.specs.Fault.{has_border, has_stop, has_token, is_full}
-use Rattle.certificate.specs.Legal.{border_at, border_of, crossed, earned, first_stop, listed, visited, worth}
+use Rattle.certificate.specs.Legal.{border_at, border_of, crossed, listed, visited, worth}
 use Rattle.certificate.specs.Set.{TrainRun, revenue_of}
-use Rattle.certificate.specs.Tree.{Node, bound, children, finishing, for_each, from_border, from_head, from_stop, goes_over, gone_over, is_finished, is_free_end, is_last_stop, is_new_stop, is_used_up, leads_on, may_all_earn, node_if, node_of, run_borders, taken_borders, with_step, with_steps, ways_at, ways_from}
+use Rattle.certificate.specs.Tree.{Node, children, finishing, from_border, from_head, from_stop, goes_over, gone_over, is_free_end, is_last_stop, is_new_stop, may_all_earn, node_if, node_of, run_borders, taken_borders, with_steps, ways_at}
 use Rattle.certificate.specs.Walked.{capped}
-use Rattle.certificate.specs.Walking.{AreCrossed, AreVisited, Continues, IsTree, Stands, StandsBetween, earned_from, is_none_left, kind_from, may_take, node_at, node_from, reached_in, still_left, trains_of_tree}
+use Rattle.certificate.specs.Walking.{AreCrossed, Continues, Stands, StandsBetween, earned_from, is_none_left, kind_from, may_take, node_at, node_from, reached_in, still_left, trains_of_tree}
 use Rattle.certificate.specs.declared.tree.Tree.{Tree}
 use Rattle.certificate.specs.declared.tree_walk.Begun.{Begun}
 use Rattle.certificate.proofs.Branching.{border_both, no_border}

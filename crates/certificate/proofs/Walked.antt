@@ -1,10 +1,10 @@
 -- A walk over some nodes and then one over others is a walk over all of them; one that ends on the way ends so.
-use Rattle.std.proofs.Common.{◌≡◌, ℕ, Bool, true, false, List, [], ◌∷◌, ◌++◌, append_assoc, append-nil, refl, sym, subst}
+use Rattle.std.proofs.Common.{ℕ, Bool, true, false, List, ◌++◌, append_assoc, subst}
 use Rattle.map_tables.specs.declared.place.Stop.{Stop}
 use Rattle.reach.specs.Position.{Position}
 use Rattle.tables.specs.declared.roster.Company.{Company}
-use Rattle.certificate.specs.Tree.{Node, bound, children}
-use Rattle.certificate.specs.Walked.{LeavesAhead, Walks, at_end, cuts, ends, splits}
+use Rattle.certificate.specs.Tree.{Node, children}
+use Rattle.certificate.specs.Walked.{Walks, at_end, cuts, ends, splits}
 use Rattle.certificate.specs.declared.decider.Decision.{Decision}
 
 module _ {S : Type 0} (decides : S → ℕ → Bool → Decision → S → Type 0) (position : Position) (company : Company) (reached : List Stop) where

@@ -1,40 +1,20 @@
 -- Where a walk over the choice tree stands, step by step.
-use Rattle.std.proofs.Common.{◌≡◌, ℕ, zero, suc, ◌+◌, ◌-◌, ◌*◌, ◌<◌, ◌≤◌, min, ◌==◌, eqb, ltb, leb, nat_lt, Bool, true, false, not, ◌&&◌, ◌||◌, Option, Some, None, is_some, option_map, if◌then◌else◌, List, [], ◌∷◌, ◌++◌, length, get_or, set, drop, replicate, refl, ap, sym, ◌∙◌, subst, arith, append-nil}
-use Rattle.std.specs.List.{list_any}
+use Rattle.std.proofs.Common.{◌≡◌, ℕ, zero, suc, ◌+◌, ◌-◌, ◌*◌, ◌<◌, ◌≤◌, ◌==◌, eqb, nat_lt, Bool, true, false, not, ◌||◌, Option, Some, None, option_map, List, [], ◌∷◌, length, get_or, set, drop, replicate, refl, ap, sym, ◌∙◌, arith}
 use Rattle.std.proofs.lemmas.Bool.{eq-eqb, ne_eqb, eqb-true, ltb-false, ltb-true}
 use Rattle.std.proofs.lemmas.List.{get_or-set_same, get_or-set_other, set-set, set-get_or, length-set, drop_all, drop_more}
-use Rattle.map_tables.specs.Border.{neighbour_of}
-use Rattle.map_tables.specs.Place.{joined_hex, joined_stop_of, stop_at, stop_index_of}
-use Rattle.map_tables.specs.Side.{facing_of}
-use Rattle.map_tables.specs.declared.hex.Hex.{Hex}
+use Rattle.map_tables.specs.Place.{stop_index_of}
 use Rattle.map_tables.specs.declared.place.Stop.{Stop}
 use Rattle.map_tables.specs.declared.place.StopNumber.{StopNumber}
 use Rattle.map_tables.specs.declared.place.StopNumber.TheVariants.{First, Second}
-use Rattle.map_tables.specs.declared.side.Side.{Side}
 use Rattle.map_tables.specs.declared.track.End.{End}
 use Rattle.map_tables.specs.declared.track.End.TheVariants.{Side as AtSide, Stop as AtStop}
-use Rattle.map_tables.specs.declared.track.Link.{Link}
-use Rattle.reach.specs.Lawful.{IsLawful}
-use Rattle.reach.specs.Position.{Position, is_red, value_of}
 use Rattle.reach.specs.Reached.{stop_order}
-use Rattle.reach.specs.Walk.{across, across_end, entered_at, left_at, spot_at, stop_at_end, stop_of}
-use Rattle.reach.specs.declared.walk.Spot.{Spot}
-use Rattle.reach.specs.declared.walk.Step.{Step}
-use Rattle.tables.specs.Train.{stops_of}
-use Rattle.tables.specs.declared.rolling_stock.Kind.{Kind}
-use Rattle.tables.specs.declared.roster.Company.{Company}
-use Rattle.certificate.specs.Fault.{has_border, has_stop, has_token, is_full}
-use Rattle.certificate.specs.Legal.{border_at, border_of, crossed, first_stop, listed, visited, worth}
 use Rattle.certificate.specs.Ranking.{most_of}
-use Rattle.certificate.specs.Set.{TrainRun, revenue_of}
-use Rattle.certificate.specs.Tree.{Node, bound, children, choices_at, for_each, goes_over, gone_over, greatest_sum, is_free_end, is_new_stop, is_used_up, leads_on, may_all_earn, may_come, may_earn, new_values, node_if, node_of, run_borders, still_to_come, taken_borders, total, with_step, with_steps}
+use Rattle.certificate.specs.Tree.{is_used_up, still_to_come}
 use Rattle.certificate.specs.Walked.{capped}
-use Rattle.certificate.specs.Walking.{AreCrossed, AreVisited, Continues, IsTree, Stands, StandsBetween, earned_from, is_none_left, may_take, node_at, node_from, reached_in, still_left, trains_of_tree}
+use Rattle.certificate.specs.Walking.{AreCrossed, AreVisited, earned_from, is_none_left, still_left}
 use Rattle.certificate.specs.declared.tree.Group.{Group}
-use Rattle.certificate.specs.declared.tree.Tree.{Tree}
-use Rattle.certificate.specs.declared.tree_walk.Begun.{Begun}
 use Rattle.reach.proofs.Hexes.{index_low}
-use Rattle.certificate.proofs.Branching.{border_both, no_border}
 
 -- a step that is entered at a border may come to a stop
 abbrev pub end_rank : End → ℕ

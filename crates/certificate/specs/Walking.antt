@@ -1,7 +1,7 @@
 -- Where a walk over the choice tree stands, by what it keeps in place: marks of the borders that were crossed and of
 -- the stops that the run begun has visited, and a few numbers. `Stands` joins these to the settled runs and the steps
 -- of the run begun, which no code keeps.
-use Rattle.std.specs.Prelude.{◌≡◌, ℕ, zero, suc, ◌+◌, ◌-◌, ◌*◌, ◌<◌, ◌≤◌, nat_lt, ◌==◌, Bool, true, false, if◌then◌else◌, Option, Some, None, option_map, List, [], ◌∷◌, ◌++◌, length, drop, get_or, replicate}
+use Rattle.std.specs.Prelude.{◌≡◌, ℕ, zero, suc, ◌+◌, ◌-◌, ◌*◌, ◌≤◌, nat_lt, ◌==◌, Bool, false, if◌then◌else◌, Option, Some, None, option_map, List, [], ◌∷◌, ◌++◌, length, drop, get_or, replicate}
 use Rattle.std.specs.List.{list_any}
 use Rattle.map_tables.specs.Place.{joined_stop_of}
 use Rattle.map_tables.specs.declared.hex.Hex.{Hex}
@@ -11,19 +11,17 @@ use Rattle.map_tables.specs.declared.side.Side.{Side}
 use Rattle.map_tables.specs.declared.track.End.{End}
 use Rattle.map_tables.specs.declared.track.End.TheVariants.{Side as AtSide, Stop as AtStop}
 use Rattle.reach.specs.Lawful.{IsLawful}
-use Rattle.reach.specs.Position.{Position, IsAmong, value_of}
+use Rattle.reach.specs.Position.{Position, IsAmong}
 use Rattle.reach.specs.Reached.{stop_order}
 use Rattle.reach.specs.Walk.{entered_at, left_at, stop_of}
-use Rattle.reach.specs.declared.walk.Spot.{Spot}
 use Rattle.reach.specs.declared.walk.Step.{Step}
 use Rattle.tables.specs.Train.{stops_of}
 use Rattle.tables.specs.declared.rolling_stock.Kind.{Kind}
-use Rattle.tables.specs.declared.roster.Company.{Company}
 use Rattle.certificate.specs.Fault.{has_border, has_stop, has_token}
 use Rattle.certificate.specs.Legal.{border_at, listed, visited, worth}
 use Rattle.certificate.specs.Ranking.{ranked_of}
 use Rattle.certificate.specs.Set.{TrainRun, revenue_of}
-use Rattle.certificate.specs.Tree.{Node, bound, children, goes_over, gone_over, greatest_sum, leads_on, may_all_earn, may_earn, new_values, node_if, node_of, run_borders, setting_out, taken_borders, total, with_step, with_steps, ways_at, ways_from}
+use Rattle.certificate.specs.Tree.{Node, goes_over, gone_over, leads_on, may_all_earn, may_earn, node_of, run_borders, setting_out, taken_borders}
 use Rattle.certificate.specs.Walked.{LeavesAhead, Walks, capped}
 use Rattle.certificate.specs.declared.decider.Decision.{Decision}
 use Rattle.certificate.specs.declared.tree.Group.{Group}

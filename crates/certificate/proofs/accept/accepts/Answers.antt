@@ -1,5 +1,5 @@
 -- A claim is accepted where it holds and the bits are marks.
-use Rattle.std.proofs.Common.{◌≡◌, true, false, refl, sym, ◌∙◌}
+use Rattle.std.proofs.Common.{◌≡◌, true, false, sym, ◌∙◌}
 use Rattle.certificate.proofs.accept.accepts.Goals as goal
 
 pub returns-then-not-claim_holds : goal.returns-then-not-claim_holds

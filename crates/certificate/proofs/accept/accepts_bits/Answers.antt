@@ -1,5 +1,5 @@
 -- A claim is accepted where it holds and the bits are marks.
-use Rattle.std.proofs.Common.{◌≡◌, Bool, true, false, List, refl, sym, subst, ◌∙◌}
+use Rattle.std.proofs.Common.{◌≡◌, Bool, true, false, List, sym, subst, ◌∙◌}
 use Rattle.reach.specs.Position.{Position}
 use Rattle.certificate.specs.Holding.{AreMarks}
 use Rattle.certificate.proofs.accept.accepts_bits.Goals as goal

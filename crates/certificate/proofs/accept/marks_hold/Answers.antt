@@ -1,13 +1,13 @@
 -- What the walk has read over the tree, and what is left.
-use Rattle.std.proofs.Common.{◌≡◌, ◌≤◌, ℕ, Bool, true, false, Option, Some, None, List, [], ◌∷◌, refl, ap, sym, ◌∙◌, subst, arith}
+use Rattle.std.proofs.Common.{◌≡◌, ◌≤◌, ℕ, Bool, true, false, Some, None, List, [], ◌∷◌, refl, ap, sym, ◌∙◌, subst, arith}
 use Rattle.map_tables.specs.declared.place.Stop.{Stop}
 use Rattle.reach.specs.Position.{Position}
 use Rattle.tables.specs.declared.rolling_stock.Kind.{Kind}
 use Rattle.tables.specs.declared.roster.Company.{Company}
-use Rattle.certificate.specs.Holding.{AreFilling, AreMarks, left_over}
+use Rattle.certificate.specs.Holding.{left_over}
 use Rattle.certificate.specs.Read.{AreZeros}
 use Rattle.certificate.specs.Tree.{Node, root_of}
-use Rattle.certificate.specs.Walking.{AreCrossed, node_from, reached_in, trains_of_tree}
+use Rattle.certificate.specs.Walking.{AreCrossed, node_from, reached_in}
 use Rattle.certificate.specs.declared.reader.Reader.{Reader}
 use Rattle.certificate.proofs.Read.{if_whole, reached_are, root_is, root_stands, walk_reads}
 use Rattle.certificate.proofs.Walking.{none_crossed}

@@ -1,12 +1,12 @@
 -- What the walk has written are the marks of the tree.
-use Rattle.std.proofs.Common.{◌≡◌, ◌≤◌, ℕ, Bool, true, false, Option, Some, None, is_some, List, [], ◌∷◌, ◌++◌, append-nil, refl, ap, sym, ◌∙◌, subst, arith}
+use Rattle.std.proofs.Common.{◌≡◌, ◌≤◌, ℕ, Bool, None, is_some, List, [], ◌∷◌, ◌++◌, append-nil, refl, ap, sym, ◌∙◌, subst, arith}
 use Rattle.map_tables.specs.declared.place.Stop.{Stop}
 use Rattle.reach.specs.Position.{Position}
 use Rattle.tables.specs.declared.rolling_stock.Kind.{Kind}
 use Rattle.tables.specs.declared.roster.Company.{Company}
 use Rattle.certificate.specs.Holding.{AreMarks, Writes}
 use Rattle.certificate.specs.Tree.{Node, root_of}
-use Rattle.certificate.specs.Walking.{AreCrossed, node_from, reached_in, trains_of_tree}
+use Rattle.certificate.specs.Walking.{AreCrossed, node_from, reached_in}
 use Rattle.certificate.specs.declared.writer.Writer.{Writer}
 use Rattle.certificate.proofs.Read.{reached_are, root_is, root_stands, walk_writes, whole_written}
 use Rattle.certificate.proofs.Walking.{none_crossed}

@@ -1,5 +1,5 @@
 -- The walk goes over the children of each node, in their order, and leaves the marks as they were.
-use Rattle.std.proofs.Common.{◌≡◌, ◌<◌, ◌≤◌, rules, ℕ, suc, ◌+◌, ◌-◌, ◌*◌, Bool, true, false, not, ◌&&◌, ◌||◌, count_by, option_map, if◌then◌else◌, Option, Some, None, List, [], ◌∷◌, ◌++◌, length, get_or, set, drop, replicate, refl, ap, sym, ◌∙◌, subst, arith}
+use Rattle.std.proofs.Common.{◌≡◌, ◌<◌, rules, ℕ, ◌+◌, ◌-◌, Bool, true, false, not, ◌&&◌, count_by, option_map, if◌then◌else◌, Some, None, List, [], ◌∷◌, ◌++◌, length, get_or, set, replicate, refl, ap, sym, ◌∙◌, subst, arith}
 use Rattle.map_tables.specs.declared.hex.Hex.{Hex}
 use Rattle.map_tables.specs.Place.{stop_at}
 use Rattle.map_tables.specs.declared.hex.Hex.TheVariants.{A9}
@@ -7,11 +7,10 @@ use Rattle.map_tables.specs.declared.place.Stop.{Stop}
 use Rattle.map_tables.specs.declared.place.StopNumber.TheVariants.{First}
 use Rattle.map_tables.specs.declared.side.Side.{Side}
 use Rattle.map_tables.specs.declared.side.Side.TheVariants.{SouthWest}
-use Rattle.map_tables.specs.declared.track.End.{End}
 use Rattle.map_tables.specs.declared.track.End.TheVariants.{Side as AtSide, Stop as AtStop}
 use Rattle.map_tables.specs.declared.track.Link.{Link}
 use Rattle.reach.proofs.Lists.{among_at}
-use Rattle.reach.specs.Position.{IsAmong, Position, links_of}
+use Rattle.reach.specs.Position.{IsAmong, links_of}
 use Rattle.reach.specs.Reached.{stop_order}
 use Rattle.reach.specs.Walk.{across, across_end, entered_at, left_at, spot_at, stop_of}
 use Rattle.reach.specs.declared.walk.Spot.{Spot}
@@ -19,10 +18,10 @@ use Rattle.reach.specs.declared.walk.Step.{Step}
 use Rattle.certificate.specs.Fault.{has_border, has_stop}
 use Rattle.certificate.specs.Legal.{border_of, visited}
 use Rattle.certificate.specs.Set.{TrainRun}
-use Rattle.certificate.specs.Tree.{Node, children, finishing, for_each, from_stop, goes_over, is_free_end, is_last_stop, node_if, run_borders, setting_out, taken_borders, with_step, with_steps, ways_at, ways_by, ways_from}
+use Rattle.certificate.specs.Tree.{Node, children, for_each, from_stop, goes_over, is_free_end, is_last_stop, node_if, run_borders, setting_out, taken_borders, with_step, with_steps, ways_at, ways_by, ways_from}
 use Rattle.certificate.specs.Walked.{capped}
-use Rattle.certificate.specs.Walking.{AreCrossed, Continues, LeavesOver, Stands, StandsBetween, WalksOver, earned_from, may_take, node_at, node_from, other_hex_of, reached_in, set_outs, trains_of_tree}
-use Rattle.certificate.proofs.Going.{ends_on_way, goes_to_end, hexes_steps, no_way, none_ahead, one_cut, one_end, one_hex, one_split, one_way, other_named, over_none, thing_ends, thing_over, things_over, up_ends, up_over, up_whole, way_enters, goes_over as over_both}
+use Rattle.certificate.specs.Walking.{AreCrossed, Continues, LeavesOver, Stands, WalksOver, earned_from, may_take, node_at, node_from, other_hex_of, reached_in, trains_of_tree}
+use Rattle.certificate.proofs.Going.{hexes_steps, no_way, none_ahead, one_cut, one_end, one_hex, one_split, one_way, other_named, over_none, thing_ends, thing_over, things_over, up_ends, up_over, up_whole, way_enters}
 use Rattle.certificate.proofs.Places.{none_is}
 use Rattle.certificate.proofs.Standing.{and_false, and_true, border_continues, children_at_border, children_at_stop, finished_crossed, finished_stands, finishing_is, is_free, is_last, named_at, no_beyond, node_out, not_free, out_continues, same_node, seen_false, stands_at_stop, stands_out, stands_over, stands_same, stop_continues, takes_no_stop, takes_over, takes_stop, two_stops, with_run}
 use Rattle.certificate.proofs.Walked.{walks_both, walks_ended}

@@ -1,8 +1,6 @@
 -- Each further border that is crossed was not. A run that comes to a stop came over a border.
-use Rattle.std.proofs.Common.{◌≡◌, ℕ, ◌+◌, ◌-◌, ◌*◌, ◌<◌, ◌≤◌, false, not, count_by, List, [], ◌∷◌, length, drop, replicate}
+use Rattle.std.proofs.Common.{◌≡◌, ◌+◌, ◌-◌, ◌*◌, ◌<◌, ◌≤◌, false, not, count_by, List, [], ◌∷◌, length, drop, replicate}
 use Rattle.map_tables.specs.declared.place.Stop.{Stop}
-use Rattle.map_tables.specs.declared.track.End.{End}
-use Rattle.map_tables.specs.declared.track.End.TheVariants.{Side as AtSide, Stop as AtStop}
 use Rattle.reach.specs.Walk.{entered_at}
 use Rattle.reach.specs.declared.walk.Step.{Step}
 use Rattle.certificate.specs.Set.{TrainRun}

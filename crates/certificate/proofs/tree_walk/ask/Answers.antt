@@ -1,7 +1,6 @@
 -- The bound at a node where a run is begun.
-use Rattle.std.proofs.Common.{◌≡◌, ℕ, ◌+◌, false, Option, drop, refl, ap, sym, ◌∙◌, subst, length}
+use Rattle.std.proofs.Common.{◌≡◌, ℕ, ◌+◌, false, Option, drop, ap, sym, ◌∙◌, subst, length}
 use Rattle.tables.specs.Train.{stops_of}
-use Rattle.reach.specs.Position.{Position}
 use Rattle.certificate.specs.Legal.{visited, worth}
 use Rattle.certificate.specs.Ranking.{most_of}
 use Rattle.certificate.specs.Set.{revenue_of}
@@ -9,8 +8,6 @@ use Rattle.certificate.specs.Tree.{bound, may_all_earn, may_earn, new_values}
 use Rattle.certificate.specs.Walked.{capped}
 use Rattle.certificate.specs.Walking.{node_at, reached_in, trains_of_tree}
 use Rattle.certificate.proofs.Walking.{bound_is, still_is}
-use Rattle.certificate.proofs.Standing.{named_at}
-use Rattle.certificate.proofs.Going.{up_whole}
 use Rattle.certificate.proofs.tree_walk.ask.Goals as goal
 
 pub returns : goal.returns

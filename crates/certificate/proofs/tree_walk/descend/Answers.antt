@@ -1,5 +1,5 @@
 -- Down the nodes at which no run is begun, each split but the last.
-use Rattle.std.proofs.Common.{◌≡◌, ◌<◌, ◌≤◌, ℕ, ◌+◌, ◌-◌, Bool, true, false, List, [], ◌∷◌, length, refl, ap, sym, ◌∙◌, subst, arith}
+use Rattle.std.proofs.Common.{◌≡◌, ◌<◌, ℕ, ◌+◌, ◌-◌, false, [], ◌∷◌, length, ap, ◌∙◌, subst, arith}
 use Rattle.certificate.specs.Walked.{capped}
 use Rattle.certificate.specs.Walking.{LeavesOver, earned_from, node_from, set_outs, trains_of_tree}
 use Rattle.certificate.specs.declared.decider.Decision.TheVariants.{Cut, Split, Stop as End}

@@ -1,8 +1,6 @@
 -- The group in hand comes before those that are left.
-use Rattle.std.proofs.Common.{◌≡◌, ℕ, ◌+◌, ◌*◌, ◌-◌, List, drop, get_or, ap, sym, ◌∙◌, arith}
-use Rattle.certificate.specs.Walked.{capped}
+use Rattle.std.proofs.Common.{arith}
 use Rattle.certificate.specs.Walking.{earned_from}
-use Rattle.certificate.specs.declared.tree.Group.{Group}
 use Rattle.certificate.proofs.Walking.{sum_end, sum_more, sum_start}
 use Rattle.certificate.proofs.tree.Tree.may_earn_from.Goals as goal
 

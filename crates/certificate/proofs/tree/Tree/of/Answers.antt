@@ -1,6 +1,5 @@
 -- The trains of the six kinds are all trains, and what is told of each is so.
-use Rattle.std.proofs.Common.{◌≡◌, ◌≤◌, ℕ, List, [], ◌∷◌, length, refl, ap, sym, ◌∙◌, subst, arith}
-use Rattle.map_tables.specs.Place.{joined_stop_of}
+use Rattle.std.proofs.Common.{◌≡◌, List, [], ap, sym, ◌∙◌, subst, arith}
 use Rattle.map_tables.specs.declared.place.Stop.{Stop}
 use Rattle.reach.specs.Position.{IsAmong, Position}
 use Rattle.tables.specs.declared.rolling_stock.Kind.{Kind}
@@ -8,7 +7,7 @@ use Rattle.tables.specs.declared.rolling_stock.Kind.TheVariants.{Diesel, Five, F
 use Rattle.certificate.specs.Tree.{may_earn}
 use Rattle.certificate.specs.declared.tree.Group.{Group}
 use Rattle.certificate.proofs.Leaves.{all_named}
-use Rattle.certificate.proofs.Places.{IsGroup, groups_in_order, groups_size}
+use Rattle.certificate.proofs.Places.{groups_in_order, groups_size}
 use Rattle.certificate.proofs.tree.Tree.of.Goals as goal
 
 pub returns-clause-tree : goal.returns-clause-tree

@@ -1,5 +1,5 @@
 -- A stop is found by its place in the order of the map.
-use Rattle.std.proofs.Common.{◌≡◌, ◌↔◌, Bool, true, false, refl, sym, ◌∙◌}
+use Rattle.std.proofs.Common.{◌≡◌, Bool, true, false, refl, sym}
 use Rattle.certificate.specs.Fault.{has_stop}
 use Rattle.certificate.specs.Walking.{reached_in}
 use Rattle.certificate.proofs.Joined.{has_stop_is}
