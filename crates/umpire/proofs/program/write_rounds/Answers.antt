@@ -1,5 +1,6 @@
-use Rattle.std.proofs.Common.{◌≡◌, refl, sym, subst}
-use Rattle.rounds.specs.Steps.{IsUnbroken}
+use Rattle.std.proofs.Common.{◌≡◌, Ok, refl, sym, subst}
+use Rattle.rounds.specs.Steps.{IsUnbroken, PlaysNext, StepLeads}
+use Rattle.rounds.specs.declared.steps.Step.{Step}
 use Rattle.umpire.proofs.Parts.{more_front, on_err, tells_more, tells_none, told_front}
 use Rattle.umpire.proofs.program.write_rounds.Goals as goal
 
@@ -10,3 +11,31 @@ loop-play-init g c =
       unbroken = subst IsUnbroken (sym c.requires.started) refl;
       unfailed = c.requires.unfailed;
     }
+
+pub loop-play-preserved : goal.loop-play-preserved
+loop-play-preserved g c =
+    let step : PlaysNext c.loop-play.play c.in-Played.field-0 c.step.new.play =
+    subst (λ (step : Step). StepLeads c.loop-play.play (Ok step) c.step.new.play) c.in-Played.is c.in_ok-step.ensures.step
+    in
+    let bytes = rw c.as_slice.ensures.value at c.in_ok-write_text.ensures.ok in
+    let written = rw c.in_ok-text.ensures at bytes in
+    record {
+      told = tells_more _ _ _ _ _ _ _ c.loop-play.invariant.told step written;
+      unbroken = subst IsUnbroken (sym step.after) refl;
+      unfailed = c.in_ok-write_text.ensures.unfailed;
+    }
+
+pub returns-in_err-step-clause-front : goal.returns-in_err-step-clause-front
+returns-in_err-step-clause-front g c = on_err c.from_residual.result (told_front _ _ _ _ c.loop-play.invariant.told)
+
+pub returns-in_err-text-clause-front : goal.returns-in_err-text-clause-front
+returns-in_err-text-clause-front g c = on_err c.from_residual-in_err-text.result (told_front _ _ _ _ c.loop-play.invariant.told)
+
+pub returns-in_err-write_text-clause-front : goal.returns-in_err-write_text-clause-front
+returns-in_err-write_text-clause-front g c =
+    let step : PlaysNext c.loop-play.play c.in-Played.field-0 c.step.new.play =
+    subst (λ (step : Step). StepLeads c.loop-play.play (Ok step) c.step.new.play) c.in-Played.is c.in_ok-step.ensures.step
+    in
+    let bytes = rw c.as_slice.ensures.value at c.in_err-write_text.ensures.front in
+    let front = rw c.in_ok-text.ensures at bytes in
+    on_err c.from_residual-in_err-write_text.result (more_front _ _ _ _ _ _ _ c.loop-play.invariant.told step front)
