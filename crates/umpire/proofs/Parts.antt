@@ -1,5 +1,5 @@
 -- A text that is written part by part.
-use Rattle.std.proofs.Common.{◌≡◌, ℕ, zero, suc, ◌≤◌, List, [], ◌++◌, length, take, drop, ap, append_assoc, take-append-drop, refl, sym, ◌∙◌, arith}
+use Rattle.std.proofs.Common.{◌≡◌, ℕ, zero, suc, ◌≤◌, List, [], ◌++◌, length, take, drop, ap, append_assoc, take-append-drop, refl, sym, ◌∙◌, arith, subst}
 use Rattle.std.specs.Prelude.{Option, Some, Bool, false, Result, Ok, Err, OnErr}
 use Rattle.std.specs.Io.KnownBytes.{Appends}
 use Rattle.std.proofs.KnownBytes.{Appends-nil, Appends-trans}
@@ -15,7 +15,7 @@ use Rattle.umpire.specs.Failure.{AppendsFront}
 use Rattle.umpire.specs.Rounds.{TellsAllRounds, TellsFront, TellsRounds}
 use Rattle.umpire.specs.Run.{IsCutShort, IsReported, IsWriteFault, Stops}
 use Rattle.umpire.specs.declared.fault.Fault.{Fault}
-use Rattle.umpire.specs.declared.fault.Fault.TheVariants.{Read, Write, Memory, File}
+use Rattle.umpire.specs.declared.fault.Fault.TheVariants.{Read, Write, Memory, File, Certificate}
 
 -- so much of a text was written that this is left of it
 pub record LeavesRest (old new : Option (List ℕ)) (text rest : List ℕ) : Type 0 where
@@ -147,9 +147,19 @@ module _ (fronts : PartsAreAFront) (whole : PartsAreTheReport) (some : (file : L
         written = Appends-trans old there new (header file ++ told.text) (end_text_of ended) done written;
       }
 
+-- what is told of a play that was started is told of its file
+pub front_of_start : (file : List ℕ) (play : Underway) (old new : Option (List ℕ)) → play ≡ started file → TellsFront play.file old new → TellsFront file old new
+front_of_start file play old new is front =
+    subst (λ (f : List ℕ). TellsFront f old new) (ap (λ (p : Underway). p.file) is) front
+
+pub all_of_start : (file : List ℕ) (play ended : Underway) (old new : Option (List ℕ)) → play ≡ started file → TellsAllRounds play.file ended old new → TellsAllRounds file ended old new
+all_of_start file play ended old new is all =
+    subst (λ (f : List ℕ). TellsAllRounds f ended old new) (ap (λ (p : Underway). p.file) is) all
+
 -- a report that is cut short, by a write that failed or by want of memory
 pub stops_short : (file : List ℕ) (old new : Option (List ℕ)) (failed : Bool) (fault : Fault) → IsWriteFault failed fault → IsCutShort (Some file) old new → Stops (Some file) old new false failed fault
 stops_short file old new failed Read is cut = absurd is
 stops_short file old new failed Write is cut = (refl, is, cut)
 stops_short file old new failed Memory is cut = (refl, is, cut)
 stops_short file old new failed (File fault) is cut = absurd is
+stops_short file old new failed (Certificate round company) is cut = absurd is

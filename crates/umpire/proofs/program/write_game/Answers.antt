@@ -1,9 +1,6 @@
-use Rattle.std.proofs.Common.{List, ap, refl, subst}
-use Rattle.std.specs.Prelude.{ℕ}
+use Rattle.std.proofs.Common.{refl}
 use Rattle.std.proofs.lemmas.Result.{err_from_is_err_and}
-use Rattle.rounds.specs.Steps.{Underway}
-use Rattle.umpire.proofs.Parts.{all_told, cut_in_end, cut_in_header, cut_in_rounds, stops_short, whole_front}
-use Rattle.umpire.specs.Rounds.{TellsAllRounds, TellsFront}
+use Rattle.umpire.proofs.Parts.{all_of_start, all_told, cut_in_end, cut_in_header, cut_in_rounds, front_of_start, stops_short, whole_front}
 use Rattle.umpire.proofs.program.write_game.Goals as goal
 
 pub returns-in_err-write_header-clause-err : goal.returns-in_err-write_header-clause-err
@@ -21,18 +18,15 @@ returns-in_err-play-clause-err g c =
 pub returns-in_err-write_rounds-clause-err : goal.returns-in_err-write_rounds-clause-err
 returns-in_err-write_rounds-clause-err g c =
     let told = err_from_is_err_and c.from_residual-in_err-write_rounds.result c.from_residual-in_err-write_rounds.ensures.1 in
-    let front = subst (λ (f : List ℕ). TellsFront f _ _) (ap (λ (play : Underway). play.file) c.in_ok-play.ensures) c.in_err-write_rounds.ensures.front in
     rw (told.1, told.2)
-    (stops_short _ _ _ _ _ c.in_err-write_rounds.ensures.err (cut_in_rounds c.parts_are_the_report.ensures.front c.parts_are_the_report.ensures.whole c.some_report.ensures c.args.sheets.now c.requires.accepted _ _ _ c.in_ok-write_header.ensures.ok front))
+    (stops_short _ _ _ _ _ c.in_err-write_rounds.ensures.err (cut_in_rounds c.parts_are_the_report.ensures.front c.parts_are_the_report.ensures.whole c.some_report.ensures c.args.sheets.now c.requires.accepted _ _ _ c.in_ok-write_header.ensures.ok (front_of_start _ _ _ _ c.in_ok-play.ensures c.in_err-write_rounds.ensures.front)))
 
 pub returns-in_err-write_end-clause-err : goal.returns-in_err-write_end-clause-err
 returns-in_err-write_end-clause-err g c =
     let told = err_from_is_err_and c.from_residual-in_err-write_end.result c.from_residual-in_err-write_end.ensures.1 in
-    let all = subst (λ (f : List ℕ). TellsAllRounds f _ _ _) (ap (λ (play : Underway). play.file) c.in_ok-play.ensures) c.in_ok-write_rounds.ensures.ok in
     rw (told.1, told.2)
-    (stops_short _ _ _ _ _ c.in_err-write_end.ensures.err (cut_in_end c.parts_are_the_report.ensures.front c.parts_are_the_report.ensures.whole c.some_report.ensures c.args.sheets.now c.requires.accepted _ _ _ _ _ c.in_ok-write_header.ensures.ok all c.in_err-write_end.ensures.front))
+    (stops_short _ _ _ _ _ c.in_err-write_end.ensures.err (cut_in_end c.parts_are_the_report.ensures.front c.parts_are_the_report.ensures.whole c.some_report.ensures c.args.sheets.now c.requires.accepted _ _ _ _ _ c.in_ok-write_header.ensures.ok (all_of_start _ _ _ _ _ c.in_ok-play.ensures c.in_ok-write_rounds.ensures.ok) c.in_err-write_end.ensures.front))
 
 pub returns-clause-ok : goal.returns-clause-ok
 returns-clause-ok g c =
-    let all = subst (λ (f : List ℕ). TellsAllRounds f _ _ _) (ap (λ (play : Underway). play.file) c.in_ok-play.ensures) c.in_ok-write_rounds.ensures.ok in
-    all_told c.parts_are_the_report.ensures.front c.parts_are_the_report.ensures.whole c.some_report.ensures c.args.sheets.now c.requires.accepted _ _ _ _ _ c.in_ok-write_header.ensures.ok all c.in_ok-write_end.ensures.ok
+    all_told c.parts_are_the_report.ensures.front c.parts_are_the_report.ensures.whole c.some_report.ensures c.args.sheets.now c.requires.accepted _ _ _ _ _ c.in_ok-write_header.ensures.ok (all_of_start _ _ _ _ _ c.in_ok-play.ensures c.in_ok-write_rounds.ensures.ok) c.in_ok-write_end.ensures.ok
