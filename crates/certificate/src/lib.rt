@@ -35,6 +35,7 @@ mod bits;
 mod check;
 mod claim;
 mod decider;
+mod group;
 mod hex;
 mod in_turn;
 mod laws;
@@ -55,6 +56,7 @@ pub use accept::{accepts, accepts_bits, write_marks};
 pub use bits::{BitReader, Bits};
 pub use check::check_run;
 pub use claim::{Claim, ClaimedRun, ClaimedRuns};
+pub use group::Group;
 pub use hex::{HexFault, print_hex, read_hex};
 pub use in_turn::claim_holds;
 pub use laws::{

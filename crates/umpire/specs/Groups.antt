@@ -4,7 +4,7 @@
 use Rattle.std.specs.Prelude.{ℕ, Bool, true, false, if◌then◌else◌, List, [], ◌∷◌, ◌++◌, codes, Option, Some, None, option_and_then, Result, Ok}
 use Rattle.certificate.specs.Digits.{bits_of_digits}
 use Rattle.certificate.specs.declared.claim.ClaimedRun.{ClaimedRun}
-use Rattle.umpire.specs.declared.group.Group.{Group}
+use Rattle.certificate.specs.declared.group.Group.{Group}
 use Rattle.order_grammar.specs.Line.{cert_reading_of}
 use Rattle.order_grammar.specs.Words.{words_of, first_of_words, same_word}
 use Rattle.order_grammar.specs.declared.fault.Fault.{Fault}

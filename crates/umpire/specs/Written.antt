@@ -4,7 +4,7 @@ use Rattle.std.specs.Prelude.{ℕ, zero, suc, Bool, List, [], ◌∷◌, ◌++�
 use Rattle.std.specs.List.{flat_map}
 use Rattle.certificate.specs.Digits.{digits_of}
 use Rattle.certificate.specs.declared.claim.ClaimedRun.{ClaimedRun}
-use Rattle.umpire.specs.declared.group.Group.{Group}
+use Rattle.certificate.specs.declared.group.Group.{Group}
 use Rattle.order_grammar.specs.Print.{spelling_of}
 use Rattle.order_grammar.specs.declared.order.Order.{Order}
 use Rattle.order_grammar.specs.declared.order.Order.TheVariants.{Certs, Cert, Claim}

@@ -3,8 +3,7 @@ ghost use Rattle.std.specs.List.{flat_map};
 ghost use Rattle.umpire.specs.Written.{claim_line, group_text, marks_lines, order_line};
 ghost use Rattle.order_grammar.specs.declared.order.Order.TheVariants.{Certs};
 
-use crate::group::Group;
-use certificate::{Bits, ClaimedRun};
+use certificate::{Bits, ClaimedRun, Group};
 use order_grammar::{MARKS_DIGITS_MOST, Order, print_order};
 use std::alloc::AllocError;
 

@@ -4,8 +4,7 @@ ghost use Rattle.order_grammar.specs.Line.{cert_reading_of};
 ghost use Rattle.order_grammar.specs.Words.{texts_of};
 ghost use Rattle.sheets.specs.Text.{lines_of};
 
-use crate::group::Group;
-use certificate::{Bits, Claim, ClaimedRun, ClaimedRuns};
+use certificate::{Bits, Claim, ClaimedRun, ClaimedRuns, Group};
 use order_grammar::{Line, Order, Words, begins_with_word, read_cert_line};
 use sheets::first_line;
 use std::alloc::{AllocError, Global};

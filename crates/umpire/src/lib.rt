@@ -4,12 +4,11 @@
 //!
 //! Reading order: `watched` (readers and writers that remember a failure), `fault`, `input`,
 //! `output` (a text), `program` (the report, and `run`); `parting` (an order file and the text of
-//! certificates behind it), `group`, `groups` (which are read from that text), `group_text` (how
-//! they are written), `laws`.
+//! certificates behind it), `groups` (which are read from that text), `group_text` (how they are
+//! written), `laws`.
 #![tactic(auto)]
 
 mod fault;
-mod group;
 mod group_text;
 mod groups;
 mod input;
@@ -20,7 +19,6 @@ mod program;
 mod watched;
 
 pub use fault::{Fault, status, word};
-pub use group::Group;
 pub use group_text::{print_certs, print_group};
 pub use groups::read_groups;
 pub use laws::joined_is_parted;

@@ -1,4 +1,5 @@
-use certificate::{Bits, Claim};
+use crate::bits::Bits;
+use crate::claim::Claim;
 use tables::{Company, Round};
 
 /// A group of a text of certificates: the round and the company whose best runs it is about, what it
