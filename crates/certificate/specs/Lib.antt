@@ -21,3 +21,4 @@ pub mod Walked
 pub mod Walking
 pub mod Read
 pub mod InTurn
+pub mod Checked

@@ -14,25 +14,27 @@
 //! `Set` says what a legal set of runs is, what it earns and what the greatest revenue is, and
 //! `Greatest` what holds of it; `Claim` says when a claim of runs holds. `Tree` is the choice tree
 //! with the bound of a node, and `TreeLaws` joins it to the legal sets. `Ranking` is a table of the
-//! values of reached stops, from which that bound is found in a few steps.
-//! with the bound of a node, and `TreeLaws` joins it to the legal sets. `Holding` says which marks
+//! values of reached stops, from which that bound is found in a few steps. `Holding` says which marks
 //! hold at a node, how they are read over the nodes ahead, and when a claim is accepted by them;
 //! `HoldingLaws` says that it then has the greatest revenue. `Digits` is how marks stand in a text.
+//! `Checked` is how calls of a runner are answered by groups, each a claim with its marks.
 //!
 //! Reading order: `check` (the public call), `run_fault`, `used`, `leg` (from place to place),
 //! `tally`, `laws`; `claim` (a revenue with runs that earn it), `write` (a run by its places, from
 //! its walk), `runner` (what tells the greatest revenue), `two_train` (whether a company can run at
-//! all), `ranking` (what a run may still earn).
-//! all); `in_turn` (whether a claim holds), `hex` (marks in a text), `bits` (marks as they are kept).
+//! all), `ranking` (what a run may still earn); `in_turn` (whether a claim holds), `hex` (marks in a
+//! text), `bits` (marks as they are kept).
 //!
 //! `accept` is the check of a claim by marks, and their writing: both are one walk over the choice tree
 //! (`tree_walk`, over `tree`), which asks a `decider` at each node: a `reader` of marks or a `writer`.
-//! `Walked` says what a walk is, and `Walking` where it stands, by what it keeps in place.
+//! `Walked` says what a walk is, and `Walking` where it stands, by what it keeps in place. `group` is
+//! what a text of certificates says of a company's best runs, and `checked` answers by such groups.
 #![tactic(auto)]
 
 mod accept;
 mod bits;
 mod check;
+mod checked;
 mod claim;
 mod decider;
 mod group;
@@ -55,6 +57,7 @@ mod writer;
 pub use accept::{accepts, accepts_bits, write_marks};
 pub use bits::{BitReader, Bits};
 pub use check::check_run;
+pub use checked::Checked;
 pub use claim::{Claim, ClaimedRun, ClaimedRuns};
 pub use group::Group;
 pub use hex::{HexFault, print_hex, read_hex};
