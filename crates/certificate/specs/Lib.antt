@@ -22,3 +22,4 @@ pub mod Walking
 pub mod Read
 pub mod InTurn
 pub mod Checked
+pub mod Filled

@@ -1,5 +1,6 @@
 //! Marks that hold: whether some do, and those that are written for a revenue.
 ghost use Rattle.std.specs.Prelude.{◌≡◌, ◌↔◌, IsTrue, IfOk, List};
+ghost use Rattle.certificate.specs.Filled.{AreMarksFilled};
 ghost use Rattle.certificate.specs.Holding.{AreMarks, IsAccepted};
 ghost use Rattle.certificate.specs.Read.{AreZeros};
 ghost use Rattle.certificate.specs.Set.{IsGreatest};
@@ -100,7 +101,7 @@ fn are_zeros<M: Marks>(bits: &mut M, most: usize) -> bool
 
 /// Writes the marks for a revenue of a company's trains: each node of the choice tree is cut where its
 /// bound is at most the revenue, and split elsewhere. For the greatest revenue they are marks that
-/// hold. It fails only if memory is refused.
+/// hold, whatever fills up the last digit of their text. It fails only if memory is refused.
 pub fn write_marks<N: Network>(
     alloc: Global,
     network: &N,
@@ -108,9 +109,12 @@ pub fn write_marks<N: Network>(
     trains: &[Kind],
     revenue: Amount,
 ) -> Result<Bits, AllocError>
-    ensures { let position = N.position network.now in
+    ensures marks { let position = N.position network.now in
         IfOk result (λ bits. IsGreatest position company trains.now revenue
         → AreMarks position company trains.now revenue bits) }
+    ensures filled { let position = N.position network.now in
+        IfOk result (λ bits. IsGreatest position company trains.now revenue
+        → AreMarksFilled position company trains.now revenue bits) }
 {
     network.keeps_laws();
     written_marks_hold();

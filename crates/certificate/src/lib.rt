@@ -17,7 +17,8 @@
 //! values of reached stops, from which that bound is found in a few steps. `Holding` says which marks
 //! hold at a node, how they are read over the nodes ahead, and when a claim is accepted by them;
 //! `HoldingLaws` says that it then has the greatest revenue. `Digits` is how marks stand in a text.
-//! `Checked` is how calls of a runner are answered by groups, each a claim with its marks.
+//! `Checked` is how calls of a runner are answered by groups, each a claim with its marks; `Filled` is
+//! marks that hold however the last digit of their text is filled up.
 //!
 //! Reading order: `check` (the public call), `run_fault`, `used`, `leg` (from place to place),
 //! `tally`, `laws`; `claim` (a revenue with runs that earn it), `write` (a run by its places, from

@@ -4,7 +4,9 @@ use Rattle.map_tables.specs.declared.place.Stop.{Stop}
 use Rattle.reach.specs.Position.{Position}
 use Rattle.tables.specs.declared.rolling_stock.Kind.{Kind}
 use Rattle.tables.specs.declared.roster.Company.{Company}
+use Rattle.certificate.specs.Filled.{AreMarksFilled}
 use Rattle.certificate.specs.Holding.{AreMarks, Writes}
+use Rattle.certificate.specs.Set.{IsGreatest}
 use Rattle.certificate.specs.Tree.{Node, root_of}
 use Rattle.certificate.specs.Walking.{AreCrossed, node_from, reached_in}
 use Rattle.certificate.specs.declared.writer.Writer.{Writer}
@@ -13,7 +15,7 @@ use Rattle.certificate.proofs.Walking.{none_crossed}
 use Rattle.certificate.proofs.accept.write_marks.Goals as goal
 
 pub returns-in-None : goal.returns-in-None
-returns-in-None g c = λ greatest.
+returns-in-None g c =
     let position : Position = g.N.Network.position c.args.network.now in
     let tree = c.of-tree.result in
     let reached : List Stop = reached_in tree in
@@ -28,6 +30,11 @@ returns-in-None g c = λ greatest.
     let at_root : Writes position c.args.company reached revenue (root_of trains ∷ []) written.0 =
     subst (λ (n : Node). Writes position c.args.company reached revenue (n ∷ []) written.0) (root_is tree trains c.of-tree.ensures.trains)
     (subst (λ (o : Company). Writes position o reached revenue nodes written.0) c.of-tree.ensures.company written.1) in
-    let holds = c.written_marks_hold.ensures position c.args.company trains reached revenue written.0 [] c.keeps_laws.ensures (reached_are position c.args.company reached c.of-tree.ensures.reached) greatest at_root (omega arith, tt) in
     let bits : c.choose-whole.new.decider.bits ≡ written.0 = written.2 ∙ ap (λ (l : List Bool). l ++ written.0) c.new.ensures in
-    subst (λ (l : List Bool). AreMarks position c.args.company trains revenue l) (append-nil written.0 ∙ sym bits) holds
+    let filled : IsGreatest position c.args.company trains revenue → AreMarksFilled position c.args.company trains revenue written.0 =
+    λ greatest filling fills. c.written_marks_hold.ensures position c.args.company trains reached revenue written.0 filling c.keeps_laws.ensures (reached_are position c.args.company reached c.of-tree.ensures.reached) greatest at_root fills
+    in
+    record {
+      marks = λ greatest. subst (λ (l : List Bool). AreMarks position c.args.company trains revenue l) (append-nil written.0 ∙ sym bits) (filled greatest [] (omega arith, tt));
+      filled = λ greatest. subst (λ (l : List Bool). AreMarksFilled position c.args.company trains revenue l) (sym bits) (filled greatest);
+    }
