@@ -14,3 +14,4 @@ pub mod Kinds
 pub mod Ways
 pub mod Last
 pub mod Answer
+pub mod Keeping

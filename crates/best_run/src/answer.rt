@@ -1,10 +1,12 @@
 //! What a call answers.
 
-use certificate::Claim;
+use certificate::{Bits, Claim};
 
 /// The best that a company's trains can do.
 #[derive(Drop)]
 pub struct Best {
     /// The greatest revenue, in dollars, and runs that earn it.
     pub claim: Claim,
+    /// Marks, by which it is checked without a search that no runs earn more.
+    pub marks: Bits,
 }

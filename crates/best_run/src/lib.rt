@@ -1,5 +1,5 @@
 //! The best of a company's trains: `best` answers the greatest revenue that a legal set of runs earns,
-//! with runs that earn it, on any `reach::Network`.
+//! with runs that earn it and marks that show that none earn more, on any `reach::Network`.
 //!
 //! The definitions of a legal set, of the greatest revenue and of what is claimed are those of
 //! `certificate`. Those of this crate, in `specs/`, are of the search alone: `Moves` says what
@@ -12,7 +12,8 @@
 //! leave them only as it comes, `Kept` which states need not be explored since another one
 //! was, `Alike` which of them are alike to the trains left, `Marks` how bits in
 //! words are marks, `Crossed` what borders a piece crosses, `Pieces` how the pieces that lead
-//! from a spot stand in one table, `Answer` what the search finds in the end.
+//! from a spot stand in one table, `Answer` what the search finds in the end, `Keeping` what is
+//! kept of one call after the other.
 //!
 //! Reading order: `revenue` (the public call), `answer`, `trains` (their order), `spots` (the
 //! spots of a position with the pieces of track between them), `ways` (from stop to stop),
@@ -22,8 +23,9 @@
 //! that run) with `worth` (what that is worth), `last` (at which stops ahead it ends) and
 //! `mirror` (whether ways lead back over all ways), `trail` (the moves that earn what has been
 //! found), `stage` (a state that is kept), `explored` (what has been found, and what need not be
-//! explored again), `alike` (states that are alike to the trains left), `search`, `claimed` (the runs that a trail tells),
-//! `runner`.
+//! explored again), `alike` (states that are alike to the trains left), `search`, `claimed` (the
+//! runs that a trail tells),
+//! `runner` (what tells the revenue alone), `keeping` (what keeps the runs and marks as well).
 #![tactic(auto)]
 
 mod alike;
@@ -32,6 +34,7 @@ mod bits;
 mod claimed;
 mod crossing;
 mod explored;
+mod keeping;
 mod last;
 mod mirror;
 mod outlook;
@@ -51,5 +54,6 @@ mod ways;
 mod worth;
 
 pub use answer::Best;
+pub use keeping::Keeping;
 pub use revenue::best;
 pub use runner::Search;

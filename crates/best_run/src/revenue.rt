@@ -5,7 +5,7 @@ ghost use Rattle.best_run.specs.Kept.{IsNothing};
 ghost use Rattle.best_run.specs.Moves.{Explores, between};
 ghost use Rattle.best_run.specs.Ways.{AreReady};
 ghost use Rattle.best_run.specs.Suffix.{AreBounds, IsSolved, IsTop, nothing_before};
-ghost use Rattle.certificate.specs.Claim.{ClaimHolds};
+ghost use Rattle.certificate.specs.Holding.{IsAccepted};
 ghost use Rattle.certificate.specs.Set.{IsGreatest};
 
 use crate::answer::Best;
@@ -16,7 +16,7 @@ use crate::state::Settled;
 use crate::task::Task;
 use crate::trail::Mark;
 use crate::trains::greatest_first;
-use certificate::Claim;
+use certificate::{Claim, write_marks};
 use reach::Network;
 use std::alloc::{AllocError, Global};
 use tables::{Amount, Company, Kind};
@@ -109,16 +109,16 @@ pub(crate) fn greatest_revenue<N: Network>(
 }
 
 /// The greatest revenue that any legal set of runs for these trains of a company earns on a network,
-/// with the runs of a legal set that earns it. Where no run is legal, that is nothing, by no run. The
-/// only error is want of memory.
+/// with the runs of a legal set that earns it and with marks that show that no set earns more. Where
+/// no run is legal, that is nothing, by no run. It fails only if memory is refused.
 pub fn best<N: Network>(
     alloc: Global,
     network: &N,
     company: Company,
     trains: &[Kind],
 ) -> Result<Best, AllocError>
-    ensures holds { let position = N.position network.now in
-        IfOk result (λ best. ClaimHolds position company trains.now best.claim) }
+    ensures accepted { let position = N.position network.now in
+        IfOk result (λ best. IsAccepted position company trains.now best.claim best.marks) }
     ensures greatest { let position = N.position network.now in
         IfOk result (λ best. IsGreatest position company trains.now best.claim.revenue) }
 {
@@ -126,7 +126,9 @@ pub fn best<N: Network>(
     let found = find(alloc, network, company, &kinds)?;
     let revenue = found.amount;
     let runs = claimed_runs(alloc, &kinds, found.trail)?;
+    let marks = write_marks(alloc, network, company, trains, revenue)?;
     Ok(Best {
         claim: Claim { revenue, runs },
+        marks,
     })
 }

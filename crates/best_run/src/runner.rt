@@ -55,7 +55,7 @@ fn greatest_money<N: Network>(
 }
 
 /// A sum of dollars.
-fn money(amount: Amount) -> Money
+pub(crate) fn money(amount: Amount) -> Money
     ensures { result ≡ pos amount }
 {
     amount as Money

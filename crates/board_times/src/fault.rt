@@ -1,4 +1,5 @@
 use board::BoardFault;
+use certificate::RunnerFault;
 use std::alloc::AllocError;
 use std::io;
 use thiserror::Error;
@@ -55,5 +56,12 @@ impl From<BoardFault> for Fault {
             BoardFault::Memory => Fault::Memory,
             _ => Fault::Board,
         }
+    }
+}
+
+impl From<RunnerFault> for Fault {
+    // (a search never refuses to answer)
+    fn from(_fault: RunnerFault) -> Fault {
+        Fault::Memory
     }
 }

@@ -1,9 +1,10 @@
 use crate::fault::Fault;
-use best_run::best;
+use best_run::Search;
 use board::Board;
+use certificate::Runner;
 use map_tables::{Hex, Lay, Place, Rotation, TileNo};
 use std::alloc::{AllocError, Global};
-use tables::{Amount, Company, Kind};
+use tables::{Company, Kind, Money, Round};
 
 /// What the lines of a board say.
 #[derive(Drop)]
@@ -46,15 +47,29 @@ impl Game {
         self.number
     }
 
-    /// The greatest revenue of the company's trains on the board, in dollars. The errors are `Company`,
-    /// `Board` and `Memory`.
-    pub fn revenue(&self, alloc: Global) -> Result<Amount, Fault> {
-        let Some(company) = self.company else {
-            return Err(Fault::Company);
-        };
-        let board = Board::of(alloc, &self.lays, &self.tokens, self.phase)?;
-        let answer = best(alloc, &board, company, &self.trains)?;
-        Ok(answer.claim.revenue)
+    /// The company whose trains run. The error is `Company`, where none is named.
+    pub fn company(&self) -> Result<Company, Fault> {
+        self.company.ok_or(Fault::Company)
+    }
+
+    /// The company's trains.
+    pub fn trains(&self) -> &[Kind] {
+        &self.trains
+    }
+
+    /// The tiles and tokens as they lie. The errors are `Board` and `Memory`.
+    pub fn board(&self, alloc: Global) -> Result<Board, Fault> {
+        Ok(Board::of(alloc, &self.lays, &self.tokens, self.phase)?)
+    }
+
+    /// The greatest revenue of the company's trains on the board, in dollars, as an order to run their
+    /// best finds it. The errors are `Company`, `Board` and `Memory`.
+    pub fn revenue(&self, alloc: Global) -> Result<Money, Fault> {
+        let company = self.company()?;
+        let board = self.board(alloc)?;
+        let round = Round::Operating { set: 1, number: 1 };
+        let mut search = Search::new(alloc);
+        Ok(search.earn(&board, round, company, &self.trains)?)
     }
 
     /// Reads a line. The errors are `Line` and `Memory`.

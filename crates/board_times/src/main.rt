@@ -1,16 +1,22 @@
 //! Reads boards from standard input, and prints for each its number and the greatest revenue of the
-//! company's trains there, in dollars. A board is lines of words: `BOARD number`, `PHASE kind`,
-//! `COMPANY company`, `TRAINS kind ..`, then `LAY tile hex rotation`, with `SWAP` behind it where the
-//! stops are swapped, and `TOKEN place company`. A line `GREATEST ..` is passed over. The status is 2
-//! where a line is none of these or the tiles and tokens cannot lie, 4 where memory ran out or a read
-//! or a write failed.
+//! company's trains there, in dollars. With the word `marks` it prints behind these the number of marks
+//! that show it, how many milliseconds it took to write them and to check them, and whether they were
+//! accepted.
+//!
+//! A board is lines of words: `BOARD number`, `PHASE kind`, `COMPANY company`, `TRAINS kind ..`, then
+//! `LAY tile hex rotation`, with `SWAP` behind it where the stops are swapped, and `TOKEN place company`.
+//! A line `GREATEST ..` is passed over. The status is 2 where a line is none of these or the tiles and
+//! tokens cannot lie, 4 where memory ran out or a read or a write failed.
 #![tactic(auto)]
 
 mod fault;
 mod game;
+mod marks;
 
 use fault::Fault;
 use game::Game;
+use marks::measure;
+use std::env;
 use std::process::ExitCode;
 use std::rt::Runtime;
 
@@ -26,24 +32,32 @@ fn main(rt: HostRuntime) -> ExitCode {
 
 /// Reads boards to the end, and prints what each earns.
 fn read_all(rt: &HostRuntime) -> Result<(), Fault> {
+    let marks = env::args(rt)?.any(|word| word.as_str() == "marks");
     let mut game = Game::new(rt.alloc());
     for line in rt.lines(rt.alloc()) {
         let line = line?;
         if game.is_board(line.as_str()) {
-            print(rt, &game)?;
+            print(rt, &game, marks)?;
             game = Game::new(rt.alloc());
         }
         game.read_line(line.as_str())?;
     }
-    print(rt, &game)
+    print(rt, &game, marks)
 }
 
-/// Prints what a board earns, if one was begun.
-fn print(rt: &HostRuntime, game: &Game) -> Result<(), Fault> {
+/// Prints what a board earns, if one was begun, and what the marks cost, if that is asked for.
+fn print(rt: &HostRuntime, game: &Game, marks: bool) -> Result<(), Fault> {
     if !game.is_begun() {
         return Ok(());
     }
     let revenue = game.revenue(rt.alloc())?;
-    println!(rt; "{} {revenue}", game.number())?;
+    if !marks {
+        println!(rt; "{} {revenue}", game.number())?;
+        return Ok(());
+    }
+    let cost = measure(rt, game)?;
+    let (write, check) = (cost.write.as_millis(), cost.check.as_millis());
+    let word = if cost.accepted { "accepted" } else { "refused" };
+    println!(rt; "{} {revenue} {} {write} {check} {word}", game.number(), cost.marks)?;
     Ok(())
 }

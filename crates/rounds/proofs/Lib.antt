@@ -29,3 +29,5 @@ mod Closings
 mod Bids
 pub mod GameEnds
 mod StepByStep
+mod CallsJoined
+mod Answered

@@ -14,3 +14,4 @@ pub mod Privates
 pub mod Ends
 pub mod GameCalls
 pub mod Steps
+pub mod StepsCall

@@ -13,6 +13,7 @@ ghost use Rattle.rounds.specs.Privates.{BidsRiseInEachGame, ClosedForGood, Selle
 ghost use Rattle.rounds.specs.Sequence.{BankAloneEndsIt, SequenceGoesForward};
 ghost use Rattle.rounds.specs.Sets.{SetsKeepTheirNumber};
 ghost use Rattle.rounds.specs.Steps.{StepsPlayTheGame};
+ghost use Rattle.rounds.specs.StepsCall.{GamesAreAnswered, StepsAreAnswered, StepsCallTheGame};
 ghost use Rattle.rounds.specs.Tiles.{TilesStandInEachGame};
 ghost use Rattle.rounds.specs.Trains.{PhasesGoOnInRounds, TrainsStandInEachGame};
 ghost use Rattle.sheets.specs.File.{content_of};
@@ -227,4 +228,17 @@ pub fn empty_example()
 /// The calls that play makes of its runner are those of the one game of the file.
 pub fn calls_are_of_the_game()
     ensures { CallsAreOfTheGame }
+{}
+
+/// Each call by which play leads to a game, and each of a step that plays a round, is answered: one
+/// that is not breaks play off.
+pub fn calls_are_answered()
+    ensures games { GamesAreAnswered }
+    ensures steps { StepsAreAnswered }
+{}
+
+/// The calls of the steps of a play, one step after the other until play stops, are those of the one
+/// game of the file.
+pub fn steps_call_the_game()
+    ensures { StepsCallTheGame }
 {}

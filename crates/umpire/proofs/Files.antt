@@ -68,7 +68,7 @@ reported given old new file read known =
     }
 
 -- a refusal that was written whole
-refused : (given old new : Option (List ℕ)) (file : List ℕ) (fault : FileFault) → IfSome given (λ bytes. file ≡ as_read bytes) → IsRefused (Some file) old new fault → IsRefused given old new fault
+pub refused : (given old new : Option (List ℕ)) (file : List ℕ) (fault : FileFault) → IfSome given (λ bytes. file ≡ as_read bytes) → IsRefused (Some file) old new fault → IsRefused given old new fault
 refused given old new file fault read known =
     let says_all : Says given file = says given file read in
     record {

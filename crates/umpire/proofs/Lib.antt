@@ -5,3 +5,4 @@ pub mod PartingLemmas
 pub mod GroupLemmas
 pub mod WrittenLemmas
 pub mod LawLemmas
+pub mod CertsLemmas

@@ -1,5 +1,5 @@
 -- MARKS lines, one after the other.
-use Rattle.std.proofs.Common.{◌≡◌, ℕ, ◌<◌, ◌≤◌, List, [], ◌∷◌, ◌++◌, true, false, length, take, drop, refl, sym, ◌∙◌, ap, zero, suc, arith}
+use Rattle.std.proofs.Common.{◌≡◌, ℕ, ◌<◌, ◌≤◌, List, [], ◌∷◌, ◌++◌, true, false, append_assoc, length, take, drop, refl, ◌∙◌, ap, zero, suc, arith}
 use Rattle.std.specs.Prelude.{Bool, IsTrue, codes}
 use Rattle.certificate.specs.Digits.{digits_of}
 use Rattle.std.proofs.lemmas.List.{length-drop}
@@ -28,13 +28,8 @@ pub not_true : (b : Bool) → b ≡ false → IsTrue b → ⊥
 not_true true e t = cc
 not_true false e t = cc
 
--- a line and what comes behind it, after a text
-joined : (t m d rest : List ℕ) → (((t ++ m) ++ d) ++ 10 ∷ []) ++ rest ≡ t ++ (((m ++ d) ++ 10 ∷ []) ++ rest)
-joined [] m d rest = refl
-joined (a ∷ t) m d rest = ap (λ l. a ∷ l) (joined t m d rest)
-
-pub line_added : (t t1 t2 t3 all : List ℕ) (count next : ℕ) (marks left : List Bool) → t1 ≡ t ++ codes "MARKS " → t2 ≡ t1 ++ digits_of (take 4000 marks) → t3 ≡ t2 ++ 10 ∷ [] →
-    left ≡ drop 4000 marks → marks_lines_within count marks ≡ marks_line marks ++ marks_lines_within next (drop 4000 marks) →
-    t ++ marks_lines_within count marks ≡ all → t3 ++ marks_lines_within next left ≡ all
-line_added t t1 t2 t3 all count next marks left e1 e2 e3 el lines h =
-    rw (e3, e2, e1, el) (joined t (codes "MARKS ") (digits_of (take 4000 marks)) (marks_lines_within next (drop 4000 marks)) ∙ ap (λ l. t ++ l) (sym lines) ∙ h)
+-- a line of marks, added part by part
+pub line_added : (t t1 t2 t3 : List ℕ) (marks : List Bool) → t1 ≡ t ++ codes "MARKS " → t2 ≡ t1 ++ digits_of (take 4000 marks) → t3 ≡ t2 ++ 10 ∷ [] → t3 ≡ t ++ marks_line marks
+line_added t t1 t2 t3 marks e1 e2 e3 =
+    let digits : List ℕ = digits_of (take 4000 marks) in
+    rw (e3, e2, e1) (ap (λ l. l ++ 10 ∷ []) (append_assoc t (codes "MARKS ") digits) ∙ append_assoc t (codes "MARKS " ++ digits) (10 ∷ []))

@@ -7,3 +7,5 @@ pub mod Groups
 pub mod Written
 pub mod Laws
 pub mod Rounds
+pub mod Certified
+pub mod Certs

@@ -36,11 +36,14 @@ marks_lines_within (suc count) (bit ∷ bits) =
 abbrev pub marks_lines : List Bool → List ℕ
 marks_lines bits = marks_lines_within (length bits) bits
 
+-- the lines of a group before its marks
+abbrev pub claim_text : Group → List ℕ
+claim_text group =
+    order_line (Cert group.round group.company group.claim.revenue) ++ flat_map claim_line group.claim.runs
+
 -- the text of a group
 abbrev pub group_text : Group → List ℕ
-group_text group =
-    order_line (Cert group.round group.company group.claim.revenue)
-    ++ (flat_map claim_line group.claim.runs ++ marks_lines group.bits)
+group_text group = claim_text group ++ marks_lines group.bits
 
 -- the text of the certificates of groups
 abbrev pub certificates_text : List Group → List ℕ

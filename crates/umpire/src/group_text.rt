@@ -1,25 +1,24 @@
-ghost use Rattle.std.specs.Prelude.{◌≡◌, ◌++◌, OnOk};
+ghost use Rattle.std.specs.Prelude.{◌≡◌, ◌++◌, OnOk, drop};
 ghost use Rattle.std.specs.List.{flat_map};
-ghost use Rattle.umpire.specs.Written.{claim_line, group_text, marks_lines, order_line};
+ghost use Rattle.umpire.specs.Written.{claim_line, claim_text, marks_line, order_line};
 ghost use Rattle.order_grammar.specs.declared.order.Order.TheVariants.{Certs};
 
-use certificate::{Bits, ClaimedRun, Group};
+use certificate::{BitReader, ClaimedRun, Group};
 use order_grammar::{MARKS_DIGITS_MOST, Order, print_order};
 use std::alloc::AllocError;
 
-/// Adds the line with which a text of certificates begins. The only error is want of memory, at
-/// which a part may be added.
-pub fn print_certs(text: &mut Vec<u8>) -> Result<(), AllocError>
+/// Adds the line with which a text of certificates begins. It fails only if memory is refused, and
+/// then a part may be added.
+pub(crate) fn print_certs(text: &mut Vec<u8>) -> Result<(), AllocError>
     ensures { OnOk result (text.new.items ≡ text.old.items ++ order_line Certs) }
 {
     print_order_line(text, &Order::Certs)
 }
 
-/// Adds the text of a group: its CERT line, a CLAIM line for each run, and MARKS lines of 1,000
-/// digits, the last of 1 to 1,000. The only error is want of memory, at which a part may be
-/// added.
-pub fn print_group(text: &mut Vec<u8>, group: &Group) -> Result<(), AllocError>
-    ensures { OnOk result (text.new.items ≡ text.old.items ++ group_text group.now) }
+/// Adds the lines of a group before its marks: its CERT line, and a CLAIM line for each run. It fails
+/// only if memory is refused, and then a part may be added.
+pub(crate) fn print_claim(text: &mut Vec<u8>, group: &Group) -> Result<(), AllocError>
+    ensures { OnOk result (text.new.items ≡ text.old.items ++ claim_text group.now) }
 {
     let head = Order::Cert {
         round: group.round,
@@ -27,8 +26,19 @@ pub fn print_group(text: &mut Vec<u8>, group: &Group) -> Result<(), AllocError>
         revenue: group.claim.revenue,
     };
     print_order_line(text, &head)?;
-    print_runs(text, group.claim.runs.as_slice())?;
-    print_marks(text, &group.bits)
+    print_runs(text, group.claim.runs.as_slice())
+}
+
+/// Adds a MARKS line of the next marks: 1,000 digits, or all where fewer are left. It fails only if
+/// memory is refused, and then a part may be added.
+pub(crate) fn print_marks(text: &mut Vec<u8>, marks: &mut BitReader) -> Result<(), AllocError>
+    ensures printed { OnOk result (text.new.items ≡ text.old.items ++ marks_line marks.old) }
+    ensures left { OnOk result (marks.new ≡ drop 4000 marks.old) }
+{
+    text.extend_from_slice(b"MARKS ")?;
+    marks.print_digits(MARKS_DIGITS_MOST, text)?;
+    text.push(b'\n')?;
+    Ok(())
 }
 
 /// Adds the line of an order.
@@ -50,19 +60,6 @@ fn print_runs(text: &mut Vec<u8>, runs: &[ClaimedRun]) -> Result<(), AllocError>
             run: claimed.run.duplicate(),
         };
         print_order_line(text, &claim)?;
-    }
-    Ok(())
-}
-
-/// Adds MARKS lines, all full but the last.
-fn print_marks(text: &mut Vec<u8>, bits: &Bits) -> Result<(), AllocError>
-    ensures { OnOk result (text.new.items ≡ text.old.items ++ marks_lines bits.now) }
-{
-    let mut marks = bits.reader();
-    while !marks.is_empty() {
-        text.extend_from_slice(b"MARKS ")?;
-        marks.print_digits(MARKS_DIGITS_MOST, text)?;
-        text.push(b'\n')?;
     }
     Ok(())
 }

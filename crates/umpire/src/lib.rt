@@ -3,11 +3,12 @@
 //! lines with the end.
 //!
 //! Reading order: `watched` (readers and writers that remember a failure), `fault`, `input`,
-//! `output` (a text), `program` (the report, and `run`); `parting` (an order file and the text of
-//! certificates behind it), `groups` (which are read from that text), `group_text` (how they are
-//! written), `laws`.
+//! `output` (a text), `refusal` (of a file), `program` (the report, and `run`); `certs` (the
+//! certificates of a game), `group_text` (how a group is written), `parting` (an order file and the
+//! text of certificates behind it), `groups` (which are read from that text), `laws`.
 #![tactic(auto)]
 
+mod certs;
 mod fault;
 mod group_text;
 mod groups;
@@ -16,10 +17,11 @@ mod laws;
 mod output;
 mod parting;
 mod program;
+mod refusal;
 mod watched;
 
+pub use certs::certs;
 pub use fault::{Fault, status, word};
-pub use group_text::{print_certs, print_group};
 pub use groups::read_groups;
 pub use laws::joined_is_parted;
 pub use parting::{CERTIFICATES_MOST, Parted, part};

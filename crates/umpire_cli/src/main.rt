@@ -1,17 +1,27 @@
-//! The umpire's program: `umpire report` reads an order file from standard input and writes its
-//! report to standard output.
+//! The umpire's program. Each of its words reads standard input and writes standard output: `report` an
+//! order file and its report, `certs` an order file and the certificates of its best runs, `verify` an
+//! order file with certificates behind it and its report, if these show that its best runs are the best.
 #![tactic(auto)]
 
 use clap::error::ErrorKind;
-use clap::{ArgMatches, Command, Error};
+use clap::{Command, Error};
 use std::alloc::{AllocError, Global};
 use std::process::ExitCode;
 use std::rt::Runtime;
 use std::{env, io};
-use umpire::{Fault, Watched, run, status, word};
+use umpire::{Fault, Watched, certs, run, status, word};
 
 /// The status for a command line that names no program.
 const MISUSED: u8 = 1;
+
+/// What the program can be asked for.
+#[derive(Clone, Copy, Debug, PartialEq, Eq)]
+enum Task {
+    /// The report of an order file.
+    Report,
+    /// The certificates of its best runs.
+    Certs,
+}
 
 fn main(rt: HostRuntime) -> ExitCode {
     match words(&rt) {
@@ -34,24 +44,29 @@ fn no_words(rt: &HostRuntime, error: &io::Error) -> ExitCode {
     ExitCode::from(MISUSED)
 }
 
-/// Runs the program that the command line names.
+/// Does what the command line asks for.
 fn start(rt: &HostRuntime, words: &[String]) -> ExitCode {
     match parse(rt.alloc(), words) {
-        Ok(()) => report(rt),
+        Ok(task) => perform(rt, task),
         Err(error) => misuse(rt, &error),
     }
 }
 
-/// Whether the command line asks for the report; else what to say.
-fn parse(alloc: Global, words: &[String]) -> Result<(), Error> {
+/// What the command line asks for; else what to say.
+fn parse(alloc: Global, words: &[String]) -> Result<Task, Error> {
     let report = Command::new(alloc, "report").about("Writes the report of the order file");
+    let certs = Command::new(alloc, "certs").about("Writes the certificates of its best runs");
     let command = Command::new(alloc, "umpire")
         .about("Plays 1830 from written order sheets: the order file on standard input")
         .bin_name("umpire")?
         .subcommand_required(true)
-        .subcommand(report)?;
-    command.try_get_matches_from(words)?;
-    Ok(())
+        .subcommand(report)?
+        .subcommand(certs)?;
+    let matches = command.try_get_matches_from(words)?;
+    Ok(match matches.subcommand_name() {
+        Some("certs") => Task::Certs,
+        _ => Task::Report,
+    })
 }
 
 /// Says what is wrong with the command line.
@@ -63,11 +78,14 @@ fn misuse(rt: &HostRuntime, error: &Error) -> ExitCode {
     ExitCode::from(MISUSED)
 }
 
-/// Reads the order file and writes its report.
-fn report(rt: &HostRuntime) -> ExitCode {
+/// Reads standard input and writes what is asked for.
+fn perform(rt: &HostRuntime, task: Task) -> ExitCode {
     let mut reader = Watched::new(rt.reader());
     let mut writer = Watched::new(io::writer(rt));
-    let outcome = run(rt.alloc(), &mut reader, &mut writer);
+    let outcome = match task {
+        Task::Report => run(rt.alloc(), &mut reader, &mut writer),
+        Task::Certs => certs(rt.alloc(), &mut reader, &mut writer),
+    };
     end(rt, &outcome)
 }
 

@@ -1,0 +1,24 @@
+-- What is kept of the best runs that are found: each call adds, last, a group for its round and company, which is
+-- accepted at its position for its trains and claims what the call answers; where memory is refused none is added.
+use Rattle.std.specs.Prelude.{◌≡◌, ℤ, pos, List, [], ◌∷◌, ◌++◌, Result, Ok, Err}
+use Rattle.certificate.specs.Holding.{IsAccepted}
+use Rattle.certificate.specs.declared.group.Group.{Group}
+use Rattle.certificate.specs.declared.runner.RunnerFault.{RunnerFault}
+use Rattle.reach.specs.Position.{Position}
+use Rattle.tables.specs.declared.rolling_stock.Kind.{Kind}
+use Rattle.tables.specs.declared.roster.Company.{Company}
+use Rattle.tables.specs.declared.round.Round.{Round}
+
+-- one group more is kept
+pub record KeepsOne (position : Position) (round : Round) (company : Company) (trains : List Kind) (money : ℤ) (old new : List Group) : Type 0 where
+  pub group : Group
+  pub kept : new ≡ old ++ group ∷ []
+  pub of_round : group.round ≡ round
+  pub of_company : group.company ≡ company
+  pub accepted : IsAccepted position company trains group.claim group.bits
+  pub answered : money ≡ pos group.claim.revenue
+
+-- what a call keeps, by its answer
+abbrev pub KeepsBest : List Group → Position → Round → Company → List Kind → Result ℤ RunnerFault → List Group → Type 0
+KeepsBest old position round company trains (Ok money) new = KeepsOne position round company trains money old new
+KeepsBest old position round company trains (Err fault) new = new ≡ old

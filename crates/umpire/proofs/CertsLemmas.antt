@@ -1,0 +1,118 @@
+-- Certificates that are written, group by group.
+use Rattle.std.proofs.Common.{◌≡◌, ℕ, List, [], ◌∷◌, ◌++◌, Result, Ok, Err, append_assoc, refl, sym, ap, subst, ◌∙◌}
+use Rattle.std.specs.Prelude.{ℤ, pos, Option, Some, Bool, false, IfSome, IsOk}
+use Rattle.std.specs.Io.KnownBytes.{Appends}
+use Rattle.std.specs.List.{flat_map}
+use Rattle.std.proofs.KnownBytes.{Appends-trans, Keeps-refl}
+use Rattle.std.proofs.lemmas.List.{append-nil}
+use Rattle.std.proofs.lemmas.List.Concat.{flat_map-append}
+use Rattle.best_run.specs.Keeping.{KeepsBest, KeepsOne}
+use Rattle.certificate.specs.declared.group.Group.{Group}
+use Rattle.certificate.specs.declared.runner.RunnerFault.{RunnerFault}
+use Rattle.operating.specs.Calls.{AreMade, Call}
+use Rattle.order_grammar.specs.declared.order.Order.TheVariants.{Certs}
+use Rattle.rounds.specs.StepsCall.{AreAnswered}
+use Rattle.sheets.specs.File.{IsAccepted}
+use Rattle.umpire.specs.Certified.{AreCertified, Certifies, CertifyGame}
+use Rattle.umpire.specs.Certs.{IsCertified, StopsCerts}
+use Rattle.umpire.specs.Run.{IsFileOf, IsReadFault, IsWriteFault, as_read}
+use Rattle.umpire.specs.Written.{certificates_text, group_text, order_line}
+use Rattle.umpire.specs.declared.fault.Fault.{Fault}
+use Rattle.umpire.specs.declared.fault.Fault.TheVariants.{Read, Write, Memory, File, Certificate}
+use Rattle.umpire.proofs.Files.{Says, refused, says}
+use Rattle.umpire.proofs.Parts.{LeavesRest}
+
+-- a text of which nothing is left was written whole
+pub all_written : (old new : Option (List ℕ)) (text rest : List ℕ) → LeavesRest old new text rest → rest ≡ [] → Appends old new text
+all_written old new text rest left none =
+    let whole : left.done ≡ text = sym (append-nil left.done) ∙ ap (λ l. left.done ++ l) (sym none) ∙ left.whole in
+    subst (Appends old new) whole left.appended
+
+-- groups certify calls, and others further calls
+pub certified_more : (calls others : List Call) (groups more : List Group) → AreCertified calls groups → AreCertified others more → AreCertified (calls ++ others) (groups ++ more)
+certified_more [] others [] more these those = those
+certified_more [] others (group ∷ groups) more these those = absurd these
+certified_more (call ∷ calls) others [] more these those = absurd these
+certified_more (call ∷ calls) others (group ∷ groups) more these those =
+    (these.0, certified_more calls others groups more these.1 those)
+
+-- groups that are kept of some calls, and certify them
+pub record KeptOf (before after : List Group) (calls : List Call) : Type 0 where
+  pub groups : List Group
+  pub kept : after ≡ before ++ groups
+  pub certified : AreCertified calls groups
+
+-- one call more in front, which was answered
+kept_first : (call : Call) (calls : List Call) (answer : Result ℤ RunnerFault) (before between after : List Group) → call.answer ≡ answer → IsOk answer →
+    KeepsBest before call.position call.round call.company call.trains answer between → KeptOf between after calls → KeptOf before after (call ∷ calls)
+kept_first call calls (Ok money) before between after is answered one rest =
+    record {
+      groups = one.group ∷ rest.groups;
+      kept = rest.kept ∙ ap (λ l. l ++ rest.groups) one.kept ∙ append_assoc before (one.group ∷ []) rest.groups;
+      certified = (
+          record { of_round = one.of_round; of_company = one.of_company; accepted = one.accepted; answered = is ∙ ap Ok one.answered },
+          rest.certified,
+      );
+    }
+kept_first call calls (Err fault) before between after is answered one rest = absurd (cc)
+
+-- what a runner that keeps the best runs has kept of calls that were answered
+pub kept_of : (calls : List Call) (before after : List Group) → AreAnswered calls → AreMade KeepsBest before calls after → KeptOf before after calls
+kept_of [] before after answered made = record { groups = []; kept = made ∙ sym (append-nil before); certified = tt }
+kept_of (call ∷ calls) before after answered made =
+    kept_first call calls call.answer before made.0 after refl answered.0 made.1 (kept_of calls made.0 after answered.1 made.2)
+
+-- the text of groups, and that of more
+text_more : (groups more : List Group) → certificates_text groups ++ flat_map group_text more ≡ certificates_text (groups ++ more)
+text_more groups more =
+    append_assoc (order_line Certs) (flat_map group_text groups) (flat_map group_text more)
+    ∙ ap (λ l. order_line Certs ++ l) (sym (flat_map-append group_text groups more))
+
+-- the text of the groups so far is written, and then that of more
+pub text_grows : (old mid new : Option (List ℕ)) (groups more kept : List Group) → kept ≡ more → Appends old mid (certificates_text groups) →
+    Appends mid new (flat_map group_text kept) → Appends old new (certificates_text (groups ++ more))
+text_grows old mid new groups more kept is so_far written =
+    let behind : Appends mid new (flat_map group_text more) = subst (λ (l : List Group). Appends mid new (flat_map group_text l)) is written in
+    let all = Appends-trans old mid new (certificates_text groups) (flat_map group_text more) so_far behind in
+    subst (Appends old new) (text_more groups more) all
+
+-- certificates that were written of a file that was read are those of the whole file
+pub certified_of : (given old new : Option (List ℕ)) (file : List ℕ) → IfSome given (λ bytes. file ≡ as_read bytes) → IsCertified (Some file) old new → IsCertified given old new
+certified_of given old new file read known =
+    let says_all : Says given file = says given file read in
+    let accepted : IsAccepted file = subst IsAccepted known.whole known.accepted in
+    let same : known.file ≡ says_all.whole = known.whole ∙ sym (says_all.accepted accepted) in
+    record {
+      file = says_all.whole;
+      groups = known.groups;
+      whole = says_all.is_whole;
+      accepted = subst IsAccepted same known.accepted;
+      certify = subst (λ (f : List ℕ). CertifyGame f known.groups) same known.certify;
+      written = known.written;
+    }
+
+-- what a fault leaves where this was read
+pub stops_of : (given old new : Option (List ℕ)) (file : List ℕ) (read_failed write_failed : Bool) (fault : Fault) → IfSome given (λ bytes. file ≡ as_read bytes) →
+    read_failed ≡ false → StopsCerts (Some file) old new false write_failed fault → StopsCerts given old new read_failed write_failed fault
+stops_of given old new file read_failed write_failed Read read unfailed known = absurd cc
+stops_of given old new file read_failed write_failed Write read unfailed known = (unfailed, known.1)
+stops_of given old new file read_failed write_failed Memory read unfailed known = (unfailed, known.1)
+stops_of given old new file read_failed write_failed (File fault) read unfailed known = (unfailed, known.1, refused given old new file fault read known.2)
+stops_of given old new file read_failed write_failed (Certificate round company) read unfailed known = absurd known
+
+-- what reading leaves where it stops early
+pub read_stops_certs : (given old : Option (List ℕ)) (read_failed write_failed : Bool) (fault : Fault) → IsReadFault read_failed fault → write_failed ≡ false →
+    StopsCerts given old old read_failed write_failed fault
+read_stops_certs given old read_failed write_failed Read is unfailed = (is, unfailed, Keeps-refl old)
+read_stops_certs given old read_failed write_failed Memory is unfailed = (is, unfailed)
+read_stops_certs given old read_failed write_failed Write is unfailed = absurd is
+read_stops_certs given old read_failed write_failed (File fault) is unfailed = absurd is
+read_stops_certs given old read_failed write_failed (Certificate round company) is unfailed = absurd is
+
+-- what writing leaves where it stops early
+pub write_stops_certs : (given old new : Option (List ℕ)) (failed : Bool) (fault : Fault) → IsWriteFault failed fault → StopsCerts given old new false failed fault
+write_stops_certs given old new failed Write is = (refl, is)
+write_stops_certs given old new failed Memory is = (refl, is)
+write_stops_certs given old new failed Read is = absurd is
+write_stops_certs given old new failed (File fault) is = absurd is
+write_stops_certs given old new failed (Certificate round company) is = absurd is

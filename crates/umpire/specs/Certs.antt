@@ -1,0 +1,29 @@
+-- What the writing of certificates leaves, by what the reader gave and what the writer held.
+use Rattle.std.specs.Prelude.{◌≡◌, ℕ, Bool, true, false, List, Option}
+use Rattle.std.specs.Io.KnownBytes.{Appends, Keeps}
+use Rattle.certificate.specs.declared.group.Group.{Group}
+use Rattle.sheets.specs.File.{IsAccepted}
+use Rattle.umpire.specs.Certified.{CertifyGame}
+use Rattle.umpire.specs.Run.{IsFileOf, IsRefused}
+use Rattle.umpire.specs.Written.{certificates_text}
+use Rattle.umpire.specs.declared.fault.Fault.{Fault}
+use Rattle.umpire.specs.declared.fault.Fault.TheVariants.{Read, Write, Memory, File, Certificate}
+
+-- the file is accepted, and the text of groups that certify its game follows what the writer held
+pub record IsCertified (given old new : Option (List ℕ)) : Type 0 where
+  pub file : List ℕ
+  pub groups : List Group
+  pub whole : IsFileOf given file
+  pub accepted : IsAccepted file
+  pub certify : CertifyGame file groups
+  pub written : Appends old new (certificates_text groups)
+
+-- what a fault leaves, and which calls of the reader and the writer have failed; of what is written before a write fails
+-- or memory is refused nothing is said
+abbrev pub StopsCerts : Option (List ℕ) → Option (List ℕ) → Option (List ℕ) → Bool → Bool → Fault → Type 0
+StopsCerts given old new read_failed write_failed Read = (read_failed ≡ true) × (write_failed ≡ false) × Keeps old new
+StopsCerts given old new read_failed write_failed Write = (read_failed ≡ false) × (write_failed ≡ true)
+StopsCerts given old new read_failed write_failed Memory = (read_failed ≡ false) × (write_failed ≡ false)
+StopsCerts given old new read_failed write_failed (File fault) =
+    (read_failed ≡ false) × (write_failed ≡ false) × IsRefused given old new fault
+StopsCerts given old new read_failed write_failed (Certificate round company) = ⊥

@@ -1,0 +1,198 @@
+//! Certificates, written: for each company that ran its best, what it ran, and marks by which anybody
+//! checks without a search that it could not earn more.
+ghost use Rattle.best_run.specs.Keeping.{KeepsBest};
+ghost use Rattle.operating.specs.Calls.{Makes};
+ghost use Rattle.rounds.specs.Steps.{ComesNearer, IsUnbroken, StepCalls, StepLeads};
+ghost use Rattle.sheets.specs.File.{IsAccepted};
+ghost use Rattle.std.specs.Io.KnownBytes.{Appends};
+ghost use Rattle.std.specs.List.{flat_map};
+ghost use Rattle.std.specs.Prelude.{◌≡◌, false, IfErr, IfOk, Ok, OnOk, Some};
+ghost use Rattle.umpire.specs.Certs.{IsCertified, StopsCerts};
+ghost use Rattle.umpire.specs.Failure.{TakesWithin};
+ghost use Rattle.umpire.specs.Run.{IsWriteFault};
+ghost use Rattle.umpire.specs.Watched.{has_failed, inside};
+ghost use Rattle.umpire.specs.Written.{group_text, marks_lines, order_line};
+ghost use Rattle.order_grammar.specs.declared.order.Order.TheVariants.{Certs};
+
+use crate::fault::Fault;
+use crate::group_text::{print_certs, print_claim, print_marks};
+use crate::input::read_file;
+use crate::output::write_text;
+use crate::refusal::write_refusal;
+use crate::watched::Watched;
+use best_run::Keeping;
+use certificate::{Bits, Group};
+use rounds::{Play, Step, calls_are_answered, steps_call_the_game};
+use sheets::{FileFault, Sheets, collect};
+use std::alloc::{AllocError, Global};
+use std::io::{Read, Write};
+
+/// Reads an order file to its end, or to the first byte past the greatest size of a file, and
+/// writes the certificates of its game: `CERTS 1`, and for each RUN BEST that is obeyed, in order, a
+/// group that `verify` accepts. The game is played a round at a time, and what was found in a round is
+/// written before the next: no more than one round's marks are held at a time. What the writer then
+/// holds is what it held and, at
+///
+/// - `Ok`: that text, whole;
+/// - `File`, where the file is refused: the one line that says so, whole;
+/// - `Read`, where a read failed: nothing more;
+/// - `Write`, where a write failed or took nothing, and `Memory`, where memory was refused: more, of
+///   which nothing is promised.
+pub fn certs<R: Read, W: Write>(
+    alloc: Global,
+    reader: &mut Watched<R>,
+    writer: &mut Watched<W>,
+) -> Result<(), Fault>
+    requires reader { has_failed reader.old ≡ false }
+    requires writer { has_failed writer.old ≡ false }
+    ensures ok { OnOk result (IsCertified (R.remaining (inside reader.old))
+        (W.contents (inside writer.old)) (W.contents (inside writer.new))) }
+    ensures unfailed { OnOk result
+        ((has_failed reader.new ≡ false) × (has_failed writer.new ≡ false)) }
+    ensures limit { TakesWithin (R.remaining (inside reader.old))
+        (R.remaining (inside reader.new)) }
+    ensures err { IfErr result (StopsCerts (R.remaining (inside reader.old))
+        (W.contents (inside writer.old)) (W.contents (inside writer.new))
+        (has_failed reader.new) (has_failed writer.new)) }
+{
+    let file = read_file(alloc, reader)?;
+    write_certificates(alloc, file.as_slice(), writer)
+}
+
+/// Writes the certificates of the game of a file, or the line that says why the file is refused.
+fn write_certificates<W: Write>(
+    alloc: Global,
+    file: &[u8],
+    writer: &mut Watched<W>,
+) -> Result<(), Fault>
+    requires { has_failed writer.old ≡ false }
+    ensures ok { OnOk result (IsCertified (Some file.now)
+        (W.contents (inside writer.old)) (W.contents (inside writer.new))) }
+    ensures unfailed { OnOk result (has_failed writer.new ≡ false) }
+    ensures err { IfErr result (StopsCerts (Some file.now)
+        (W.contents (inside writer.old)) (W.contents (inside writer.new))
+        false (has_failed writer.new)) }
+{
+    match collect(alloc, file) {
+        Ok(sheets) => write_game(alloc, &sheets, writer),
+        Err(FileFault::Memory) => Err(Fault::Memory),
+        Err(fault) => {
+            write_refusal(alloc, fault, writer)?;
+            Err(Fault::File(fault))
+        }
+    }
+}
+
+/// Writes the certificates of the game of some sheets.
+fn write_game<W: Write>(
+    alloc: Global,
+    sheets: &Sheets,
+    writer: &mut Watched<W>,
+) -> Result<(), Fault>
+    requires unfailed { has_failed writer.old ≡ false }
+    requires accepted { IsAccepted sheets.now }
+    ensures ok { OnOk result (IsCertified (Some sheets.now)
+        (W.contents (inside writer.old)) (W.contents (inside writer.new))) }
+    ensures unfailed { OnOk result (has_failed writer.new ≡ false) }
+    ensures err { IfErr result (IsWriteFault (has_failed writer.new)) }
+{
+    // Laws, which do nothing when they run: the calls of the steps are those of the game, and each of
+    // them is answered.
+    calls_are_answered();
+    steps_call_the_game();
+    write_head(alloc, writer)?;
+    let mut play = Play::start(alloc, sheets)?;
+    loop {
+        let mut keeping = Keeping::new(alloc);
+        if let Step::Ended(_) = step(&mut play, &mut keeping)? {
+            return Ok(());
+        }
+        write_groups(alloc, keeping.kept(), writer)?;
+    }
+}
+
+/// Writes the line with which a text of certificates begins.
+fn write_head<W: Write>(alloc: Global, writer: &mut Watched<W>) -> Result<(), Fault>
+    requires { has_failed writer.old ≡ false }
+    ensures ok { OnOk result (Appends (W.contents (inside writer.old))
+        (W.contents (inside writer.new)) (order_line Certs)) }
+    ensures unfailed { OnOk result (has_failed writer.new ≡ false) }
+    ensures err { IfErr result (IsWriteFault (has_failed writer.new)) }
+{
+    let mut line = Vec::new(alloc);
+    print_certs(&mut line)?;
+    write_text(writer, line.as_slice())?;
+    Ok(())
+}
+
+/// A step of a play that was not broken off, in which the best runs are searched for and kept.
+fn step(play: &mut Play, keeping: &mut Keeping) -> Result<Step, AllocError>
+    requires { IsUnbroken play.old }
+    ensures step { IfOk result (λ step. StepLeads play.old (Ok step) play.new) }
+    ensures calls { OnOk result
+        (Makes KeepsBest keeping.old (StepCalls play.old play.new) keeping.new) }
+    ensures nearer { IfOk result (λ step. ComesNearer play.old (Ok step) play.new) }
+{
+    match play.step(keeping) {
+        Ok(step) => Ok(step),
+        Err(fault) => Err(fault.want_of_memory()),
+    }
+}
+
+/// Writes the texts of groups, one after the other.
+fn write_groups<W: Write>(
+    alloc: Global,
+    groups: &[Group],
+    writer: &mut Watched<W>,
+) -> Result<(), Fault>
+    requires { has_failed writer.old ≡ false }
+    ensures ok { OnOk result (Appends (W.contents (inside writer.old))
+        (W.contents (inside writer.new)) (flat_map group_text groups.now)) }
+    ensures unfailed { OnOk result (has_failed writer.new ≡ false) }
+    ensures err { IfErr result (IsWriteFault (has_failed writer.new)) }
+{
+    for group in groups {
+        write_group(alloc, group, writer)?;
+    }
+    Ok(())
+}
+
+/// Writes the text of a group.
+fn write_group<W: Write>(
+    alloc: Global,
+    group: &Group,
+    writer: &mut Watched<W>,
+) -> Result<(), Fault>
+    requires { has_failed writer.old ≡ false }
+    ensures ok { OnOk result (Appends (W.contents (inside writer.old))
+        (W.contents (inside writer.new)) (group_text group.now)) }
+    ensures unfailed { OnOk result (has_failed writer.new ≡ false) }
+    ensures err { IfErr result (IsWriteFault (has_failed writer.new)) }
+{
+    let mut text = Vec::new(alloc);
+    print_claim(&mut text, group)?;
+    write_text(writer, text.as_slice())?;
+    write_marks(alloc, &group.bits, writer)
+}
+
+/// Writes MARKS lines, line by line: the marks of a group may be many.
+fn write_marks<W: Write>(
+    alloc: Global,
+    bits: &Bits,
+    writer: &mut Watched<W>,
+) -> Result<(), Fault>
+    requires { has_failed writer.old ≡ false }
+    ensures ok { OnOk result (Appends (W.contents (inside writer.old))
+        (W.contents (inside writer.new)) (marks_lines bits.now)) }
+    ensures unfailed { OnOk result (has_failed writer.new ≡ false) }
+    ensures err { IfErr result (IsWriteFault (has_failed writer.new)) }
+{
+    let mut marks = bits.reader();
+    let mut line = Vec::new(alloc);
+    while !marks.is_empty() {
+        line.clear();
+        print_marks(&mut line, &mut marks)?;
+        write_text(writer, line.as_slice())?;
+    }
+    Ok(())
+}
