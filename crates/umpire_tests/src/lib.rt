@@ -6,7 +6,7 @@
 //! Reading order: `support` (readers and writers that give and take as they are told), `running`
 //! (whole runs over them), `watching` (a reader or writer that remembers a failure), `texts`
 //! (reports), `sequence` (the rounds after the bank is broken), `refusing` (a runner that refuses to
-//! answer).
+//! answer), `stepping` (a game a round at a time).
 #![tactic(auto)]
 
 #[cfg(test)]
@@ -15,6 +15,8 @@ mod refusing;
 mod running;
 #[cfg(test)]
 mod sequence;
+#[cfg(test)]
+mod stepping;
 #[cfg(test)]
 mod support;
 #[cfg(test)]
