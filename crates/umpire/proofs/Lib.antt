@@ -6,3 +6,5 @@ pub mod GroupLemmas
 pub mod WrittenLemmas
 pub mod LawLemmas
 pub mod CertsLemmas
+pub mod VerifyLemmas
+pub mod Judged

@@ -9,3 +9,4 @@ pub mod Laws
 pub mod Rounds
 pub mod Certified
 pub mod Certs
+pub mod Verify

@@ -5,7 +5,8 @@
 //! Reading order: `watched` (readers and writers that remember a failure), `fault`, `input`,
 //! `output` (a text), `refusal` (of a file), `program` (the report, and `run`); `certs` (the
 //! certificates of a game), `group_text` (how a group is written), `parting` (an order file and the
-//! text of certificates behind it), `groups` (which are read from that text), `laws`.
+//! text of certificates behind it), `groups` (which are read from that text), `verify` (the game of a
+//! file, judged by them), `laws`.
 #![tactic(auto)]
 
 mod certs;
@@ -18,6 +19,7 @@ mod output;
 mod parting;
 mod program;
 mod refusal;
+mod verify;
 mod watched;
 
 pub use certs::certs;
@@ -26,4 +28,5 @@ pub use groups::read_groups;
 pub use laws::joined_is_parted;
 pub use parting::{CERTIFICATES_MOST, Parted, part};
 pub use program::run;
+pub use verify::verify;
 pub use watched::Watched;

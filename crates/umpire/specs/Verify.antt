@@ -1,0 +1,111 @@
+-- What the check of certificates answers. The input is parted into an order file and the text of certificates behind it.
+-- The game of the file is played, and its runner answers each call by the next group of the text: the k-th RUN BEST that
+-- is obeyed is judged by the k-th group, and groups left over are not looked at.
+use Rattle.std.specs.Prelude.{◌≡◌, ℕ, ◌+◌, ◌≤◌, nat_lt, Bool, true, false, if◌then◌else◌, List, [], ◌∷◌, ◌++◌, length, codes, Option, Some, None, Result, Ok, Err, IsOk}
+use Rattle.std.specs.Io.KnownBytes.{Appends, Keeps}
+use Rattle.certificate.specs.Checked.{Shows}
+use Rattle.certificate.specs.declared.group.Group.{Group}
+use Rattle.operating.specs.Calls.{Call}
+use Rattle.order_grammar.specs.Print.{text_of_round}
+use Rattle.report.specs.Report.{IsReport, refusal_line}
+use Rattle.rounds.specs.GameCalls.{GameCalls}
+use Rattle.rounds.specs.Play.{Played}
+use Rattle.rounds.specs.declared.fault.PlayFault.{PlayFault}
+use Rattle.rounds.specs.declared.fault.PlayFault.TheVariants as play
+use Rattle.sheets.specs.File.{Content, content_of}
+use Rattle.sheets.specs.declared.fault.FileFault.{FileFault}
+use Rattle.sheets.specs.declared.fault.FileFault.TheVariants.{TooLong}
+use Rattle.tables.specs.Roster.{code_of_company}
+use Rattle.tables.specs.declared.roster.Company.{Company}
+use Rattle.tables.specs.declared.round.Round.{Round}
+use Rattle.umpire.specs.Groups.{groups_of}
+use Rattle.umpire.specs.Parting.{certificates_most, certificates_of, order_file_of}
+use Rattle.umpire.specs.Run.{IsFileOf}
+use Rattle.umpire.specs.declared.fault.Fault.{Fault}
+use Rattle.umpire.specs.declared.fault.Fault.TheVariants.{Read, Write, Memory, File, Certificate}
+
+-- a call has its group: one that is well formed, for its round and company, and accepted at its position for its trains
+abbrev pub HasGroup : Call → Option Group → Type 0
+HasGroup call None = ⊥
+HasGroup call (Some group) = Shows call.position call.round call.company call.trains group
+
+-- calls have their groups, one each, in order; groups left over are not looked at
+abbrev pub HaveGroups : List Call → List (Option Group) → Type 0
+HaveGroups [] groups = Unit {0}
+HaveGroups (call ∷ calls) [] = ⊥
+HaveGroups (call ∷ calls) (group ∷ groups) = HasGroup call group × HaveGroups calls groups
+
+-- each call of the one game of a file has its group: each RUN BEST that is obeyed
+pub record HasAllGroups (file : List ℕ) (groups : List (Option Group)) : Type 0 where
+  pub played : Played
+  pub calls : List Call
+  pub made : GameCalls file (Ok played) calls
+  pub have : HaveGroups calls groups
+
+-- a call of the one game of a file is the first that has none
+pub record LacksGroup (file : List ℕ) (groups : List (Option Group)) (round : Round) (company : Company) : Type 0 where
+  pub played : Played
+  pub earlier : List Call
+  pub call : Call
+  pub later : List Call
+  pub made : GameCalls file (Ok played) (earlier ++ call ∷ later)
+  pub of_round : call.round ≡ round
+  pub of_company : call.company ≡ company
+  pub have : HaveGroups earlier groups
+  pub lacks : ¬ HaveGroups (earlier ++ call ∷ []) groups
+
+-- how the game of a file is judged by groups; nothing is said where memory is refused
+abbrev pub IsJudged : {A : Type 0} → List ℕ → List (Option Group) → Result A PlayFault → Type 0
+IsJudged file groups (Ok game) = HasAllGroups file groups
+IsJudged file groups (Err (play.Refused round company)) = LacksGroup file groups round company
+IsJudged file groups (Err play.Memory) = Unit {0}
+
+-- the line that says that the best runs of a company in a round have no group
+abbrev pub uncertified_line : Round → Company → List ℕ
+uncertified_line round company =
+    codes "CERTIFICATE REFUSED " ++ text_of_round round ++ 32 ∷ code_of_company company ++ 10 ∷ []
+
+-- what an order file that is not refused is answered, by the groups behind it: an outcome, and a text that is written
+abbrev pub AnswersGame : List ℕ → List (Option Group) → Result (Unit {0}) Fault → List ℕ → Type 0
+AnswersGame file groups (Ok done) text = HasAllGroups file groups × IsReport file text
+AnswersGame file groups (Err (Certificate round company)) text =
+    LacksGroup file groups round company × (text ≡ uncertified_line round company)
+AnswersGame file groups (Err (File fault)) text = ⊥
+AnswersGame file groups (Err Read) text = ⊥
+AnswersGame file groups (Err Write) text = ⊥
+AnswersGame file groups (Err Memory) text = ⊥
+
+-- what the order file of an input says, or why the input is refused: its text of certificates is over its limit, or the
+-- order file is refused
+unfoldable pub content_of_input : List ℕ → Result Content FileFault
+content_of_input input =
+    if nat_lt certificates_most (length (certificates_of input)) then Err TooLong else content_of (order_file_of input)
+
+-- what an input is answered, by what it says
+abbrev pub AnswersContent : List ℕ → Result Content FileFault → Result (Unit {0}) Fault → List ℕ → Type 0
+AnswersContent input (Ok content) outcome text =
+    AnswersGame (order_file_of input) (groups_of (certificates_of input)) outcome text
+AnswersContent input (Err fault) outcome text = (outcome ≡ Err (File fault)) × (text ≡ refusal_line fault)
+
+-- what an input is answered
+abbrev pub AnswersInput : List ℕ → Result (Unit {0}) Fault → List ℕ → Type 0
+AnswersInput input outcome text = AnswersContent input (content_of_input input) outcome text
+
+-- the input is answered so, and the answer follows what the writer held
+pub record IsAnswered (given : Option (List ℕ)) (outcome : Result (Unit {0}) Fault) (old new : Option (List ℕ)) : Type 0 where
+  pub input : List ℕ
+  pub text : List ℕ
+  pub whole : IsFileOf given input
+  pub answers : AnswersInput input outcome text
+  pub written : Appends old new text
+
+-- what a fault leaves, and which calls of the reader and the writer have failed; of what is written before a write fails
+-- or memory is refused nothing is said
+abbrev pub StopsVerify : Option (List ℕ) → Option (List ℕ) → Option (List ℕ) → Bool → Bool → Fault → Type 0
+StopsVerify given old new read_failed write_failed Read = (read_failed ≡ true) × (write_failed ≡ false) × Keeps old new
+StopsVerify given old new read_failed write_failed Write = (read_failed ≡ false) × (write_failed ≡ true)
+StopsVerify given old new read_failed write_failed Memory = (read_failed ≡ false) × (write_failed ≡ false)
+StopsVerify given old new read_failed write_failed (File fault) =
+    (read_failed ≡ false) × (write_failed ≡ false) × IsAnswered given (Err (File fault)) old new
+StopsVerify given old new read_failed write_failed (Certificate round company) =
+    (read_failed ≡ false) × (write_failed ≡ false) × IsAnswered given (Err (Certificate round company)) old new
