@@ -2,7 +2,7 @@
 use Rattle.std.proofs.Common.{◌≡◌, ℕ, zero, suc, ◌+◌, ◌-◌, ◌<◌, ◌≤◌, ◌⊎◌, inl, inr, Bool, true, false, List, [], ◌∷◌, ◌++◌, length, take, refl, sym, ap, subst, ◌∙◌, cond, eqb, arith}
 use Rattle.std.proofs.lemmas.Bool.{le-ltb, lt-ltb}
 use Rattle.std.proofs.lemmas.List.{length-take-le, take_all}
-use Rattle.std.specs.Prelude.{Option, Some, None, Result, Ok, Err, IfSome, IsOk, nat_lt, unwrap_or}
+use Rattle.std.specs.Prelude.{Option, Some, None, Result, Ok, Err, IfErr, IfSome, IsOk, OnOk, nat_lt, unwrap_or}
 use Rattle.std.specs.Io.KnownBytes.{Appends}
 use Rattle.std.proofs.KnownBytes.{Keeps-refl}
 use Rattle.report.specs.Report.{IsReport, IsReportOf, report_of, report_text}
@@ -12,9 +12,10 @@ use Rattle.sheets.specs.File.{Content, IsAccepted, content_of}
 use Rattle.sheets.specs.declared.fault.FileFault.{FileFault}
 use Rattle.sheets.specs.declared.fault.FileFault.TheVariants.{TooLong}
 use Rattle.umpire.proofs.PartingLemmas.{found_within}
+use Rattle.umpire.specs.Groups.{groups_of}
 use Rattle.umpire.specs.Parting.{certificates_most, certificates_of, file_before, from_divider, order_file_of, without_newline}
 use Rattle.umpire.specs.Run.{IsFileOf, IsReadFault}
-use Rattle.umpire.specs.Verify.{AnswersContent, AnswersInput, IsAnswered, StopsVerify, content_of_input}
+use Rattle.umpire.specs.Verify.{AnswersContent, AnswersGame, AnswersInput, IsAnswered, IsRefusal, StopsVerify, content_of_input}
 use Rattle.umpire.specs.declared.fault.Fault.{Fault}
 use Rattle.umpire.specs.declared.fault.Fault.TheVariants.{Read, Write, Memory, File, Certificate}
 
@@ -138,6 +139,20 @@ stops_answered given old new input text rf wf (File fault) read answers written 
 stops_answered given old new input text rf wf (Certificate round company) read answers written r w =
     (r, w, answered given old new input text (Err (Certificate round company)) read answers written)
 
+-- an outcome, once the answer is written
+pub ok_verdict :
+    (given old new : Option (List ℕ)) (input text : List ℕ) (outcome : Result (Unit {0}) Fault) → IfSome given (λ bytes. input ≡ take 71303170 bytes) →
+    AnswersInput input outcome text → Appends old new text → OnOk outcome (IsAnswered given (Ok tt) old new)
+ok_verdict given old new input text (Ok done) read answers written = answered given old new input text (Ok tt) read answers written
+ok_verdict given old new input text (Err fault) read answers written = tt
+
+pub err_verdict :
+    (given old new : Option (List ℕ)) (input text : List ℕ) (read_failed write_failed : Bool) (outcome : Result (Unit {0}) Fault) →
+    IfSome given (λ bytes. input ≡ take 71303170 bytes) → AnswersInput input outcome text → Appends old new text → read_failed ≡ false →
+    write_failed ≡ false → IfErr outcome (λ fault. StopsVerify given old new read_failed write_failed fault)
+err_verdict given old new input text rf wf (Ok done) read answers written r w = tt
+err_verdict given old new input text rf wf (Err fault) read answers written r w = stops_answered given old new input text rf wf fault read answers written r w
+
 -- reading stopped early, and nothing was written
 pub stops_reading :
     (given old : Option (List ℕ)) (read_failed write_failed : Bool) (fault : Fault) → IsReadFault read_failed fault → write_failed ≡ false →
@@ -163,3 +178,23 @@ reported_by file text played (Ok content) accepted is game told =
 -- the report of a game is that of its file
 pub game_reported : (file text : List ℕ) (played : Played) → IsAccepted file → played.file ≡ file → IsTheGame played → text ≡ report_of played → IsReport file text
 game_reported file text played accepted is game told = reported_by file text played (content_of file) accepted is game told
+
+-- a file that is refused is answered by its refusal
+pub refusal_answers : (input text : List ℕ) (fault : FileFault) (outcome : Result (Unit {0}) Fault) → content_of_input input ≡ Err fault → IsRefusal fault outcome text → AnswersInput input outcome text
+refusal_answers input text fault outcome is refusal =
+    subst (λ (content : Result Content FileFault). AnswersContent input content outcome text) (sym is) refusal
+
+-- one that is not, as its game is judged
+judgement_by :
+    (input text : List ℕ) (outcome : Result (Unit {0}) Fault) (content : Result Content FileFault) → IsOk content →
+    AnswersGame (order_file_of input) (groups_of (certificates_of input)) outcome text → AnswersContent input content outcome text
+judgement_by input text outcome (Ok content) accepted answers = answers
+judgement_by input text outcome (Err fault) accepted answers = absurd cc
+
+pub judgement_answers :
+    (input text : List ℕ) (outcome : Result (Unit {0}) Fault) → length (certificates_of input) ≤ certificates_most → IsAccepted (order_file_of input) →
+    AnswersGame (order_file_of input) (groups_of (certificates_of input)) outcome text → AnswersInput input outcome text
+judgement_answers input text outcome within accepted answers =
+    let is = within_limit input within in
+    subst (λ (content : Result Content FileFault). AnswersContent input content outcome text) (sym is)
+    (judgement_by input text outcome (content_of (order_file_of input)) accepted answers)

@@ -81,11 +81,15 @@ unfoldable pub content_of_input : List ℕ → Result Content FileFault
 content_of_input input =
     if nat_lt certificates_most (length (certificates_of input)) then Err TooLong else content_of (order_file_of input)
 
+-- what is answered where a file is refused
+abbrev pub IsRefusal : FileFault → Result (Unit {0}) Fault → List ℕ → Type 0
+IsRefusal fault outcome text = (outcome ≡ Err (File fault)) × (text ≡ refusal_line fault)
+
 -- what an input is answered, by what it says
 abbrev pub AnswersContent : List ℕ → Result Content FileFault → Result (Unit {0}) Fault → List ℕ → Type 0
 AnswersContent input (Ok content) outcome text =
     AnswersGame (order_file_of input) (groups_of (certificates_of input)) outcome text
-AnswersContent input (Err fault) outcome text = (outcome ≡ Err (File fault)) × (text ≡ refusal_line fault)
+AnswersContent input (Err fault) outcome text = IsRefusal fault outcome text
 
 -- what an input is answered
 abbrev pub AnswersInput : List ℕ → Result (Unit {0}) Fault → List ℕ → Type 0

@@ -1,14 +1,12 @@
 //! Certificates, checked: anybody checks by them, without a search, that each company that ran its best
 //! could not earn more.
-ghost use Rattle.report.specs.Report.{refusal_line};
 ghost use Rattle.rounds.specs.Play.{IsTheGame};
 ghost use Rattle.sheets.specs.File.{IsAccepted};
-ghost use Rattle.std.specs.Prelude.{◌≡◌, false, Err, IfErr, IfOk, Ok, OnOk};
+ghost use Rattle.std.specs.Prelude.{◌≡◌, false, IfErr, IfOk, Ok, OnOk};
 ghost use Rattle.umpire.specs.Failure.{TakesAtMost};
 ghost use Rattle.umpire.specs.Groups.{groups_of};
-ghost use Rattle.umpire.specs.Verify.{AnswersGame, AnswersInput, IsAnswered, IsJudged, StopsVerify, uncertified_line};
+ghost use Rattle.umpire.specs.Verify.{AnswersGame, AnswersInput, IsAnswered, IsJudged, IsRefusal, StopsVerify, uncertified_line};
 ghost use Rattle.umpire.specs.Watched.{has_failed, inside};
-ghost use Rattle.umpire.specs.declared.fault.Fault.TheVariants.{File};
 
 use crate::fault::Fault;
 use crate::groups::read_groups;
@@ -19,7 +17,9 @@ use crate::watched::Watched;
 use certificate::{Checked, Group};
 use order_grammar::print_round;
 use report::{refusal_text, report};
-use rounds::{Game, PlayFault, play_with};
+use rounds::{
+    Game, PlayFault, calls_are_answered, play_with, refused_calls_are_a_front, some_calls,
+};
 use sheets::{FILE_MOST, FileFault, Sheets, collect};
 use std::alloc::{AllocError, Global};
 use std::io::{Read, Write};
@@ -91,8 +91,7 @@ fn answer_to(alloc: Global, input: &[u8]) -> Result<Answer, AllocError>
 
 /// The answer to a file that is refused.
 fn refusal(alloc: Global, fault: FileFault) -> Result<Answer, AllocError>
-    ensures outcome { IfOk result (λ answer. answer.outcome ≡ Err (File fault)) }
-    ensures text { IfOk result (λ answer. answer.text.items ≡ refusal_line fault) }
+    ensures { IfOk result (λ answer. IsRefusal fault answer.outcome answer.text.items) }
 {
     Ok(Answer {
         text: refusal_text(alloc, fault)?,
@@ -131,6 +130,11 @@ fn play_checked<'a>(
     ensures game { IfOk result IsTheGame }
     ensures judged { IsJudged sheets.now groups.items result }
 {
+    // Laws, which do nothing when they run: a file's game makes one list of calls, each of them is
+    // answered, and where one is refused the calls up to it are a front of that list.
+    some_calls();
+    calls_are_answered();
+    refused_calls_are_a_front();
     let mut checked = Checked::new(groups);
     play_with(alloc, sheets, &mut checked)
 }

@@ -1,0 +1,7 @@
+use Rattle.umpire.proofs.Judged.{judged}
+use Rattle.umpire.proofs.verify.play_checked.Goals as goal
+
+pub returns-clause-judged : goal.returns-clause-judged
+returns-clause-judged c =
+    judged c.calls_are_answered.ensures.games c.some_calls.ensures.accepted c.refused_calls_are_a_front.ensures c.args.sheets.now c.requires
+    _ _ c.play_with.result c.play_with.ensures.calls
