@@ -1,6 +1,8 @@
 -- What is kept of the best runs that are found: each call adds, last, a group for its round and company, which is
--- accepted at its position for its trains and claims what the call answers; where memory is refused none is added.
+-- accepted at its position for its trains, whatever fills up its last digit as it is printed, and claims what the call
+-- answers; where memory is refused none is added.
 use Rattle.std.specs.Prelude.{◌≡◌, ℤ, pos, List, [], ◌∷◌, ◌++◌, Result, Ok, Err}
+use Rattle.certificate.specs.Filled.{IsAcceptedFilled}
 use Rattle.certificate.specs.Holding.{IsAccepted}
 use Rattle.certificate.specs.declared.group.Group.{Group}
 use Rattle.certificate.specs.declared.runner.RunnerFault.{RunnerFault}
@@ -16,6 +18,7 @@ pub record KeepsOne (position : Position) (round : Round) (company : Company) (t
   pub of_round : group.round ≡ round
   pub of_company : group.company ≡ company
   pub accepted : IsAccepted position company trains group.claim group.bits
+  pub filled : IsAcceptedFilled position company trains group.claim group.bits
   pub answered : money ≡ pos group.claim.revenue
 
 -- what a call keeps, by its answer

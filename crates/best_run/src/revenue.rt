@@ -5,6 +5,7 @@ ghost use Rattle.best_run.specs.Kept.{IsNothing};
 ghost use Rattle.best_run.specs.Moves.{Explores, between};
 ghost use Rattle.best_run.specs.Ways.{AreReady};
 ghost use Rattle.best_run.specs.Suffix.{AreBounds, IsSolved, IsTop, nothing_before};
+ghost use Rattle.certificate.specs.Filled.{IsAcceptedFilled};
 ghost use Rattle.certificate.specs.Holding.{IsAccepted};
 ghost use Rattle.certificate.specs.Set.{IsGreatest};
 
@@ -109,8 +110,9 @@ pub(crate) fn greatest_revenue<N: Network>(
 }
 
 /// The greatest revenue that any legal set of runs for these trains of a company earns on a network,
-/// with the runs of a legal set that earns it and with marks that show that no set earns more. Where
-/// no run is legal, that is nothing, by no run. It fails only if memory is refused.
+/// with the runs of a legal set that earns it and with marks that show that no set earns more, also as
+/// they are read again once they were printed. Where no run is legal, that is nothing, by no run. It
+/// fails only if memory is refused.
 pub fn best<N: Network>(
     alloc: Global,
     network: &N,
@@ -119,6 +121,9 @@ pub fn best<N: Network>(
 ) -> Result<Best, AllocError>
     ensures accepted { let position = N.position network.now in
         IfOk result (λ best. IsAccepted position company trains.now best.claim best.marks) }
+    ensures filled { let position = N.position network.now in
+        IfOk result (λ best.
+        IsAcceptedFilled position company trains.now best.claim best.marks) }
     ensures greatest { let position = N.position network.now in
         IfOk result (λ best. IsGreatest position company trains.now best.claim.revenue) }
 {

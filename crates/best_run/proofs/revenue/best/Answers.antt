@@ -48,7 +48,21 @@ returns-clause-accepted g c =
     let claim : Claim = record { revenue = found.amount; runs = c.in_ok-runs.runs } in
     record {
       claim_holds = holds position company trains found claim best claimed refl;
-      are_marks = c.in_ok-marks.ensures (greatest position company trains found best);
+      are_marks = c.in_ok-marks.ensures.marks (greatest position company trains found best);
+    }
+
+pub returns-clause-filled : goal.returns-clause-filled
+returns-clause-filled g c =
+    let position = g.N.Network.position c.args.network.now in
+    let company = c.args.company in
+    let trains = c.args.trains.now in
+    let found = c.in_ok-found.found in
+    let best : IsBest position company (greatest_first trains) found = subst (λ (ks : List Kind). IsBest position company ks found) (c.deref.ensures.value ∙ c.in_ok-kinds.ensures) c.in_ok-found.ensures in
+    let claimed : c.in_ok-runs.runs ≡ written (runs_in (greatest_first trains) found.trail) = c.in_ok-runs.ensures ∙ ap (λ (ks : List Kind). written (runs_in ks found.trail)) (c.deref-2.ensures.value ∙ c.in_ok-kinds.ensures) in
+    let claim : Claim = record { revenue = found.amount; runs = c.in_ok-runs.runs } in
+    λ filling fills. record {
+      claim_holds = holds position company trains found claim best claimed refl;
+      are_marks = c.in_ok-marks.ensures.filled (greatest position company trains found best) filling fills;
     }
 
 pub returns-clause-greatest : goal.returns-clause-greatest
