@@ -1,6 +1,8 @@
 -- What certifies a game: for each call that it makes of its runner, in order, a group for the round and the company of
--- the call, which claims what was answered and is accepted at the position of the call for its trains.
+-- the call, which claims what was answered and is accepted at the position of the call for its trains, whatever fills up
+-- the last digit of its marks as they are printed.
 use Rattle.std.specs.Prelude.{◌≡◌, ℕ, pos, List, [], ◌∷◌, Ok}
+use Rattle.certificate.specs.Filled.{IsAcceptedFilled}
 use Rattle.certificate.specs.Holding.{IsAccepted}
 use Rattle.certificate.specs.declared.group.Group.{Group}
 use Rattle.operating.specs.Calls.{Call}
@@ -12,6 +14,7 @@ pub record Certifies (call : Call) (group : Group) : Type 0 where
   pub of_round : group.round ≡ call.round
   pub of_company : group.company ≡ call.company
   pub accepted : IsAccepted call.position call.company call.trains group.claim group.bits
+  pub filled : IsAcceptedFilled call.position call.company call.trains group.claim group.bits
   pub answered : call.answer ≡ Ok (pos group.claim.revenue)
 
 -- groups certify calls, one each, in order
