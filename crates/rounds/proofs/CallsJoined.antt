@@ -3,7 +3,7 @@ use Rattle.std.proofs.Common.{◌≡◌, ℕ, zero, suc, true, false, List, [], 
 use Rattle.std.proofs.lemmas.Bool.{true≢false}
 use Rattle.std.proofs.lemmas.List.{append-nil}
 use Rattle.operating.specs.Calls.{Call, SomeTimesThen, TimesThen, Unasked}
-use Rattle.rounds.proofs.StepByStep.{LeadsOn, leads_on, same_place, stops_here, was_on}
+use Rattle.rounds.proofs.StepByStep.{LeadsOn, leads_on, stops_here, was_on}
 use Rattle.rounds.specs.GameCalls.{GameCalls, RoundCalls, Stops}
 use Rattle.rounds.specs.Play.{Between, Played, before_play, goes_on}
 use Rattle.rounds.specs.Steps.{CallsBetween, PlaysNext, Stays, StepCalls, Underway, game_so_far, game_there}

@@ -1,5 +1,5 @@
 -- Certificates that are written, group by group.
-use Rattle.std.proofs.Common.{◌≡◌, ℕ, List, [], ◌∷◌, ◌++◌, Result, Ok, Err, append_assoc, refl, sym, ap, subst, ◌∙◌}
+use Rattle.std.proofs.Common.{◌≡◌, ℕ, ◌+◌, ◌<◌, suc, List, [], ◌∷◌, ◌++◌, Result, Ok, Err, add-one, append_assoc, drop, drop-cons, get_or, length, refl, sym, ap, subst, ◌∙◌}
 use Rattle.std.specs.Prelude.{ℤ, pos, Option, Some, Bool, false, IfSome, IsOk}
 use Rattle.std.specs.Io.KnownBytes.{Appends}
 use Rattle.std.specs.List.{flat_map}
@@ -122,3 +122,10 @@ write_stops_certs given old new failed Memory is = (refl, is)
 write_stops_certs given old new failed Read is = absurd is
 write_stops_certs given old new failed (File fault) is = absurd is
 write_stops_certs given old new failed (Certificate round company) is = absurd is
+
+-- the texts of the groups ahead, from a group on
+pub groups_ahead : (groups : List Group) (place : ℕ) (group : Group) → place < length groups → group ≡ get_or groups place group →
+    flat_map group_text (drop place groups) ≡ group_text group ++ flat_map group_text (drop (place + 1) groups)
+groups_ahead groups place group within is =
+    let ahead : drop place groups ≡ group ∷ drop (suc place) groups = drop-cons groups place group within ∙ ap (λ (g : Group). g ∷ drop (suc place) groups) (sym is) in
+    rw (ahead, add-one) refl

@@ -11,8 +11,8 @@ loop-marks-init g c =
     let bits = c.args.bits.now in
     record {
       count = length bits;
-      within = rw c.reader.ensures (omega arith);
-      left = record { done = []; whole = ap (marks_lines_within (length bits)) c.reader.ensures; appended = Appends-nil _ };
+      within = rw c.reader-marks.ensures (omega arith);
+      left = record { done = []; whole = ap (marks_lines_within (length bits)) c.reader-marks.ensures; appended = Appends-nil _ };
       unfailed = c.requires;
     }
 
