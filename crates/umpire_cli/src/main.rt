@@ -9,7 +9,7 @@ use std::alloc::{AllocError, Global};
 use std::process::ExitCode;
 use std::rt::Runtime;
 use std::{env, io};
-use umpire::{Fault, Watched, certs, run, status, word};
+use umpire::{Fault, Watched, certs, run, status, verify, word};
 
 /// The status for a command line that names no program.
 const MISUSED: u8 = 1;
@@ -21,6 +21,8 @@ enum Task {
     Report,
     /// The certificates of its best runs.
     Certs,
+    /// Its report, by the certificates behind it.
+    Verify,
 }
 
 fn main(rt: HostRuntime) -> ExitCode {
@@ -56,15 +58,19 @@ fn start(rt: &HostRuntime, words: &[String]) -> ExitCode {
 fn parse(alloc: Global, words: &[String]) -> Result<Task, Error> {
     let report = Command::new(alloc, "report").about("Writes the report of the order file");
     let certs = Command::new(alloc, "certs").about("Writes the certificates of its best runs");
+    let verify = Command::new(alloc, "verify")
+        .about("Writes its report, if the certificates behind it show that its best runs are the best");
     let command = Command::new(alloc, "umpire")
         .about("Plays 1830 from written order sheets: the order file on standard input")
         .bin_name("umpire")?
         .subcommand_required(true)
         .subcommand(report)?
-        .subcommand(certs)?;
+        .subcommand(certs)?
+        .subcommand(verify)?;
     let matches = command.try_get_matches_from(words)?;
     Ok(match matches.subcommand_name() {
         Some("certs") => Task::Certs,
+        Some("verify") => Task::Verify,
         _ => Task::Report,
     })
 }
@@ -85,6 +91,7 @@ fn perform(rt: &HostRuntime, task: Task) -> ExitCode {
     let outcome = match task {
         Task::Report => run(rt.alloc(), &mut reader, &mut writer),
         Task::Certs => certs(rt.alloc(), &mut reader, &mut writer),
+        Task::Verify => verify(rt.alloc(), &mut reader, &mut writer),
     };
     end(rt, &outcome)
 }
