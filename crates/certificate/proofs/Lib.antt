@@ -40,3 +40,4 @@ pub mod Places
 pub mod Going
 pub mod Read
 pub mod InTurn
+mod ClaimedPlaces

@@ -23,3 +23,4 @@ pub mod Read
 pub mod InTurn
 pub mod Checked
 pub mod Filled
+pub mod Places

@@ -29,6 +29,7 @@ ghost use Rattle.certificate.specs.HoldingLaws.{
   WrittenMarksHold,
 };
 ghost use Rattle.certificate.specs.InTurn.{ClaimHoldsInTurn};
+ghost use Rattle.certificate.specs.Places.{ClaimsHavePlaces};
 ghost use Rattle.certificate.specs.TreeLaws.{
   BoundsFall,
   LeavesAreLegalSets,
@@ -181,4 +182,9 @@ pub fn digits_and_bits()
 /// the other and together earn what is claimed.
 pub fn claim_holds_in_turn()
     ensures { ClaimHoldsInTurn }
+{}
+
+/// Each run of a claim that holds is named by 2 to 280 places.
+pub fn claims_have_places()
+    ensures { ClaimsHavePlaces }
 {}

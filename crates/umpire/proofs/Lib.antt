@@ -8,3 +8,7 @@ pub mod LawLemmas
 pub mod CertsLemmas
 pub mod VerifyLemmas
 pub mod Judged
+mod WrittenLines
+mod MarksLines
+mod ReadAgain
+mod AnsweredAgain

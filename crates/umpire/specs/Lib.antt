@@ -10,3 +10,4 @@ pub mod Rounds
 pub mod Certified
 pub mod Certs
 pub mod Verify
+pub mod ReadAgain

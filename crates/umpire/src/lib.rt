@@ -25,7 +25,9 @@ mod watched;
 pub use certs::certs;
 pub use fault::{Fault, status, word};
 pub use groups::read_groups;
-pub use laws::joined_is_parted;
+pub use laws::{
+    certificates_are_read_again, joined_is_parted, written_certificates_are_accepted,
+};
 pub use parting::{CERTIFICATES_MOST, Parted, part};
 pub use program::run;
 pub use verify::verify;

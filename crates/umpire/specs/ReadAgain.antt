@@ -1,0 +1,50 @@
+-- Certificates are read as they were written, and accepted.
+use Rattle.std.specs.Prelude.{◌≡◌, ℕ, ◌≤◌, Option, Some, Ok, List, [], ◌∷◌, ◌++◌, length, Bool}
+use Rattle.std.specs.List.{AllByRecursion}
+use Rattle.certificate.specs.Holding.{AreFilling}
+use Rattle.certificate.specs.declared.claim.ClaimedRun.{ClaimedRun}
+use Rattle.certificate.specs.declared.group.Group.{Group}
+use Rattle.order_grammar.specs.Spells.{FitsLineIn, HasSpelling}
+use Rattle.order_grammar.specs.Texts.{certificate}
+use Rattle.order_grammar.specs.declared.order.Order.TheVariants.{Cert, Claim}
+use Rattle.sheets.specs.File.{IsAccepted}
+use Rattle.umpire.specs.Certified.{CertifyGame}
+use Rattle.umpire.specs.Groups.{groups_of}
+use Rattle.umpire.specs.Parting.{certificates_most}
+use Rattle.umpire.specs.Verify.{AnswersInput}
+use Rattle.umpire.specs.Written.{certificates_text}
+
+-- a run has a CLAIM line, and that is not too long
+pub record CanBeClaimed (claimed : ClaimedRun) : Type 0 where
+  pub spelt : HasSpelling (Claim claimed.kind claimed.run)
+  pub fits : FitsLineIn certificate (Claim claimed.kind claimed.run)
+
+-- a group can be written: its CERT line and its CLAIM lines have a spelling
+pub record CanBeWritten (group : Group) : Type 0 where
+  pub cert : HasSpelling (Cert group.round group.company group.claim.revenue)
+  pub claims : AllByRecursion CanBeClaimed group.claim.runs
+
+-- a group is read again: the last digit of its bits is filled up
+pub record IsReadAgain (group : Group) (read : Option Group) : Type 0 where
+  pub filling : List Bool
+  pub fills : AreFilling filling
+  pub is : read ≡ Some (record { round = group.round; company = group.company; claim = group.claim; bits = group.bits ++ filling })
+
+-- so are groups, one after the other
+abbrev pub AreReadAgain : List Group → List (Option Group) → Type 0
+AreReadAgain [] [] = Unit {0}
+AreReadAgain [] (read ∷ others) = ⊥
+AreReadAgain (group ∷ groups) [] = ⊥
+AreReadAgain (group ∷ groups) (read ∷ others) = IsReadAgain group read × AreReadAgain groups others
+
+-- groups that can be written are read again
+abbrev pub ReadsBack : Type 0
+ReadsBack = (groups : List Group) → AllByRecursion CanBeWritten groups → AreReadAgain groups (groups_of (certificates_text groups))
+
+-- behind their file and one LF such groups are answered by its report, where they certify its game and their text is within
+-- its limit
+abbrev pub AcceptsWhatWasWritten : Type 0
+AcceptsWhatWasWritten =
+    (file : List ℕ) (groups : List Group) → IsAccepted file → CertifyGame file groups → AllByRecursion CanBeWritten groups →
+    length (certificates_text groups) ≤ certificates_most →
+    (text : List ℕ) × AnswersInput (file ++ 10 ∷ certificates_text groups) (Ok tt) text
