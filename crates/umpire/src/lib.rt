@@ -3,13 +3,13 @@
 //! lines with the end.
 //!
 //! Reading order: `watched` (readers and writers that remember a failure), `fault`, `input`,
-//! `output` (a text), `refusal` (of a file), `program` (the report, and `run`); `certs` (the
-//! certificates of a game), `group_text` (how a group is written), `parting` (an order file and the
-//! text of certificates behind it), `groups` (which are read from that text), `verify` (the game of a
+//! `output` (a text), `refusal` (of a file), `program` (the report, and `run`); `certificates`
+//! (those of a game, written), `group_text` (how a group is written), `parting` (an order file and the
+//! text of certificates behind it), `groups` (which are read from that text), `verification` (the game of a
 //! file, judged by them), `laws`.
 #![tactic(auto)]
 
-mod certs;
+mod certificates;
 mod fault;
 mod group_text;
 mod groups;
@@ -19,10 +19,10 @@ mod output;
 mod parting;
 mod program;
 mod refusal;
-mod verify;
+mod verification;
 mod watched;
 
-pub use certs::certs;
+pub use certificates::certs;
 pub use fault::{Fault, status, word};
 pub use groups::read_groups;
 pub use laws::{
@@ -30,5 +30,5 @@ pub use laws::{
 };
 pub use parting::{CERTIFICATES_MOST, Parted, part};
 pub use program::run;
-pub use verify::verify;
+pub use verification::verify;
 pub use watched::Watched;

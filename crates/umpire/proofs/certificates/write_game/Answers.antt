@@ -3,7 +3,7 @@ use Rattle.certificate.specs.declared.group.Group.{Group}
 use Rattle.rounds.specs.Steps.{IsUnbroken, PlaysNext, StepLeads, Stays}
 use Rattle.rounds.specs.declared.steps.Step.{Step}
 use Rattle.umpire.proofs.CertsLemmas.{certified_more, kept_of, text_grows}
-use Rattle.umpire.proofs.certs.write_game.Goals as goal
+use Rattle.umpire.proofs.certificates.write_game.Goals as goal
 
 pub loop-play-init : goal.loop-play-init
 loop-play-init g c =

@@ -1,6 +1,6 @@
 use Rattle.std.proofs.lemmas.Result.{IfErr-weaker, err_from_is_err_and, on_ok_weaker}
 use Rattle.umpire.proofs.CertsLemmas.{certified_of, read_stops_certs, stops_of}
-use Rattle.umpire.proofs.certs.certs.Goals as goal
+use Rattle.umpire.proofs.certificates.certs.Goals as goal
 
 pub returns-in_err-file-clause-err : goal.returns-in_err-file-clause-err
 returns-in_err-file-clause-err g c =

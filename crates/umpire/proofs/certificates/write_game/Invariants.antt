@@ -6,7 +6,7 @@ use Rattle.rounds.specs.Steps.{IsUnbroken, places_ahead}
 use Rattle.rounds.specs.StepsCall.{StepsCall}
 use Rattle.umpire.specs.Certified.{AreCertified}
 use Rattle.umpire.specs.Written.{certificates_text}
-use Rattle.umpire.proofs.certs.write_game.Given as goal
+use Rattle.umpire.proofs.certificates.write_game.Given as goal
 
 -- some steps have led here; the groups that certify their calls are written, no fault has broken play off, and no call
 -- of the writer failed

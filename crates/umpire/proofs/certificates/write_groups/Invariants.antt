@@ -2,7 +2,7 @@ use Rattle.std.proofs.Common.{◌≡◌, false, drop}
 use Rattle.std.specs.List.{flat_map}
 use Rattle.umpire.specs.Written.{group_text}
 use Rattle.umpire.proofs.Parts.{LeavesRest}
-use Rattle.umpire.proofs.certs.write_groups.Given as goal
+use Rattle.umpire.proofs.certificates.write_groups.Given as goal
 
 -- the texts of the groups ahead are left, and no call failed
 pub record Writing (g : goal.Over) (l : goal.Live-loop-group g) : Type 0 where

@@ -1,5 +1,5 @@
 use Rattle.umpire.proofs.Judged.{judged}
-use Rattle.umpire.proofs.verify.play_checked.Goals as goal
+use Rattle.umpire.proofs.verification.play_checked.Goals as goal
 
 pub returns-clause-judged : goal.returns-clause-judged
 returns-clause-judged c =

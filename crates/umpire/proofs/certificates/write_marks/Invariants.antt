@@ -1,7 +1,7 @@
 use Rattle.std.proofs.Common.{◌≡◌, ℕ, ◌≤◌, false, length}
 use Rattle.umpire.specs.Written.{marks_lines, marks_lines_within}
 use Rattle.umpire.proofs.Parts.{LeavesRest}
-use Rattle.umpire.proofs.certs.write_marks.Given as goal
+use Rattle.umpire.proofs.certificates.write_marks.Given as goal
 
 -- as many lines suffice for the marks ahead, which are left of the text, and no call failed
 pub record Writing (g : goal.Over) (l : goal.Live-loop-marks g) : Type 0 where

@@ -4,7 +4,7 @@ use Rattle.umpire.specs.Written.{marks_lines_within}
 use Rattle.umpire.proofs.CertsLemmas.{all_written}
 use Rattle.umpire.proofs.Parts.{leaves_less}
 use Rattle.umpire.proofs.WrittenLemmas.{fewer_left, left_behind, none_left, not_true}
-use Rattle.umpire.proofs.certs.write_marks.Goals as goal
+use Rattle.umpire.proofs.certificates.write_marks.Goals as goal
 
 pub loop-marks-init : goal.loop-marks-init
 loop-marks-init g c =

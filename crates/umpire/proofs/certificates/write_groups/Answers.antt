@@ -2,7 +2,7 @@ use Rattle.std.proofs.Common.{[], refl}
 use Rattle.std.proofs.KnownBytes.{Appends-nil}
 use Rattle.umpire.proofs.CertsLemmas.{all_written, groups_ahead}
 use Rattle.umpire.proofs.Parts.{leaves_less}
-use Rattle.umpire.proofs.certs.write_groups.Goals as goal
+use Rattle.umpire.proofs.certificates.write_groups.Goals as goal
 
 pub loop-group-init : goal.loop-group-init
 loop-group-init g c =
