@@ -25,7 +25,7 @@ line_words line words is =
 record IsWithin (most : ℕ) (line : List ℕ) (words : List Placed) : Type 0 where
   short : nat_lt most (length line) ≡ false
   printable : list_all is_printable (before_comment line) ≡ true
-  words : words ≡ placed_from 0 [] (before_comment line)
+  are : words ≡ placed_from 0 [] (before_comment line)
 
 within : (most : ℕ) (line : List ℕ) (words : List Placed) → Ok words ≡ words_within most line → IsWithin most line words
 within most line words e =
@@ -36,54 +36,27 @@ within most line words e =
           elim (cases_Bool (list_all is_printable (before_comment line))) [
             | inl printable ↦
                 let same : ◌≡◌ {A = Result (List Placed) Fault} (Ok words) (Ok (placed_from 0 [] (before_comment line))) = rw printable at rest in
-                record { short = short; printable = printable; words = cc }
+                record { short = short; printable = printable; are = cc }
             | inr stray ↦ let wrong : ◌≡◌ {A = Result (List Placed) Fault} (Ok words) (Err StrayByte) = rw stray at rest in absurd cc
           ]
     ]
 
 -- they are those at their places
 pub within_words : (most : ℕ) (line : List ℕ) (words : List Placed) → Ok words ≡ words_within most line → AreWordsOf line words
-within_words most line words e = line_words line words (within most line words e).words
+within_words most line words e = line_words line words (within most line words e).are
 
 -- and what they are read as the line is
 pub within_reading : (most : ℕ) (rows : List Row) (line : List ℕ) (words : List Placed) → Ok words ≡ words_within most line →
     words_reading rows (texts_of words) ≡ reading_by most rows line
 within_reading most rows line words e =
     let is = within most line words e in
-    ap (words_reading rows) (texts_of-line line words is.words) ∙ rw (is.short, is.printable) refl
+    ap (words_reading rows) (texts_of-line line words is.are) ∙ rw (is.short, is.printable) refl
 
 pub within_ordered : (line : List ℕ) (words : List Placed) → Ok words ≡ words_within line_most line →
     ordered_reading (texts_of words) ≡ reading_in Two line
 within_ordered line words e =
     let is = within line_most line words e in
-    ap ordered_reading (texts_of-line line words is.words) ∙ rw (is.short, is.printable) refl
-
--- a line that is too long or has a stray byte is read as that
-pub within_fault : (most : ℕ) (rows : List Row) (line : List ℕ) (fault : Fault) → Err fault ≡ words_within most line → Err fault ≡ reading_by most rows line
-within_fault most rows line fault e =
-    elim (cases_Bool (nat_lt most (length line))) [
-      | inl long ↦ let same : ◌≡◌ {A = Result (List Placed) Fault} (Err fault) (Err TooLong) = rw long at e in rw long cc
-      | inr short ↦
-          let rest = rw short at e in
-          elim (cases_Bool (list_all is_printable (before_comment line))) [
-            | inl printable ↦
-                let wrong : ◌≡◌ {A = Result (List Placed) Fault} (Err fault) (Ok (placed_from 0 [] (before_comment line))) = rw printable at rest in absurd cc
-            | inr stray ↦ let same : ◌≡◌ {A = Result (List Placed) Fault} (Err fault) (Err StrayByte) = rw stray at rest in rw (short, stray) cc
-          ]
-    ]
-
-pub within_fault_in : (version : Version) (line : List ℕ) (fault : Fault) → Err fault ≡ words_within line_most line → Err fault ≡ reading_in version line
-within_fault_in version line fault e =
-    elim (cases_Bool (nat_lt line_most (length line))) [
-      | inl long ↦ let same : ◌≡◌ {A = Result (List Placed) Fault} (Err fault) (Err TooLong) = rw long at e in rw long cc
-      | inr short ↦
-          let rest = rw short at e in
-          elim (cases_Bool (list_all is_printable (before_comment line))) [
-            | inl printable ↦
-                let wrong : ◌≡◌ {A = Result (List Placed) Fault} (Err fault) (Ok (placed_from 0 [] (before_comment line))) = rw printable at rest in absurd cc
-            | inr stray ↦ let same : ◌≡◌ {A = Result (List Placed) Fault} (Err fault) (Err StrayByte) = rw stray at rest in rw (short, stray) cc
-          ]
-    ]
+    ap ordered_reading (texts_of-line line words is.are) ∙ rw (is.short, is.printable) refl
 
 -- a line that was read without a condition is its order
 pub none_ordered : (read : Result Line Fault) → IfOk read (λ line. line.condition ≡ None) → ordered_of read ≡ unconditional (order_of read)
