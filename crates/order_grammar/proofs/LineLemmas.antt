@@ -1,19 +1,16 @@
 -- A line's words at their places, and what they are read as.
-use Rattle.std.proofs.Common.{◌≡◌, ℕ, true, false, nat_lt, inl, inr, List, [], Option, None, Result, Ok, Err, IfOk, length, sym, ap, subst, refl, ◌∙◌}
+use Rattle.std.proofs.Common.{◌≡◌, ℕ, true, false, nat_lt, inl, inr, List, [], Result, Ok, Err, length, sym, ap, subst, refl, ◌∙◌}
 use Rattle.std.specs.List.{list_all}
 use Rattle.std.proofs.lemmas.Bool.{cases_Bool}
-use Rattle.order_grammar.specs.Condition.{Ordered, ordered, ordered_reading, unconditional}
+use Rattle.order_grammar.specs.Condition.{ordered_reading}
 use Rattle.order_grammar.specs.Form.{Row, words_reading}
 use Rattle.order_grammar.specs.Limits.{line_most}
-use Rattle.order_grammar.specs.Line.{order_of, reading_by, words_within}
-use Rattle.order_grammar.specs.Version.{ordered_of, reading_in}
+use Rattle.order_grammar.specs.Line.{reading_by, words_within}
+use Rattle.order_grammar.specs.Version.{reading_in}
 use Rattle.order_grammar.specs.Words.{Placed, StandFrom, AreWordsOf, before_comment, is_printable, placed_from, texts_of}
-use Rattle.order_grammar.specs.declared.condition.Condition.{Condition}
-use Rattle.order_grammar.specs.declared.condition.Version.{Version}
 use Rattle.order_grammar.specs.declared.condition.Version.TheVariants.{Two}
 use Rattle.order_grammar.specs.declared.fault.Fault.{Fault}
 use Rattle.order_grammar.specs.declared.fault.Fault.TheVariants.{TooLong, StrayByte}
-use Rattle.order_grammar.specs.declared.read.Line.{Line}
 use Rattle.order_grammar.proofs.WordLemmas.{texts_of-line, words_stand}
 
 -- its words are those at their places
@@ -57,8 +54,3 @@ pub within_ordered : (line : List ℕ) (words : List Placed) → Ok words ≡ wo
 within_ordered line words e =
     let is = within line_most line words e in
     ap ordered_reading (texts_of-line line words is.are) ∙ rw (is.short, is.printable) refl
-
--- a line that was read without a condition is its order
-pub none_ordered : (read : Result Line Fault) → IfOk read (λ line. line.condition ≡ None) → ordered_of read ≡ unconditional (order_of read)
-none_ordered (Ok line) none = ap (λ (condition : Option Condition). Ok (ordered condition line.order)) none
-none_ordered (Err fault) none = refl

@@ -685,5 +685,5 @@ spelling_read_in None order is =
       small = (tt, spelt.small);
     })
 spelling_read_in (Some condition) order is =
-    spelling_joined condition order (words_of_order order) refl is.3
+    ap (reading_in Two) (spelling_joined condition order (words_of_order order) refl is.3)
     ∙ parts_read_under condition order (parts_of order) refl (has_words order is.1) is.0 (fits_under condition order is.2 is.3) is.3
