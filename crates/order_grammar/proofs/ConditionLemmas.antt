@@ -1,6 +1,6 @@
 -- The words after IF: they are read as an order under a condition exactly where they spell it.
-use Rattle.std.proofs.Common.{◌≡◌, ℕ, ◌≤◌, Bool, true, false, cond, nat_le, ◌&&◌, inl, inr, List, [], ◌∷◌, Option, Some, None, Result, Ok, Err, Contains, codes, refl, sym, ap, subst, ◌∙◌}
-use Rattle.std.proofs.lemmas.Bool.{cases_Bool, le-leb, leb-true, and_from, and_parts, false≢true}
+use Rattle.std.proofs.Common.{◌≡◌, ℕ, Bool, true, false, cond, nat_le, ◌&&◌, inl, inr, List, [], ◌∷◌, Some, Result, Ok, Err, Contains, codes, refl, sym, ap, subst, ◌∙◌}
+use Rattle.std.proofs.lemmas.Bool.{cases_Bool, le-leb, leb-true, false≢true}
 use Rattle.tables.specs.Round.{number_most}
 use Rattle.tables.specs.declared.rolling_stock.Kind.{Kind}
 use Rattle.tables.specs.declared.roster.Company.{Company}
@@ -26,8 +26,8 @@ use Rattle.order_grammar.proofs.KeywordLemmas.{same_word-is}
 use Rattle.order_grammar.proofs.OrderLemmas.{IsTextOf}
 use Rattle.order_grammar.proofs.PartLemmas.{behind_condition, rows_of_play, known_read, unknown_read, known_or_other}
 use Rattle.order_grammar.proofs.RowLemmas.{read_as, words_for_read, SaysOf, words_say}
-use Rattle.order_grammar.proofs.SmallLemmas.{is_small, are_small}
-use Rattle.order_grammar.proofs.TextLemmas.{value_read, large_value_read, IsValueOf, ReadAs, class_read}
+use Rattle.order_grammar.proofs.SmallLemmas.{are_small}
+use Rattle.order_grammar.proofs.TextLemmas.{value_read, large_value_read, ReadAs, class_read}
 
 -- what is given where the order was put in its place is what the two readings are together
 pub under_put : (condition : Result Condition Fault) (read : Result Unit Fault) (order : Order) →

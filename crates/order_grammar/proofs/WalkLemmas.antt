@@ -1,5 +1,5 @@
 -- The words of a line of version 2 as the code takes them, one after another.
-use Rattle.std.proofs.Common.{◌≡◌, ℕ, true, false, List, [], ◌∷◌, map, Option, Some, Result, Ok, Err, refl, sym, ap, ◌∙◌}
+use Rattle.std.proofs.Common.{◌≡◌, ℕ, true, false, List, ◌∷◌, Option, Some, Result, refl, sym, ap, ◌∙◌}
 use Rattle.order_grammar.specs.Class.{class_reading}
 use Rattle.order_grammar.specs.Condition.{price_of, condition_of, play_reading, under, price_reading, reading_of_one, conditional_reading, ordered_reading, unconditional, put_conditional, condition_if_read}
 use Rattle.order_grammar.specs.Form.{Row, order_forms, play_forms, rows_reading, put_reading}

@@ -277,7 +277,12 @@ pub(crate) fn read_order(forms: &[Form], words: &Words, order: &mut Order) -> Re
 }
 
 /// The same of a first word and those after it.
-pub(crate) fn read_nearest(forms: &[Form], first: &[u8], rest: &Words, order: &mut Order) -> Result<(), Fault>
+pub(crate) fn read_nearest(
+    forms: &[Form],
+    first: &[u8],
+    rest: &Words,
+    order: &mut Order,
+) -> Result<(), Fault>
     requires { IsTrue (list_all is_short (map row_of forms.now)) }
     ensures { put_reading result order.new
         ≡ rows_reading (map row_of forms.now) (raised first.now) (texts_of rest.now) }

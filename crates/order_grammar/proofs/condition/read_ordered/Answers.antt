@@ -1,6 +1,6 @@
-use Rattle.std.proofs.Common.{◌≡◌, Result, Err, map, sym, ap, ◌∙◌}
+use Rattle.std.proofs.Common.{Result, Err, map, sym, ap, ◌∙◌}
 use Rattle.std.proofs.lemmas.Result.{err_from_is_err_and}
-use Rattle.order_grammar.specs.Condition.{Ordered, put_ordered, unconditional}
+use Rattle.order_grammar.specs.Condition.{put_ordered, unconditional}
 use Rattle.order_grammar.specs.Form.{put_reading}
 use Rattle.order_grammar.specs.Row.{row_of}
 use Rattle.order_grammar.specs.Words.{raised, same_word}
