@@ -70,14 +70,17 @@ under_as condition order false true = refl
 under_as condition order false false = refl
 
 -- words behind a condition that spell an order are read so
-play_for_read : (words : List (List ℕ)) (order : Order) → AreOrderWords order words → play_reading words ≡ read_as order (are_small (parts_of order))
+play_for_read : (words : List (List ℕ)) (order : Order) → AreOrderWords order words →
+    play_reading words ≡ read_as order (are_small (parts_of order))
 play_for_read [] order are = absurd are.0
 play_for_read (first ∷ rest) order are =
     known_read behind_condition play_forms (first ∷ rest) rows_of_play are.0 ∙ words_for_read (first ∷ rest) order are.1
 
 -- the words of a condition are read as it
-price_for_read : (company : Company) (price : ℕ) (word number : List ℕ) → IsCompany company word → IsNumber price number →
-    price_of (class_reading class.Company word) (class_reading class.Number number) ≡ condition_as (Price company price) (nat_le price number_most)
+price_for_read : (company : Company) (price : ℕ) (word number : List ℕ) → IsCompany company word →
+    IsNumber price number →
+    price_of (class_reading class.Company word) (class_reading class.Number number)
+    ≡ condition_as (Price company price) (nat_le price number_most)
 price_for_read company price word number named counted =
     let first = value_read class.Company (value.Company company) word refl named refl in
     elim (cases_Bool (nat_le price number_most)) [
@@ -85,15 +88,20 @@ price_for_read company price word number named counted =
       | inr large ↦ rw (first, large_value_read class.Number (value.Number price) number refl counted large, large) refl
     ]
 
-phase_for_read : (kind : Kind) (word : List ℕ) → IsKind kind word → condition_of (class_reading class.Kind word) ≡ Ok (Phase kind)
+phase_for_read : (kind : Kind) (word : List ℕ) → IsKind kind word →
+    condition_of (class_reading class.Kind word) ≡ Ok (Phase kind)
 phase_for_read kind word named = ap condition_of (value_read class.Kind (value.Kind kind) word refl named refl)
 
-floated_for_read : (company : Company) (word : List ℕ) → IsCompany company word → condition_of (class_reading class.Company word) ≡ Ok (Floated company)
-floated_for_read company word named = ap condition_of (value_read class.Company (value.Company company) word refl named refl)
+floated_for_read : (company : Company) (word : List ℕ) → IsCompany company word →
+    condition_of (class_reading class.Company word) ≡ Ok (Floated company)
+floated_for_read company word named = ap condition_of
+    (value_read class.Company (value.Company company) word refl named refl)
 
 -- words after IF that spell an order under a condition, but that numbers may be too large, are read so
-pub condition_for_read : (condition : Condition) (order : Order) (words : List (List ℕ)) → AreConditionWords condition (AreOrderWords order) words →
-    conditional_reading words ≡ ordered_as (ordered (Some condition) order) (is_small_condition condition && are_small (parts_of order))
+pub condition_for_read : (condition : Condition) (order : Order) (words : List (List ℕ)) →
+    AreConditionWords condition (AreOrderWords order) words →
+    conditional_reading words ≡ ordered_as (ordered (Some condition) order)
+    (is_small_condition condition && are_small (parts_of order))
 condition_for_read (Price company price) order [] are = absurd are
 condition_for_read (Price company price) order (first ∷ []) are = absurd are.1
 condition_for_read (Price company price) order (first ∷ name ∷ []) are = absurd are.1.1
@@ -101,18 +109,25 @@ condition_for_read (Price company price) order (first ∷ name ∷ least ∷ [])
 condition_for_read (Price company price) order (first ∷ name ∷ least ∷ number ∷ rest) are =
     let begins : first ≡ codes "PRICE" = are.0 in
     let sign : least ≡ codes ">=" = are.1.1.0 in
-    rw (begins, sign, price_for_read company price name number are.1.0 are.1.1.1.0, play_for_read rest order are.1.1.1.1)
+    rw (
+      begins,
+      sign,
+      price_for_read company price name number are.1.0 are.1.1.1.0,
+      play_for_read rest order are.1.1.1.1,
+    )
     (under_as (Price company price) order (nat_le price number_most) (are_small (parts_of order)))
 condition_for_read (Phase kind) order [] are = absurd are
 condition_for_read (Phase kind) order (first ∷ []) are = absurd are.1
 condition_for_read (Phase kind) order (first ∷ word ∷ rest) are =
     let begins : first ≡ codes "PHASE" = are.0 in
-    rw (begins, phase_for_read kind word are.1.0, play_for_read rest order are.1.1) (under_as (Phase kind) order true (are_small (parts_of order)))
+    rw (begins, phase_for_read kind word are.1.0, play_for_read rest order are.1.1)
+    (under_as (Phase kind) order true (are_small (parts_of order)))
 condition_for_read (Floated company) order [] are = absurd are
 condition_for_read (Floated company) order (first ∷ []) are = absurd are.1
 condition_for_read (Floated company) order (first ∷ word ∷ rest) are =
     let begins : first ≡ codes "FLOATED" = are.0 in
-    rw (begins, floated_for_read company word are.1.0, play_for_read rest order are.1.1) (under_as (Floated company) order true (are_small (parts_of order)))
+    rw (begins, floated_for_read company word are.1.0, play_for_read rest order are.1.1)
+    (under_as (Floated company) order true (are_small (parts_of order)))
 
 -- what a reading of words behind a condition says of them
 abbrev PlaySays : List (List ℕ) → Result Order Fault → Type 0
@@ -120,7 +135,8 @@ PlaySays words (Ok order) = AreOrderWords order words × HasSmallNumbers order
 PlaySays words (Err NumberTooLarge) = (order : Order) × AreOrderWords order words
 PlaySays words (Err other) = Unit {0}
 
-play_by_all : (first : List ℕ) (rest : List (List ℕ)) (reading : Result Order Fault) → Contains play_words first → SaysOf first rest reading →
+play_by_all : (first : List ℕ) (rest : List (List ℕ)) (reading : Result Order Fault) → Contains play_words first →
+    SaysOf first rest reading →
     PlaySays (first ∷ rest) reading
 play_by_all first rest (Ok order) known says = ((known, says.0), says.1)
 play_by_all first rest (Err NumberTooLarge) known says = (says.0, (known, says.1))
@@ -131,29 +147,35 @@ play_says [] = tt
 play_says (first ∷ rest) =
     elim (known_or_other behind_condition play_forms (first ∷ rest) rows_of_play) [
       | inl known ↦
-          subst (PlaySays (first ∷ rest)) (sym (known_read behind_condition play_forms (first ∷ rest) rows_of_play known))
+          subst (PlaySays (first ∷ rest)) (sym (known_read behind_condition play_forms (first ∷ rest) rows_of_play
+          known))
           (play_by_all first rest _ known (words_say first rest))
-      | inr other ↦ subst (PlaySays (first ∷ rest)) (sym (unknown_read behind_condition play_forms (first ∷ rest) rows_of_play other)) tt
+      | inr other ↦ subst (PlaySays (first ∷ rest))
+          (sym (unknown_read behind_condition play_forms (first ∷ rest) rows_of_play other)) tt
     ]
 
 -- what a reading of a condition says of words, of which these others come behind it
 abbrev FrontSays : List (List ℕ) → List (List ℕ) → Result Condition Fault → Type 0
 FrontSays words rest (Ok condition) =
-    ((order : Order) → AreOrderWords order rest → AreConditionWords condition (AreOrderWords order) words) × HasSmallCondition (Some condition)
+    ((order : Order) → AreOrderWords order rest → AreConditionWords condition (AreOrderWords order) words) ×
+    HasSmallCondition (Some condition)
 FrontSays words rest (Err NumberTooLarge) =
-    (condition : Condition) × ((order : Order) → AreOrderWords order rest → AreConditionWords condition (AreOrderWords order) words)
+    (condition : Condition) × ((order : Order) → AreOrderWords order rest →
+    AreConditionWords condition (AreOrderWords order) words)
 FrontSays words rest (Err other) = Unit {0}
 
 -- what a reading of the words after IF says of them
 abbrev pub ConditionalSays : List (List ℕ) → Result Ordered Fault → Type 0
 ConditionalSays words (Ok spelt) =
-    (condition : Condition) × (spelt.condition ≡ Some condition) × AreConditionWords condition (AreOrderWords spelt.order) words × AreSmall spelt
+    (condition : Condition) × (spelt.condition ≡ Some condition) ×
+    AreConditionWords condition (AreOrderWords spelt.order) words × AreSmall spelt
 ConditionalSays words (Err NumberTooLarge) =
     (condition : Condition) × (order : Order) × AreConditionWords condition (AreOrderWords order) words
 ConditionalSays words (Err WrongWords) = Unit {0}
 ConditionalSays words (Err other) = ⊥
 
-under_says : (words rest : List (List ℕ)) (front : Result Condition Fault) (behind : Result Order Fault) → FrontSays words rest front → PlaySays rest behind →
+under_says : (words rest : List (List ℕ)) (front : Result Condition Fault) (behind : Result Order Fault) →
+    FrontSays words rest front → PlaySays rest behind →
     ConditionalSays words (under front behind)
 under_says words rest (Ok condition) (Ok order) f s = (condition, refl, f.0 order s.0, (f.1, s.1))
 under_says words rest (Ok condition) (Err NumberTooLarge) f s = (condition, s.0, f.0 s.0 s.1)
@@ -170,32 +192,40 @@ a_number (value.Number number) of = (number, refl)
 a_number other of = absurd (false≢true of)
 
 -- the words of a condition on a price
-price_says : (first name least number : List ℕ) (rest : List (List ℕ)) (company price : Reading) → first ≡ codes "PRICE" → least ≡ codes ">=" →
+price_says : (first name least number : List ℕ) (rest : List (List ℕ)) (company price : Reading) →
+    first ≡ codes "PRICE" → least ≡ codes ">=" →
     ReadAs class.Company name company → ReadAs class.Number number price →
     FrontSays (first ∷ name ∷ least ∷ number ∷ rest) rest (price_of company price)
-price_says first name least number rest (Value (value.Company company)) (Value (value.Number price)) begins sign named counted =
+price_says first name least number rest (Value (value.Company company)) (Value (value.Number price)) begins sign named
+    counted =
     ((λ order are. (begins, (named.0.text_of, (sign, (counted.0.text_of, are))))), leb-true price number_most counted.1)
 price_says first name least number rest (Value (value.Company company)) TooLarge begins sign named counted =
     let large = a_number counted.0 counted.1.of_class in
-    let digits : IsTextOf (value.Number large.0) number = subst (λ (v : values.Value). IsTextOf v number) large.1 counted.1.text_of in
+    let digits : IsTextOf (value.Number large.0) number =
+    subst (λ (v : values.Value). IsTextOf v number) large.1 counted.1.text_of in
     (Price company large.0, λ order are. (begins, (named.0.text_of, (sign, (digits, are)))))
 price_says first name least number rest company price begins sign named counted = tt
 
 -- the word of a condition on the phase, and of one that a company has floated
-phase_says : (first word : List ℕ) (rest : List (List ℕ)) (reading : Reading) → first ≡ codes "PHASE" → ReadAs class.Kind word reading →
+phase_says : (first word : List ℕ) (rest : List (List ℕ)) (reading : Reading) → first ≡ codes "PHASE" →
+    ReadAs class.Kind word reading →
     FrontSays (first ∷ word ∷ rest) rest (condition_of reading)
-phase_says first word rest (Value (value.Kind kind)) begins named = ((λ order are. (begins, (named.0.text_of, are))), tt)
+phase_says first word rest (Value (value.Kind kind)) begins named =
+    ((λ order are. (begins, (named.0.text_of, are))), tt)
 phase_says first word rest (Value (value.Company company)) begins named = absurd (false≢true named.0.of_class)
 phase_says first word rest other begins named = tt
 
-floated_says : (first word : List ℕ) (rest : List (List ℕ)) (reading : Reading) → first ≡ codes "FLOATED" → ReadAs class.Company word reading →
+floated_says : (first word : List ℕ) (rest : List (List ℕ)) (reading : Reading) → first ≡ codes "FLOATED" →
+    ReadAs class.Company word reading →
     FrontSays (first ∷ word ∷ rest) rest (condition_of reading)
-floated_says first word rest (Value (value.Company company)) begins named = ((λ order are. (begins, (named.0.text_of, are))), tt)
+floated_says first word rest (Value (value.Company company)) begins named =
+    ((λ order are. (begins, (named.0.text_of, are))), tt)
 floated_says first word rest (Value (value.Kind kind)) begins named = absurd (false≢true named.0.of_class)
 floated_says first word rest other begins named = tt
 
 -- what the words after IF are read as, by the first of them
-price_read : (first : List ℕ) (words : List (List ℕ)) → first ≡ codes "PRICE" → ConditionalSays (first ∷ words) (price_reading words)
+price_read : (first : List ℕ) (words : List (List ℕ)) → first ≡ codes "PRICE" →
+    ConditionalSays (first ∷ words) (price_reading words)
 price_read first [] begins = tt
 price_read first (name ∷ []) begins = tt
 price_read first (name ∷ least ∷ []) begins = tt
@@ -203,22 +233,26 @@ price_read first (name ∷ least ∷ number ∷ rest) begins =
     elim (cases_Bool (same_word least (codes ">="))) [
       | inl same ↦
           let front =
-          price_says first name least number rest (class_reading class.Company name) (class_reading class.Number number) begins (same_word-is least (codes ">=") same)
+          price_says first name least number rest (class_reading class.Company name)
+          (class_reading class.Number number) begins (same_word-is least (codes ">=") same)
           (class_read class.Company name) (class_read class.Number number) in
           rw same (under_says (first ∷ name ∷ least ∷ number ∷ rest) rest _ (play_reading rest) front (play_says rest))
       | inr other ↦ rw other tt
     ]
 
-phase_read : (first : List ℕ) (words : List (List ℕ)) → first ≡ codes "PHASE" → ConditionalSays (first ∷ words) (reading_of_one class.Kind words)
+phase_read : (first : List ℕ) (words : List (List ℕ)) → first ≡ codes "PHASE" →
+    ConditionalSays (first ∷ words) (reading_of_one class.Kind words)
 phase_read first [] begins = tt
 phase_read first (word ∷ rest) begins =
     let front = phase_says first word rest (class_reading class.Kind word) begins (class_read class.Kind word) in
     under_says (first ∷ word ∷ rest) rest _ (play_reading rest) front (play_says rest)
 
-floated_read : (first : List ℕ) (words : List (List ℕ)) → first ≡ codes "FLOATED" → ConditionalSays (first ∷ words) (reading_of_one class.Company words)
+floated_read : (first : List ℕ) (words : List (List ℕ)) → first ≡ codes "FLOATED" →
+    ConditionalSays (first ∷ words) (reading_of_one class.Company words)
 floated_read first [] begins = tt
 floated_read first (word ∷ rest) begins =
-    let front = floated_says first word rest (class_reading class.Company word) begins (class_read class.Company word) in
+    let front = floated_says first word rest (class_reading class.Company word) begins (class_read class.Company word)
+    in
     under_says (first ∷ word ∷ rest) rest _ (play_reading rest) front (play_says rest)
 
 -- what the words after IF are read as says of them
@@ -232,7 +266,8 @@ conditional_says (first ∷ words) =
             | inl same ↦ rw (other, same) (phase_read first words (same_word-is first (codes "PHASE") same))
             | inr neither ↦
                 elim (cases_Bool (same_word first (codes "FLOATED"))) [
-                  | inl same ↦ rw (other, neither, same) (floated_read first words (same_word-is first (codes "FLOATED") same))
+                  | inl same ↦ rw (other, neither, same) (floated_read first words
+                      (same_word-is first (codes "FLOATED") same))
                   | inr none ↦ rw (other, neither, none) tt
                 ]
           ]

@@ -102,16 +102,29 @@ record AreConditionParts (condition : Condition) (parts : Parts) : Type 0 where
   keyword : text_of_keyword parts.keyword ≡ text_of_keyword If
   values : values_text parts.values.items ≡ values_text (condition_values condition)
 
-condition_parts : (condition : Condition) (parts : Parts) → Some parts ≡ made_of If (condition_values condition) Nothing →
+condition_parts : (condition : Condition) (parts : Parts) →
+    Some parts ≡ made_of If (condition_values condition) Nothing →
     AreConditionParts condition parts
 condition_parts condition parts made =
-    let is = same_Some parts (record { keyword = If; values = record { items = condition_values condition }; tail = Nothing }) made in
-    record { keyword = ap (λ (p : Parts). text_of_keyword p.keyword) is; values = ap (λ (p : Parts). values_text p.values.items) is }
+    let is = same_Some parts (record {
+      keyword = If;
+      values = record { items = condition_values condition };
+      tail =
+          Nothing;
+    }) made in
+    record {
+      keyword = ap (λ (p : Parts). text_of_keyword p.keyword) is;
+      values =
+          ap (λ (p : Parts). values_text p.values.items) is;
+    }
 
 -- IF, the words of a condition and a space, and a front of the order
-pub order_front_under : (old begun mid spaced_so new : List ℕ) (condition : Condition) (copied : Option Condition) (parts : Parts) (order : Order) →
-    copied ≡ Some condition → Some parts ≡ made_of If (condition_values condition) Nothing → begun ≡ old ++ text_of_keyword parts.keyword →
-    mid ≡ begun ++ values_text parts.values.items → spaced_so ≡ mid ++ 32 ∷ [] → AddsFront spaced_so new (spelling_of order) →
+pub order_front_under : (old begun mid spaced_so new : List ℕ) (condition : Condition) (copied : Option Condition)
+    (parts : Parts) (order : Order) →
+    copied ≡ Some condition → Some parts ≡ made_of If (condition_values condition) Nothing →
+    begun ≡ old ++ text_of_keyword parts.keyword →
+    mid ≡ begun ++ values_text parts.values.items → spaced_so ≡ mid ++ 32 ∷ [] →
+    AddsFront spaced_so new (spelling_of order) →
     AddsFront old new (conditional_spelling copied order)
 order_front_under old begun mid spaced_so new condition copied parts order some made keyword values space adds =
     let is = condition_parts condition parts made in
@@ -121,5 +134,6 @@ order_front_under old begun mid spaced_so new condition copied parts order some 
     let values_are : mid ≡ old ++ (first ++ all) =
     values ∙ ap (λ (text : List ℕ). begun ++ text) is.values ∙ two_added old begun first all keyword_is in
     let whole : AddsFront old new (conditional_spelling (Some condition) order) =
-    front_of_second old spaced_so new ((first ++ all) ++ codes " ") (spelling_of order) (space ∙ two_added old mid (first ++ all) (codes " ") values_are) adds in
+    front_of_second old spaced_so new ((first ++ all) ++ codes " ") (spelling_of order)
+    (space ∙ two_added old mid (first ++ all) (codes " ") values_are) adds in
     subst (λ (one : Option Condition). AddsFront old new (conditional_spelling one order)) (sym some) whole

@@ -14,7 +14,8 @@ use Rattle.order_grammar.specs.declared.fault.Fault.TheVariants.{TooLong, StrayB
 use Rattle.order_grammar.proofs.WordLemmas.{texts_of-line, words_stand}
 
 -- its words are those at their places
-line_words : (line : List ℕ) (words : List Placed) → words ≡ placed_from 0 [] (before_comment line) → AreWordsOf line words
+line_words : (line : List ℕ) (words : List Placed) → words ≡ placed_from 0 [] (before_comment line) →
+    AreWordsOf line words
 line_words line words is =
     record { texts = texts_of-line line words is; places = subst (StandFrom 0 (before_comment line)) (sym is) (words_stand (before_comment line)) }
 
@@ -32,18 +33,22 @@ within most line words e =
           let rest = rw short at e in
           elim (cases_Bool (list_all is_printable (before_comment line))) [
             | inl printable ↦
-                let same : ◌≡◌ {A = Result (List Placed) Fault} (Ok words) (Ok (placed_from 0 [] (before_comment line))) = rw printable at rest in
+                let same : ◌≡◌ {A = Result (List Placed) Fault} (Ok words)
+                (Ok (placed_from 0 [] (before_comment line))) = rw printable at rest in
                 record { short = short; printable = printable; are = cc }
-            | inr stray ↦ let wrong : ◌≡◌ {A = Result (List Placed) Fault} (Ok words) (Err StrayByte) = rw stray at rest in absurd cc
+            | inr stray ↦ let wrong : ◌≡◌ {A = Result (List Placed) Fault} (Ok words) (Err StrayByte) =
+                rw stray at rest in absurd cc
           ]
     ]
 
 -- they are those at their places
-pub within_words : (most : ℕ) (line : List ℕ) (words : List Placed) → Ok words ≡ words_within most line → AreWordsOf line words
+pub within_words : (most : ℕ) (line : List ℕ) (words : List Placed) → Ok words ≡ words_within most line →
+    AreWordsOf line words
 within_words most line words e = line_words line words (within most line words e).are
 
 -- and what they are read as the line is
-pub within_reading : (most : ℕ) (rows : List Row) (line : List ℕ) (words : List Placed) → Ok words ≡ words_within most line →
+pub within_reading : (most : ℕ) (rows : List Row) (line : List ℕ) (words : List Placed) →
+    Ok words ≡ words_within most line →
     words_reading rows (texts_of words) ≡ reading_by most rows line
 within_reading most rows line words e =
     let is = within most line words e in

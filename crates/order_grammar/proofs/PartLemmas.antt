@@ -79,7 +79,8 @@ contained words word some =
     subst (Contains words) (sym same) (one.0, one.2, one.3)
 
 -- what all of some words pass, one that is among them does
-pub passed : (p : List ℕ → Bool) (words : List (List ℕ)) (word : List ℕ) → list_all p words ≡ true → Contains words word → p word ≡ true
+pub passed : (p : List ℕ → Bool) (words : List (List ℕ)) (word : List ℕ) → list_all p words ≡ true →
+    Contains words word → p word ≡ true
 passed p words word all among =
     elim (cases_Bool (p word)) [
       | inl all_well ↦ all_well

@@ -218,7 +218,8 @@ joined_line (word ∷ words) h =
     }
 
 -- where they fit a line they are what the words are
-reading_by-joined : (most : ℕ) (rows : List Row) (words : List (List ℕ)) → ArePlain words → length (joined words) ≤ most →
+reading_by-joined : (most : ℕ) (rows : List Row) (words : List (List ℕ)) → ArePlain words →
+    length (joined words) ≤ most →
     reading_by most rows (joined words) ≡ words_reading rows words
 reading_by-joined most rows words h fits =
     let short : ltb most (length (joined words)) ≡ false = le-ltb most (length (joined words)) fits in
@@ -528,7 +529,8 @@ record IsSpeltOut (order : Order) (parts : Parts) : Type 0 where
   five : length parts.values.items ≤ 5
   few : IsFew parts.tail
 
-spelt_out : (order : Order) (parts : Parts) → parts_of order ≡ Some parts → have_words (Some parts) ≡ true → IsSpeltOut order parts
+spelt_out : (order : Order) (parts : Parts) → parts_of order ≡ Some parts → have_words (Some parts) ≡ true →
+    IsSpeltOut order parts
 unfolding ArePlain
 spelt_out order parts is has =
     let values = parts.values.items in
@@ -542,20 +544,24 @@ spelt_out order parts is has =
     let words = words_of_parts (Some parts) in
     record {
       plain = (plain_word (text_of_keyword parts.keyword) (keyword_plain parts.keyword), spelt.plain);
-      are = of_parts order words (subst (λ (p : Option Parts). AreWordsByParts p words) (sym is) ((refl, spelt.texts), h.0));
+      are = of_parts order words (subst (λ (p : Option Parts). AreWordsByParts p words) (sym is)
+          ((refl, spelt.texts), h.0));
       small = small_of_parts order (ap are_small is ∙ spelt.small);
       five = omega (arith, counted.0, leb-true (length row.0.classes) 5 short.0);
       few = counted.1.few;
     }
 
 -- parts of a form that have words are read as what they make, by the forms of a text that knows the first of them
-parts_read : (text : TextKind) (rows : List Row) → AreRowsOf text rows → 340 ≤ text.most → (order : Order) (parts : Option Parts) →
-    parts_of order ≡ parts → have_words parts ≡ true → FitsParts text.most parts → BeginWithOneOf text.first_words (words_of_parts parts) →
+parts_read : (text : TextKind) (rows : List Row) → AreRowsOf text rows → 340 ≤ text.most →
+    (order : Order) (parts : Option Parts) →
+    parts_of order ≡ parts → have_words parts ≡ true → FitsParts text.most parts →
+    BeginWithOneOf text.first_words (words_of_parts parts) →
     reading_by text.most rows (joined (words_of_parts parts)) ≡ Ok order
 unfolding ArePlain
 parts_read text rows of room order None is has fits known =
     reading_by-joined text.most rows [] tt (omega arith)
-    ∙ spelt_words_read [] order (of_parts order [] (subst (λ (p : Option Parts). AreWordsByParts p []) (sym is) tt)) (small_of_parts order (ap are_small is))
+    ∙ spelt_words_read [] order (of_parts order [] (subst (λ (p : Option Parts). AreWordsByParts p []) (sym is) tt))
+    (small_of_parts order (ap are_small is))
 parts_read text rows of room order (Some parts) is has fits known =
     let words = words_of_parts (Some parts) in
     let spelt = spelt_out order parts is has in
@@ -583,17 +589,24 @@ condition_few (Price co price) = omega arith
 condition_few other = omega arith
 
 -- a condition is spelt by its words, which are plain
-condition_plain : (condition : Condition) (words : List (List ℕ)) → HasSmallCondition (Some condition) → ArePlain words →
+condition_plain : (condition : Condition) (words : List (List ℕ)) → HasSmallCondition (Some condition) →
+    ArePlain words →
     ArePlain (words_of_condition condition ++ words)
 unfolding ArePlain
-condition_plain (Price co price) words small plain =
-    (plain_word (text_of_keyword keyword.Price) refl, (plain_word (code_of_company co) (company_plain co), (plain_word (text_of_keyword keyword.AtLeast) refl, (decimal_plain price small, plain))))
+condition_plain (Price co price) words small plain = (
+  plain_word (text_of_keyword keyword.Price) refl,
+  (
+    plain_word (code_of_company co) (company_plain co),
+    (plain_word (text_of_keyword keyword.AtLeast) refl, (decimal_plain price small, plain)),
+  ),
+)
 condition_plain (Phase k) words small plain =
     (plain_word (text_of_keyword keyword.Phase) refl, (plain_word (code_of_kind k) (kind_plain k), plain))
 condition_plain (Floated co) words small plain =
     (plain_word (text_of_keyword keyword.Floated) refl, (plain_word (code_of_company co) (company_plain co), plain))
 
-condition_spelt : (condition : Condition) (order : Order) (words : List (List ℕ)) → HasSmallCondition (Some condition) → AreOrderWords order words →
+condition_spelt : (condition : Condition) (order : Order) (words : List (List ℕ)) →
+    HasSmallCondition (Some condition) → AreOrderWords order words →
     AreConditionWords condition (AreOrderWords order) (words_of_condition condition ++ words)
 condition_spelt (Price co price) order words small are = (refl, (refl, (refl, (decimal_number price small, are))))
 condition_spelt (Phase k) order words small are = (refl, (refl, are))
@@ -606,7 +619,8 @@ spaced-behind first words next rest =
     append_assoc (first ++ spaced words) (codes " ") (next ++ spaced rest)
     ∙ append_assoc first (spaced words) (codes " " ++ (next ++ spaced rest))
     ∙ ap (λ (text : List ℕ). first ++ text)
-    (sym (flat_map-append (λ (w : List ℕ). 32 ∷ w) words (next ∷ rest) ∙ ap (λ (text : List ℕ). spaced words ++ text) (spaced-cons next rest)))
+    (sym (flat_map-append (λ (w : List ℕ). 32 ∷ w) words (next ∷ rest)
+    ∙ ap (λ (text : List ℕ). spaced words ++ text) (spaced-cons next rest)))
 
 -- parts with the places of a run fit a line under a condition
 abbrev FitUnderWith : Condition → Keyword → List Value → Tail → Type 0
@@ -619,13 +633,16 @@ FitUnder condition None = Unit {0}
 FitUnder condition (Some parts) = FitUnderWith condition parts.keyword parts.values.items parts.tail
 
 -- so do those of an order that does
-fits_under : (condition : Condition) (order : Order) → FitsLineUnder condition order → BeginAnOrder (words_of_parts (parts_of order)) →
+fits_under : (condition : Condition) (order : Order) → FitsLineUnder condition order →
+    BeginAnOrder (words_of_parts (parts_of order)) →
     FitUnder condition (parts_of order)
 fits_under condition (Run k run) fits begins =
     subst (λ (line : List ℕ). length line ≤ line_most)
-    (spaced-behind (text_of_keyword keyword.If) (words_of_condition condition) (text_of_keyword keyword.Run) (code_of_kind k ∷ map text_of_place run)) fits
+    (spaced-behind (text_of_keyword keyword.If) (words_of_condition condition) (text_of_keyword keyword.Run)
+    (code_of_kind k ∷ map text_of_place run)) fits
 fits_under condition (Claim k run) fits begins =
-    absurd (false≢true (passed (λ (word : List ℕ). not (same_word word (codes "CLAIM"))) play_words (codes "CLAIM") refl begins))
+    absurd (false≢true (passed (λ (word : List ℕ). not (same_word word (codes "CLAIM"))) play_words (codes "CLAIM")
+    refl begins))
 fits_under condition other fits begins = tt
 
 -- words under a condition fit a line
@@ -635,17 +652,33 @@ under_fit : (condition : Condition) (k : Keyword) (values : List Value) (t : Tai
 under_fit condition k values tail.Nothing five few plain fits =
     let size = length-append (words_of_condition condition) (words_of_parts (made_of k values tail.Nothing)) in
     let own = length-append (map text_of_value values) [] in
-    let short = few_fit _ plain (omega (arith, size, own, condition_few condition, length-map values text_of_value, five)) in
+    let short = few_fit _ plain (omega (
+      arith,
+      size,
+      own,
+      condition_few condition,
+      length-map values text_of_value,
+      five,
+    )) in
     omega (arith, short)
 under_fit condition k values (tail.Names names) five few plain fits =
     let size = length-append (words_of_condition condition) (words_of_parts (made_of k values (tail.Names names))) in
     let own = length-append (map text_of_value values) names.items in
-    let short = few_fit _ plain (omega (arith, size, own, condition_few condition, length-map values text_of_value, five, few)) in
+    let short = few_fit _ plain (omega (
+      arith,
+      size,
+      own,
+      condition_few condition,
+      length-map values text_of_value,
+      five,
+      few,
+    )) in
     omega (arith, short)
 under_fit condition k values (tail.Places run) five few plain fits = fits
 
 -- parts of a form that have words are read as what they make, under the condition
-parts_read_under : (condition : Condition) (order : Order) (parts : Option Parts) → parts_of order ≡ parts → have_words parts ≡ true →
+parts_read_under : (condition : Condition) (order : Order) (parts : Option Parts) → parts_of order ≡ parts →
+    have_words parts ≡ true →
     HasSmallCondition (Some condition) → FitUnder condition parts → BeginAnOrder (words_of_parts parts) →
     reading_in Two (joined (under_words condition (words_of_parts parts))) ≡ Ok (ordered (Some condition) order)
 unfolding ArePlain
@@ -654,9 +687,13 @@ parts_read_under condition order (Some parts) is has small fits begins =
     let spelt = spelt_out order parts is has in
     let behind = words_of_parts (Some parts) in
     let words = under_words condition behind in
-    let plain : ArePlain words = (plain_word (text_of_keyword keyword.If) refl, condition_plain condition behind small spelt.plain) in
+    let plain : ArePlain words = (
+      plain_word (text_of_keyword keyword.If) refl,
+      condition_plain condition behind small spelt.plain,
+    ) in
     let line = joined_line words plain in
-    let are : AreWordsUnder Two (Some condition) order words = (refl, condition_spelt condition order behind small (begins, spelt.are)) in
+    let are : AreWordsUnder Two (Some condition) order words =
+    (refl, condition_spelt condition order behind small (begins, spelt.are)) in
     spells_read_in Two (joined words) (ordered (Some condition) order) (record {
       loosely = record {
         short = under_fit condition parts.keyword parts.values.items parts.tail spelt.five spelt.few plain fits;
@@ -667,11 +704,13 @@ parts_read_under condition order (Some parts) is has small fits begins =
     })
 
 -- the spelling of an order under a condition is what its words are with single spaces between them
-spelling_joined : (condition : Condition) (order : Order) (words : List (List ℕ)) → words_of_order order ≡ words → BeginAnOrder words →
+spelling_joined : (condition : Condition) (order : Order) (words : List (List ℕ)) → words_of_order order ≡ words →
+    BeginAnOrder words →
     conditional_spelling (Some condition) order ≡ joined (under_words condition words)
 spelling_joined condition order [] is begins = absurd begins
 spelling_joined condition order (next ∷ rest) is begins =
-    ap (λ (ws : List (List ℕ)). joined (text_of_keyword keyword.If ∷ words_of_condition condition) ++ codes " " ++ joined ws) is
+    ap (λ (ws : List (List ℕ)). joined (text_of_keyword keyword.If ∷ words_of_condition
+    condition) ++ codes " " ++ joined ws) is
     ∙ spaced-behind (text_of_keyword keyword.If) (words_of_condition condition) next rest
 
 -- the spelling of an order under a condition, if there is one, is read as that in version 2
@@ -679,11 +718,18 @@ pub spelling_read_in : (condition : Option Condition) (order : Order) → IsOrde
     reading_in Two (conditional_spelling condition order) ≡ Ok (ordered condition order)
 spelling_read_in None order is =
     let line = spelling_of order in
-    let spelt = read_spells order_file order_forms rows_of_orders line order (spelling_read order_file order_forms rows_of_orders (omega arith) order is) in
+    let spelt = read_spells order_file order_forms rows_of_orders line order
+    (spelling_read order_file order_forms rows_of_orders (omega arith) order is) in
     spells_read_in Two line (ordered None order) (record {
-      loosely = record { short = spelt.loosely.short; printable = spelt.loosely.printable; words = (spelt.loosely.known, spelt.loosely.words) };
+      loosely = record {
+        short = spelt.loosely.short;
+        printable = spelt.loosely.printable;
+        words =
+            (spelt.loosely.known, spelt.loosely.words);
+      };
       small = (tt, spelt.small);
     })
 spelling_read_in (Some condition) order is =
     ap (reading_in Two) (spelling_joined condition order (words_of_order order) refl is.3)
-    ∙ parts_read_under condition order (parts_of order) refl (has_words order is.1) is.0 (fits_under condition order is.2 is.3) is.3
+    ∙ parts_read_under condition order (parts_of order) refl (has_words order is.1) is.0
+    (fits_under condition order is.2 is.3) is.3

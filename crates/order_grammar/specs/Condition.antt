@@ -88,7 +88,9 @@ conditional_reading (first ∷ words) =
 abbrev pub ordered_reading : List (List ℕ) → Result Ordered Fault
 ordered_reading [] = Ok (ordered None Blank)
 ordered_reading (first ∷ rest) =
-    if same_word first (text_of_keyword keyword.If) then conditional_reading rest else unconditional (rows_reading order_forms first rest)
+    if same_word first (text_of_keyword keyword.If)
+    then conditional_reading rest
+    else unconditional (rows_reading order_forms first rest)
 
 -- what a reading is that gives a condition and puts the order in its place
 abbrev pub put_conditional : Result Condition Fault → Order → Result Ordered Fault

@@ -17,12 +17,15 @@ reading_by most rows line =
     then Err TooLong
     else (if list_all is_printable (before_comment line) then words_reading rows (words_of line) else Err StrayByte)
 
--- the words of a line of at most so many bytes at their places, or the first fault that it has before they are looked at
+-- the words of a line of at most so many bytes at their places, or the first fault that it has before they are read
 abbrev pub words_within : ℕ → List ℕ → Result (List Placed) Fault
 words_within most line =
     if nat_lt most (length line)
     then Err TooLong
-    else (if list_all is_printable (before_comment line) then Ok (placed_from 0 [] (before_comment line)) else Err StrayByte)
+    else
+    (if list_all is_printable (before_comment line)
+    then Ok (placed_from 0 [] (before_comment line))
+    else Err StrayByte)
 
 -- the order of a line of an order file of version 1, or its first fault
 abbrev pub reading_of : List ℕ → Result Order Fault

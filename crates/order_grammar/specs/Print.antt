@@ -81,7 +81,8 @@ spelling_of order = joined (words_of_order order)
 abbrev pub conditional_spelling : Option Condition → Order → List ℕ
 conditional_spelling None order = spelling_of order
 conditional_spelling (Some condition) order =
-    joined (text_of_keyword keyword.If ∷ map text_of_value (condition_values condition)) ++ codes " " ++ spelling_of order
+    joined (text_of_keyword keyword.If ∷ map text_of_value (condition_values condition)) ++ codes " "
+    ++ spelling_of order
 
 -- what was there, and after it a front of the text
 pub record AddsFront (old new text : List ℕ) : Type 0 where

@@ -32,7 +32,8 @@ AreOrderWords order words = BeginAnOrder words × AreWordsFor order words
 -- and then other words
 abbrev pub AreConditionWords : Condition → (List (List ℕ) → Type 0) → List (List ℕ) → Type 0
 AreConditionWords (Price company price) rest words =
-    Then (IsWord (codes "PRICE")) (Then (IsCompany company) (Then (IsWord (codes ">=")) (Then (IsNumber price) rest))) words
+    Then (IsWord (codes "PRICE")) (Then (IsCompany company) (Then (IsWord (codes ">=")) (Then (IsNumber price) rest)))
+    words
 AreConditionWords (Phase kind) rest words = Then (IsWord (codes "PHASE")) (Then (IsKind kind) rest) words
 AreConditionWords (Floated company) rest words = Then (IsWord (codes "FLOATED")) (Then (IsCompany company) rest) words
 
@@ -87,7 +88,8 @@ IsFaultInVersion version line StrayByte = ¬ IsTooLong order_file line × HasStr
 IsFaultInVersion version line UnknownWord =
     ¬ IsTooLong order_file line × ¬ HasStrayByte line × HasUnknownWordIn version line
 IsFaultInVersion version line WrongWords =
-    ¬ IsTooLong order_file line × ¬ HasStrayByte line × ¬ HasUnknownWordIn version line × ¬ IsLooselySpeltIn version line
+    ¬ IsTooLong order_file line × ¬ HasStrayByte line × ¬ HasUnknownWordIn version line
+    × ¬ IsLooselySpeltIn version line
 IsFaultInVersion version line NumberTooLarge =
     ¬ IsTooLong order_file line × ¬ HasStrayByte line × ¬ HasUnknownWordIn version line
     × IsLooselySpeltIn version line × ¬ IsSpeltIn version line

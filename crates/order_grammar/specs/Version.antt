@@ -22,7 +22,10 @@ abbrev pub reading_in : Version → List ℕ → Result Ordered Fault
 reading_in version line =
     if nat_lt line_most (length line)
     then Err TooLong
-    else (if list_all is_printable (before_comment line) then words_reading_in version (words_of line) else Err StrayByte)
+    else
+    (if list_all is_printable (before_comment line)
+    then words_reading_in version (words_of line)
+    else Err StrayByte)
 
 -- the order of a line that was read with its condition, without its words
 abbrev pub ordered_of : Result Line Fault → Result Ordered Fault

@@ -12,5 +12,7 @@ returns c =
     let words = c.args.words.now in
     let left = c.next.new.self in
     c.read_under.ensures
-    ∙ ap (λ (r : Result Condition Fault). under r (play_reading (texts_of left))) (c.condition_of.ensures ∙ ap condition_of c.read.ensures)
-    ∙ one_word c.args.class (texts_of words) (texts_of left) (raised c.in-Some.word.text.now) (next_words words left c.next.result c.in-Some.word c.next.ensures.steps c.in-Some.is)
+    ∙ ap (λ (r : Result Condition Fault). under r (play_reading (texts_of left)))
+    (c.condition_of.ensures ∙ ap condition_of c.read.ensures)
+    ∙ one_word c.args.class (texts_of words) (texts_of left) (raised c.in-Some.word.text.now)
+    (next_words words left c.next.result c.in-Some.word c.next.ensures.steps c.in-Some.is)

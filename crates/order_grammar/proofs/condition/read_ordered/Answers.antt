@@ -16,7 +16,8 @@ returns-in_err-read_nearest c =
     let p = err_from_is_err_and c.from_residual.result c.from_residual.ensures.1 in
     ap (λ r. put_ordered r order) p.1 ∙ ap (λ (f : Fault). put_ordered (Err f) order) p.2
     ∙ sym (ap (λ (r : Result Unit Fault). unconditional (put_reading r order)) c.in_err-read_nearest.was)
-    ∙ plain_read c.args.words.now c.duplicate-rest.result c.next.new.self c.next.result c.in-Some.first (map row_of c.order_forms.result.now) (put_reading c.read_nearest.result order)
+    ∙ plain_read c.args.words.now c.duplicate-rest.result c.next.new.self c.next.result c.in-Some.first
+    (map row_of c.order_forms.result.now) (put_reading c.read_nearest.result order)
     c.duplicate-rest.ensures c.next.ensures.steps c.in-Some.is other c.order_forms.ensures c.read_nearest.ensures
 
 pub returns : goal.returns
@@ -25,5 +26,6 @@ returns c =
     let first = raised c.in-Some.first.text.now in
     let other = ap (same_word first) (sym c.text.ensures) ∙ (sym c.is_word.ensures ∙ c.if-is_word.false) in
     sym (ap (λ (r : Result Unit Fault). unconditional (put_reading r order)) c.in_ok-read_nearest.was)
-    ∙ plain_read c.args.words.now c.duplicate-rest.result c.next.new.self c.next.result c.in-Some.first (map row_of c.order_forms.result.now) (put_reading c.read_nearest.result order)
+    ∙ plain_read c.args.words.now c.duplicate-rest.result c.next.new.self c.next.result c.in-Some.first
+    (map row_of c.order_forms.result.now) (put_reading c.read_nearest.result order)
     c.duplicate-rest.ensures c.next.ensures.steps c.in-Some.is other c.order_forms.ensures c.read_nearest.ensures

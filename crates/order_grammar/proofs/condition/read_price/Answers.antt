@@ -24,8 +24,10 @@ returns c =
     let price : c.read-price.result ≡ class_reading class.Number (raised number.text.now) = c.read-price.ensures in
     c.read_under.ensures
     ∙ ap (λ (r : Result Condition Fault). under r (play_reading (texts_of c.next-3.new.self)))
-    (c.price_of.ensures ∙ ap (λ (r : Reading). price_of r c.read-price.result) company ∙ ap (price_of (class_reading class.Company (raised name.text.now))) price)
-    ∙ price_words (texts_of words) (texts_of c.next.new.self) (texts_of c.next-2.new.self) (texts_of c.next-3.new.self) (raised name.text.now) (raised sign.text.now) (raised number.text.now)
+    (c.price_of.ensures ∙ ap (λ (r : Reading). price_of r c.read-price.result) company
+    ∙ ap (price_of (class_reading class.Company (raised name.text.now))) price)
+    ∙ price_words (texts_of words) (texts_of c.next.new.self) (texts_of c.next-2.new.self)
+    (texts_of c.next-3.new.self) (raised name.text.now) (raised sign.text.now) (raised number.text.now)
     (next_words words c.next.new.self c.next.result name c.next.ensures.steps c.in-Some.is)
     (next_words c.next.new.self c.next-2.new.self c.next-2.result sign c.next-2.ensures.steps c.in-Some-next.is)
     (next_words c.next-2.new.self c.next-3.new.self c.next-3.result number c.next-3.ensures.steps c.in-Some-next-2.is)

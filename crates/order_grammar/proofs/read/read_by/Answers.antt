@@ -11,15 +11,19 @@ pub returns-in_err-read_order-clause-order : goal.returns-in_err-read_order-clau
 returns-in_err-read_order-clause-order c =
     let order = c.read_order.new.order in
     let p = err_from_is_err_and c.from_residual-in_err-read_order.result c.from_residual-in_err-read_order.ensures.1 in
-    ap order_of p.1 ∙ ap (λ (f : Fault). Err f) p.2 ∙ sym (ap (λ (r : Result Unit Fault). put_reading r order) c.in_err-read_order.was)
+    ap order_of p.1 ∙ ap (λ (f : Fault). Err f) p.2
+    ∙ sym (ap (λ (r : Result Unit Fault). put_reading r order) c.in_err-read_order.was)
     ∙ c.read_order.ensures
-    ∙ within_reading c.args.most (map row_of c.args.forms.now) c.args.line.now c.in_ok-words.words (sym c.in_ok-words.was ∙ c.words_within.ensures)
+    ∙ within_reading c.args.most (map row_of c.args.forms.now) c.args.line.now c.in_ok-words.words
+    (sym c.in_ok-words.was ∙ c.words_within.ensures)
 
 pub returns-clause-order : goal.returns-clause-order
 returns-clause-order c =
     let order = c.read_order.new.order in
     sym (ap (λ (r : Result Unit Fault). put_reading r order) c.in_ok-read_order.was) ∙ c.read_order.ensures
-    ∙ within_reading c.args.most (map row_of c.args.forms.now) c.args.line.now c.in_ok-words.words (sym c.in_ok-words.was ∙ c.words_within.ensures)
+    ∙ within_reading c.args.most (map row_of c.args.forms.now) c.args.line.now c.in_ok-words.words
+    (sym c.in_ok-words.was ∙ c.words_within.ensures)
 
 pub returns-clause-words : goal.returns-clause-words
-returns-clause-words c = within_words c.args.most c.args.line.now c.in_ok-words.words (sym c.in_ok-words.was ∙ c.words_within.ensures)
+returns-clause-words c = within_words c.args.most c.args.line.now c.in_ok-words.words
+    (sym c.in_ok-words.was ∙ c.words_within.ensures)

@@ -12,15 +12,18 @@ pub returns-in_err-condition-clause-order : goal.returns-in_err-condition-clause
 returns-in_err-condition-clause-order c =
     let order = c.read_ordered.new.order in
     let p = err_from_is_err_and c.from_residual-in_err-condition.result c.from_residual-in_err-condition.ensures.1 in
-    ap ordered_of p.1 ∙ ap (λ (f : Fault). Err f) p.2 ∙ sym (ap (λ (r : Result (Option Condition) Fault). put_ordered r order) c.in_err-condition.was)
+    ap ordered_of p.1 ∙ ap (λ (f : Fault). Err f) p.2
+    ∙ sym (ap (λ (r : Result (Option Condition) Fault). put_ordered r order) c.in_err-condition.was)
     ∙ c.read_ordered.ensures
     ∙ within_ordered c.args.line.now c.in_ok-words.words (sym c.in_ok-words.was ∙ c.words_within.ensures)
 
 pub returns-clause-order : goal.returns-clause-order
 returns-clause-order c =
     let order = c.read_ordered.new.order in
-    sym (ap (λ (r : Result (Option Condition) Fault). put_ordered r order) c.in_ok-condition.was) ∙ c.read_ordered.ensures
+    sym (ap (λ (r : Result (Option Condition) Fault). put_ordered r order) c.in_ok-condition.was)
+    ∙ c.read_ordered.ensures
     ∙ within_ordered c.args.line.now c.in_ok-words.words (sym c.in_ok-words.was ∙ c.words_within.ensures)
 
 pub returns-clause-words : goal.returns-clause-words
-returns-clause-words c = within_words line_most c.args.line.now c.in_ok-words.words (sym c.in_ok-words.was ∙ c.words_within.ensures)
+returns-clause-words c = within_words line_most c.args.line.now c.in_ok-words.words
+    (sym c.in_ok-words.was ∙ c.words_within.ensures)

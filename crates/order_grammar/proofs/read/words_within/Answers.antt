@@ -11,7 +11,8 @@ returns c =
     let line = c.args.line.now in
     let short : ltb c.args.most (length line) ≡ false = le-ltb c.args.most (length line) c.if-line-most.false in
     let all =
-    all_from_yields_List is_printable _ _ c.all.result c.all.ensures.ran (YieldsList-from_slice c.before_comment.result.now cc)
+    all_from_yields_List is_printable _ _ c.all.result c.all.ensures.ran
+    (YieldsList-from_slice c.before_comment.result.now cc)
     (λ x b q k. search (rules, tests)) in
     let printable : list_all is_printable (before_comment line) ≡ true =
     ap (list_all is_printable) (sym c.before_comment.ensures) ∙ sym all ∙ c.if-not-all.false in
