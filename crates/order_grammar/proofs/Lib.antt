@@ -11,7 +11,10 @@ pub mod RowLemmas
 pub mod PartLemmas
 pub mod RunLemmas
 pub mod SpellsLemmas
+pub mod ConditionLemmas
+pub mod WalkLemmas
 pub mod LineFaultLemmas
+pub mod VersionLemmas
 pub mod WordLemmas
 pub mod FrontLemmas
 pub mod LineLemmas

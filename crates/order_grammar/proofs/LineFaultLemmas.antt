@@ -25,7 +25,8 @@ use Rattle.order_grammar.proofs.SmallLemmas.{are_small, small_by_parts, small_of
 use Rattle.order_grammar.proofs.SpellsLemmas.{spelt_words_read, large_words_read, words_read_spell}
 
 -- a byte that is not printable
-stray_byte : (bytes : List ℕ) → list_all is_printable bytes ≡ false → Any (λ byte. is_printable byte ≡ true → ⊥) bytes
+pub stray_byte : (bytes : List ℕ) → list_all is_printable bytes ≡ false →
+    Any (λ byte. is_printable byte ≡ true → ⊥) bytes
 stray_byte [] e = absurd cc
 stray_byte (byte ∷ bytes) e =
     elim (and_cases (is_printable byte) (list_all is_printable bytes) e) [
@@ -36,7 +37,8 @@ stray_byte (byte ∷ bytes) e =
     ]
 
 -- with one, not all are
-not_printable : (bytes : List ℕ) → Any (λ byte. is_printable byte ≡ true → ⊥) bytes → list_all is_printable bytes ≡ false
+pub not_printable : (bytes : List ℕ) → Any (λ byte. is_printable byte ≡ true → ⊥) bytes →
+    list_all is_printable bytes ≡ false
 not_printable bytes stray =
     elim (cases_Bool (is_printable stray.1)) [
       | inl printable ↦ absurd (stray.4 printable)
@@ -44,7 +46,7 @@ not_printable bytes stray =
     ]
 
 -- with none, all are
-all_printable : (line : List ℕ) → (HasStrayByte line → ⊥) → list_all is_printable (before_comment line) ≡ true
+pub all_printable : (line : List ℕ) → (HasStrayByte line → ⊥) → list_all is_printable (before_comment line) ≡ true
 all_printable line clean =
     elim (cases_Bool (list_all is_printable (before_comment line))) [
       | inl printable ↦ printable
@@ -103,7 +105,8 @@ row-le (other ∷ rows) row first rest start (inl is) =
 row-le (other ∷ rows) row first rest start (inr later) = row-le rows row first rest (nearer start (row_reading other first rest)) later
 
 -- words of a text that are read as an unknown word begin with another
-unknown_begins : (text : TextKind) (rows : List Row) → AreRowsOf text rows → (words : List (List ℕ)) → words_reading rows words ≡ Err UnknownWord →
+pub unknown_begins : (text : TextKind) (rows : List Row) → AreRowsOf text rows → (words : List (List ℕ)) →
+    words_reading rows words ≡ Err UnknownWord →
     BeginWithOther text.first_words words
 unknown_begins text rows of [] e = absurd cc
 unknown_begins text rows of (first ∷ rest) e = λ listed.
@@ -129,7 +132,8 @@ reading_of_words rows [] = inr (lit≤ tt)
 reading_of_words rows (first ∷ rest) = nearest_has IsOfWords rows first rest (Err UnknownWord) (inl refl) (λ row among. row_of_words row first rest)
 
 -- no other fault is of words
-other_fault : (rows : List Row) (words : List (List ℕ)) (fault : Fault) → nearness (Err fault) ≡ 0 → (fault ≡ UnknownWord → ⊥) →
+pub other_fault : (rows : List Row) (words : List (List ℕ)) (fault : Fault) → nearness (Err fault) ≡ 0 →
+    (fault ≡ UnknownWord → ⊥) →
     words_reading rows words ≡ Err fault → ⊥
 other_fault rows words fault none other e =
     elim (reading_of_words rows words) [
@@ -153,7 +157,8 @@ loosely_near words order spelt wrong =
     ]
 
 -- words that begin with one of some words begin with no other
-not_other : (known : List (List ℕ)) (words : List (List ℕ)) → BeginWithOneOf known words → BeginWithOther known words → ⊥
+pub not_other : (known : List (List ℕ)) (words : List (List ℕ)) → BeginWithOneOf known words →
+    BeginWithOther known words → ⊥
 not_other known [] one other = other
 not_other known (first ∷ rest) one other = other one
 
@@ -167,14 +172,16 @@ some_known text rows of words no_other =
     ]
 
 -- words of a text with another fault begin one of its forms
-begins_some_form : (text : TextKind) (rows : List Row) → AreRowsOf text rows → (words : List (List ℕ)) (fault : Fault) → (fault ≡ UnknownWord → ⊥) →
+pub begins_some_form : (text : TextKind) (rows : List Row) → AreRowsOf text rows →
+    (words : List (List ℕ)) (fault : Fault) → (fault ≡ UnknownWord → ⊥) →
     words_reading rows words ≡ Err fault → BeginWithOther text.first_words words → ⊥
 begins_some_form text rows of words fault other e none =
     let same : ◌≡◌ {A = Result Order Fault} (Err fault) (Err UnknownWord) = sym e ∙ unknown_read text rows words of none in
     other cc
 
 -- so they are read by all forms
-read_by_all : (text : TextKind) (rows : List Row) → AreRowsOf text rows → (words : List (List ℕ)) (fault : Fault) → (fault ≡ UnknownWord → ⊥) →
+pub read_by_all : (text : TextKind) (rows : List Row) → AreRowsOf text rows →
+    (words : List (List ℕ)) (fault : Fault) → (fault ≡ UnknownWord → ⊥) →
     words_reading rows words ≡ Err fault → BeginWithOneOf text.first_words words × (all_reading words ≡ Err fault)
 read_by_all text rows of words fault other e =
     let known = read_known text rows words of (λ unknown.
@@ -183,7 +190,8 @@ read_by_all text rows of words fault other e =
     (known, sym (known_read text rows words of known) ∙ e)
 
 -- words of which a number is too large would spell an order
-large_spell : (words : List (List ℕ)) → all_reading words ≡ Err NumberTooLarge → (order : Order) × AreWordsFor order words
+pub large_spell : (words : List (List ℕ)) → all_reading words ≡ Err NumberTooLarge → (order : Order) ×
+    AreWordsFor order words
 large_spell [] e = absurd cc
 large_spell (first ∷ rest) e =
     let says = words_say first rest in

@@ -4,11 +4,12 @@ use Rattle.std.proofs.Common.{◌≡◌, ℕ, Bool, true, false, not, ltb, fold,
 use Rattle.std.specs.List.{list_all, list_any}
 use Rattle.std.proofs.lemmas.Bool.{cases_Bool, le-ltb, or_parts, false≢true}
 use Rattle.std.proofs.lemmas.List.Folds.{list_all_at, Any-from_list_any}
-use Rattle.order_grammar.specs.Form.{Row, forms, order_forms, cert_forms, nearness, nearer, row_reading, rows_reading, words_reading}
+use Rattle.order_grammar.specs.Form.{Row, forms, order_forms, play_forms, cert_forms, nearness, nearer, row_reading, rows_reading, words_reading}
 use Rattle.order_grammar.specs.Keyword.{text_of_keyword}
+use Rattle.order_grammar.specs.Limits.{line_most}
 use Rattle.order_grammar.specs.LineFault.{BeginWithOther}
 use Rattle.order_grammar.specs.Spells.{BeginWithOneOf}
-use Rattle.order_grammar.specs.Texts.{TextKind, order_file, certificate}
+use Rattle.order_grammar.specs.Texts.{TextKind, order_file, play_words, certificate}
 use Rattle.order_grammar.specs.Words.{same_word}
 use Rattle.order_grammar.specs.declared.fault.Fault.{Fault}
 use Rattle.order_grammar.specs.declared.fault.Fault.TheVariants.{UnknownWord}
@@ -55,6 +56,21 @@ rows_of_certificates = record {
   begun = refl;
 }
 
+-- what may stand behind a condition
+abbrev pub behind_condition : TextKind
+behind_condition = record { most = line_most; first_words = play_words }
+
+pub rows_of_play : AreRowsOf behind_condition play_forms
+rows_of_play = record {
+  front = take 5 forms;
+  back = drop 29 forms;
+  whole = refl;
+  not_front = refl;
+  not_back = refl;
+  listed = refl;
+  begun = refl;
+}
+
 -- a word that is among some
 contained : (words : List (List ℕ)) (word : List ℕ) → list_any (same_word word) words ≡ true → Contains words word
 contained words word some =
@@ -63,7 +79,8 @@ contained words word some =
     subst (Contains words) (sym same) (one.0, one.2, one.3)
 
 -- what all of some words pass, one that is among them does
-passed : (p : List ℕ → Bool) (words : List (List ℕ)) (word : List ℕ) → list_all p words ≡ true → Contains words word → p word ≡ true
+pub passed : (p : List ℕ → Bool) (words : List (List ℕ)) (word : List ℕ) → list_all p words ≡ true →
+    Contains words word → p word ≡ true
 passed p words word all among =
     elim (cases_Bool (p word)) [
       | inl all_well ↦ all_well
@@ -87,7 +104,7 @@ pub listed_is_begun : (text : TextKind) (rows : List Row) (first : List ℕ) →
 listed_is_begun text rows first of listed = passed (λ (word : List ℕ). list_any (begins_form word) rows) text.first_words first of.begun listed
 
 -- what is denied is false
-denied : (b : Bool) → not b ≡ true → b ≡ false
+pub denied : (b : Bool) → not b ≡ true → b ≡ false
 denied true e = absurd (false≢true e)
 denied false e = refl
 

@@ -7,6 +7,7 @@ use Rattle.std.proofs.lemmas.Bool.{le-ltb, leb-true, eqb-true, and_parts, and_fr
 use Rattle.std.proofs.lemmas.Bool.Decides.{nat_tests}
 use Rattle.std.proofs.lemmas.Fmt.{decimal_digit, decimal_by_steps, decimal_nonempty, first_decimal, length-decimal-le}
 use Rattle.std.proofs.lemmas.List.{drop_at, length-append, length-map, append-nil}
+use Rattle.std.proofs.lemmas.Grind.{flat_map-append}
 use Rattle.std.proofs.lemmas.List.Concat.{flat_map-cons}
 use Rattle.std.proofs.lemmas.List.Folds.{list_all-append}
 use Rattle.std.proofs.lemmas.List.Sums.{fold_push}
@@ -32,18 +33,25 @@ use Rattle.tables.specs.declared.roster.Private.TheVariants as private
 use Rattle.tables.specs.declared.round.Round.{Round}
 use Rattle.tables.specs.declared.round.Round.TheVariants.{Opening, Stock, Operating}
 use Rattle.order_grammar.specs.Class.{are_digits, value_of_digits, is_of_class}
-use Rattle.order_grammar.specs.Form.{Row, forms, words_reading, is_row_of, has_form, are_of_classes, is_of_repeated}
+use Rattle.order_grammar.specs.Condition.{condition_values, ordered}
+use Rattle.order_grammar.specs.Form.{Row, forms, order_forms, words_reading, is_row_of, has_form, are_of_classes, is_of_repeated}
 use Rattle.order_grammar.specs.Keyword.{text_of_keyword}
 use Rattle.tables.specs.Round.{number_most, operating_most}
+use Rattle.order_grammar.specs.Limits.{line_most}
 use Rattle.order_grammar.specs.Line.{reading_by}
 use Rattle.order_grammar.specs.Name.{is_name, is_capital, is_digit, is_letter_or_digit}
 use Rattle.order_grammar.specs.Order.{made_of, parts_of}
-use Rattle.order_grammar.specs.Print.{spaced, joined, text_of_value, words_of_tail, words_of_parts, spelling_of}
+use Rattle.order_grammar.specs.Print.{spaced, joined, text_of_value, words_of_order, words_of_tail, words_of_parts, spelling_of, conditional_spelling}
 use Rattle.order_grammar.specs.Row.{has_room, is_short}
-use Rattle.order_grammar.specs.Spells.{IsNumber, IsNumbered, is_round_of_line, BeginWithOneOf, FitsLineIn, IsOrderIn}
-use Rattle.order_grammar.specs.Texts.{TextKind}
+use Rattle.order_grammar.specs.Spells.{AreWordsFor, HasSmallNumbers, IsNumber, IsNumbered, is_round_of_line, BeginWithOneOf, FitsLineIn, IsOrderIn}
+use Rattle.order_grammar.specs.SpellsVersion.{AreConditionWords, AreOrderWords, AreWordsUnder, BeginAnOrder, FitsLineUnder, HasSmallCondition, IsOrderUnder}
+use Rattle.order_grammar.specs.Texts.{TextKind, order_file, play_words}
+use Rattle.order_grammar.specs.Version.{reading_in}
 use Rattle.order_grammar.specs.Words.{before, with_word, words_from, raised, words_of, is_printable, same_word}
 use Rattle.order_grammar.specs.declared.class.Class.{Class}
+use Rattle.order_grammar.specs.declared.condition.Condition.{Condition}
+use Rattle.order_grammar.specs.declared.condition.Condition.TheVariants.{Price, Phase, Floated}
+use Rattle.order_grammar.specs.declared.condition.Version.TheVariants.{Two}
 use Rattle.order_grammar.specs.declared.form.Repeated.{Repeated}
 use Rattle.order_grammar.specs.declared.form.Repeated.TheVariants as repeated
 use Rattle.order_grammar.specs.declared.keyword.Keyword.{Keyword}
@@ -57,10 +65,11 @@ use Rattle.order_grammar.specs.declared.order.Value.{Value}
 use Rattle.order_grammar.specs.declared.order.Value.TheVariants as value
 use Rattle.order_grammar.proofs.HasWords.{has_word, has_words, have_words}
 use Rattle.order_grammar.proofs.OrderLemmas.{IsTextOf, AreTextsOf, AreWordsOfTail, AreWordsByParts, of_parts}
-use Rattle.order_grammar.proofs.PartLemmas.{AreRowsOf, known_read}
+use Rattle.order_grammar.proofs.PartLemmas.{AreRowsOf, known_read, passed, rows_of_orders}
 use Rattle.order_grammar.proofs.RowLemmas.{among_any, all_among}
 use Rattle.order_grammar.proofs.SmallLemmas.{is_small, are_small, small_of_parts}
-use Rattle.order_grammar.proofs.SpellsLemmas.{spelt_words_read}
+use Rattle.order_grammar.proofs.SpellsLemmas.{read_spells, spelt_words_read}
+use Rattle.order_grammar.proofs.VersionLemmas.{spells_read_in}
 use Rattle.order_grammar.proofs.WordLemmas.{words_from-word}
 
 -- a byte of a printed word: printable, no space, no `#`, and no letter in lower case
@@ -186,23 +195,36 @@ unfolding ArePlain
 few_fit [] h few = omega arith
 few_fit (word ∷ words) h few = omega (arith, few, h.0.few, length-append word (spaced words), length-spaced words h.1)
 
--- plain words that fit a line with single spaces between them are what the words are
-reading_by-joined : (most : ℕ) (rows : List Row) (words : List (List ℕ)) → ArePlain words → length (joined words) ≤ most →
-    reading_by most rows (joined words) ≡ words_reading rows words
+-- plain words with single spaces between them
+record AreJoined (words : List (List ℕ)) : Type 0 where
+  printable : list_all is_printable (before 35 (joined words)) ≡ true
+  are : words_of (joined words) ≡ words
+
+joined_line : (words : List (List ℕ)) → ArePlain words → AreJoined words
 unfolding ArePlain
-reading_by-joined most rows [] h fits = let short : ltb most 0 ≡ false = le-ltb most 0 (omega arith) in rw short refl
-reading_by-joined most rows (word ∷ words) h fits =
+joined_line [] h = record { printable = refl; are = refl }
+joined_line (word ∷ words) h =
     let line = joined (word ∷ words) in
     let clear : before 35 line ≡ line =
     before-plain 35 word (spaced words) (λ byte p. p.no_comment) h.0.plain ∙ ap (λ (bytes : List ℕ). word ++ bytes) (before-spaced words h.1) in
-    let short : ltb most (length line) ≡ false = le-ltb most (length line) fits in
-    let printable : list_all is_printable (before 35 line) ≡ true =
-    ap (list_all is_printable) clear ∙ list_all-append is_printable word (spaced words)
-    ∙ and_from _ _ (printable-plain word h.0.plain) (printable-spaced words h.1) in
-    let here : words_of line ≡ word ∷ words =
-    ap (λ (bytes : List ℕ). map raised (words_from [] bytes)) clear ∙ ap (map raised) (words_from-joined word words h.0 (words_from-spaced words h.1))
-    ∙ raised-words (word ∷ words) h in
-    rw (short, printable) (ap (words_reading rows) here)
+    record {
+      printable =
+          ap (list_all is_printable) clear ∙ list_all-append is_printable word (spaced words)
+          ∙ and_from _ _ (printable-plain word h.0.plain) (printable-spaced words h.1);
+      are =
+          ap (λ (bytes : List ℕ). map raised (words_from [] bytes)) clear
+          ∙ ap (map raised) (words_from-joined word words h.0 (words_from-spaced words h.1))
+          ∙ raised-words (word ∷ words) h;
+    }
+
+-- where they fit a line they are what the words are
+reading_by-joined : (most : ℕ) (rows : List Row) (words : List (List ℕ)) → ArePlain words →
+    length (joined words) ≤ most →
+    reading_by most rows (joined words) ≡ words_reading rows words
+reading_by-joined most rows words h fits =
+    let short : ltb most (length (joined words)) ≡ false = le-ltb most (length (joined words)) fits in
+    let line = joined_line words h in
+    rw (short, line.printable) (ap (words_reading rows) line.are)
 
 -- letters in upper case and digits are plain
 plain_letter : (byte : ℕ) → is_letter_or_digit byte ≡ true → is_plain byte ≡ true
@@ -499,15 +521,18 @@ parts_fit most k values (tail.Names names) room five few plain fits =
     omega (arith, short, room)
 parts_fit most k values (tail.Places run) room five few plain fits = fits
 
--- parts of a form that have words are read as what they make, by the forms of a text that knows the first of them
-parts_read : (text : TextKind) (rows : List Row) → AreRowsOf text rows → 340 ≤ text.most → (order : Order) (parts : Option Parts) →
-    parts_of order ≡ parts → have_words parts ≡ true → FitsParts text.most parts → BeginWithOneOf text.first_words (words_of_parts parts) →
-    reading_by text.most rows (joined (words_of_parts parts)) ≡ Ok order
+-- what is known of the words of parts of a form that have words
+record IsSpeltOut (order : Order) (parts : Parts) : Type 0 where
+  plain : ArePlain (words_of_parts (Some parts))
+  are : AreWordsFor order (words_of_parts (Some parts))
+  small : HasSmallNumbers order
+  five : length parts.values.items ≤ 5
+  few : IsFew parts.tail
+
+spelt_out : (order : Order) (parts : Parts) → parts_of order ≡ Some parts → have_words (Some parts) ≡ true →
+    IsSpeltOut order parts
 unfolding ArePlain
-parts_read text rows of room order None is has fits known =
-    reading_by-joined text.most rows [] tt (omega arith)
-    ∙ spelt_words_read [] order (of_parts order [] (subst (λ (p : Option Parts). AreWordsByParts p []) (sym is) tt)) (small_of_parts order (ap are_small is))
-parts_read text rows of room order (Some parts) is has fits known =
+spelt_out order parts is has =
     let values = parts.values.items in
     let h = and_parts (has_form parts) (list_all has_word values) has in
     let row = among_any (is_row_of parts.keyword values parts.tail) forms h.0 in
@@ -517,15 +542,194 @@ parts_read text rows of room order (Some parts) is has fits known =
     let counted = values_short row.0.classes row.0.repeated values parts.tail short.1 of_row.1 in
     let spelt = values_spelt values parts.tail h.1 counted.1.plain in
     let words = words_of_parts (Some parts) in
-    let plain : ArePlain words = (plain_word (text_of_keyword parts.keyword) (keyword_plain parts.keyword), spelt.plain) in
-    let five : length values ≤ 5 = omega (arith, counted.0, leb-true (length row.0.classes) 5 short.0) in
-    reading_by-joined text.most rows words plain (parts_fit text.most parts.keyword values parts.tail room five counted.1.few plain fits)
+    record {
+      plain = (plain_word (text_of_keyword parts.keyword) (keyword_plain parts.keyword), spelt.plain);
+      are = of_parts order words (subst (λ (p : Option Parts). AreWordsByParts p words) (sym is)
+          ((refl, spelt.texts), h.0));
+      small = small_of_parts order (ap are_small is ∙ spelt.small);
+      five = omega (arith, counted.0, leb-true (length row.0.classes) 5 short.0);
+      few = counted.1.few;
+    }
+
+-- parts of a form that have words are read as what they make, by the forms of a text that knows the first of them
+parts_read : (text : TextKind) (rows : List Row) → AreRowsOf text rows → 340 ≤ text.most →
+    (order : Order) (parts : Option Parts) →
+    parts_of order ≡ parts → have_words parts ≡ true → FitsParts text.most parts →
+    BeginWithOneOf text.first_words (words_of_parts parts) →
+    reading_by text.most rows (joined (words_of_parts parts)) ≡ Ok order
+unfolding ArePlain
+parts_read text rows of room order None is has fits known =
+    reading_by-joined text.most rows [] tt (omega arith)
+    ∙ spelt_words_read [] order (of_parts order [] (subst (λ (p : Option Parts). AreWordsByParts p []) (sym is) tt))
+    (small_of_parts order (ap are_small is))
+parts_read text rows of room order (Some parts) is has fits known =
+    let words = words_of_parts (Some parts) in
+    let spelt = spelt_out order parts is has in
+    reading_by-joined text.most rows words spelt.plain
+    (parts_fit text.most parts.keyword parts.values.items parts.tail room spelt.five spelt.few spelt.plain fits)
     ∙ known_read text rows words of known
-    ∙ spelt_words_read words order (of_parts order words (subst (λ (p : Option Parts). AreWordsByParts p words) (sym is) ((refl, spelt.texts), h.0)))
-    (small_of_parts order (ap are_small is ∙ spelt.small))
+    ∙ spelt_words_read words order spelt.are spelt.small
 
 -- the spelling of an order in a text is read as it
 pub spelling_read : (text : TextKind) (rows : List Row) → AreRowsOf text rows → 340 ≤ text.most → (order : Order) → IsOrderIn text order →
     reading_by text.most rows (spelling_of order) ≡ Ok order
 spelling_read text rows of room order is =
     parts_read text rows of room order (parts_of order) refl (has_words order is.0) (fits_by_parts text order is.1) is.2
+
+-- the words of a condition after IF
+abbrev words_of_condition : Condition → List (List ℕ)
+words_of_condition condition = map text_of_value (condition_values condition)
+
+-- the words of a line with a condition, behind which these come
+abbrev under_words : Condition → List (List ℕ) → List (List ℕ)
+under_words condition words = text_of_keyword keyword.If ∷ (words_of_condition condition ++ words)
+
+condition_few : (condition : Condition) → length (words_of_condition condition) ≤ 4
+condition_few (Price co price) = omega arith
+condition_few other = omega arith
+
+-- a condition is spelt by its words, which are plain
+condition_plain : (condition : Condition) (words : List (List ℕ)) → HasSmallCondition (Some condition) →
+    ArePlain words →
+    ArePlain (words_of_condition condition ++ words)
+unfolding ArePlain
+condition_plain (Price co price) words small plain = (
+  plain_word (text_of_keyword keyword.Price) refl,
+  (
+    plain_word (code_of_company co) (company_plain co),
+    (plain_word (text_of_keyword keyword.AtLeast) refl, (decimal_plain price small, plain)),
+  ),
+)
+condition_plain (Phase k) words small plain =
+    (plain_word (text_of_keyword keyword.Phase) refl, (plain_word (code_of_kind k) (kind_plain k), plain))
+condition_plain (Floated co) words small plain =
+    (plain_word (text_of_keyword keyword.Floated) refl, (plain_word (code_of_company co) (company_plain co), plain))
+
+condition_spelt : (condition : Condition) (order : Order) (words : List (List ℕ)) →
+    HasSmallCondition (Some condition) → AreOrderWords order words →
+    AreConditionWords condition (AreOrderWords order) (words_of_condition condition ++ words)
+condition_spelt (Price co price) order words small are = (refl, (refl, (refl, (decimal_number price small, are))))
+condition_spelt (Phase k) order words small are = (refl, (refl, are))
+condition_spelt (Floated co) order words small are = (refl, (refl, are))
+
+-- a front and words behind it, with single spaces between them
+spaced-behind : (first : List ℕ) (words : List (List ℕ)) (next : List ℕ) (rest : List (List ℕ)) →
+    joined (first ∷ words) ++ codes " " ++ joined (next ∷ rest) ≡ joined (first ∷ (words ++ next ∷ rest))
+spaced-behind first words next rest =
+    append_assoc (first ++ spaced words) (codes " ") (next ++ spaced rest)
+    ∙ append_assoc first (spaced words) (codes " " ++ (next ++ spaced rest))
+    ∙ ap (λ (text : List ℕ). first ++ text)
+    (sym (flat_map-append (λ (w : List ℕ). 32 ∷ w) words (next ∷ rest)
+    ∙ ap (λ (text : List ℕ). spaced words ++ text) (spaced-cons next rest)))
+
+-- parts with the places of a run fit a line under a condition
+abbrev FitUnderWith : Condition → Keyword → List Value → Tail → Type 0
+FitUnderWith condition k values (tail.Places run) =
+    length (joined (under_words condition (words_of_parts (made_of k values (tail.Places run))))) ≤ line_most
+FitUnderWith condition k values t = Unit {0}
+
+abbrev FitUnder : Condition → Option Parts → Type 0
+FitUnder condition None = Unit {0}
+FitUnder condition (Some parts) = FitUnderWith condition parts.keyword parts.values.items parts.tail
+
+-- so do those of an order that does
+fits_under : (condition : Condition) (order : Order) → FitsLineUnder condition order →
+    BeginAnOrder (words_of_parts (parts_of order)) →
+    FitUnder condition (parts_of order)
+fits_under condition (Run k run) fits begins =
+    subst (λ (line : List ℕ). length line ≤ line_most)
+    (spaced-behind (text_of_keyword keyword.If) (words_of_condition condition) (text_of_keyword keyword.Run)
+    (code_of_kind k ∷ map text_of_place run)) fits
+fits_under condition (Claim k run) fits begins =
+    absurd (false≢true (passed (λ (word : List ℕ). not (same_word word (codes "CLAIM"))) play_words (codes "CLAIM")
+    refl begins))
+fits_under condition other fits begins = tt
+
+-- words under a condition fit a line
+under_fit : (condition : Condition) (k : Keyword) (values : List Value) (t : Tail) → length values ≤ 5 → IsFew t →
+    ArePlain (under_words condition (words_of_parts (made_of k values t))) → FitUnderWith condition k values t →
+    length (joined (under_words condition (words_of_parts (made_of k values t)))) ≤ line_most
+under_fit condition k values tail.Nothing five few plain fits =
+    let size = length-append (words_of_condition condition) (words_of_parts (made_of k values tail.Nothing)) in
+    let own = length-append (map text_of_value values) [] in
+    let short = few_fit _ plain (omega (
+      arith,
+      size,
+      own,
+      condition_few condition,
+      length-map values text_of_value,
+      five,
+    )) in
+    omega (arith, short)
+under_fit condition k values (tail.Names names) five few plain fits =
+    let size = length-append (words_of_condition condition) (words_of_parts (made_of k values (tail.Names names))) in
+    let own = length-append (map text_of_value values) names.items in
+    let short = few_fit _ plain (omega (
+      arith,
+      size,
+      own,
+      condition_few condition,
+      length-map values text_of_value,
+      five,
+      few,
+    )) in
+    omega (arith, short)
+under_fit condition k values (tail.Places run) five few plain fits = fits
+
+-- parts of a form that have words are read as what they make, under the condition
+parts_read_under : (condition : Condition) (order : Order) (parts : Option Parts) → parts_of order ≡ parts →
+    have_words parts ≡ true →
+    HasSmallCondition (Some condition) → FitUnder condition parts → BeginAnOrder (words_of_parts parts) →
+    reading_in Two (joined (under_words condition (words_of_parts parts))) ≡ Ok (ordered (Some condition) order)
+unfolding ArePlain
+parts_read_under condition order None is has small fits begins = absurd begins
+parts_read_under condition order (Some parts) is has small fits begins =
+    let spelt = spelt_out order parts is has in
+    let behind = words_of_parts (Some parts) in
+    let words = under_words condition behind in
+    let plain : ArePlain words = (
+      plain_word (text_of_keyword keyword.If) refl,
+      condition_plain condition behind small spelt.plain,
+    ) in
+    let line = joined_line words plain in
+    let are : AreWordsUnder Two (Some condition) order words =
+    (refl, condition_spelt condition order behind small (begins, spelt.are)) in
+    spells_read_in Two (joined words) (ordered (Some condition) order) (record {
+      loosely = record {
+        short = under_fit condition parts.keyword parts.values.items parts.tail spelt.five spelt.few plain fits;
+        printable = line.printable;
+        words = subst (AreWordsUnder Two (Some condition) order) (sym line.are) are;
+      };
+      small = (small, spelt.small);
+    })
+
+-- the spelling of an order under a condition is what its words are with single spaces between them
+spelling_joined : (condition : Condition) (order : Order) (words : List (List ℕ)) → words_of_order order ≡ words →
+    BeginAnOrder words →
+    conditional_spelling (Some condition) order ≡ joined (under_words condition words)
+spelling_joined condition order [] is begins = absurd begins
+spelling_joined condition order (next ∷ rest) is begins =
+    ap (λ (ws : List (List ℕ)). joined (text_of_keyword keyword.If ∷ words_of_condition
+    condition) ++ codes " " ++ joined ws) is
+    ∙ spaced-behind (text_of_keyword keyword.If) (words_of_condition condition) next rest
+
+-- the spelling of an order under a condition, if there is one, is read as that in version 2
+pub spelling_read_in : (condition : Option Condition) (order : Order) → IsOrderUnder condition order →
+    reading_in Two (conditional_spelling condition order) ≡ Ok (ordered condition order)
+spelling_read_in None order is =
+    let line = spelling_of order in
+    let spelt = read_spells order_file order_forms rows_of_orders line order
+    (spelling_read order_file order_forms rows_of_orders (omega arith) order is) in
+    spells_read_in Two line (ordered None order) (record {
+      loosely = record {
+        short = spelt.loosely.short;
+        printable = spelt.loosely.printable;
+        words =
+            (spelt.loosely.known, spelt.loosely.words);
+      };
+      small = (tt, spelt.small);
+    })
+spelling_read_in (Some condition) order is =
+    ap (reading_in Two) (spelling_joined condition order (words_of_order order) refl is.3)
+    ∙ parts_read_under condition order (parts_of order) refl (has_words order is.1) is.0
+    (fits_under condition order is.2 is.3) is.3

@@ -36,13 +36,15 @@ pub record Row : Type 0 where
 abbrev pub row : Keyword → List Class → Repeated → Row
 row keyword classes repeated = record { keyword = keyword; classes = classes; repeated = repeated }
 
--- the forms of lines: those of orders, then CERT and CLAIM, then those of a certificate alone
+-- the forms of lines: those of the file and of the heads of its parts, those of orders, CERT and CLAIM, and then those
+-- of a certificate alone
 abbrev pub forms : List Row
 forms =
     row keyword.Game (class.Number ∷ class.Number ∷ []) repeated.Nothing
     ∷ row keyword.Players [] (repeated.Names 3 6)
     ∷ row keyword.Sheet (class.Name ∷ class.Round ∷ []) repeated.Nothing
     ∷ row keyword.Turn [] repeated.Nothing
+    ∷ row keyword.Company (class.Company ∷ []) repeated.Nothing
     ∷ row keyword.Buy (class.Private ∷ []) repeated.Nothing
     ∷ row keyword.Buy (class.Company ∷ class.Word keyword.InitialOffering ∷ []) repeated.Nothing
     ∷ row keyword.Buy (class.Company ∷ class.Word keyword.Pool ∷ []) repeated.Nothing
@@ -51,7 +53,6 @@ forms =
     ∷ row keyword.Par (class.Company ∷ class.Number ∷ []) repeated.Nothing
     ∷ row keyword.Sell (class.Company ∷ class.Number ∷ []) repeated.Nothing
     ∷ row keyword.Exchange (class.Word keyword.Mohawk ∷ []) repeated.Nothing
-    ∷ row keyword.Company (class.Company ∷ []) repeated.Nothing
     ∷ row keyword.Lay (class.Tile ∷ class.Hex ∷ class.Rotation ∷ []) repeated.Nothing
     ∷ row keyword.Lay (class.Tile ∷ class.Hex ∷ class.Rotation ∷ class.Word keyword.Swap ∷ []) repeated.Nothing
     ∷ row keyword.Token (class.Place ∷ []) repeated.Nothing
@@ -77,6 +78,10 @@ forms =
 -- the forms of an order file: all but CERTS and MARKS
 abbrev pub order_forms : List Row
 order_forms = take 31 forms
+
+-- the forms of orders, which may stand under a condition
+abbrev pub play_forms : List Row
+play_forms = take 24 (drop 5 forms)
 
 -- the forms of the text of a certificate: CERT, CLAIM, CERTS and MARKS
 abbrev pub cert_forms : List Row

@@ -1,4 +1,4 @@
--- The literal words of forms.
+-- The literal words of forms and of conditions.
 use Rattle.std.specs.Prelude.{ℕ, List, codes}
 use Rattle.order_grammar.specs.declared.keyword.Keyword.{Keyword}
 use Rattle.order_grammar.specs.declared.keyword.Keyword.TheVariants as keyword
@@ -38,3 +38,8 @@ text_of_keyword keyword.Bank = codes "BANK"
 text_of_keyword keyword.Trade = codes "TRADE"
 text_of_keyword keyword.Best = codes "BEST"
 text_of_keyword keyword.One = codes "1"
+text_of_keyword keyword.If = codes "IF"
+text_of_keyword keyword.Price = codes "PRICE"
+text_of_keyword keyword.AtLeast = codes ">="
+text_of_keyword keyword.Phase = codes "PHASE"
+text_of_keyword keyword.Floated = codes "FLOATED"

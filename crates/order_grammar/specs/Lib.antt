@@ -8,9 +8,12 @@ pub mod Order
 pub mod Family
 pub mod Form
 pub mod Line
+pub mod Condition
+pub mod Version
 pub mod Token
 pub mod Row
 pub mod Print
 pub mod Fault
 pub mod Spells
 pub mod LineFault
+pub mod SpellsVersion

@@ -1,10 +1,10 @@
 -- What a line is by itself: the order that it spells, or the first fault that it has: too long, a
 -- byte before the comment that is not printable, and then what its words are.
-use Rattle.std.specs.Prelude.{ℕ, nat_lt, if◌then◌else◌, List, length, Result, Ok, Err}
+use Rattle.std.specs.Prelude.{ℕ, nat_lt, if◌then◌else◌, List, [], length, Result, Ok, Err}
 use Rattle.std.specs.List.{list_all}
 use Rattle.order_grammar.specs.Form.{Row, order_forms, cert_forms, words_reading}
 use Rattle.order_grammar.specs.Limits.{line_most, cert_line_most}
-use Rattle.order_grammar.specs.Words.{words_of, before_comment, is_printable}
+use Rattle.order_grammar.specs.Words.{Placed, words_of, before_comment, is_printable, placed_from}
 use Rattle.order_grammar.specs.declared.fault.Fault.{Fault}
 use Rattle.order_grammar.specs.declared.fault.Fault.TheVariants.{TooLong, StrayByte}
 use Rattle.order_grammar.specs.declared.order.Order.{Order}
@@ -17,7 +17,17 @@ reading_by most rows line =
     then Err TooLong
     else (if list_all is_printable (before_comment line) then words_reading rows (words_of line) else Err StrayByte)
 
--- the order of a line of an order file, or its first fault
+-- the words of a line of at most so many bytes at their places, or the first fault that it has before they are read
+abbrev pub words_within : ℕ → List ℕ → Result (List Placed) Fault
+words_within most line =
+    if nat_lt most (length line)
+    then Err TooLong
+    else
+    (if list_all is_printable (before_comment line)
+    then Ok (placed_from 0 [] (before_comment line))
+    else Err StrayByte)
+
+-- the order of a line of an order file of version 1, or its first fault
 abbrev pub reading_of : List ℕ → Result Order Fault
 reading_of line = reading_by line_most order_forms line
 

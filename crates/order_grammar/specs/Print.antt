@@ -1,4 +1,4 @@
--- The one spelling of an order: upper case, single spaces, no leading zeros.
+-- The one spelling of an order, under a condition or not: upper case, single spaces, no leading zeros.
 use Rattle.std.specs.Prelude.{◌≡◌, ℕ, List, [], ◌∷◌, ◌++◌, Option, Some, None, map, codes, decimal}
 use Rattle.std.specs.List.{flat_map}
 use Rattle.map_tables.specs.declared.place.Place.{Place}
@@ -7,8 +7,11 @@ use Rattle.tables.specs.Roster.{code_of_company, code_of_private}
 use Rattle.tables.specs.Train.{code_of_kind}
 use Rattle.tables.specs.declared.round.Round.{Round}
 use Rattle.tables.specs.declared.round.Round.TheVariants.{Opening, Stock, Operating}
+use Rattle.order_grammar.specs.Condition.{condition_values}
 use Rattle.order_grammar.specs.Keyword.{text_of_keyword}
 use Rattle.order_grammar.specs.Order.{parts_of}
+use Rattle.order_grammar.specs.declared.condition.Condition.{Condition}
+use Rattle.order_grammar.specs.declared.keyword.Keyword.TheVariants as keyword
 use Rattle.order_grammar.specs.declared.order.Order.{Order}
 use Rattle.order_grammar.specs.declared.order.Parts.{Parts}
 use Rattle.order_grammar.specs.declared.order.Tail.{Tail}
@@ -73,6 +76,13 @@ words_of_order order = words_of_parts (parts_of order)
 -- its spelling
 abbrev pub spelling_of : Order → List ℕ
 spelling_of order = joined (words_of_order order)
+
+-- the spelling of an order under a condition, if there is one
+abbrev pub conditional_spelling : Option Condition → Order → List ℕ
+conditional_spelling None order = spelling_of order
+conditional_spelling (Some condition) order =
+    joined (text_of_keyword keyword.If ∷ map text_of_value (condition_values condition)) ++ codes " "
+    ++ spelling_of order
 
 -- what was there, and after it a front of the text
 pub record AddsFront (old new text : List ℕ) : Type 0 where

@@ -22,6 +22,13 @@ order_file =
           ∷ codes "PRIVATE" ∷ codes "RAISE" ∷ codes "OFFER" ∷ codes "CERT" ∷ codes "CLAIM" ∷ [];
     }
 
+-- the words with which an order begins that may stand under a condition: no line of the file, no head, and no IF
+abbrev pub play_words : List (List ℕ)
+play_words =
+    codes "BUY" ∷ codes "BID" ∷ codes "LIMIT" ∷ codes "PAR" ∷ codes "SELL" ∷ codes "EXCHANGE" ∷ codes "LAY"
+    ∷ codes "TOKEN" ∷ codes "RUN" ∷ codes "PAY" ∷ codes "WITHHOLD" ∷ codes "TRAIN" ∷ codes "DISCARD" ∷ codes "PRIVATE"
+    ∷ codes "RAISE" ∷ codes "OFFER" ∷ []
+
 -- the text of a certificate
 abbrev pub certificate : TextKind
 certificate =

@@ -5,6 +5,7 @@ ghost use Rattle.order_grammar.specs.Form.{
   nearer,
   order_forms,
   order_of_values,
+  play_forms,
   put_reading,
   row_reading,
   rows_reading,
@@ -44,8 +45,9 @@ pub(crate) enum Repeated {
     Places,
 }
 
-/// The forms of lines: those of orders, then CERT and CLAIM, then those of a certificate's text
-/// alone. A line spells an order where its words fit a row.
+/// The forms of lines: those of the file and of the heads of its parts, those of orders, CERT and
+/// CLAIM, and then those of a certificate's text alone. A line spells an order where its words fit a
+/// row.
 const FORMS: [Form; 33] = [
     Form {
         keyword: Keyword::Game,
@@ -68,6 +70,11 @@ const FORMS: [Form; 33] = [
     Form {
         keyword: Keyword::Turn,
         classes: &[],
+        repeated: Repeated::Nothing,
+    },
+    Form {
+        keyword: Keyword::Company,
+        classes: &[Class::Company],
         repeated: Repeated::Nothing,
     },
     Form {
@@ -108,11 +115,6 @@ const FORMS: [Form; 33] = [
     Form {
         keyword: Keyword::Exchange,
         classes: &[Class::Word(Keyword::Mohawk)],
-        repeated: Repeated::Nothing,
-    },
-    Form {
-        keyword: Keyword::Company,
-        classes: &[Class::Company],
         repeated: Repeated::Nothing,
     },
     Form {
@@ -245,6 +247,13 @@ pub(crate) fn order_forms() -> &'static [Form]
     &FORMS[..31]
 }
 
+/// The forms of orders, which may stand under a condition.
+pub(crate) fn play_forms() -> &'static [Form]
+    ensures { map row_of result.now ≡ play_forms }
+{
+    &FORMS[5..29]
+}
+
 /// The forms of the text of a certificate: CERT, CLAIM, CERTS and MARKS.
 pub(crate) fn certificate_forms() -> &'static [Form]
     ensures { map row_of result.now ≡ cert_forms }
@@ -268,7 +277,12 @@ pub(crate) fn read_order(forms: &[Form], words: &Words, order: &mut Order) -> Re
 }
 
 /// The same of a first word and those after it.
-fn read_nearest(forms: &[Form], first: &[u8], rest: &Words, order: &mut Order) -> Result<(), Fault>
+pub(crate) fn read_nearest(
+    forms: &[Form],
+    first: &[u8],
+    rest: &Words,
+    order: &mut Order,
+) -> Result<(), Fault>
     requires { IsTrue (list_all is_short (map row_of forms.now)) }
     ensures { put_reading result order.new
         ≡ rows_reading (map row_of forms.now) (raised first.now) (texts_of rest.now) }

@@ -1,7 +1,8 @@
 ghost use Rattle.std.specs.Prelude.{◌≡◌};
 ghost use Rattle.order_grammar.specs.Keyword.{text_of_keyword};
 
-/// A literal word of a form: the first word of a line, or one after it that stands for itself.
+/// A literal word of a form or a condition: the first word of a line, or one after it that stands for
+/// itself.
 #[derive(Clone, Copy, Debug, PartialEq, Eq)]
 pub(crate) enum Keyword {
     Game,
@@ -37,6 +38,11 @@ pub(crate) enum Keyword {
     Trade,
     Best,
     One,
+    If,
+    Price,
+    AtLeast,
+    Phase,
+    Floated,
 }
 
 impl Keyword {
@@ -78,6 +84,11 @@ impl Keyword {
             Keyword::Trade => b"TRADE",
             Keyword::Best => b"BEST",
             Keyword::One => b"1",
+            Keyword::If => b"IF",
+            Keyword::Price => b"PRICE",
+            Keyword::AtLeast => b">=",
+            Keyword::Phase => b"PHASE",
+            Keyword::Floated => b"FLOATED",
         }
     }
 }

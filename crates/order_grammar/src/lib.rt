@@ -4,14 +4,16 @@
 //! A line's words are parted by spaces and end before the first `#`; letters of either case are
 //! equal. The forms of lines stand in one table; a line spells the order of the row that its words
 //! fit. An order file knows all forms but CERTS and MARKS, the text of a certificate these two and
-//! CERT and CLAIM. Reading takes no memory; printing takes it for its text alone.
+//! CERT and CLAIM. In an order file of version 2 an order may stand under a condition. Reading takes
+//! no memory; printing takes it for its text alone.
 //!
 //! Reading order: `name`, `fault`, `words` (a line and its words), `keyword` (the literal words),
 //! `order` (orders and what they are made of), `class` (the texts of each class of words), `form`
-//! (the table), `read`, `print`, `laws`.
+//! (the table), `condition` (versions, and an order under a condition), `read`, `print`, `laws`.
 #![tactic(auto)]
 
 mod class;
+mod condition;
 mod fault;
 mod form;
 mod keyword;
@@ -23,13 +25,18 @@ mod read;
 mod words;
 
 pub use class::MARKS_DIGITS_MOST;
+pub use condition::{Condition, Version};
 pub use fault::Fault;
 pub use laws::{
     cert_line_faulty_where_it_has_one, cert_line_read_where_spelt, cert_spelling_is_read_again,
-    faulty_where_it_has_one, read_where_spelt, spelling_is_read_again,
+    conditional_spelling_is_read_again, faulty_in_version_where_it_has_one,
+    faulty_where_it_has_one, read_in_version_where_spelt, read_where_spelt, spelling_is_read_again,
+    version_one_has_no_conditions, versions_differ_by_if_alone,
 };
 pub use name::{NAME_MOST, Name};
 pub use order::{Offer, Order, ShareSource, TrainSource};
-pub use print::{print_line, print_number, print_order, print_round};
-pub use read::{CERT_LINE_MOST, LINE_MOST, Line, read_cert_line, read_line};
+pub use print::{
+    print_conditional, print_conditional_order, print_line, print_number, print_order, print_round,
+};
+pub use read::{CERT_LINE_MOST, LINE_MOST, Line, read_cert_line, read_line, read_line_in};
 pub use words::{Span, Token, Words, begins_with_word, has_word};

@@ -495,6 +495,8 @@ pub(crate) fn put_plain(keyword: Keyword, values: &[Value], order: &mut Order) -
         Keyword::Best | Keyword::One => false,
         Keyword::InitialOffering | Keyword::Pool | Keyword::Mohawk | Keyword::Swap => false,
         Keyword::Bank | Keyword::Trade => false,
+        Keyword::If | Keyword::Price | Keyword::AtLeast => false,
+        Keyword::Phase | Keyword::Floated => false,
     }
 }
 
@@ -737,7 +739,7 @@ fn put_certificate_line(keyword: Keyword, values: &[Value], order: &mut Order) -
 
 impl Parts {
     /// These parts, of which none is repeated.
-    fn of(keyword: Keyword, values: &[Value]) -> Parts
+    pub(crate) fn of(keyword: Keyword, values: &[Value]) -> Parts
         requires { length values.now ≤ 5 }
         ensures keyword { result.keyword ≡ keyword }
         ensures values { result.values.items ≡ values.now }

@@ -1,7 +1,9 @@
 ghost use Rattle.std.specs.Prelude.{◌≡◌, ◌++◌, IfOk, OnErr, OnOk};
+ghost use Rattle.std.specs.Option.{option_copied};
 ghost use Rattle.map_tables.specs.Text.{text_of_place};
-ghost use Rattle.order_grammar.specs.Print.{AddsFront, places_text, spaced, values_text, spelling_of, text_of_round, text_of_value};
+ghost use Rattle.order_grammar.specs.Print.{AddsFront, conditional_spelling, places_text, spaced, values_text, spelling_of, text_of_round, text_of_value};
 
+use crate::condition::Condition;
 use crate::name::Name;
 use crate::order::{Order, Tail, Value};
 use itoa::Integer;
@@ -17,6 +19,43 @@ pub fn print_line(alloc: Global, order: &Order) -> Result<Vec<u8>, AllocError>
     let mut text = Vec::new(alloc);
     print_order(&mut text, order)?;
     Ok(text)
+}
+
+/// The one spelling of an order under a condition, if there is one: upper case, single spaces, no
+/// leading zeros.
+pub fn print_conditional(
+    alloc: Global,
+    condition: Option<&Condition>,
+    order: &Order,
+) -> Result<Vec<u8>, AllocError>
+    ensures { IfOk result
+        (λ text. text.items ≡ conditional_spelling (option_copied condition.entry) order.now) }
+{
+    let mut text = Vec::new(alloc);
+    print_conditional_order(&mut text, condition, order)?;
+    Ok(text)
+}
+
+/// Adds the spelling of an order under a condition, if there is one: upper case, single spaces, no
+/// leading zeros. At want of memory a front of that may have been added.
+pub fn print_conditional_order(
+    text: &mut Vec<u8>,
+    condition: Option<&Condition>,
+    order: &Order,
+) -> Result<(), AllocError>
+    ensures ok { OnOk result (text.new.items
+        ≡ text.old.items ++ conditional_spelling (option_copied condition.entry) order.now) }
+    ensures err { OnErr result (AddsFront text.old.items text.new.items
+        (conditional_spelling (option_copied condition.entry) order.now)) }
+{
+    let Some(condition) = condition else {
+        return print_order(text, order);
+    };
+    let parts = condition.parts();
+    text.extend_from_slice(parts.keyword.text())?;
+    print_values(text, parts.values.as_slice())?;
+    text.push(b' ')?;
+    print_order(text, order)
 }
 
 /// Adds the spelling of an order: upper case, single spaces, no leading zeros. At want of memory a

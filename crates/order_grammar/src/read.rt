@@ -1,9 +1,12 @@
-ghost use Rattle.std.specs.Prelude.{◌≡◌, IfOk, IsTrue, map};
+ghost use Rattle.std.specs.Prelude.{◌≡◌, IfOk, IsTrue, None, map};
 ghost use Rattle.std.specs.List.{list_all};
-ghost use Rattle.order_grammar.specs.Line.{cert_reading_of, order_of, reading_by, reading_of};
+ghost use Rattle.order_grammar.specs.Line.{cert_reading_of, order_of, reading_by, reading_of, words_within};
 ghost use Rattle.order_grammar.specs.Row.{is_short, row_of};
+ghost use Rattle.order_grammar.specs.Version.{ordered_of, reading_in};
 ghost use Rattle.order_grammar.specs.Words.{AreWordsOf, is_printable};
+ghost use Rattle.order_grammar.specs.declared.condition.Version.TheVariants.{Two};
 
+use crate::condition::{Condition, Version, read_ordered};
 use crate::fault::Fault;
 use crate::form::{Form, certificate_forms, order_forms, read_order};
 use crate::order::Order;
@@ -19,22 +22,55 @@ const _: () = prove!(size_of::<Line>() <= 1024);
 
 const _: () = prove!(size_of::<Words>() <= 1024);
 
-/// A line that was read: its order, and its words as they are written.
+/// A line that was read: its order with its condition, and its words as they are written.
 #[derive(Debug, Drop)]
 pub struct Line<'a> {
+    pub condition: Option<Condition>,
     pub order: Order,
     pub words: Words<'a>,
 }
 
-/// Reads a line of an order file, without its LF and a CR before that. A line without words is the
-/// order `Blank`. CERTS and MARKS are unknown words.
+/// Reads a line of an order file of version 1, without its LF and a CR before that. A line without
+/// words is the order `Blank`. CERTS, MARKS and IF are unknown words.
 pub fn read_line(line: &[u8]) -> Result<Line<'_>, Fault>
     // The order, or the fault.
     ensures order { order_of result ≡ reading_of line.now }
+    // The order stands under no condition.
+    ensures condition { IfOk result (λ read. read.condition ≡ None) }
     // The words, at their places before the comment.
     ensures words { IfOk result (λ read. AreWordsOf line.now read.words) }
 {
     read_by(LINE_MOST, order_forms(), line)
+}
+
+/// Reads a line of an order file of some version, without its LF and a CR before that. A line of
+/// version 1 is read as `read_line` does. In version 2 an order may stand under a condition, and IF
+/// is a known word.
+pub fn read_line_in(version: Version, line: &[u8]) -> Result<Line<'_>, Fault>
+    // The order with its condition, or the fault.
+    ensures order { ordered_of result ≡ reading_in version line.now }
+    // The words, at their places before the comment.
+    ensures words { IfOk result (λ read. AreWordsOf line.now read.words) }
+{
+    match version {
+        Version::One => read_line(line),
+        Version::Two => read_line_of_two(line),
+    }
+}
+
+/// Reads a line of version 2.
+fn read_line_of_two(line: &[u8]) -> Result<Line<'_>, Fault>
+    ensures order { ordered_of result ≡ reading_in Two line.now }
+    ensures words { IfOk result (λ read. AreWordsOf line.now read.words) }
+{
+    let words = words_within(LINE_MOST, line)?;
+    let mut order = Order::Blank;
+    let condition = read_ordered(&words, &mut order)?;
+    Ok(Line {
+        condition,
+        order,
+        words,
+    })
 }
 
 /// Reads a line of the text of a certificate, without its LF and a CR before that. CERTS, CERT,
@@ -42,6 +78,8 @@ pub fn read_line(line: &[u8]) -> Result<Line<'_>, Fault>
 pub fn read_cert_line(line: &[u8]) -> Result<Line<'_>, Fault>
     // What the line says, or the fault.
     ensures order { order_of result ≡ cert_reading_of line.now }
+    // It stands under no condition.
+    ensures condition { IfOk result (λ read. read.condition ≡ None) }
     // The words, at their places before the comment.
     ensures words { IfOk result (λ read. AreWordsOf line.now read.words) }
 {
@@ -52,7 +90,22 @@ pub fn read_cert_line(line: &[u8]) -> Result<Line<'_>, Fault>
 fn read_by<'a>(most: usize, forms: &[Form], line: &'a [u8]) -> Result<Line<'a>, Fault>
     requires { IsTrue (list_all is_short (map row_of forms.now)) }
     ensures order { order_of result ≡ reading_by most (map row_of forms.now) line.now }
+    ensures condition { IfOk result (λ read. read.condition ≡ None) }
     ensures words { IfOk result (λ read. AreWordsOf line.now read.words) }
+{
+    let words = words_within(most, line)?;
+    let mut order = Order::Blank;
+    read_order(forms, &words, &mut order)?;
+    Ok(Line {
+        condition: None,
+        order,
+        words,
+    })
+}
+
+/// The words of a line of at most so many bytes, of which those before the comment are printable.
+fn words_within(most: usize, line: &[u8]) -> Result<Words<'_>, Fault>
+    ensures { result ≡ words_within most line.now }
 {
     if line.len() > most {
         return Err(Fault::TooLong);
@@ -60,10 +113,7 @@ fn read_by<'a>(most: usize, forms: &[Form], line: &'a [u8]) -> Result<Line<'a>, 
     if !before_comment(line).iter().all(|byte| is_printable(*byte)) {
         return Err(Fault::StrayByte);
     }
-    let words = Words::of(line);
-    let mut order = Order::Blank;
-    read_order(forms, &words, &mut order)?;
-    Ok(Line { order, words })
+    Ok(Words::of(line))
 }
 
 /// Whether a byte may stand before a comment.

@@ -82,7 +82,7 @@ fn group_begun(alloc: Global, head: &[u8]) -> Option<Group>
 fn take_line(group: &mut Group, line: &[u8]) -> Result<bool, AllocError>
     ensures { IfOk result (λ taken. group_if taken group.new ≡ with_line group.old line.now) }
 {
-    let Ok(Line { order, words }) = read_cert_line(line) else {
+    let Ok(Line { order, words, .. }) = read_cert_line(line) else {
         return Ok(false);
     };
     match order {
