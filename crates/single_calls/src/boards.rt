@@ -17,8 +17,8 @@ const PRR: Company = Company::Pennsylvania;
 /// A 3 and a 2, which run from PRR's home to the east and to the west for 60.
 const TRAINS: [Kind; 2] = [Kind::Three, Kind::Two];
 
-/// More tokens than have their place in the value of a board.
-const MANY: usize = 27;
+/// More tokens than have their place in the value of a board, and than a list first has room for.
+const MANY: usize = 60;
 
 /// PRR, which has laid nothing in its turn and has this cash.
 fn asker(cash: Money) -> Asker {
@@ -41,6 +41,11 @@ fn laid(hex: Hex, tile: TileNo) -> Lay {
         rot: Rotation::One,
         swap: false,
     }
+}
+
+/// A straight piece of track.
+fn straight(hex: Hex) -> Lay {
+    laid(hex, TileNo::T9)
 }
 
 /// The tiles of the line.
@@ -95,16 +100,16 @@ pub fn lays_out_plain(rt: &HostRuntime) -> Result<Outcome, Fault> {
     })
 }
 
-/// Lays the tiles one after the other on an empty board; where one is refused, the board is that of
-/// those before it.
+/// Lays tiles one after the other on an empty board; where one is refused, the board is that of those
+/// before it.
 pub fn puts_lays(rt: &HostRuntime) -> Result<Outcome, Fault> {
     let mut board = Board::empty(rt.alloc(), Kind::Two);
-    let tiles = line();
+    let tiles = [Hex::H6, Hex::H8, Hex::H14, Hex::F12, Hex::H16].map(straight);
     Call::PutLay.begin(rt)?;
     let count = put_lays(&mut board, &tiles);
     made(rt)?;
     let are_as_told = board.tiles_laid() == count
-        && board.links(Hex::H10).is_empty() == (count == 0)
+        && board.links(Hex::H6).is_empty() == (count == 0)
         && board.links(Hex::H16).is_empty() == (count < tiles.len());
     Ok(if count == tiles.len() {
         Outcome::of_answer(are_as_told)
