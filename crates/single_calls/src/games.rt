@@ -39,7 +39,8 @@ pub fn appends(rt: &HostRuntime) -> Result<Outcome, Fault> {
 /// turn. Answers how many were added.
 fn append_many(game: &mut History) -> usize {
     for count in 0..MANY {
-        if game.append(event(count % 2 == 0)).is_err() {
+        let event = event(count % 2 == 0);
+        if !game.has_room(&event) || game.append(event).is_err() {
             return count;
         }
     }
@@ -121,7 +122,7 @@ pub fn steps(rt: &HostRuntime, call: Call, before: usize) -> Result<Outcome, Fau
 }
 
 /// Plays a round: whether it was played.
-fn has_stepped(play: &mut Play, search: &mut Search) -> bool {
+pub fn has_stepped(play: &mut Play, search: &mut Search) -> bool {
     matches!(play.step(search), Ok(Step::Played(_)))
 }
 
@@ -130,5 +131,5 @@ fn is_broken_off(play: &mut Play, search: &mut Search, last: Option<Round>) -> b
     play.last_round() == last
         && play.outcome().is_none()
         && play.history().is_none()
-        && play.step(search) == Err(PlayFault::Memory)
+        && matches!(play.step(search), Err(PlayFault::Memory))
 }

@@ -2,6 +2,7 @@
 
 use crate::call::{Call, made};
 use crate::fault::Fault;
+use crate::games::has_stepped;
 use crate::outcome::Outcome;
 use crate::texts::{AWAITED, FIRST, FIRST_ROUND, HEADER};
 use best_run::Search;
@@ -38,9 +39,9 @@ pub fn tells_next(rt: &HostRuntime) -> Result<Outcome, Fault> {
     };
     let mut search = Search::new(rt.alloc());
     let mut play = Play::start(rt.alloc(), &sheets)?;
-    let Ok(Step::Played(_)) = play.step(&mut search) else {
+    if !has_stepped(&mut play, &mut search) {
         return Err(Fault::Position);
-    };
+    }
     Call::NextText.begin(rt)?;
     let answer = next_text(rt.alloc(), &play);
     made(rt)?;
@@ -54,16 +55,23 @@ pub fn tells_end(rt: &HostRuntime) -> Result<Outcome, Fault> {
     };
     let mut search = Search::new(rt.alloc());
     let mut play = Play::start(rt.alloc(), &sheets)?;
-    let Ok(Step::Played(_)) = play.step(&mut search) else {
+    if !has_stepped(&mut play, &mut search) {
         return Err(Fault::Position);
-    };
-    let Ok(Step::Ended(_)) = play.step(&mut search) else {
-        return Err(Fault::Position);
-    };
-    Call::EndText.begin(rt)?;
-    let answer = end_text(rt.alloc(), &play);
-    made(rt)?;
-    Ok(told(answer, AWAITED))
+    }
+    ends(rt, &mut play, &mut search)
+}
+
+/// What follows the rounds of a play that has come to its end.
+fn ends(rt: &HostRuntime, play: &mut Play, search: &mut Search) -> Result<Outcome, Fault> {
+    match play.step(search) {
+        Ok(Step::Ended(_)) => {
+            Call::EndText.begin(rt)?;
+            let answer = end_text(rt.alloc(), play);
+            made(rt)?;
+            Ok(told(answer, AWAITED))
+        }
+        Ok(Step::Played(_)) | Err(_) => Err(Fault::Position),
+    }
 }
 
 /// Its round, looked back at.
