@@ -1,0 +1,243 @@
+//! Calls on the map: a line of three cities, with PRR's home in the middle.
+
+use crate::call::{Call, made};
+use crate::fault::Fault;
+use crate::outcome::Outcome;
+use best_run::{Best, Search, best};
+use board::{Asker, Board, BoardFault, LayFault, PlainBoard, TokenFault, TurnStep};
+use certificate::{Runner, RunnerFault};
+use map_tables::{Hex, Lay, Place, Rotation, Stop, StopNumber, TileNo};
+use reach::{Network, reached};
+use std::alloc::{AllocError, Global};
+use std::rt::Runtime;
+use tables::{Company, Kind, Money, Round};
+
+const PRR: Company = Company::Pennsylvania;
+
+/// A 3 and a 2, which run from PRR's home to the east and to the west for 60.
+const TRAINS: [Kind; 2] = [Kind::Three, Kind::Two];
+
+/// More tokens than have their place in the value of a board, and than a list first has room for.
+const MANY: usize = 60;
+
+/// PRR, which has laid nothing in its turn and has this cash.
+fn asker(cash: Money) -> Asker {
+    Asker {
+        company: PRR,
+        cash,
+        pointer: TurnStep::Lay,
+        lay_used: false,
+        dh_laid: false,
+        own_privates: [false; 6],
+        player_privates: [false; 6],
+    }
+}
+
+/// A tile that is turned by one sixth.
+fn laid(hex: Hex, tile: TileNo) -> Lay {
+    Lay {
+        hex,
+        tile,
+        rot: Rotation::One,
+        swap: false,
+    }
+}
+
+/// A straight piece of track.
+fn straight(hex: Hex) -> Lay {
+    laid(hex, TileNo::T9)
+}
+
+/// The tiles of the line.
+fn line() -> [Lay; 3] {
+    [
+        laid(Hex::H10, TileNo::T57),
+        laid(Hex::H14, TileNo::T9),
+        laid(Hex::H16, TileNo::T57),
+    ]
+}
+
+/// The first stop of a hex.
+fn first(hex: Hex) -> Stop {
+    Stop {
+        hex,
+        number: StopNumber::First,
+    }
+}
+
+/// PRR's home token.
+fn home() -> [(Place, Company); 1] {
+    [(first(Hex::H12).place(), PRR)]
+}
+
+/// The line and the token.
+fn board(alloc: Global) -> Result<Board, Fault> {
+    match Board::of(alloc, &line(), &home(), Kind::Two) {
+        Ok(board) => Ok(board),
+        Err(_) => Err(Fault::Position),
+    }
+}
+
+/// Makes the board.
+pub fn lays_out(rt: &HostRuntime) -> Result<Outcome, Fault> {
+    Call::BoardOf.begin(rt)?;
+    let answer = Board::of(rt.alloc(), &line(), &home(), Kind::Two);
+    made(rt)?;
+    Ok(match answer {
+        Ok(board) => Outcome::of_answer(board.tiles_laid() == 3 && board.tokens_placed() == 1),
+        Err(fault) => Outcome::of_refusal(fault == BoardFault::Memory),
+    })
+}
+
+/// Makes the plain board: PRR's token lies on it.
+pub fn lays_out_plain(rt: &HostRuntime) -> Result<Outcome, Fault> {
+    Call::PlainBoardOf.begin(rt)?;
+    let answer = PlainBoard::of(rt.alloc(), &line(), &home(), Kind::Two);
+    made(rt)?;
+    Ok(match answer {
+        Ok(board) => Outcome::of_answer(board.token(first(Hex::H12), PRR)),
+        Err(fault) => Outcome::of_refusal(fault == BoardFault::Memory),
+    })
+}
+
+/// Lays tiles one after the other on an empty board; where one is refused, the board is that of those
+/// before it.
+pub fn puts_lays(rt: &HostRuntime) -> Result<Outcome, Fault> {
+    let mut board = Board::empty(rt.alloc(), Kind::Two);
+    let tiles = [Hex::H6, Hex::H8, Hex::H14, Hex::F12, Hex::H16].map(straight);
+    Call::PutLay.begin(rt)?;
+    let count = put_lays(&mut board, &tiles);
+    made(rt)?;
+    let are_as_told = board.tiles_laid() == count
+        && board.links(Hex::H6).is_empty() == (count == 0)
+        && board.links(Hex::H16).is_empty() == (count < tiles.len());
+    Ok(if count == tiles.len() {
+        Outcome::of_answer(are_as_told)
+    } else {
+        Outcome::of_refusal(are_as_told)
+    })
+}
+
+/// Lays tiles up to the first that is refused: how many were laid.
+fn put_lays(board: &mut Board, tiles: &[Lay]) -> usize {
+    for (count, tile) in tiles.iter().enumerate() {
+        if board.put_lay(*tile).is_err() {
+            return count;
+        }
+    }
+    tiles.len()
+}
+
+/// Places more tokens than stand in the value of a board; where one is refused, the board is that of
+/// those before it.
+pub fn puts_tokens(rt: &HostRuntime) -> Result<Outcome, Fault> {
+    let mut board = board(rt.alloc())?;
+    Call::PutToken.begin(rt)?;
+    let count = put_tokens(&mut board);
+    made(rt)?;
+    let are_as_told = board.tokens_placed() == count.saturating_add(1)
+        && board.token(first(Hex::H10), PRR) == (count > 0);
+    Ok(if count == MANY {
+        Outcome::of_answer(are_as_told)
+    } else {
+        Outcome::of_refusal(are_as_told)
+    })
+}
+
+/// Places tokens of PRR on the west end of the line up to the first that is refused: how many were
+/// placed.
+fn put_tokens(board: &mut Board) -> usize {
+    for count in 0..MANY {
+        if board.put_token(first(Hex::H10).place(), PRR).is_err() {
+            return count;
+        }
+    }
+    MANY
+}
+
+/// A tile beyond the west end, which PRR reaches and may lay for nothing.
+pub fn tries_lay(rt: &HostRuntime) -> Result<Outcome, Fault> {
+    let board = board(rt.alloc())?;
+    let tile = laid(Hex::H8, TileNo::T9);
+    Call::TryLay.begin(rt)?;
+    let answer = board.try_lay(&asker(0), tile);
+    made(rt)?;
+    let is_before = board.tiles_laid() == 3;
+    Ok(match answer {
+        Err(LayFault::Memory) => Outcome::of_refusal(is_before),
+        other => Outcome::of_answer(other == Ok(0) && is_before),
+    })
+}
+
+/// A second token, which costs 40.
+pub fn tries_token(rt: &HostRuntime) -> Result<Outcome, Fault> {
+    let board = board(rt.alloc())?;
+    Call::TryToken.begin(rt)?;
+    let answer = board.try_token(&asker(40), first(Hex::H10).place());
+    made(rt)?;
+    let is_before = board.tokens_placed() == 1;
+    Ok(match answer {
+        Err(TokenFault::Memory) => Outcome::of_refusal(is_before),
+        other => Outcome::of_answer(other == Ok(40) && is_before),
+    })
+}
+
+/// What PRR reaches: the three cities.
+pub fn reaches(rt: &HostRuntime) -> Result<Outcome, Fault> {
+    let board = board(rt.alloc())?;
+    Call::Reached.begin(rt)?;
+    let answer = reached(rt.alloc(), &board, PRR);
+    made(rt)?;
+    Ok(match answer {
+        Ok(reach) => {
+            let stops = [Hex::H10, Hex::H12, Hex::H16].map(first);
+            Outcome::of_answer(reach.stops() == stops.as_slice())
+        }
+        Err(_) => Outcome::of_refusal(true),
+    })
+}
+
+/// What is told of the best that PRR's trains do on the line.
+fn told(answer: Result<Best, AllocError>) -> Outcome {
+    match answer {
+        Ok(best) => {
+            let runs = best.claim.runs.as_slice().len();
+            Outcome::of_answer(best.claim.revenue == 60 && runs == 2)
+        }
+        Err(_) => Outcome::of_refusal(true),
+    }
+}
+
+/// The best on the board.
+pub fn finds_best(rt: &HostRuntime) -> Result<Outcome, Fault> {
+    let board = board(rt.alloc())?;
+    Call::Best.begin(rt)?;
+    let answer = best(rt.alloc(), &board, PRR, &TRAINS);
+    made(rt)?;
+    Ok(told(answer))
+}
+
+/// The best on the plain board.
+pub fn finds_best_plain(rt: &HostRuntime) -> Result<Outcome, Fault> {
+    let Ok(board) = PlainBoard::of(rt.alloc(), &line(), &home(), Kind::Two) else {
+        return Err(Fault::Position);
+    };
+    Call::BestPlain.begin(rt)?;
+    let answer = best(rt.alloc(), &board, PRR, &TRAINS);
+    made(rt)?;
+    Ok(told(answer))
+}
+
+/// The runner that searches answers the greatest revenue.
+pub fn searches(rt: &HostRuntime) -> Result<Outcome, Fault> {
+    let board = board(rt.alloc())?;
+    let mut search = Search::new(rt.alloc());
+    let round = Round::Operating { set: 1, number: 1 };
+    Call::Search.begin(rt)?;
+    let answer = search.earn(&board, round, PRR, &TRAINS);
+    made(rt)?;
+    Ok(match answer {
+        Err(fault) => Outcome::of_refusal(fault == RunnerFault::Memory),
+        Ok(money) => Outcome::of_answer(money == 60),
+    })
+}

@@ -1,0 +1,110 @@
+//! Calls that tell a game as text.
+
+use crate::call::{Call, made};
+use crate::fault::Fault;
+use crate::games::has_stepped;
+use crate::outcome::Outcome;
+use crate::texts::{AWAITED, FIRST, FIRST_ROUND, HEADER};
+use best_run::Search;
+use report::{end_text, header_text, next_text, report, round_text};
+use rounds::{Play, Step, play};
+use sheets::collect;
+use std::alloc::AllocError;
+use std::rt::Runtime;
+use tables::Round;
+
+/// What is told of a text, by the text that is owed.
+fn told(answer: Result<Vec<u8>, AllocError>, owed: &str) -> Outcome {
+    match answer {
+        Ok(text) => Outcome::of_answer(text.as_slice() == owed.as_bytes()),
+        Err(_) => Outcome::of_refusal(true),
+    }
+}
+
+/// The header of the first game.
+pub fn tells_header(rt: &HostRuntime) -> Result<Outcome, Fault> {
+    let Ok(sheets) = collect(rt.alloc(), FIRST.as_bytes()) else {
+        return Err(Fault::Position);
+    };
+    Call::HeaderText.begin(rt)?;
+    let answer = header_text(rt.alloc(), &sheets);
+    made(rt)?;
+    Ok(told(answer, HEADER))
+}
+
+/// Its round, as it was played last.
+pub fn tells_next(rt: &HostRuntime) -> Result<Outcome, Fault> {
+    let Ok(sheets) = collect(rt.alloc(), FIRST.as_bytes()) else {
+        return Err(Fault::Position);
+    };
+    let mut search = Search::new(rt.alloc());
+    let mut play = Play::start(rt.alloc(), &sheets)?;
+    if !has_stepped(&mut play, &mut search) {
+        return Err(Fault::Position);
+    }
+    Call::NextText.begin(rt)?;
+    let answer = next_text(rt.alloc(), &play);
+    made(rt)?;
+    Ok(told(answer, FIRST_ROUND))
+}
+
+/// What follows its round.
+pub fn tells_end(rt: &HostRuntime) -> Result<Outcome, Fault> {
+    let Ok(sheets) = collect(rt.alloc(), FIRST.as_bytes()) else {
+        return Err(Fault::Position);
+    };
+    let mut search = Search::new(rt.alloc());
+    let mut play = Play::start(rt.alloc(), &sheets)?;
+    if !has_stepped(&mut play, &mut search) {
+        return Err(Fault::Position);
+    }
+    ends(rt, &mut play, &mut search)
+}
+
+/// What follows the rounds of a play that has come to its end.
+fn ends(rt: &HostRuntime, play: &mut Play, search: &mut Search) -> Result<Outcome, Fault> {
+    match play.step(search) {
+        Ok(Step::Ended(_)) => {
+            Call::EndText.begin(rt)?;
+            let answer = end_text(rt.alloc(), play);
+            made(rt)?;
+            Ok(told(answer, AWAITED))
+        }
+        Ok(Step::Played(_)) | Err(_) => Err(Fault::Position),
+    }
+}
+
+/// Its round, looked back at.
+pub fn tells_round(rt: &HostRuntime) -> Result<Outcome, Fault> {
+    let Ok(sheets) = collect(rt.alloc(), FIRST.as_bytes()) else {
+        return Err(Fault::Position);
+    };
+    let game = play(rt.alloc(), &sheets)?;
+    Call::RoundText.begin(rt)?;
+    let answer = round_text(rt.alloc(), &game, Round::Opening(1));
+    made(rt)?;
+    Ok(told(answer, FIRST_ROUND))
+}
+
+/// The whole report.
+pub fn tells_all(rt: &HostRuntime) -> Result<Outcome, Fault> {
+    let Ok(sheets) = collect(rt.alloc(), FIRST.as_bytes()) else {
+        return Err(Fault::Position);
+    };
+    let game = play(rt.alloc(), &sheets)?;
+    Call::Report.begin(rt)?;
+    let answer = report(rt.alloc(), &game);
+    made(rt)?;
+    Ok(match answer {
+        Ok(text) => Outcome::of_answer(is_joined(text.as_slice())),
+        Err(_) => Outcome::of_refusal(true),
+    })
+}
+
+/// Whether a text is the header, the round and the end, joined.
+fn is_joined(text: &[u8]) -> bool {
+    let Some(rest) = text.strip_prefix(HEADER.as_bytes()) else {
+        return false;
+    };
+    rest.strip_prefix(FIRST_ROUND.as_bytes()) == Some(AWAITED.as_bytes())
+}
