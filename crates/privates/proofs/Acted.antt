@@ -1,24 +1,29 @@
 -- The new events of a line of an opening turn tell who acted in it.
-use Rattle.std.proofs.Common.{◌≡◌, ℕ, true, false, List, [], ◌∷◌, ◌++◌, Option, Some, None, Result, Ok, Err, refl}
+use Rattle.std.proofs.Common.{◌≡◌, ℕ, Bool, true, false, ◌||◌, List, [], ◌∷◌, ◌++◌, Option, Some, None, refl}
 use Rattle.history.specs.Bids.{bids_on}
 use Rattle.history.specs.LookBack.{actor_of, cheapest_of, last_said}
 use Rattle.history.specs.declared.event.Bid.{Bid}
 use Rattle.history.specs.declared.event.Event.{Event}
 use Rattle.history.specs.declared.event.Event.TheVariants as event
-use Rattle.history.specs.declared.ruling.OpeningRule.{OpeningRule}
-use Rattle.order_grammar.specs.declared.fault.Fault.{Fault}
+use Rattle.history.specs.declared.ruling.Ruling.TheVariants.{Obeyed}
 use Rattle.order_grammar.specs.declared.order.Order.{Order}
 use Rattle.order_grammar.specs.declared.order.Order.TheVariants as order
-use Rattle.privates.specs.Judgement.{has_place_in_group, judged, judgement_of, placed_ruling, price_of}
+use Rattle.privates.specs.Judgement.{price_of, refusal_of}
 use Rattle.privates.specs.Sale.{after_sale, gifts, settle, settled, settled_by, settled_of}
-use Rattle.privates.specs.Turn.{InTurn, after_ruling, opening_rules}
+use Rattle.privates.specs.Turn.{InTurn, acted, after_ruling, opening_rules}
 use Rattle.sheets.specs.Part.{Numbered}
-use Rattle.sheets.specs.Place.{placed}
 use Rattle.tables.specs.declared.roster.Private.{Private}
 use Rattle.tables.specs.declared.roster.Private.TheVariants as private
 use Rattle.tables.specs.declared.seat.Seat.{Seat}
-use Rattle.turns.proofs.Acted.{LineTells, in_both, nobody, nobody_in_steps, one_more, turns_tell}
+use Rattle.turns.proofs.Acted.{LineTells, in_both, nobody, nobody_in_steps, nobody_ruled, one_more, turns_tell}
+use Rattle.turns.proofs.Ruled.{of_ruled}
 use Rattle.turns.specs.Acted.{TellsWhoActed, TurnsTellWhoActed}
+use Rattle.turns.specs.Ruling.{has_place_in_group, recorded}
+
+-- a seat that has bought or bid has acted
+now_acted : (before : Bool) → true ≡ (before || true)
+now_acted true = refl
+now_acted false = refl
 
 -- nobody acts by what a sale brings
 no_giver : (events : List Event) (private : Private) (buyer : Seat) → last_said actor_of (gifts events private buyer) ≡ None
@@ -52,43 +57,34 @@ in_settled : (seat : Seat) (seats : ℕ) (events : List Event) → TellsWhoActed
 unfolding settled
 in_settled seat seats events = nobody_in_steps seat (settle seats) (λ list. in_cheapest seat seats list (cheapest_of list)) 6 events
 
--- by a line with the ruling of an order that breaks this rule, or none
-order_tells : (seats : ℕ) (seat : Seat) (turn : InTurn) (number : ℕ) (done : Order) (broken : Option OpeningRule) →
-    judgement_of seats turn.events seat turn.deeds done ≡ broken →
-    LineTells opening_rules seat turn (after_ruling seats seat turn number (judged done broken))
-order_tells seats seat turn number done (Some rule) is =
-    record { acts = false; told = one_more seat false turn.events (event.Ruled seat number (judged done (Some rule))) refl; acted = refl }
-order_tells seats seat turn number (order.BuyPrivate private) None is =
-    let ruled : List Event = turn.events ++ event.Ruled seat number (judged (order.BuyPrivate private) None) ∷ [] in
+-- by a line whose order is done
+order_tells : (seats : ℕ) (seat : Seat) (turn : InTurn) (number : ℕ) (done : Order) → refusal_of seats turn.events seat turn.deeds done ≡ None →
+    LineTells opening_rules seat turn (after_ruling seats seat turn number (Obeyed done))
+order_tells seats seat turn number (order.BuyPrivate private) kept =
+    let ruled : List Event = recorded seat number (Obeyed (order.BuyPrivate private)) turn.events in
     let sold : List Event = after_sale ruled private seat (price_of ruled private) in
     record {
       acts = true;
       told =
-          in_both seat true false turn.events ruled (settled seats sold) (one_more seat true turn.events (event.Ruled seat number (judged (order.BuyPrivate private) None)) refl)
+          in_both seat true false turn.events ruled (settled seats sold) (one_more seat true turn.events (event.Ruled seat number (Obeyed (order.BuyPrivate private))) refl)
           (in_both seat false false ruled sold (settled seats sold) (in_sale seat ruled private seat (price_of ruled private)) (in_settled seat seats sold));
-      acted = refl;
+      acted = now_acted turn.deeds;
     }
-order_tells seats seat turn number (order.Bid private amount) None is =
-    let ruled : List Event = turn.events ++ event.Ruled seat number (judged (order.Bid private amount) None) ∷ [] in
+order_tells seats seat turn number (order.Bid private amount) kept =
+    let ruled : List Event = recorded seat number (Obeyed (order.Bid private amount)) turn.events in
     record {
       acts = true;
       told =
-          in_both seat true false turn.events ruled (ruled ++ event.Bids private seat amount ∷ []) (one_more seat true turn.events (event.Ruled seat number (judged (order.Bid private amount) None)) refl)
+          in_both seat true false turn.events ruled (ruled ++ event.Bids private seat amount ∷ []) (one_more seat true turn.events (event.Ruled seat number (Obeyed (order.Bid private amount))) refl)
           (one_more seat false ruled (event.Bids private seat amount) refl);
-      acted = refl;
+      acted = now_acted turn.deeds;
     }
-order_tells seats seat turn number other None is = absurd (cc)
-
--- by a line of which this is placed
-placed_tells : (seats : ℕ) (seat : Seat) (turn : InTurn) (number : ℕ) (reading : Result Order Fault) →
-    LineTells opening_rules seat turn (after_ruling seats seat turn number (placed_ruling seats turn.events seat turn.deeds reading))
-placed_tells seats seat turn number (Err fault) =
-    record { acts = false; told = one_more seat false turn.events (event.Ruled seat number (placed_ruling seats turn.events seat turn.deeds (Err fault))) refl; acted = refl }
-placed_tells seats seat turn number (Ok done) =
-    order_tells seats seat turn number done (judgement_of seats turn.events seat turn.deeds done) refl
+order_tells seats seat turn number other kept = absurd (cc)
 
 -- so each turn of an opening round tells who acted in it
 pub opening_turns_tell : TurnsTellWhoActed opening_rules
 opening_turns_tell =
     turns_tell opening_rules refl
-    (λ (seats : ℕ) (seat : Seat) (turn : InTurn) (line : Numbered). placed_tells seats seat turn line.number (placed has_place_in_group line.reading))
+    (λ (seats : ℕ) (seat : Seat) (turn : InTurn) (line : Numbered).
+    of_ruled (acted seats seat) (refusal_of seats turn.events seat turn.deeds) seat turn line.number (LineTells opening_rules seat turn)
+    (nobody_ruled opening_rules seat turn line.number) (order_tells seats seat turn line.number) has_place_in_group line.reading)

@@ -1,6 +1,6 @@
 -- An order that breaks no rule can be done, and still can after an event that changes nothing of what
 -- parties have and own.
-use Rattle.std.proofs.Common.{◌≡◌, ℕ, Bool, false, T, not, List, [], ◌∷◌, ◌++◌, Option, Some, None, is_some, pos, ◌≤ℤ◌, ◌-ℤ◌, ◌+◌, ◌||◌, nat_lt, unwrap_or, arith, ℤ, refl, sym, subst, ap, ◌∙◌}
+use Rattle.std.proofs.Common.{◌≡◌, ℕ, Bool, false, T, not, List, [], ◌∷◌, ◌++◌, None, pos, ◌≤ℤ◌, ◌-ℤ◌, ◌+◌, ◌||◌, nat_lt, unwrap_or, arith, ℤ, refl, sym, subst, ap, ◌∙◌}
 use Rattle.std.specs.Int.Signed.{lt_z, lt_z_no}
 use Rattle.history.proofs.EventAtEnd.{quiet_same}
 use Rattle.history.proofs.Standing.{bids_split}
@@ -78,8 +78,3 @@ pub may_act_after : (old new : Game) (event : Event) (seat : Seat) (used : Bool)
 may_act_after old new event seat used order told quiet none =
     subst (λ (game : Game). MayAct game.seats game.events seat order) (sym told)
     (still_may old.seats old.events (old.events ++ event ∷ []) seat order (quiet_same old.events event quiet) (may_act old.seats old.events seat used order none))
-
--- nothing is there where a test says so
-pub is_nothing : {A : Type 0} (found : Option A) → is_some found ≡ false → found ≡ None
-is_nothing None none = refl
-is_nothing (Some other) none = cc

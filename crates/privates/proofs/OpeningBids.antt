@@ -1,5 +1,5 @@
 -- Within an opening round bids rise: a bid that is obeyed is at least 5 over every earlier one on its private.
-use Rattle.std.proofs.Common.{◌≡◌, ℕ, zero, suc, ◌+◌, ◌-◌, ◌<◌, ◌==◌, ◌||◌, nat_lt, Bool, true, false, if◌then◌else◌, List, [], ◌∷◌, ◌++◌, Option, Some, None, Result, Ok, Err, append-nil, unwrap_or, refl, sym, subst, ap, ◌∙◌, arith}
+use Rattle.std.proofs.Common.{◌≡◌, ℕ, zero, suc, ◌+◌, ◌-◌, ◌<◌, ◌==◌, ◌||◌, nat_lt, Bool, true, false, if◌then◌else◌, List, [], ◌∷◌, ◌++◌, Option, Some, None, append-nil, unwrap_or, refl, sym, subst, ap, ◌∙◌, arith}
 use Rattle.std.proofs.lemmas.Bool.Decides.{nat_tests}
 use Rattle.std.proofs.lemmas.List.{append_assoc}
 use Rattle.std.proofs.lemmas.List.Folds.{list_any-append}
@@ -16,8 +16,9 @@ use Rattle.history.specs.declared.event.Bidding.TheVariants.{Made, Ended}
 use Rattle.history.specs.declared.event.Event.{Event}
 use Rattle.history.specs.declared.event.Event.TheVariants as event
 use Rattle.history.specs.declared.event.Holder.{Holder}
-use Rattle.history.specs.declared.ruling.OpeningRule.{OpeningRule}
-use Rattle.order_grammar.specs.declared.fault.Fault.{Fault}
+use Rattle.history.specs.declared.ruling.Refusal.TheVariants.{Opening}
+use Rattle.history.specs.declared.ruling.Ruling.{Ruling}
+use Rattle.history.specs.declared.ruling.Ruling.TheVariants.{Obeyed}
 use Rattle.order_grammar.specs.declared.order.Order.{Order}
 use Rattle.order_grammar.specs.declared.order.Order.TheVariants as order
 use Rattle.privates.proofs.BidsRise.{both, standing_bids_suffice}
@@ -26,13 +27,12 @@ use Rattle.privates.proofs.Sales.{neither}
 use Rattle.privates.specs.Act.{MayBid}
 use Rattle.privates.specs.BidsRise.{BidsRise, OpeningBidsRise, is_near_earlier, is_near_ever}
 use Rattle.privates.specs.Closing.{after_fall, after_passing, all_sold, closed, given_away}
-use Rattle.privates.specs.Judgement.{has_place_in_group, judged, judgement_of, placed_ruling, price_of}
+use Rattle.privates.specs.Judgement.{judgement_of, price_of, refusal_of}
 use Rattle.privates.specs.Opening.{IsOpeningRound}
 use Rattle.privates.specs.Sale.{after_sale, gifts, settle, settled, settled_by, settled_of}
 use Rattle.privates.specs.Standing.{after_standing_line, standing_ruling}
-use Rattle.privates.specs.Turn.{InTurn, after_line, after_ruling, opening_rules}
+use Rattle.privates.specs.Turn.{InTurn, acted, after_line, after_ruling, opening_rules}
 use Rattle.sheets.specs.Part.{Numbered}
-use Rattle.sheets.specs.Place.{placed}
 use Rattle.sheets.specs.Taken.{after_each}
 use Rattle.tables.specs.Roster.{face_of, privates, revenue_of, same_private}
 use Rattle.tables.specs.Seat.{seat_at}
@@ -43,8 +43,10 @@ use Rattle.tables.specs.declared.roster.Private.TheVariants as private
 use Rattle.tables.specs.declared.round.Round.{Round}
 use Rattle.tables.specs.declared.seat.Seat.{Seat}
 use Rattle.turns.proofs.RoundLeads.{round_leads}
+use Rattle.turns.proofs.Ruled.{none_as_refusal, of_ruled}
 use Rattle.turns.proofs.Turns.{left_within, priority_within}
 use Rattle.turns.specs.RoundOfTurns.{IsRoundOfTurns, RoundRules, in_turn, opened, turned, turns_of}
+use Rattle.turns.specs.Ruling.{has_place_in_group, obeyed_by}
 
 -- bids rise, and those that stand are of seats at the table
 record RiseAt (seats : ℕ) (events : List Event) : Type 0 where
@@ -199,31 +201,30 @@ bid_rise seats events seat private amount may under before =
       seated = seated_after_bid seats events private seat amount under before.seated;
     }
 
--- after a line with the ruling of an order that breaks this rule, or none
-order_rise : (seats : ℕ) (seat : Seat) (turn : InTurn) (number : ℕ) (done : Order) (broken : Option OpeningRule) →
-    judgement_of seats turn.events seat turn.deeds done ≡ broken → seat.0 < seats → RiseAt seats turn.events →
-    RiseAt seats (after_ruling seats seat turn number (judged done broken)).events
-order_rise seats seat turn number done (Some rule) is under before =
-    with_other seats turn.events (event.Ruled seat number (judged done (Some rule))) refl before
-order_rise seats seat turn number (order.BuyPrivate private) None is under before =
-    let ruled : List Event = turn.events ++ event.Ruled seat number (judged (order.BuyPrivate private) None) ∷ [] in
-    settled_rise seats (after_sale ruled private seat (price_of ruled private))
-    (after_sale_rise seats ruled private seat (price_of ruled private) (with_other seats turn.events (event.Ruled seat number (judged (order.BuyPrivate private) None)) refl before))
-order_rise seats seat turn number (order.Bid private amount) None is under before =
-    let told : Event = event.Ruled seat number (judged (order.Bid private amount) None) in
+-- after a line whose order is done
+order_rise : (seats : ℕ) (seat : Seat) (turn : InTurn) (number : ℕ) → seat.0 < seats → RiseAt seats turn.events → (done : Order) →
+    refusal_of seats turn.events seat turn.deeds done ≡ None → RiseAt seats (after_ruling seats seat turn number (Obeyed done)).events
+order_rise seats seat turn number under before (order.BuyPrivate private) kept =
+    let told : Event = event.Ruled seat number (Obeyed (order.BuyPrivate private)) in
     let ruled : List Event = turn.events ++ told ∷ [] in
+    settled_rise seats (after_sale ruled private seat (price_of ruled private))
+    (after_sale_rise seats ruled private seat (price_of ruled private) (with_other seats turn.events told refl before))
+order_rise seats seat turn number under before (order.Bid private amount) kept =
+    let told : Event = event.Ruled seat number (Obeyed (order.Bid private amount)) in
+    let ruled : List Event = turn.events ++ told ∷ [] in
+    let none = none_as_refusal Opening (judgement_of seats turn.events seat turn.deeds (order.Bid private amount)) kept in
     bid_rise seats ruled seat private amount
-    (may_act_after (record { seats = seats; events = turn.events }) (record { seats = seats; events = ruled }) told seat turn.deeds (order.Bid private amount) refl (record { payment = refl; ownership = refl; bidding = refl; transfer = refl; par = refl; square = refl; office = refl; float = refl; sv_price = refl; train = refl; tile = refl; token = refl }) is)
+    (may_act_after (record { seats = seats; events = turn.events }) (record { seats = seats; events = ruled }) told seat turn.deeds (order.Bid private amount) refl (record { payment = refl; ownership = refl; bidding = refl; transfer = refl; par = refl; square = refl; office = refl; float = refl; sv_price = refl; train = refl; tile = refl; token = refl }) none)
     under (with_other seats turn.events told refl before)
-order_rise seats seat turn number other None is under before = absurd (cc)
+order_rise seats seat turn number under before other kept = absurd (cc)
 
--- after a line of which this is placed
-placed_rise : (seats : ℕ) (seat : Seat) (turn : InTurn) (number : ℕ) (reading : Result Order Fault) → seat.0 < seats → RiseAt seats turn.events →
-    RiseAt seats (after_ruling seats seat turn number (placed_ruling seats turn.events seat turn.deeds reading)).events
-placed_rise seats seat turn number (Err fault) under before =
-    with_other seats turn.events (event.Ruled seat number (placed_ruling seats turn.events seat turn.deeds (Err fault))) refl before
-placed_rise seats seat turn number (Ok done) under before =
-    order_rise seats seat turn number done (judgement_of seats turn.events seat turn.deeds done) refl under before
+-- after a line with this reading
+line_rise : (seats : ℕ) (seat : Seat) (turn : InTurn) (line : Numbered) → seat.0 < seats → RiseAt seats turn.events →
+    RiseAt seats (after_line seats seat turn line).events
+line_rise seats seat turn line under before =
+    of_ruled (acted seats seat) (refusal_of seats turn.events seat turn.deeds) seat turn line.number (λ (after : InTurn). RiseAt seats after.events)
+    (λ (ruling : Ruling) (none : obeyed_by ruling ≡ None). with_other seats turn.events (event.Ruled seat line.number ruling) refl before)
+    (order_rise seats seat turn line.number under before) has_place_in_group line.reading
 
 -- the rules of an opening round at a table of so many seats: a line of a seat elsewhere does nothing
 abbrev rules_at : ℕ → RoundRules Bool
@@ -249,7 +250,7 @@ says_under a b under = grind (arith, nat_tests)
 tested_rise : (seats : ℕ) (seat : Seat) (turn : InTurn) (line : Numbered) (b : Bool) → (b ≡ true → seat.0 < seats) → RiseAt seats turn.events →
     RiseAt seats (if b then after_line seats seat turn line else turn).events
 tested_rise seats seat turn line true under before =
-    placed_rise seats seat turn line.number (placed has_place_in_group line.reading) (under refl) before
+    line_rise seats seat turn line (under refl) before
 tested_rise seats seat turn line false under before = before
 
 module _ (seats : ℕ) (some : 0 < seats) (start : InPlay (List Event) Numbered) (first : start.seat < seats) where

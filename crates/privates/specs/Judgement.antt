@@ -1,7 +1,7 @@
 -- The rules of a turn of an opening round. A seat may buy the cheapest private that is unsold, at the
 -- price that the bank asks, or bid on a dearer one, at least 5 over its face and over each standing bid on
 -- it. Either takes cash that the seat's standing bids on other privates leave free, and there is one a turn.
-use Rattle.std.specs.Prelude.{ℕ, ◌+◌, Bool, false, not, ◌||◌, nat_lt, List, [], ◌∷◌, Option, Some, None, Result, Ok, Err, pos}
+use Rattle.std.specs.Prelude.{ℕ, ◌+◌, Bool, false, not, ◌||◌, nat_lt, List, [], ◌∷◌, Option, Some, None, pos, option_map}
 use Rattle.std.specs.Int.Signed.{lt_z}
 use Rattle.history.specs.Bids.{bids_on, free_for}
 use Rattle.history.specs.LookBack.{cheapest_of, is_sold, sv_price_of}
@@ -9,13 +9,10 @@ use Rattle.history.specs.declared.event.Bid.{Bid as StandingBid}
 use Rattle.history.specs.declared.event.Event.{Event}
 use Rattle.history.specs.declared.ruling.OpeningRule.{OpeningRule}
 use Rattle.history.specs.declared.ruling.OpeningRule.TheVariants.{NotOfOpening, Sold, NotCheapest, BidTooLow, CashTooSmall, TurnUsed, BidForCheapest}
+use Rattle.history.specs.declared.ruling.Refusal.{Refusal}
 use Rattle.history.specs.declared.ruling.Refusal.TheVariants.{Opening}
-use Rattle.history.specs.declared.ruling.Ruling.{Ruling}
-use Rattle.history.specs.declared.ruling.Ruling.TheVariants.{Obeyed, Refused, Faulty}
-use Rattle.order_grammar.specs.declared.fault.Fault.{Fault}
 use Rattle.order_grammar.specs.declared.order.Order.{Order}
 use Rattle.order_grammar.specs.declared.order.Order.TheVariants.{BuyPrivate, Bid}
-use Rattle.sheets.specs.Place.{is_of_file, placed}
 use Rattle.tables.specs.Roster.{face_of, same_private}
 use Rattle.tables.specs.Rules.{Rule, first_broken}
 use Rattle.tables.specs.declared.roster.Private.{Private}
@@ -74,21 +71,6 @@ judgement_of seats events seat used (BuyPrivate private) = first_broken (purchas
 judgement_of seats events seat used (Bid private amount) = first_broken (bid_rules seats events seat used private amount)
 judgement_of seats events seat used other = Some NotOfOpening
 
--- what becomes of an order that breaks this rule first, or none
-abbrev pub judged : Order → Option OpeningRule → Ruling
-judged order None = Obeyed order
-judged order (Some rule) = Refused (Opening rule) order
-
--- an order of a group is one of play
-abbrev pub has_place_in_group : Order → Bool
-has_place_in_group order = not (is_of_file order)
-
--- what becomes of an order that has a place, or of a fault
-abbrev pub placed_ruling : ℕ → List Event → Seat → Bool → Result Order Fault → Ruling
-placed_ruling seats events seat used (Err fault) = Faulty fault
-placed_ruling seats events seat used (Ok order) = judged order (judgement_of seats events seat used order)
-
--- what becomes of a line of a group with this reading
-abbrev pub ruling_of : ℕ → List Event → Seat → Bool → Result Order Fault → Ruling
-ruling_of seats events seat used reading =
-    placed_ruling seats events seat used (placed has_place_in_group reading)
+-- the same, as a ruling refuses an order
+abbrev pub refusal_of : ℕ → List Event → Seat → Bool → Order → Option Refusal
+refusal_of seats events seat used order = option_map Opening (judgement_of seats events seat used order)

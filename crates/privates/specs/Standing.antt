@@ -1,25 +1,24 @@
 -- The standing lines of an opening sheet, those before its first group, are ruled at the round's start,
 -- seat by seat. A LIMIT says how far the seat goes in an auction of a private, which must be unsold. A PAR
 -- says the par value that the seat sets for BO if it buys BOP: it must name BO and a par value.
-use Rattle.std.specs.Prelude.{ℕ, Bool, true, false, ◌&&◌, if◌then◌else◌, List, [], ◌∷◌, ◌++◌, Option, Some, None, Result, Ok, Err}
+use Rattle.std.specs.Prelude.{ℕ, Bool, true, false, ◌&&◌, if◌then◌else◌, List, Option, Some, None, Result, option_map}
 use Rattle.history.specs.LookBack.{is_sold}
 use Rattle.history.specs.declared.event.Event.{Event}
-use Rattle.history.specs.declared.event.Event.TheVariants.{Ruled}
 use Rattle.history.specs.declared.ruling.OpeningRule.{OpeningRule}
 use Rattle.history.specs.declared.ruling.OpeningRule.TheVariants.{NotOfOpening, Sold}
+use Rattle.history.specs.declared.ruling.Refusal.{Refusal}
+use Rattle.history.specs.declared.ruling.Refusal.TheVariants.{Opening}
 use Rattle.history.specs.declared.ruling.Ruling.{Ruling}
-use Rattle.history.specs.declared.ruling.Ruling.TheVariants.{Faulty}
 use Rattle.order_grammar.specs.declared.fault.Fault.{Fault}
 use Rattle.order_grammar.specs.declared.order.Order.{Order}
 use Rattle.order_grammar.specs.declared.order.Order.TheVariants.{Limit, Par}
-use Rattle.privates.specs.Judgement.{judged}
 use Rattle.sheets.specs.Part.{Numbered}
-use Rattle.sheets.specs.Place.{placed}
 use Rattle.tables.specs.Roster.{same_company}
 use Rattle.history.specs.Shares.{is_par_value}
 use Rattle.tables.specs.declared.roster.Company.{Company}
 use Rattle.tables.specs.declared.roster.Company.TheVariants.{BaltimoreOhio}
 use Rattle.tables.specs.declared.seat.Seat.{Seat}
+use Rattle.turns.specs.Ruling.{recorded, ruling_of}
 
 -- the orders that may stand before the first group
 abbrev pub has_place_before : Order → Bool
@@ -37,15 +36,14 @@ standing_judgement events (Limit private amount) = if is_sold events private the
 standing_judgement events (Par company price) = if is_par_of_baltimore company price then None else Some NotOfOpening
 standing_judgement events other = Some NotOfOpening
 
--- what becomes of a standing order that has a place, or of a fault
-abbrev pub placed_standing : List Event → Result Order Fault → Ruling
-placed_standing events (Err fault) = Faulty fault
-placed_standing events (Ok order) = judged order (standing_judgement events order)
+-- the same, as a ruling refuses an order
+abbrev pub standing_refusal : List Event → Order → Option Refusal
+standing_refusal events order = option_map Opening (standing_judgement events order)
 
 -- what becomes of a standing line with this reading
 abbrev pub standing_ruling : List Event → Result Order Fault → Ruling
-standing_ruling events reading = placed_standing events (placed has_place_before reading)
+standing_ruling events reading = ruling_of has_place_before (standing_refusal events) reading
 
 -- after a standing line of a seat
 abbrev pub after_standing_line : Seat → List Event → Numbered → List Event
-after_standing_line seat events line = events ++ Ruled seat line.number (standing_ruling events line.reading) ∷ []
+after_standing_line seat events line = recorded seat line.number (standing_ruling events line.reading) events

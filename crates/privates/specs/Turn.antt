@@ -1,23 +1,24 @@
 -- A seat's turn: the lines of its group are ruled in order, each on the list that the one before left. An
 -- obeyed purchase is a sale at the price that the bank asks, with the sales that follow from it; an obeyed
 -- bid stands. A seat that neither bought nor bid passes.
-use Rattle.std.specs.Prelude.{ℕ, Bool, true, false, ◌||◌, List, [], ◌∷◌, ◌++◌}
+use Rattle.std.specs.Prelude.{ℕ, Bool, true, false, List, [], ◌∷◌, ◌++◌, Result}
 use Rattle.history.specs.declared.event.Event.{Event}
-use Rattle.history.specs.declared.event.Event.TheVariants.{Bids, Ruled}
+use Rattle.history.specs.declared.event.Event.TheVariants.{Bids}
 use Rattle.history.specs.declared.ruling.Ruling.{Ruling}
-use Rattle.history.specs.declared.ruling.Ruling.TheVariants.{Obeyed}
+use Rattle.order_grammar.specs.declared.fault.Fault.{Fault}
 use Rattle.order_grammar.specs.declared.order.Order.{Order}
 use Rattle.order_grammar.specs.declared.order.Order.TheVariants.{BuyPrivate, Bid}
 pub use Rattle.privates.specs.Closing.{all_sold}
 use Rattle.privates.specs.Closing.{closed}
-use Rattle.privates.specs.Judgement.{price_of, ruling_of}
+use Rattle.privates.specs.Judgement.{price_of, refusal_of}
 use Rattle.privates.specs.Sale.{after_sale, settled}
 use Rattle.privates.specs.Standing.{after_standing_line}
 use Rattle.sheets.specs.Part.{Numbered}
 use Rattle.tables.specs.Turns.{Play}
 use Rattle.tables.specs.declared.seat.Seat.{Seat}
-use Rattle.turns.specs.RoundOfTurns.{RoundRules, turns_of}
+use Rattle.turns.specs.RoundOfTurns.{RoundRules, in_turn, turns_of}
 use Rattle.turns.specs.RoundOfTurns as turns
+use Rattle.turns.specs.Ruling.{after_ruling as turn_ruled, has_place_in_group, ruling_of}
 
 -- in a turn: the list so far, and whether the seat has bought or bid
 abbrev pub InTurn : Type 0
@@ -29,27 +30,22 @@ after_act seats seat events (BuyPrivate private) = settled seats (after_sale eve
 after_act seats seat events (Bid private amount) = events ++ Bids private seat amount ∷ []
 after_act seats seat events other = events
 
--- after what a ruling brings
-abbrev pub after_obeyed : ℕ → Seat → List Event → Ruling → List Event
-after_obeyed seats seat events (Obeyed order) = after_act seats seat events order
-after_obeyed seats seat events other = events
+-- in a turn, after what an order brings that is done: the seat has bought or bid
+abbrev pub acted : ℕ → Seat → InTurn → Order → InTurn
+acted seats seat turn order = in_turn (after_act seats seat turn.events order) true
 
--- an order was obeyed
-abbrev pub is_obeyed : Ruling → Bool
-is_obeyed (Obeyed order) = true
-is_obeyed other = false
-
--- after a line of a group with this number and this ruling
+-- in a turn, after a line with this number and this ruling
 abbrev pub after_ruling : ℕ → Seat → InTurn → ℕ → Ruling → InTurn
-after_ruling seats seat turn number ruling =
-    record {
-      events = after_obeyed seats seat (turn.events ++ Ruled seat number ruling ∷ []) ruling;
-      deeds = turn.deeds || is_obeyed ruling;
-    }
+after_ruling seats seat turn number ruling = turn_ruled (acted seats seat) seat turn number ruling
 
--- after a line of a group
+-- what becomes of a line of a group with this reading
+abbrev pub ruling_in : ℕ → Seat → InTurn → Result Order Fault → Ruling
+ruling_in seats seat turn reading =
+    ruling_of has_place_in_group (refusal_of seats turn.events seat turn.deeds) reading
+
+-- in a turn, after a line of a group
 abbrev pub after_line : ℕ → Seat → InTurn → Numbered → InTurn
-after_line seats seat turn line = after_ruling seats seat turn line.number (ruling_of seats turn.events seat turn.deeds line.reading)
+after_line seats seat turn line = after_ruling seats seat turn line.number (ruling_in seats seat turn line.reading)
 
 -- the rules of an opening round: a seat that bought or bid has acted, and the turns are over once all privates
 -- are sold, also where not all seats have passed in succession

@@ -7,11 +7,11 @@
 //! succession; then SV falls by 5 if it is unsold, and at 0 goes to the holder of priority for
 //! nothing, or else each sold private pays.
 //!
-//! Reading order: `judgement` (the rules that an order may break), `ruling`, `standing` (the lines
-//! before the first group), `bidding` (the auction), `sale` (what it brings, and what follows from
-//! it), `turn` (the lines of a turn), `closing`, `opening` (what makes it a round of `turns`),
-//! `laws` (what holds of every opening round and auction). In `specs/`, `LimitsKept`,
-//! `UnderwayKept` and `Keeping` are no rules: they prove what a round of turns asks to be kept.
+//! Reading order: `judgement` (the rules that an order may break), `standing` (the lines before the
+//! first group), `bidding` (the auction), `sale` (what it brings, and what follows from it), `turn`
+//! (the lines of a turn), `closing`, `opening` (what makes it a round of `turns`), `laws` (what
+//! holds of every opening round and auction). In `specs/`, `LimitsKept`, `UnderwayKept` and
+//! `Keeping` are no rules: they prove what a round of turns asks to be kept.
 #![tactic(auto)]
 
 mod bidding;
@@ -19,7 +19,6 @@ mod closing;
 mod judgement;
 mod laws;
 mod opening;
-mod ruling;
 mod sale;
 mod standing;
 mod turn;

@@ -45,8 +45,7 @@ impl TurnRules for OpeningTurns {
         line: &NumberedLine,
         deeds: bool,
     ) -> Result<bool, AllocError> {
-        let obeyed = turn::rule_line(history, seat, line, deeds)?;
-        Ok(deeds || obeyed)
+        turn::rule_line(history, seat, line, deeds)
     }
 
     fn has_acted(&self, deeds: bool) -> bool {

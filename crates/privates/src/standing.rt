@@ -1,18 +1,36 @@
-ghost use Rattle.std.specs.Prelude.{◌≡◌, OnOk, IfOk, MatchResult, Ok, Err};
-ghost use Rattle.turns.specs.Small.{IsSmallOrder, IsSmallReading, IsSmallRuling};
-ghost use Rattle.privates.specs.Standing.{after_standing_line, has_place_before as may_stand_before, standing_judgement, standing_ruling as ruling_standing};
+ghost use Rattle.std.specs.Prelude.{◌≡◌, OnOk, ⊤};
+ghost use Rattle.turns.specs.Small.{IsSmallReading};
+ghost use Rattle.privates.specs.Standing.{after_standing_line, has_place_before as may_stand_before, standing_judgement, standing_refusal};
 ghost use Rattle.privates.specs.Underway.{IsUnderway};
 ghost use Rattle.sheets.specs.Part.{line_read};
-ghost use Rattle.sheets.specs.Place.{placed};
 
-use crate::ruling::{ruling_of, tell_ruling};
-use history::{History, KeptRuling, OpeningRule};
-use order_grammar::{Fault, Order};
+use history::{History, OpeningRule, Refusal};
+use order_grammar::Order;
 use sheets::NumberedLine;
 use std::alloc::AllocError;
 use tables::{Company, Seat, par_square};
+use turns::Family;
 
-/// Rules a standing line of a seat, one before the first group of its sheet.
+/// The standing lines of a sheet, those before its first group.
+struct StandingLines;
+
+impl Family for StandingLines {
+    ghost place = { may_stand_before };
+
+    ghost judgement = { λ lines game seat. standing_refusal game.events };
+
+    ghost may_judge = { λ game seat. Unit {0} };
+
+    fn has_place(&self, order: &Order) -> bool {
+        may_stand_before(order)
+    }
+
+    fn judge(&self, history: &History, _seat: Seat, order: &Order) -> Option<Refusal> {
+        judge_standing(history, order).map(Refusal::Opening)
+    }
+}
+
+/// Rules a standing line of a seat.
 pub(crate) fn rule_standing_line(
     history: &mut History,
     seat: Seat,
@@ -25,37 +43,8 @@ pub(crate) fn rule_standing_line(
         ≡ after_standing_line seat history.old.events (line_read line.now)) }
     ensures underway { OnOk result (IsUnderway history.new) }
 {
-    let ruling = standing_ruling(history, line)?;
-    tell_ruling(history, seat, line, ruling)
-}
-
-/// What becomes of a standing line.
-fn standing_ruling(history: &History, line: &NumberedLine) -> Result<KeptRuling, AllocError>
-    requires { IsSmallReading (line_read line.now).reading }
-    ensures ruling { IfOk result (λ ruling. ruling
-        ≡ ruling_standing history.now.events (line_read line.now).reading) }
-    ensures small { IfOk result IsSmallRuling }
-{
-    match standing_order(line) {
-        Ok(order) => ruling_of(history, order, judge_standing(history, order)),
-        Err(fault) => Ok(KeptRuling::faulty(fault)),
-    }
-}
-
-/// The order of a standing line, or its fault: that it has no place there is the last.
-fn standing_order<'a>(line: &'a NumberedLine) -> Result<&'a Order, Fault>
-    requires { IsSmallReading (line_read line.now).reading }
-    ensures small { IfOk result (λ order. IsSmallOrder order.now) }
-    ensures order { MatchResult result
-        (λ order. placed may_stand_before (line_read line.now).reading ≡ Ok order.now)
-        (λ fault. placed may_stand_before (line_read line.now).reading ≡ Err fault) }
-{
-    let order = line.order()?;
-    if may_stand_before(order) {
-        Ok(order)
-    } else {
-        Err(Fault::OutOfPlace)
-    }
+    turns::rule_line(&StandingLines, history, seat, line)?;
+    Ok(())
 }
 
 /// Whether an order may stand before the first group: LIMIT and PAR.

@@ -1,26 +1,49 @@
-ghost use Rattle.std.specs.Prelude.{◌≡◌, ◌≤◌, ◌<◌, ◌||◌, OnOk, IfOk, MatchResult, Ok, Err};
+ghost use Rattle.std.specs.Prelude.{◌≡◌, ◌≤◌, ◌<◌, OnOk, IfOk};
 ghost use Rattle.history.specs.LookBack.{with_event};
 ghost use Rattle.history.specs.declared.event.Event.TheVariants as event;
 ghost use Rattle.privates.specs.Act.{MayAct, MayBid, MayPay};
-ghost use Rattle.privates.specs.Judgement.{has_place_in_group, judged, judgement_of, price_of as price_asked};
+ghost use Rattle.privates.specs.Judgement.{price_of as price_asked, refusal_of};
 ghost use Rattle.privates.specs.Sale.{after_sale, settled};
-ghost use Rattle.privates.specs.Turn.{after_act, after_line, after_ruling};
+ghost use Rattle.privates.specs.Turn.{after_act, after_line};
 ghost use Rattle.privates.specs.Underway.{IsUnderway};
 ghost use Rattle.sheets.specs.Part.{line_read};
-ghost use Rattle.sheets.specs.Place.{placed};
 ghost use Rattle.turns.specs.RoundOfTurns.{in_turn};
+ghost use Rattle.turns.specs.Ruling.{has_place_in_group};
 ghost use Rattle.turns.specs.Small.{IsSmallOrder, IsSmallReading};
 
 use crate::judgement::{judge, price_of};
-use crate::ruling::{ruling_of, tell_ruling};
 use crate::sale::{sell, settle_all};
-use history::{Event, History, KeptRuling};
-use order_grammar::{Fault, Order};
+use history::{Event, History, Refusal};
+use order_grammar::Order;
 use sheets::{NumberedLine, is_of_file};
 use std::alloc::AllocError;
 use tables::{Amount, Private, Seat};
+use turns::Family;
 
-/// Rules a line of a group, and does what it orders if it is obeyed. Answers whether it is.
+/// The lines of a group, in a turn in which the seat has bought or bid, or has not.
+#[derive(Clone, Copy, Debug)]
+struct TurnLines {
+    turn_used: bool,
+}
+
+impl Family for TurnLines {
+    ghost place = { has_place_in_group };
+
+    ghost judgement = { λ lines game seat. refusal_of game.seats game.events seat lines.turn_used };
+
+    ghost may_judge = { λ game seat. game.seats ≤ 6 };
+
+    fn has_place(&self, order: &Order) -> bool {
+        !is_of_file(order)
+    }
+
+    fn judge(&self, history: &History, seat: Seat, order: &Order) -> Option<Refusal> {
+        judge(history, seat, order, self.turn_used).map(Refusal::Opening)
+    }
+}
+
+/// Rules a line of a group, and does what it orders if it is obeyed. Answers whether the seat has
+/// bought or bid in its turn by then.
 pub(crate) fn rule_line(
     history: &mut History,
     seat: Seat,
@@ -32,65 +55,16 @@ pub(crate) fn rule_line(
     requires small { IsSmallReading (line_read line.now).reading }
     requires underway { IsUnderway history.old }
     ensures seats { OnOk result (history.new.seats ≡ history.old.seats) }
-    ensures turn { IfOk result (λ obeyed.
-        in_turn history.new.events (turn_used || obeyed)
+    ensures turn { IfOk result (λ used. in_turn history.new.events used
         ≡ after_line history.old.seats seat (in_turn history.old.events turn_used)
         (line_read line.now)) }
     ensures underway { OnOk result (IsUnderway history.new) }
 {
-    match placed_order(line) {
-        Ok(order) => rule_order(history, seat, line, order, turn_used),
-        Err(fault) => {
-            tell_ruling(history, seat, line, KeptRuling::faulty(fault))?;
-            Ok(false)
-        }
-    }
-}
-
-/// The order of a line of a group, or its fault: that it has no place there is the last.
-fn placed_order<'a>(line: &'a NumberedLine) -> Result<&'a Order, Fault>
-    requires { IsSmallReading (line_read line.now).reading }
-    ensures small { IfOk result (λ order. IsSmallOrder order.now) }
-    ensures order { MatchResult result
-        (λ order. placed has_place_in_group (line_read line.now).reading ≡ Ok order.now)
-        (λ fault. placed has_place_in_group (line_read line.now).reading ≡ Err fault) }
-{
-    let order = line.order()?;
-    if is_of_file(order) {
-        return Err(Fault::OutOfPlace);
-    }
-    Ok(order)
-}
-
-/// Rules an order in a seat's turn, and does it if it is obeyed. Answers whether it is.
-fn rule_order(
-    history: &mut History,
-    seat: Seat,
-    line: &NumberedLine,
-    order: &Order,
-    turn_used: bool,
-) -> Result<bool, AllocError>
-    requires few { history.old.seats ≤ 6 }
-    requires at_table { seat.0 < history.old.seats }
-    requires small { IsSmallOrder order.now }
-    requires underway { IsUnderway history.old }
-    ensures seats { OnOk result (history.new.seats ≡ history.old.seats) }
-    ensures turn { IfOk result (λ obeyed.
-        in_turn history.new.events (turn_used || obeyed)
-        ≡ after_ruling history.old.seats seat (in_turn history.old.events turn_used)
-        line.now.number
-        (judged order.now
-        (judgement_of history.old.seats history.old.events seat turn_used order.now))) }
-    ensures underway { OnOk result (IsUnderway history.new) }
-{
-    let broken = judge(history, seat, order, turn_used);
-    let obeyed = broken.is_none();
-    let ruling = ruling_of(history, order, broken)?;
-    tell_ruling(history, seat, line, ruling)?;
-    if obeyed {
-        act(history, seat, order)?;
-    }
-    Ok(obeyed)
+    let Some(order) = turns::rule_line(&TurnLines { turn_used }, history, seat, line)? else {
+        return Ok(turn_used);
+    };
+    act(history, seat, order)?;
+    Ok(true)
 }
 
 /// Does what a seat orders in its turn.

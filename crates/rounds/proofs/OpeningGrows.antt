@@ -13,11 +13,11 @@ use Rattle.history.specs.declared.ruling.Ruling.TheVariants as ruling
 use Rattle.order_grammar.specs.declared.order.Order.{Order}
 use Rattle.order_grammar.specs.declared.order.Order.TheVariants as order
 use Rattle.privates.specs.Closing.{after_fall, after_passing, all_sold, closed, given_away}
-use Rattle.privates.specs.Judgement.{price_of, ruling_of}
+use Rattle.privates.specs.Judgement.{price_of, refusal_of}
 use Rattle.privates.specs.Opening.{IsOpeningRound}
 use Rattle.privates.specs.Sale.{after_sale, gifts, settle, settled, settled_by, settled_of}
 use Rattle.privates.specs.Standing.{standing_ruling}
-use Rattle.privates.specs.Turn.{InTurn, after_act, after_line, after_obeyed, opening_rules}
+use Rattle.privates.specs.Turn.{InTurn, acted, after_act, after_line, after_ruling, opening_rules}
 use Rattle.rounds.proofs.Growing.{Grows, by_steps, further, in_either, is_aside, revenues_grow, stands_aside, stays, told}
 use Rattle.sheets.specs.Part.{Numbered}
 use Rattle.tables.specs.Roster.{privates}
@@ -26,6 +26,8 @@ use Rattle.tables.specs.declared.roster.Private.TheVariants as private
 use Rattle.tables.specs.declared.round.Round.{Round}
 use Rattle.tables.specs.declared.seat.Seat.{Seat}
 use Rattle.turns.proofs.RoundLeads.{round_leads}
+use Rattle.turns.proofs.Ruled.{of_ruled}
+use Rattle.turns.specs.Ruling.{has_place_in_group, obeyed_by, recorded}
 
 -- what comes with a sale stands aside
 gifts_aside : (events : List Event) (private : Private) (buyer : Seat) → list_all is_aside (gifts events private buyer) ≡ true
@@ -66,18 +68,21 @@ act_grows seats seat events (order.BuyPrivate private) =
 act_grows seats seat events (order.Bid private amount) = record { more = _; longer = refl; aside = refl }
 act_grows seats seat events other = stays events
 
--- by what a ruling brings
-ruling_grows : (seats : ℕ) (seat : Seat) (events : List Event) (ruled : Ruling) → Grows events (after_obeyed seats seat events ruled)
-ruling_grows seats seat events (ruling.Obeyed done) = act_grows seats seat events done
-ruling_grows seats seat events other = stays events
+-- by a line of a turn whose order is done
+done_grows : (seats : ℕ) (seat : Seat) (turn : InTurn) (number : ℕ) (done : Order) →
+    Grows turn.events (after_ruling seats seat turn number (ruling.Obeyed done)).events
+done_grows seats seat turn number done =
+    let ruled : List Event = recorded seat number (ruling.Obeyed done) turn.events in
+    further turn.events ruled (after_act seats seat ruled done)
+    (told turn.events (event.Ruled seat number (ruling.Obeyed done)) refl) (act_grows seats seat ruled done)
 
 -- by a line of a turn
 line_grows : (seats : ℕ) (seat : Seat) (turn : InTurn) (line : Numbered) → Grows turn.events (after_line seats seat turn line).events
 line_grows seats seat turn line =
-    let ruled : Ruling = ruling_of seats turn.events seat turn.deeds line.reading in
-    let told_so : List Event = turn.events ++ event.Ruled seat line.number ruled ∷ [] in
-    further turn.events told_so (after_line seats seat turn line).events
-    (told turn.events (event.Ruled seat line.number ruled) refl) (ruling_grows seats seat told_so ruled)
+    of_ruled (acted seats seat) (refusal_of seats turn.events seat turn.deeds) seat turn line.number (λ (after : InTurn). Grows turn.events after.events)
+    (λ (ruled : Ruling) (none : obeyed_by ruled ≡ None). told turn.events (event.Ruled seat line.number ruled) refl)
+    (λ (done : Order) (kept : refusal_of seats turn.events seat turn.deeds done ≡ None). done_grows seats seat turn line.number done)
+    has_place_in_group line.reading
 
 -- by the fall of SV's price
 fall_grows : (seats : ℕ) (events : List Event) (price : ℕ) (holder : Seat) → Grows events (after_fall seats events price holder)

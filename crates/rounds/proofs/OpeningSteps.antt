@@ -1,6 +1,6 @@
 -- An opening round, event by event: a private is sold while it is unsold, a bid is made by a seat that takes a turn,
 -- and what else is told is still. What holds of each such event, and of one after the other, holds of the round.
-use Rattle.std.proofs.Common.{◌≡◌, ℕ, zero, suc, ◌-◌, ◌==◌, Bool, true, false, if◌then◌else◌, List, [], ◌∷◌, ◌++◌, Option, Some, None, Result, Ok, Err, refl, sym, subst, ◌∙◌}
+use Rattle.std.proofs.Common.{◌≡◌, ℕ, zero, suc, ◌-◌, ◌==◌, Bool, true, false, if◌then◌else◌, List, [], ◌∷◌, ◌++◌, Option, Some, None, refl, sym, subst, ◌∙◌}
 use Rattle.std.proofs.lemmas.Bool.{and_parts}
 use Rattle.std.proofs.lemmas.List.{append_assoc, append-nil}
 use Rattle.std.specs.List.{list_all}
@@ -12,26 +12,26 @@ use Rattle.history.specs.Tell.{after_revenues}
 use Rattle.history.specs.declared.event.Bid.{Bid}
 use Rattle.history.specs.declared.event.Event.{Event}
 use Rattle.history.specs.declared.event.Event.TheVariants as event
-use Rattle.history.specs.declared.ruling.OpeningRule.{OpeningRule}
+use Rattle.history.specs.declared.ruling.Refusal.TheVariants.{Opening}
 use Rattle.history.specs.declared.ruling.Ruling.{Ruling}
 use Rattle.history.specs.declared.ruling.Ruling.TheVariants.{Obeyed}
-use Rattle.order_grammar.specs.declared.fault.Fault.{Fault}
 use Rattle.order_grammar.specs.declared.order.Order.{Order}
 use Rattle.order_grammar.specs.declared.order.Order.TheVariants as order
 use Rattle.privates.proofs.Judged.{may_act_after}
 use Rattle.privates.proofs.StandingBids.{cheapest_unsold}
 use Rattle.privates.specs.Closing.{after_fall, after_passing, all_sold, closed, given_away}
-use Rattle.privates.specs.Judgement.{has_place_in_group, judged, judgement_of, placed_ruling, price_of}
+use Rattle.privates.specs.Judgement.{judgement_of, price_of, refusal_of}
 use Rattle.privates.specs.Sale.{after_sale, gifts, settle, settled, settled_by, settled_of}
-use Rattle.privates.specs.Turn.{InTurn, after_line, after_ruling}
+use Rattle.privates.specs.Turn.{InTurn, acted, after_line, after_ruling}
 use Rattle.rounds.proofs.Growing.{GrowsStill, is_still, revenues_grow}
 use Rattle.sheets.specs.Part.{Numbered}
-use Rattle.sheets.specs.Place.{placed}
 use Rattle.tables.specs.Roster.{privates}
 use Rattle.tables.specs.Steps.{iterate}
 use Rattle.tables.specs.declared.roster.Private.{Private}
 use Rattle.tables.specs.declared.roster.Private.TheVariants as private
 use Rattle.tables.specs.declared.seat.Seat.{Seat}
+use Rattle.turns.proofs.Ruled.{none_as_refusal, of_ruled}
+use Rattle.turns.specs.Ruling.{has_place_in_group, obeyed_by}
 
 -- what is to be shown so that it holds of the parts of an opening round in which these seats take turns
 pub record OfOpening (Sits : Seat → Type 0) (R : List Event → List Event → Type 0) : Type 0 where
@@ -130,42 +130,37 @@ module _ (Sits : Seat → Type 0) (R : List Event → List Event → Type 0) (of
       let sold : List Event = after_sale events private buyer price in
       of.both events sold (settled seats sold) (of_sale events private buyer price unsold) (of_settled seats sold)
 
-  -- of a line with the ruling of an order that breaks this rule, or none
-  of_order : (seats : ℕ) (seat : Seat) (turn : InTurn) (number : ℕ) (done : Order) (broken : Option OpeningRule) →
-      judgement_of seats turn.events seat turn.deeds done ≡ broken → Sits seat →
-      R turn.events (after_ruling seats seat turn number (judged done broken)).events
-  of_order seats seat turn number done (Some rule) is sits =
-      of.still turn.events (event.Ruled seat number (judged done (Some rule))) refl
-  of_order seats seat turn number (order.BuyPrivate private) None is sits =
-      let told : Event = event.Ruled seat number (judged (order.BuyPrivate private) None) in
+  -- of a line whose order is done
+  of_order : (seats : ℕ) (seat : Seat) (turn : InTurn) (number : ℕ) → Sits seat → (done : Order) →
+      refusal_of seats turn.events seat turn.deeds done ≡ None →
+      R turn.events (after_ruling seats seat turn number (Obeyed done)).events
+  of_order seats seat turn number sits (order.BuyPrivate private) kept =
+      let told : Event = event.Ruled seat number (Obeyed (order.BuyPrivate private)) in
       let ruled : List Event = turn.events ++ told ∷ [] in
+      let none = none_as_refusal Opening
+      (judgement_of seats turn.events seat turn.deeds (order.BuyPrivate private)) kept in
       let may = may_act_after (record { seats = seats; events = turn.events })
       (record { seats = seats; events = ruled }) told seat turn.deeds (order.BuyPrivate private) refl
-      (ruling_quiet seat number (Obeyed (order.BuyPrivate private))) is in
+      (ruling_quiet seat number (Obeyed (order.BuyPrivate private))) none in
       of.both turn.events ruled (settled seats (after_sale ruled private seat (price_of ruled private)))
       (of.still turn.events told refl)
       (of_sales seats ruled private seat (price_of ruled private) may.unsold)
-  of_order seats seat turn number (order.Bid private amount) None is sits =
-      let told : Event = event.Ruled seat number (judged (order.Bid private amount) None) in
+  of_order seats seat turn number sits (order.Bid private amount) kept =
+      let told : Event = event.Ruled seat number (Obeyed (order.Bid private amount)) in
       let ruled : List Event = turn.events ++ told ∷ [] in
       of.both turn.events ruled (ruled ++ event.Bids private seat amount ∷ []) (of.still turn.events told refl)
       (of.bids ruled private seat amount sits)
-  of_order seats seat turn number other None is sits = absurd (cc)
-
-  -- of a line of which this is placed
-  of_placed : (seats : ℕ) (seat : Seat) (turn : InTurn) (number : ℕ) (reading : Result Order Fault) → Sits seat →
-      R turn.events (after_ruling seats seat turn number
-      (placed_ruling seats turn.events seat turn.deeds reading)).events
-  of_placed seats seat turn number (Err fault) sits =
-      of.still turn.events (event.Ruled seat number (placed_ruling seats turn.events seat turn.deeds (Err fault))) refl
-  of_placed seats seat turn number (Ok done) sits =
-      of_order seats seat turn number done (judgement_of seats turn.events seat turn.deeds done) refl sits
+  of_order seats seat turn number sits other kept = absurd (cc)
 
   -- of a line
   pub of_line : (seats : ℕ) (seat : Seat) (turn : InTurn) (line : Numbered) → Sits seat →
       R turn.events (after_line seats seat turn line).events
-  of_line seats seat turn line sits = of_placed seats seat turn line.number
-      (placed has_place_in_group line.reading) sits
+  of_line seats seat turn line sits =
+      of_ruled (acted seats seat) (refusal_of seats turn.events seat turn.deeds) seat turn line.number
+      (λ (after : InTurn). R turn.events after.events)
+      (λ (ruling : Ruling) (none : obeyed_by ruling ≡ None).
+      of.still turn.events (event.Ruled seat line.number ruling) refl)
+      (of_order seats seat turn line.number sits) has_place_in_group line.reading
 
   -- of the fall of SV's price
   of_fall : (seats : ℕ) (events : List Event) (price : ℕ) (holder : Seat) →

@@ -1,5 +1,5 @@
 -- Within a stock round the list of events grows, and its new events are still.
-use Rattle.std.proofs.Common.{ℕ, ◌*◌, ◌==◌, List, [], ◌∷◌, ◌++◌, Option, Some, None, refl}
+use Rattle.std.proofs.Common.{◌≡◌, ℕ, ◌*◌, ◌==◌, List, [], ◌∷◌, ◌++◌, Option, Some, None, refl}
 use Rattle.std.specs.Prelude.{unwrap_or}
 use Rattle.certs.specs.President.{successor_of}
 use Rattle.certs.specs.Purchase.{market_price_of}
@@ -20,16 +20,18 @@ use Rattle.rounds.proofs.Growing.{Grows, GrowsStill, broken_grows, further, in_e
 use Rattle.sheets.specs.Part.{Numbered}
 use Rattle.stock_round.specs.Act.{after_act, after_exchange, after_purchase, bought, exchanged, floated_at, is_to_float, with_float}
 use Rattle.stock_round.specs.Closing.{all_risen, is_sold_out, risen}
-use Rattle.stock_round.specs.Judgement.{exchange_source, ruling_of}
+use Rattle.stock_round.specs.Judgement.{exchange_source, refusal_of}
 use Rattle.stock_round.specs.Standing.{fault_of_standing}
 use Rattle.stock_round.specs.StockRound.{IsStockRound}
-use Rattle.stock_round.specs.Turn.{InTurn, after_line, after_obeyed, stock_rules}
+use Rattle.stock_round.specs.Turn.{InTurn, acted, after_line, after_ruling, stock_rules}
 use Rattle.tables.specs.declared.roster.Company.{Company}
 use Rattle.tables.specs.declared.roster.Company.TheVariants.{NewYorkCentral}
 use Rattle.tables.specs.declared.round.Round.{Round}
 use Rattle.tables.specs.declared.seat.Seat.{Seat}
 use Rattle.tables.specs.declared.squares.Square.{Square}
 use Rattle.turns.proofs.RoundLeads.{round_leads}
+use Rattle.turns.proofs.Ruled.{of_ruled}
+use Rattle.turns.specs.Ruling.{has_place_in_group, obeyed_by, recorded}
 use Rattle.turns.specs.RoundOfTurns.{in_turn}
 
 -- by the presidency of a company, where it moves from this seat, if any has it
@@ -97,18 +99,21 @@ act_grows seats seat events (order.Sell company tenths) = sale_grows seats event
 act_grows seats seat events order.ExchangeMohawk = exchange_grows seats events seat
 act_grows seats seat events other = stays events
 
--- by what a ruling brings
-ruling_grows : (seats : ℕ) (seat : Seat) (turn : InTurn) (ruled : Ruling) → GrowsStill turn.events (after_obeyed seats seat turn ruled).events
-ruling_grows seats seat turn (ruling.Obeyed done) = act_grows seats seat turn.events done
-ruling_grows seats seat turn other = stays turn.events
+-- by a line of a turn whose order is done
+done_grows : (seats : ℕ) (seat : Seat) (turn : InTurn) (number : ℕ) (done : Order) →
+    GrowsStill turn.events (after_ruling seats seat turn number (ruling.Obeyed done)).events
+done_grows seats seat turn number done =
+    let ruled : List Event = recorded seat number (ruling.Obeyed done) turn.events in
+    further turn.events ruled (after_act seats seat ruled done)
+    (told turn.events (event.Ruled seat number (ruling.Obeyed done)) refl) (act_grows seats seat ruled done)
 
 -- by a line of a turn
 line_grows : (seats : ℕ) (seat : Seat) (turn : InTurn) (line : Numbered) → GrowsStill turn.events (after_line seats seat turn line).events
 line_grows seats seat turn line =
-    let ruled : Ruling = ruling_of seats turn.events seat turn.deeds.bought line.reading in
-    let told_so : InTurn = in_turn (turn.events ++ event.Ruled seat line.number ruled ∷ []) turn.deeds in
-    further turn.events told_so.events (after_line seats seat turn line).events
-    (told turn.events (event.Ruled seat line.number ruled) refl) (ruling_grows seats seat told_so ruled)
+    of_ruled (acted seats seat) (refusal_of seats turn.events seat turn.deeds.bought) seat turn line.number (λ (after : InTurn). GrowsStill turn.events after.events)
+    (λ (ruled : Ruling) (none : obeyed_by ruled ≡ None). told turn.events (event.Ruled seat line.number ruled) refl)
+    (λ (done : Order) (kept : refusal_of seats turn.events seat turn.deeds.bought done ≡ None). done_grows seats seat turn line.number done)
+    has_place_in_group line.reading
 
 -- by the rise of a company that is sold out
 rise_grows : (events : List Event) (company : Company) → GrowsStill events (risen events company)

@@ -1,5 +1,5 @@
 -- The new events of a line of a stock turn tell who acted in it.
-use Rattle.std.proofs.Common.{◌≡◌, ℕ, ◌*◌, ◌==◌, Bool, true, false, ◌||◌, List, [], ◌∷◌, ◌++◌, Option, Some, None, Result, Ok, Err, refl}
+use Rattle.std.proofs.Common.{◌≡◌, ℕ, ◌*◌, ◌==◌, Bool, true, false, ◌||◌, List, [], ◌∷◌, ◌++◌, Option, Some, None, refl}
 use Rattle.std.specs.Prelude.{is_some, unwrap_or}
 use Rattle.certs.specs.President.{successor_of}
 use Rattle.certs.specs.Purchase.{market_price_of, tenth_price_of}
@@ -8,24 +8,24 @@ use Rattle.history.specs.Shares.{par_of, president_of, square_of}
 use Rattle.history.specs.Tell.{breaks, with_broken}
 use Rattle.history.specs.declared.event.Event.{Event}
 use Rattle.history.specs.declared.event.Event.TheVariants as event
-use Rattle.history.specs.declared.ruling.StockRule.{StockRule}
+use Rattle.history.specs.declared.ruling.Ruling.TheVariants.{Obeyed}
 use Rattle.market.specs.Moves.{fallen}
 use Rattle.market.specs.Token.{moved_from, same_square}
-use Rattle.order_grammar.specs.declared.fault.Fault.{Fault}
 use Rattle.order_grammar.specs.declared.order.Order.{Order}
 use Rattle.order_grammar.specs.declared.order.Order.TheVariants as order
 use Rattle.order_grammar.specs.declared.order.ShareSource.{ShareSource}
 use Rattle.sheets.specs.Part.{Numbered}
-use Rattle.sheets.specs.Place.{placed}
 use Rattle.stock_round.specs.Act.{after_exchange, after_purchase, after_start, bought, exchanged, floated_at, is_to_float, with_float}
-use Rattle.stock_round.specs.Judgement.{exchange_source, has_place_in_group, judged, judgement_of, placed_ruling}
-use Rattle.stock_round.specs.Turn.{InTurn, after_ruling, stock_rules}
+use Rattle.stock_round.specs.Judgement.{exchange_source, refusal_of}
+use Rattle.stock_round.specs.Turn.{InTurn, acted, after_ruling, stock_rules}
 use Rattle.tables.specs.declared.roster.Company.{Company}
 use Rattle.tables.specs.declared.roster.Company.TheVariants.{NewYorkCentral}
 use Rattle.tables.specs.declared.seat.Seat.{Seat}
 use Rattle.tables.specs.declared.squares.Square.{Square}
-use Rattle.turns.proofs.Acted.{LineTells, in_both, in_either, nobody, one_more, turns_tell}
+use Rattle.turns.proofs.Acted.{LineTells, in_both, in_either, nobody, nobody_ruled, one_more, or_nothing, turns_tell}
+use Rattle.turns.proofs.Ruled.{of_ruled}
 use Rattle.turns.specs.Acted.{TellsWhoActed, TurnsTellWhoActed}
+use Rattle.turns.specs.Ruling.{has_place_in_group}
 
 module _ (seat : Seat) (seats : ℕ) where
   -- nobody acts where the bank breaks
@@ -100,69 +100,47 @@ has_sold true sold = refl
 has_sold false true = refl
 has_sold false false = refl
 
--- who has done nothing more has acted as before
-as_before : (before : Bool) → before ≡ (before || false)
-as_before true = refl
-as_before false = refl
-
--- by a line with the ruling of an order that breaks this rule, or none
-order_tells : (seats : ℕ) (seat : Seat) (turn : InTurn) (number : ℕ) (done : Order) (broken : Option StockRule) →
-    judgement_of seats turn.events seat turn.deeds.bought done ≡ broken →
-    LineTells stock_rules seat turn (after_ruling seats seat turn number (judged done broken))
-order_tells seats seat turn number done (Some rule) is =
-    record {
-      acts = false;
-      told = one_more seat false turn.events (event.Ruled seat number (judged done (Some rule))) refl;
-      acted = as_before (is_some turn.deeds.bought || turn.deeds.sold);
-    }
-order_tells seats seat turn number (order.Par company price) None is =
-    let line : Event = event.Ruled seat number (judged (order.Par company price) None) in
+-- by a line whose order is done
+order_tells : (seats : ℕ) (seat : Seat) (turn : InTurn) (number : ℕ) (done : Order) → refusal_of seats turn.events seat turn.deeds.bought done ≡ None →
+    LineTells stock_rules seat turn (after_ruling seats seat turn number (Obeyed done))
+order_tells seats seat turn number (order.Par company price) kept =
+    let line : Event = event.Ruled seat number (Obeyed (order.Par company price)) in
     let ruled : List Event = turn.events ++ line ∷ [] in
     record {
       acts = true;
       told = in_both seat false true turn.events ruled (after_start ruled seat company price) (one_more seat false turn.events line refl) (record { more = _; longer = refl; last = refl });
       acted = has_bought (is_some turn.deeds.bought || turn.deeds.sold);
     }
-order_tells seats seat turn number (order.BuyShare company from) None is =
-    let line : Event = event.Ruled seat number (judged (order.BuyShare company from) None) in
+order_tells seats seat turn number (order.BuyShare company from) kept =
+    let line : Event = event.Ruled seat number (Obeyed (order.BuyShare company from)) in
     let ruled : List Event = turn.events ++ line ∷ [] in
     record {
       acts = true;
       told = in_both seat false true turn.events ruled (after_purchase seats ruled seat company from) (one_more seat false turn.events line refl) (in_purchase seat seats ruled company from);
       acted = has_bought (is_some turn.deeds.bought || turn.deeds.sold);
     }
-order_tells seats seat turn number (order.Sell company tenths) None is =
-    let line : Event = event.Ruled seat number (judged (order.Sell company tenths) None) in
+order_tells seats seat turn number (order.Sell company tenths) kept =
+    let line : Event = event.Ruled seat number (Obeyed (order.Sell company tenths)) in
     let ruled : List Event = turn.events ++ line ∷ [] in
     record {
       acts = true;
       told = in_both seat true false turn.events ruled (after_sale seats ruled seat company tenths) (one_more seat true turn.events line refl) (in_sale seat seats ruled company tenths);
       acted = has_sold (is_some turn.deeds.bought) turn.deeds.sold;
     }
-order_tells seats seat turn number order.ExchangeMohawk None is =
-    let line : Event = event.Ruled seat number (judged order.ExchangeMohawk None) in
+order_tells seats seat turn number order.ExchangeMohawk kept =
+    let line : Event = event.Ruled seat number (Obeyed order.ExchangeMohawk) in
     let ruled : List Event = turn.events ++ line ∷ [] in
     record {
       acts = false;
       told = in_both seat false false turn.events ruled (after_exchange seats ruled seat) (one_more seat false turn.events line refl) (in_exchange seat seats ruled);
-      acted = as_before (is_some turn.deeds.bought || turn.deeds.sold);
+      acted = or_nothing (is_some turn.deeds.bought || turn.deeds.sold);
     }
-order_tells seats seat turn number other None is = absurd (cc)
-
--- by a line of which this is placed
-placed_tells : (seats : ℕ) (seat : Seat) (turn : InTurn) (number : ℕ) (reading : Result Order Fault) →
-    LineTells stock_rules seat turn (after_ruling seats seat turn number (placed_ruling seats turn.events seat turn.deeds.bought reading))
-placed_tells seats seat turn number (Err fault) =
-    record {
-      acts = false;
-      told = one_more seat false turn.events (event.Ruled seat number (placed_ruling seats turn.events seat turn.deeds.bought (Err fault))) refl;
-      acted = as_before (is_some turn.deeds.bought || turn.deeds.sold);
-    }
-placed_tells seats seat turn number (Ok done) =
-    order_tells seats seat turn number done (judgement_of seats turn.events seat turn.deeds.bought done) refl
+order_tells seats seat turn number other kept = absurd (cc)
 
 -- so each turn of a stock round tells who acted in it
 pub stock_turns_tell : TurnsTellWhoActed stock_rules
 stock_turns_tell =
     turns_tell stock_rules refl
-    (λ (seats : ℕ) (seat : Seat) (turn : InTurn) (line : Numbered). placed_tells seats seat turn line.number (placed has_place_in_group line.reading))
+    (λ (seats : ℕ) (seat : Seat) (turn : InTurn) (line : Numbered).
+    of_ruled (acted seats seat) (refusal_of seats turn.events seat turn.deeds.bought) seat turn line.number (LineTells stock_rules seat turn)
+    (nobody_ruled stock_rules seat turn line.number) (order_tells seats seat turn line.number) has_place_in_group line.reading)

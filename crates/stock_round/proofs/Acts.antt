@@ -1,5 +1,5 @@
 -- What an obeyed order brings keeps a list sound.
-use Rattle.std.proofs.Common.{◌≡◌, ℕ, ◌*◌, ◌≤◌, ◌<◌, ◌==◌, Bool, true, false, not, ◌&&◌, ◌||◌, if◌then◌else◌, List, [], ◌∷◌, ◌++◌, Option, Some, None, is_some, ℤ, pos, ◌≤ℤ◌, ◌+ℤ◌, refl, sym, subst, ap, arith}
+use Rattle.std.proofs.Common.{◌≡◌, ℕ, ◌*◌, ◌≤◌, ◌<◌, Bool, true, false, not, ◌&&◌, ◌||◌, if◌then◌else◌, List, Option, Some, None, is_some, ℤ, pos, ◌≤ℤ◌, refl, sym, subst, ap, arith}
 use Rattle.std.proofs.lemmas.Bool.Decides.{nat_tests}
 use Rattle.std.proofs.lemmas.Int.{ints}
 use Rattle.std.specs.Int.Signed.{lt_z}
@@ -9,13 +9,13 @@ use Rattle.history.proofs.Purchases.{exchange_sound as exchange_law, purchase_so
 use Rattle.history.specs.Bids.{free_cash_of}
 use Rattle.history.specs.Event.{place_of_source}
 use Rattle.history.specs.LookBack.{Game, is_closed, is_sold, owner_of, with_event}
-use Rattle.history.specs.Shares.{is_floated, is_par_value, president_of, shares_of, square_of}
+use Rattle.history.specs.Shares.{is_floated, is_par_value, shares_of, square_of}
 use Rattle.history.specs.Sound.{IsLed, IsSound, least_offered}
 use Rattle.history.specs.declared.event.Event.{Event}
 use Rattle.history.specs.declared.event.Event.TheVariants as event
 use Rattle.history.specs.declared.event.Holder.{Holder}
 use Rattle.history.specs.declared.event.Holder.TheVariants as holder
-use Rattle.history.specs.declared.event.Shareholder.TheVariants.{InitialOffering, BankPool}
+use Rattle.history.specs.declared.event.Shareholder.TheVariants.{InitialOffering}
 use Rattle.order_grammar.specs.declared.order.ShareSource.{ShareSource}
 use Rattle.order_grammar.specs.declared.order.ShareSource.TheVariants as source
 use Rattle.certs.proofs.SaleAllowed.{holds}

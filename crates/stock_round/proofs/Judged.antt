@@ -1,6 +1,6 @@
 -- An order that breaks no rule can be done, and still can after an event that changes nothing of what
 -- parties have and own.
-use Rattle.std.proofs.Common.{◌≡◌, ℕ, ◌*◌, ◌==◌, Bool, true, false, not, ◌||◌, ◌&&◌, List, [], ◌∷◌, ◌++◌, Option, Some, None, is_some, unwrap_or, ℤ, pos, ◌-ℤ◌, ◌+ℤ◌, refl, sym, subst, ap, ◌∙◌}
+use Rattle.std.proofs.Common.{◌≡◌, ℕ, ◌*◌, Bool, false, not, ◌||◌, ◌&&◌, List, [], ◌∷◌, ◌++◌, Option, Some, None, is_some, unwrap_or, ℤ, pos, ◌-ℤ◌, ◌+ℤ◌, refl, sym, subst, ap, ◌∙◌}
 use Rattle.std.specs.Int.Signed.{lt_z}
 use Rattle.certs.proofs.SaleAllowed.{holds, sale_allowed, same_start, still_may_sell}
 use Rattle.certs.specs.Purchase.{in_zone, is_none_there, is_over_six, is_short, lifts_six, price_on, purchase_judgement, purchase_rules, tenth_price_of}
@@ -10,7 +10,7 @@ use Rattle.history.specs.Bids.{bids_of, free_cash_of}
 use Rattle.history.specs.Event.{IsQuiet, party_at, place_of_source}
 use Rattle.history.specs.Laws.{SaysTheSame}
 use Rattle.history.specs.LookBack.{Game, cash_of, owner_of, with_event}
-use Rattle.history.specs.Shares.{is_started, president_of, shares_of, square_of}
+use Rattle.history.specs.Shares.{is_started, shares_of, square_of}
 use Rattle.history.specs.declared.event.Event.{Event}
 use Rattle.history.specs.declared.event.Holder.{Holder}
 use Rattle.history.specs.declared.event.Shareholder.TheVariants.{InitialOffering, BankPool, Seat as OfSeat}

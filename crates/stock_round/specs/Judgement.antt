@@ -3,7 +3,7 @@
 -- if it owns MH, the initial offering or the pool has such a tenth, and it would not come to hold over six,
 -- where the zone of NYC's square limits that. There is one purchase a turn, but of a company whose square is
 -- brown there may be several.
-use Rattle.std.specs.Prelude.{ℕ, ◌==◌, Bool, false, not, ◌||◌, if◌then◌else◌, List, [], ◌∷◌, Option, Some, None, Result, Ok, Err, pos}
+use Rattle.std.specs.Prelude.{ℕ, ◌==◌, Bool, false, not, ◌||◌, if◌then◌else◌, List, [], ◌∷◌, Option, Some, None, option_map, pos}
 use Rattle.std.specs.Int.Signed.{lt_z}
 use Rattle.certs.specs.Purchase.{is_over_six, purchase_judgement}
 use Rattle.certs.specs.Sale.{sale_judgement}
@@ -16,15 +16,12 @@ use Rattle.history.specs.declared.event.Holder.TheVariants as holder
 use Rattle.history.specs.declared.event.Shareholder.TheVariants.{InitialOffering, BankPool}
 use Rattle.history.specs.declared.ruling.StockRule.{StockRule}
 use Rattle.history.specs.declared.ruling.StockRule.TheVariants.{NotOfStock, NoExchange}
+use Rattle.history.specs.declared.ruling.Refusal.{Refusal}
 use Rattle.history.specs.declared.ruling.Refusal.TheVariants.{Stock}
-use Rattle.history.specs.declared.ruling.Ruling.{Ruling}
-use Rattle.history.specs.declared.ruling.Ruling.TheVariants.{Obeyed, Refused, Faulty}
-use Rattle.order_grammar.specs.declared.fault.Fault.{Fault}
 use Rattle.order_grammar.specs.declared.order.Order.{Order}
 use Rattle.order_grammar.specs.declared.order.Order.TheVariants.{Par, BuyShare, Sell, ExchangeMohawk}
 use Rattle.order_grammar.specs.declared.order.ShareSource.{ShareSource}
 use Rattle.order_grammar.specs.declared.order.ShareSource.TheVariants as source
-use Rattle.sheets.specs.Place.{is_of_file, placed}
 use Rattle.tables.specs.Rules.{Rule, first_broken}
 use Rattle.tables.specs.declared.roster.Company.{Company}
 use Rattle.tables.specs.declared.roster.Company.TheVariants.{NewYorkCentral}
@@ -72,20 +69,6 @@ judgement_of seats events seat bought (Sell company tenths) = sale_judgement sea
 judgement_of seats events seat bought ExchangeMohawk = first_broken (exchange_rules events seat)
 judgement_of seats events seat bought other = Some NotOfStock
 
--- what becomes of an order that breaks this rule first, or none
-abbrev pub judged : Order → Option StockRule → Ruling
-judged order None = Obeyed order
-judged order (Some rule) = Refused (Stock rule) order
-
--- an order of a group is one of play
-abbrev pub has_place_in_group : Order → Bool
-has_place_in_group order = not (is_of_file order)
-
--- what becomes of an order that has a place, or of a fault
-abbrev pub placed_ruling : ℕ → List Event → Seat → Option Company → Result Order Fault → Ruling
-placed_ruling seats events seat bought (Err fault) = Faulty fault
-placed_ruling seats events seat bought (Ok order) = judged order (judgement_of seats events seat bought order)
-
--- what becomes of a line of a group with this reading
-abbrev pub ruling_of : ℕ → List Event → Seat → Option Company → Result Order Fault → Ruling
-ruling_of seats events seat bought reading = placed_ruling seats events seat bought (placed has_place_in_group reading)
+-- the same, as a ruling refuses an order
+abbrev pub refusal_of : ℕ → List Event → Seat → Option Company → Order → Option Refusal
+refusal_of seats events seat bought order = option_map Stock (judgement_of seats events seat bought order)

@@ -1,14 +1,14 @@
 -- The standing lines of a stock sheet, those before its first group, are ruled at the round's start: no order
 -- has a place there.
-use Rattle.std.specs.Prelude.{List, [], ◌∷◌, ◌++◌, Result, Ok, Err}
+use Rattle.std.specs.Prelude.{List, Result, Ok, Err}
 use Rattle.history.specs.declared.event.Event.{Event}
-use Rattle.history.specs.declared.event.Event.TheVariants as event
 use Rattle.history.specs.declared.ruling.Ruling.TheVariants.{Faulty}
 use Rattle.order_grammar.specs.declared.fault.Fault.{Fault}
 use Rattle.order_grammar.specs.declared.fault.Fault.TheVariants.{OutOfPlace}
 use Rattle.order_grammar.specs.declared.order.Order.{Order}
 use Rattle.sheets.specs.Part.{Numbered}
 use Rattle.tables.specs.declared.seat.Seat.{Seat}
+use Rattle.turns.specs.Ruling.{recorded}
 
 -- the fault of a line where no order has a place: its own, else that one
 abbrev pub fault_of_standing : Result Order Fault → Fault
@@ -17,4 +17,4 @@ fault_of_standing (Ok order) = OutOfPlace
 
 -- after a standing line of a seat
 abbrev pub after_standing_line : Seat → List Event → Numbered → List Event
-after_standing_line seat events line = events ++ event.Ruled seat line.number (Faulty (fault_of_standing line.reading)) ∷ []
+after_standing_line seat events line = recorded seat line.number (Faulty (fault_of_standing line.reading)) events

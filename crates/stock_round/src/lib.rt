@@ -7,11 +7,10 @@
 //! few tenths are left in its initial offering. The round is over when all seats have passed in
 //! succession; then the companies that are all in players' hands move up.
 //!
-//! Reading order: `judgement` (the rules that an order may break), `ruling`, `act` (what an obeyed
-//! order brings) with `payments`, `prices` and `float`, `deals` (what a seat has done
-//! in a turn), `turn` (the lines of a turn), `standing` (the lines before the first group),
-//! `closing`, `playing` (what makes it a round of `turns`), `laws` (what holds of every stock
-//! round).
+//! Reading order: `judgement` (the rules that an order may break), `act` (what an obeyed order
+//! brings) with `payments`, `prices` and `float`, `deals` (what a seat has done in a turn), `turn`
+//! (the lines of a turn), `standing` (the lines before the first group), `closing`, `playing` (what
+//! makes it a round of `turns`), `laws` (what holds of every stock round).
 #![tactic(auto)]
 
 mod act;
@@ -23,7 +22,6 @@ mod laws;
 mod payments;
 mod playing;
 mod prices;
-mod ruling;
 mod standing;
 mod turn;
 

@@ -3,11 +3,11 @@ ghost use Rattle.history.specs.Sound.{IsSound};
 ghost use Rattle.sheets.specs.Part.{line_read};
 ghost use Rattle.stock_round.specs.Standing.{after_standing_line};
 
-use crate::ruling::tell_ruling;
-use history::{History, KeptRuling};
+use history::History;
 use sheets::{NumberedLine, fault_out_of_place};
 use std::alloc::AllocError;
 use tables::Seat;
+use turns::record_fault;
 
 /// Rules a standing line of a seat, one before the first group of its sheet. No order has a place
 /// there.
@@ -23,5 +23,5 @@ pub(crate) fn rule_standing_line(
     ensures sound { OnOk result (IsSound history.new) }
 {
     let fault = fault_out_of_place(line);
-    tell_ruling(history, seat, line, KeptRuling::faulty(fault))
+    record_fault(history, seat, line.number, fault)
 }

@@ -4,11 +4,15 @@ use Rattle.std.specs.Option.{option_or}
 use Rattle.std.proofs.lemmas.List.{append_assoc}
 use Rattle.history.specs.LookBack.{actor_of, last_said}
 use Rattle.history.specs.declared.event.Event.{Event}
+use Rattle.history.specs.declared.event.Event.TheVariants as event
+use Rattle.history.specs.declared.ruling.Ruling.{Ruling}
+use Rattle.history.specs.declared.ruling.Ruling.TheVariants.{Obeyed}
 use Rattle.sheets.specs.Part.{Numbered}
 use Rattle.tables.specs.Steps.{iterate}
 use Rattle.tables.specs.declared.seat.Seat.{Seat}
 use Rattle.turns.specs.Acted.{TellsWhoActed, TurnsTellWhoActed}
 use Rattle.turns.specs.RoundOfTurns.{InTurn, RoundRules, after_lines, in_turn}
+use Rattle.turns.specs.Ruling.{obeyed_by, recorded}
 
 -- the first of three that says something says it
 in_order : {A : Type 0} (a b c : Option A) → option_or (option_or a b) c ≡ option_or a (option_or b c)
@@ -84,7 +88,7 @@ either_order true b c = refl
 either_order false b c = refl
 
 -- one or nothing
-or_nothing : (a : Bool) → a ≡ (a || false)
+pub or_nothing : (a : Bool) → a ≡ (a || false)
 or_nothing true = refl
 or_nothing false = refl
 
@@ -112,6 +116,13 @@ module _ {Deeds : Type 0} (rules : RoundRules Deeds) (seats : ℕ) (seat : Seat)
       sym (all.acted ∙ ap (λ (b : Bool). b || all.acts) idle)
       in
       subst (λ (b : Bool). TellsWhoActed seat b events (after_lines rules seats seat (in_turn events rules.nothing) lines).events) acted all.told
+
+-- a ruling by which no order is done names nobody
+pub nobody_ruled : {Deeds : Type 0} (rules : RoundRules Deeds) (seat : Seat) (turn : InTurn Deeds) (number : ℕ) (ruling : Ruling) →
+    obeyed_by ruling ≡ None → LineTells rules seat turn (in_turn (recorded seat number ruling turn.events) turn.deeds)
+nobody_ruled rules seat turn number (Obeyed order) none = absurd (cc)
+nobody_ruled rules seat turn number other none =
+    record { acts = false; told = one_more seat false turn.events (event.Ruled seat number other) refl; acted = or_nothing (rules.has_acted turn.deeds) }
 
 -- so each turn of a round tells it
 pub turns_tell : {Deeds : Type 0} (rules : RoundRules Deeds) → rules.has_acted rules.nothing ≡ false →

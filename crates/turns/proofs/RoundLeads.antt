@@ -12,7 +12,7 @@ use Rattle.tables.specs.Steps.{iterate}
 use Rattle.tables.specs.Turns.{InPlay, after_turn, groups_at, next_group}
 use Rattle.tables.specs.declared.round.Round.{Round}
 use Rattle.tables.specs.declared.seat.Seat.{Seat}
-use Rattle.turns.specs.RoundOfTurns.{InTurn, IsRoundOfTurns, RoundRules, after_group, after_lines, after_standing, finished, in_turn, left_from, opened, turned, turns_of}
+use Rattle.turns.specs.RoundOfTurns.{InTurn, IsRoundOfTurns, RoundRules, after_group, after_lines, after_standing, finished, in_turn, left_from, opened, turns_of}
 
 -- what leads from a list to itself, on over another, and over each step of a round
 pub record LeadsOverSteps {Deeds : Type 0} (rules : RoundRules Deeds) (Leads : List Event → List Event → Type 0) : Type 0 where

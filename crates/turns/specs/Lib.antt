@@ -1,3 +1,4 @@
 pub mod Small
 pub mod RoundOfTurns
 pub mod Acted
+pub mod Ruling

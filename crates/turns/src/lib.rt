@@ -5,14 +5,21 @@
 //! What a line does, what acting is, what else ends the turns and what follows them is each kind of
 //! round's own: a type says it that has the trait `TurnRules`.
 //!
-//! Reading order: `rules` (the trait), `turn` (the turn of a seat), `playing` (the whole round).
-//! In `specs/`, `RoundOfTurns` says what a round of turns is, and `Small` how large the sums are
-//! that the lines of a sheet name.
+//! Lines of every kind of round are ruled in one way, that of `ruling`: by their own fault, their
+//! place and their rules, and what becomes of them is recorded. A type that has the trait `Family`
+//! says which orders have a place, and judges them.
+//!
+//! Reading order: `ruling` (what becomes of a line), `rules` (the trait of a round), `turn` (the
+//! turn of a seat), `playing` (the whole round). In `specs/`, `Ruling` says what becomes of a line,
+//! `RoundOfTurns` what a round of turns is, and `Small` how large the sums are that the lines of a
+//! sheet name.
 #![tactic(auto)]
 
 mod playing;
 mod rules;
+mod ruling;
 mod turn;
 
 pub use playing::play_round;
 pub use rules::TurnRules;
+pub use ruling::{Family, record, record_fault, rule_line, rule_order};
