@@ -23,8 +23,15 @@ use certificate::{Runner, RunnerFault, a_greatest_exists, one_greatest};
 use history::{History, KeptRuling, Past, Refusal, RunRule, TrainCount, so_many};
 use order_grammar::Order;
 use reach::Network;
+use smallvec::SmallVec;
 use std::alloc::{AllocError, Global};
 use tables::{Amount, Company, Kind, Money};
+
+/// The most trains that a company may have in any phase: so many are kept without memory.
+const TRAINS_MOST: usize = 4;
+
+/// The trains of a company.
+type CompanyTrains = SmallVec<Kind, TRAINS_MOST>;
 
 impl CompanyTurn {
     /// Rules an order to run the best in a line with this number, and runs it if it is obeyed: the
@@ -143,10 +150,10 @@ fn amount(money: Money) -> Amount
 }
 
 /// The trains that a company has, kind by kind. The only error is want of memory.
-fn trains_of(alloc: Global, past: &Past, company: Company) -> Result<Vec<Kind>, AllocError>
+fn trains_of(alloc: Global, past: &Past, company: Company) -> Result<CompanyTrains, AllocError>
     ensures { IfOk result (λ trains. trains.items ≡ trains_now past.now.events.now company) }
 {
-    let mut trains = Vec::new(alloc);
+    let mut trains = CompanyTrains::new(alloc);
     for kind in Kind::ALL {
         push_trains(&mut trains, kind, past.trains(Some(company), kind))?;
     }
@@ -154,7 +161,11 @@ fn trains_of(alloc: Global, past: &Past, company: Company) -> Result<Vec<Kind>, 
 }
 
 /// Adds so many trains of a kind at the end; none where the number is under 0.
-fn push_trains(trains: &mut Vec<Kind>, kind: Kind, count: TrainCount) -> Result<(), AllocError>
+fn push_trains(
+    trains: &mut CompanyTrains,
+    kind: Kind,
+    count: TrainCount,
+) -> Result<(), AllocError>
     ensures { OnOk result (trains.new.items
         ≡ trains.old.items ++ replicate (so_many count) kind) }
 {

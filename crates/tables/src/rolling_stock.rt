@@ -3,9 +3,11 @@ ghost use Rattle.tables.specs.Train.{code_of_kind, limit_of, place_of_kind, roun
 
 use crate::seat::Amount;
 
-/// A kind of train, also the phase that the first train of the kind begins.
-#[derive(Clone, Copy, Debug, PartialEq, Eq, Hash)]
+/// A kind of train, also the phase that the first train of the kind begins. A game begins in the
+/// phase of the first kind.
+#[derive(Clone, Copy, Debug, PartialEq, Eq, Hash, Default)]
 pub enum Kind {
+    #[default]
     Two,
     Three,
     Four,
