@@ -2,9 +2,10 @@
 use Rattle.std.proofs.Common.{◌≡◌, ℕ, ◌<◌, ◌≤◌, List, true, false, Option, Some, Result, Ok, Err, length, refl, ◌∙◌}
 use Rattle.std.proofs.lemmas.Bool.{lt-ltb, le-ltb}
 use Rattle.std.specs.Prelude.{nat_lt}
+use Rattle.order_grammar.specs.declared.condition.Version.{Version}
 use Rattle.order_grammar.specs.declared.fault.Fault.{Fault}
 use Rattle.sheets.specs.Collecting.{StopsBy, IsCollected}
-use Rattle.sheets.specs.File.{Content, Fails, content_of, lines_content, body_content, players_of, body_of, sheet_of, unread_of, sheet_in, unread_in, good_lines}
+use Rattle.sheets.specs.File.{Content, Fails, content_of, lines_content, body_content, players_of, body_of, sheet_of, unread_of, version_of, version_in, sheet_in, unread_in, good_lines}
 use Rattle.sheets.specs.Limits.{file_most, sheets_most}
 use Rattle.sheets.specs.Text.{written_lines}
 use Rattle.sheets.specs.declared.fault.FileFault.{FileFault}
@@ -48,12 +49,13 @@ fails_by players body TooLong content e h = absurd h
 fails_by players body TooManySheets content e h = e ∙ many players body h
 
 -- what is kept of a file is what it says
-pub collected : (file : List ℕ) (players body : List (List ℕ)) (sheets : Post → Option (List (List ℕ))) (unread : List Fault) →
-    content_of file ≡ Ok (record { players = players; body = body }) → 3 ≤ length players → length players ≤ 6 →
-    ((post : Post) → sheets post ≡ sheet_in players body post) → unread ≡ unread_in players false body → IsCollected file players sheets unread
-unfolding players_of body_of sheet_of unread_of
-collected file players body sheets unread e least most same codes = record {
+pub collected : (file : List ℕ) (version : Version) (players body : List (List ℕ)) (sheets : Post → Option (List (List ℕ))) (unread : List Fault) →
+    version ≡ version_in (written_lines file) → content_of file ≡ Ok (record { players = players; body = body }) → 3 ≤ length players → length players ≤ 6 →
+    ((post : Post) → sheets post ≡ sheet_in players body post) → unread ≡ unread_in players false body → IsCollected file version players sheets unread
+unfolding version_of players_of body_of sheet_of unread_of
+collected file version players body sheets unread named e least most same codes = record {
   accepted = rw e refl;
+  version_is = named;
   players_are = rw e refl;
   least = least;
   most = most;

@@ -1,8 +1,9 @@
 -- How far the sheets of a file are collected: what is kept, what is open, and what is left to read.
 use Rattle.std.specs.Prelude.{◌≡◌, ℕ, ◌+◌, ◌-◌, ◌<◌, ◌≤◌, false, if◌then◌else◌, List, [], ◌∷◌, ◌++◌, length, take, Option, Some, None, is_some}
 use Rattle.std.specs.Option.{option_or}
+use Rattle.order_grammar.specs.declared.condition.Version.{Version}
 use Rattle.order_grammar.specs.declared.fault.Fault.{Fault}
-use Rattle.sheets.specs.File.{same_post, block, sheet_in, good_lines, unread_in, players_of, unread_of, sheet_of, IsAccepted}
+use Rattle.sheets.specs.File.{same_post, block, sheet_in, good_lines, unread_in, players_of, unread_of, sheet_of, version_of, IsAccepted}
 use Rattle.sheets.specs.Limits.{sheets_most}
 use Rattle.sheets.specs.Text.{written_lines, BeginsWith}
 use Rattle.sheets.specs.declared.fault.FileFault.{FileFault}
@@ -79,8 +80,9 @@ StopsBy good TooManySheets = sheets_most < good
 StopsBy good other = ⊥
 
 -- what a file is kept as
-pub record IsCollected (file : List ℕ) (players : List (List ℕ)) (sheets : Post → Option (List (List ℕ))) (unread : List Fault) : Type 0 where
+pub record IsCollected (file : List ℕ) (version : Version) (players : List (List ℕ)) (sheets : Post → Option (List (List ℕ))) (unread : List Fault) : Type 0 where
   pub accepted : IsAccepted file
+  pub version_is : version ≡ version_of file
   pub players_are : players ≡ players_of file
   pub least : 3 ≤ length players
   pub most : length players ≤ 6

@@ -1,10 +1,12 @@
 -- What an order file says: whether it is refused, who plays, the sheet of a player for a round, and
 -- the lines that are in no sheet.
-use Rattle.std.specs.Prelude.{◌≡◌, ℕ, ◌==◌, ◌+◌, Bool, true, false, ◌&&◌, not, nat_le, nat_lt, if◌then◌else◌, List, [], ◌∷◌, ◌++◌, length, codes, Option, Some, None, Result, Ok, Err, IsOk, take_while, is_some}
+use Rattle.std.specs.Prelude.{◌≡◌, ℕ, ◌==◌, ◌+◌, Bool, true, false, ◌&&◌, not, nat_le, nat_lt, if◌then◌else◌, List, [], ◌∷◌, ◌++◌, length, codes, Option, Some, None, Result, Ok, Err, IsOk, take_while, is_some, unwrap_or}
 use Rattle.std.specs.Option.{option_or}
 use Rattle.std.specs.List.{list_any}
 use Rattle.order_grammar.specs.Line.{reading_of}
 use Rattle.order_grammar.specs.Words.{words_of, first_of_words, same_word}
+use Rattle.order_grammar.specs.declared.condition.Version.{Version}
+use Rattle.order_grammar.specs.declared.condition.Version.TheVariants.{One}
 use Rattle.order_grammar.specs.declared.fault.Fault.{Fault}
 use Rattle.order_grammar.specs.declared.fault.Fault.TheVariants.{OutOfPlace, UnknownPlayer}
 use Rattle.order_grammar.specs.declared.order.Order.{Order}
@@ -27,10 +29,23 @@ code_of_fault TooLong = codes "F3"
 code_of_fault TooManySheets = codes "F4"
 code_of_fault Memory = codes "F5"
 
--- the order of the header line: game 1830, and version 1 of its files
+-- the version that the order of a header line names: game 1830, and version 1 of its files
+abbrev pub header_version : Result Order Fault → Option Version
+header_version (Ok (order.Game game version)) = if game == 1830 && version == 1 then Some One else None
+header_version other = None
+
+-- the order of a header line
 abbrev pub is_header : Result Order Fault → Bool
-is_header (Ok (order.Game game version)) = game == 1830 && version == 1
-is_header other = false
+is_header reading = is_some (header_version reading)
+
+-- the version of a file with these written lines: that which its header line names
+abbrev pub version_in : List (List ℕ) → Version
+version_in [] = One
+version_in (line ∷ lines) = unwrap_or (header_version (reading_of line)) One
+
+-- the version of a file
+unfoldable pub version_of : List ℕ → Version
+version_of file = version_in (written_lines file)
 
 -- no name stands twice
 abbrev pub all_differ : List (List ℕ) → Bool

@@ -1,7 +1,7 @@
 ghost use Rattle.std.specs.Prelude.{◌≡◌, ℕ, ◌≤◌, List, length, MatchResult, IfOk, OnOk, option_copied, option_map, slice_get, Err};
 ghost use Rattle.order_grammar.specs.Line.{reading_of};
 ghost use Rattle.sheets.specs.Block.{block_for};
-ghost use Rattle.sheets.specs.File.{Fails, IsAccepted, body_content, content_of, is_header, lines_content, players_content, players_of, sheet_of, unread_of};
+ghost use Rattle.sheets.specs.File.{Fails, IsAccepted, body_content, content_of, header_version, lines_content, players_content, players_of, sheet_of, unread_of, version_in, version_of};
 ghost use Rattle.sheets.specs.Part.{parts_for};
 ghost use Rattle.sheets.specs.Text.{written_lines};
 
@@ -12,7 +12,7 @@ use crate::players::{Players, players_named};
 use crate::post::Post;
 use crate::sheet::{Lines, Sheet};
 use crate::text::first_written;
-use order_grammar::{Fault, Order, read_line};
+use order_grammar::{Fault, Order, Version, read_line};
 use std::alloc::Global;
 use std::collections::HashMap;
 use std::marker::Model;
@@ -21,9 +21,6 @@ use tables::{Company, Round, Seat};
 /// The game that an order file is for, as its header line names it.
 const GAME: u32 = 1830;
 
-/// The version of order files, as the header line names it.
-const VERSION: u32 = 1;
-
 /// The most bytes of an order file.
 pub const FILE_MOST: usize = 4_194_304;
 
@@ -31,6 +28,7 @@ pub const FILE_MOST: usize = 4_194_304;
 #[derive(Drop)]
 pub struct Sheets<'a> {
     file: &'a [u8],
+    version: Version,
     players: Players,
     sheets: HashMap<Post, Sheet<'a>>,
     unread: Vec<Fault>,
@@ -48,11 +46,18 @@ impl<'a> Model for Sheets<'a> {
     ghost view = { λ sheets. sheets.file.now };
 
     ghost invariant = { λ sheets.
-        IsCollected sheets.file.now sheets.players
+        IsCollected sheets.file.now sheets.version sheets.players
         (get same_post sheets.sheets) sheets.unread.items };
 }
 
 impl<'a> Sheets<'a> {
+    /// The version of the file, as its header line names it. (Files of version 2 are refused.)
+    pub fn version(&self) -> Version
+        ensures { result ≡ version_of self.now }
+    {
+        self.version
+    }
+
     /// What the player of this seat last sent for this round; `None` where the player sent no sheet
     /// for it, or nobody has the seat.
     pub fn sheet(&self, seat: Seat, round: &Round) -> Option<&Sheet<'a>>
@@ -125,46 +130,49 @@ pub fn collect(alloc: Global, file: &[u8]) -> Result<Sheets<'_>, FileFault>
     if file.len() > FILE_MOST {
         return Err(FileFault::TooLong);
     }
-    let after_header = skip_header(file)?;
+    let (version, after_header) = read_header(file)?;
     let (players, body) = read_players(alloc, after_header)?;
     let collection = collect_body(alloc, &players, body)?;
     Ok(Sheets {
         file,
+        version,
         players,
         sheets: collection.sheets,
         unread: collection.unread,
     })
 }
 
-/// What follows the header line.
-fn skip_header(file: &[u8]) -> Result<&[u8], FileFault>
-    ensures shorter { IfOk result (λ rest. length rest.now ≤ length file.now) }
+/// The version that the header line names, and what follows that line.
+fn read_header(file: &[u8]) -> Result<(Version, &[u8]), FileFault>
+    ensures shorter { IfOk result (λ read. length read.1.now ≤ length file.now) }
+    ensures version { IfOk result (λ read. read.0 ≡ version_in (written_lines file.now)) }
     ensures content { MatchResult result
-        (λ rest. lines_content (written_lines file.now) ≡ players_content (written_lines rest.now))
+        (λ read. lines_content (written_lines file.now)
+        ≡ players_content (written_lines read.1.now))
         (λ fault. lines_content (written_lines file.now) ≡ Err fault) }
 {
     let Some(piece) = first_written(file) else {
         return Err(FileFault::Header);
     };
-    if !is_header(piece.line) {
-        return Err(FileFault::Header);
+    match header_version(piece.line) {
+        Some(version) => Ok((version, piece.rest)),
+        None => Err(FileFault::Header),
     }
-    Ok(piece.rest)
 }
 
-/// Whether a line is the header line, `GAME 1830 1`.
-fn is_header(line: &[u8]) -> bool
-    ensures { result ≡ is_header (reading_of line.now) }
+/// The version of a file whose header line is this one, `GAME 1830 1`; `None` for other lines.
+fn header_version(line: &[u8]) -> Option<Version>
+    ensures { result ≡ header_version (reading_of line.now) }
 {
-    match read_line(line) {
-        Ok(line) => matches!(
-            &line.order,
-            Order::Game {
-                game: GAME,
-                version: VERSION
-            }
-        ),
-        Err(_) => false,
+    let Ok(line) = read_line(line) else {
+        return None;
+    };
+    match &line.order {
+        Order::Game {
+            game: GAME,
+            version: 1,
+        } => Some(Version::One),
+        _ => None,
     }
 }
 
