@@ -58,6 +58,10 @@ fn print(rt: &HostRuntime, game: &Game, marks: bool) -> Result<(), Fault> {
     let cost = measure(rt, game)?;
     let (write, check) = (cost.write.as_millis(), cost.check.as_millis());
     let word = if cost.accepted { "accepted" } else { "refused" };
-    println!(rt; "{} {revenue} {} {write} {check} {word}", game.number(), cost.marks)?;
+    println!(rt;
+        "{} {revenue} {} {write} {check} {word}",
+        game.number(),
+        cost.marks
+    )?;
     Ok(())
 }

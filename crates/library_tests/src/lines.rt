@@ -26,8 +26,20 @@ fn prints(alloc: Global, line: &[u8], printed: &[u8]) -> Result<bool, AllocError
 #[test]
 fn prints_an_order_under_a_condition(rt: HostRuntime) -> Result<(), Fail> {
     let alloc = rt.alloc();
-    assert!(rt; prints(alloc, b"if price prr >= 0090 Sell prr 2 # x", b"IF PRICE PRR >= 90 SELL PRR 2")?);
-    assert!(rt; prints(alloc, b"IF PHASE d  LAY 57 H10 1", b"IF PHASE D LAY 57 H10 1")?);
+    assert!(rt;
+        prints(
+            alloc,
+            b"if price prr >= 0090 Sell prr 2 # x",
+            b"IF PRICE PRR >= 90 SELL PRR 2"
+        )?
+    );
+    assert!(rt;
+        prints(
+            alloc,
+            b"IF PHASE d  LAY 57 H10 1",
+            b"IF PHASE D LAY 57 H10 1"
+        )?
+    );
     assert!(rt; prints(alloc, b" if floated bo run best", b"IF FLOATED BO RUN BEST")?);
     assert!(rt; prints(alloc, b"buy sv", b"BUY SV")?);
     Ok(())

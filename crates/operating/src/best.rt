@@ -161,11 +161,7 @@ fn trains_of(alloc: Global, past: &Past, company: Company) -> Result<CompanyTrai
 }
 
 /// Adds so many trains of a kind at the end; none where the number is under 0.
-fn push_trains(
-    trains: &mut CompanyTrains,
-    kind: Kind,
-    count: TrainCount,
-) -> Result<(), AllocError>
+fn push_trains(trains: &mut CompanyTrains, kind: Kind, count: TrainCount) -> Result<(), AllocError>
     ensures { OnOk result (trains.new.items
         ≡ trains.old.items ++ replicate (so_many count) kind) }
 {

@@ -117,8 +117,8 @@ operating_answered file round old to calls course =
     then_answered (Unasked play.Memory (IsOpened file round)) (Then (TurnsCall file round) (Unasked play.Memory (IsFinished file round)))
     (unasked_answered play.Memory (IsOpened file round))
     (then_answered (TurnsCall file round) (Unasked play.Memory (IsFinished file round))
-        (λ old to calls turns. times_answered (NextCalls file round) (Unasked play.Memory AreOver) (next_answered file round) (unasked_answered play.Memory AreOver) turns.0 old to calls turns.1)
-        (unasked_answered play.Memory (IsFinished file round)))
+    (λ old to calls turns. times_answered (NextCalls file round) (Unasked play.Memory AreOver) (next_answered file round) (unasked_answered play.Memory AreOver) turns.0 old to calls turns.1)
+    (unasked_answered play.Memory (IsFinished file round)))
     old to calls course
 
 -- those of a round, by its kind

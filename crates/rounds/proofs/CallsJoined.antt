@@ -53,7 +53,7 @@ joined_more file mid play round before its so_far step called =
           λ played later rest.
           subst (GameCalls file (Ok played)) (sym (append_assoc before its later))
           (so_far.on played (its ++ later)
-              (suc rest.0, inr (record { between = on.to; earlier = its; later = later; leads = course; goes_on = rest.1; all = refl })));
+          (suc rest.0, inr (record { between = on.to; earlier = its; later = later; leads = course; goes_on = rest.1; all = refl })));
     }
 
 -- so it is after each number of steps

@@ -39,8 +39,8 @@ module _ (lists : OneListOfTurnCalls) (fronts : RefusedTurnCallsAreAFront) (file
           short.0,
           short.1,
           broken.1
-          ∙ ap (λ (why : RunnerFault). fault_in_turn why round company) short.2.0
-          ∙ (λ i. fault_in_turn short.0 (sym short.2.1 i) (sym short.2.2 i)),
+              ∙ ap (λ (why : RunnerFault). fault_in_turn why round company) short.2.0
+              ∙ (λ i. fault_in_turn short.0 (sym short.2.1 i) (sym short.2.2 i)),
         )
       ]
 

@@ -50,14 +50,14 @@ kept_first call calls (Ok money) before between after is answered one rest =
       groups = one.group ∷ rest.groups;
       kept = rest.kept ∙ ap (λ l. l ++ rest.groups) one.kept ∙ append_assoc before (one.group ∷ []) rest.groups;
       certified = (
-          record {
-            of_round = one.of_round;
-            of_company = one.of_company;
-            accepted = one.accepted;
-            filled = one.filled;
-            answered = is ∙ ap Ok one.answered;
-          },
-          rest.certified,
+        record {
+          of_round = one.of_round;
+          of_company = one.of_company;
+          accepted = one.accepted;
+          filled = one.filled;
+          answered = is ∙ ap Ok one.answered;
+        },
+        rest.certified,
       );
     }
 kept_first call calls (Err fault) before between after is answered one rest = absurd (cc)

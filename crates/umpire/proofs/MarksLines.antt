@@ -91,7 +91,7 @@ marks_read digits some few lower =
     ap (list_all is_printable) (comment_behind digits ∙ ap marks_of (no_comment digits all)) ∙ printable_marks digits lower in
     let hex : are_hex_digits (raised digits) ≡ true =
     and_from _ _ (and_from _ _ (le-leb 1 (length (raised digits)) (omega (arith, length-map digits to_ascii_uppercase, some))) (le-leb (length (raised digits)) 1000 (omega (arith, length-map digits to_ascii_uppercase, few))))
-        (raised_hex digits (all_lower (λ byte. is_hex_digit (to_ascii_uppercase byte)) digits refl lower)) in
+    (raised_hex digits (all_lower (λ byte. is_hex_digit (to_ascii_uppercase byte)) digits refl lower)) in
     spells_read certificate cert_forms rows_of_certificates (marks_of digits) Marks (record {
       loosely = record {
         short = omega (arith, long, few);

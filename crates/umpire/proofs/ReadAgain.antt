@@ -339,7 +339,7 @@ unfolding lines_of_groups
 certificates_lines groups all =
     lines_written (certificates_text groups) (spelling_of Certs ∷ flat_map lines_of_group groups)
     (both_written (order_line Certs) (flat_map group_text groups) (spelling_of Certs ∷ []) (flat_map lines_of_group groups)
-        (line_written (spelling_of Certs) refl) (all_written group_text lines_of_group groups (groups_written groups all)))
+    (line_written (spelling_of Certs) refl) (all_written group_text lines_of_group groups (groups_written groups all)))
 
 head_begins_none : begins_group (spelling_of Certs) ≡ false
 unfolding begins_group
@@ -385,8 +385,7 @@ marks_divide_none (suc count) (bit ∷ bits) = (
 group_divides_none : (group : Group) → CanBeWritten group → NoneDivide (lines_of_group group)
 unfolding lines_of_group cert_of
 group_divides_none group can =
-    both_divide_none (cert_of group ∷ claims_of group.claim.runs) (marks_within (length group.bits) group.bits)
-    (
+    both_divide_none (cert_of group ∷ claims_of group.claim.runs) (marks_within (length group.bits) group.bits) (
       divides_by (cert_of group) (Cert group.round group.company group.claim.revenue) (cert_line group.round group.company group.claim.revenue can.cert).reads,
       claims_divide_none group.claim.runs can.claims,
     )

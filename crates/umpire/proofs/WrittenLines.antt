@@ -86,7 +86,7 @@ all_written f g [] all = nothing_written
 all_written {X = X} f g (x ∷ xs) all =
     subst (λ (text : List ℕ). IsWritten text (flat_map g (x ∷ xs))) (sym (flat_map-cons f x xs))
     (subst (λ (lines : List (List ℕ)). IsWritten (f x ++ flat_map f xs) lines) (sym (flat_map-cons g x xs))
-        (both_written (f x) (flat_map f xs) (g x) (flat_map g xs) all.0 (all_written f g xs all.1)))
+    (both_written (f x) (flat_map f xs) (g x) (flat_map g xs) all.0 (all_written f g xs all.1)))
 
 -- the lines of a written text
 pub lines_written : (text : List ℕ) (lines : List (List ℕ)) → IsWritten text lines → lines_of text ≡ lines

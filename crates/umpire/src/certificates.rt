@@ -158,11 +158,7 @@ fn write_groups<W: Write>(
 }
 
 /// Writes the text of a group.
-fn write_group<W: Write>(
-    alloc: Global,
-    group: &Group,
-    writer: &mut Watched<W>,
-) -> Result<(), Fault>
+fn write_group<W: Write>(alloc: Global, group: &Group, writer: &mut Watched<W>) -> Result<(), Fault>
     requires { has_failed writer.old ≡ false }
     ensures ok { OnOk result (Appends (W.contents (inside writer.old))
         (W.contents (inside writer.new)) (group_text group.now)) }
@@ -176,11 +172,7 @@ fn write_group<W: Write>(
 }
 
 /// Writes MARKS lines, line by line: the marks of a group may be many.
-fn write_marks<W: Write>(
-    alloc: Global,
-    bits: &Bits,
-    writer: &mut Watched<W>,
-) -> Result<(), Fault>
+fn write_marks<W: Write>(alloc: Global, bits: &Bits, writer: &mut Watched<W>) -> Result<(), Fault>
     requires { has_failed writer.old ≡ false }
     ensures ok { OnOk result (Appends (W.contents (inside writer.old))
         (W.contents (inside writer.new)) (marks_lines bits.now)) }

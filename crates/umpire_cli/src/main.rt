@@ -58,8 +58,9 @@ fn start(rt: &HostRuntime, words: &[String]) -> ExitCode {
 fn parse(alloc: Global, words: &[String]) -> Result<Task, Error> {
     let report = Command::new(alloc, "report").about("Writes the report of the order file");
     let certs = Command::new(alloc, "certs").about("Writes the certificates of its best runs");
-    let verify = Command::new(alloc, "verify")
-        .about("Writes its report, if the certificates behind it show that its best runs are the best");
+    let verify = Command::new(alloc, "verify").about(
+        "Writes its report, if the certificates behind it show that its best runs are the best",
+    );
     let command = Command::new(alloc, "umpire")
         .about("Plays 1830 from written order sheets: the order file on standard input")
         .bin_name("umpire")?
