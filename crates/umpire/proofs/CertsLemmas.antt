@@ -11,7 +11,7 @@ use Rattle.certificate.specs.declared.group.Group.{Group}
 use Rattle.certificate.specs.declared.runner.RunnerFault.{RunnerFault}
 use Rattle.operating.specs.Calls.{AreMade, Call}
 use Rattle.order_grammar.specs.declared.order.Order.TheVariants.{Certs}
-use Rattle.rounds.specs.StepsCall.{AreAnswered}
+use Rattle.operating.specs.Answered.{AreAnswered}
 use Rattle.sheets.specs.File.{IsAccepted}
 use Rattle.umpire.specs.Certified.{AreCertified, CertifyGame}
 use Rattle.umpire.specs.Certs.{IsCertified, StopsCerts}
