@@ -56,3 +56,4 @@ pub mod BestEarnings
 pub mod Raises
 pub mod Going
 pub mod Begun
+pub mod Answered

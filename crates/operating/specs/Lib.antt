@@ -27,3 +27,4 @@ pub mod ForcedLaws
 pub mod Calls
 pub mod TurnCalls
 pub mod BestLaws
+pub mod Answered

@@ -1,111 +1,17 @@
--- Each call of a course that leads on is answered, since one that is not breaks it off.
-use Rattle.std.proofs.Common.{◌≡◌, ℕ, zero, suc, List, [], ◌∷◌, ◌++◌, Some, None, Result, Ok, Err, refl, sym, subst, inl, inr}
-use Rattle.std.specs.Prelude.{Option}
+-- Each call that leads to a game is answered.
+use Rattle.std.proofs.Common.{◌≡◌, ℕ, List, refl}
 use Rattle.history.specs.LookBack.{Game}
-use Rattle.history.specs.Shares.{president_of}
-use Rattle.certificate.specs.declared.runner.RunnerFault.TheVariants as runner
-use Rattle.history.specs.declared.ruling.RunRule.{RunRule}
-use Rattle.operating.specs.Best.{best_judgement}
-use Rattle.operating.specs.Calls.{Call, Course, Then, TimesThen, Unasked}
-use Rattle.operating.specs.TurnCalls.{Asks, BestCalls, BlockCalls, EndCalls, IsCredited, LineCalls, LinesCall, OrderCalls, ReadingCalls, TurnCalls}
-use Rattle.operating.specs.declared.operator.Operator.{Operator}
-use Rattle.order_grammar.specs.declared.fault.Fault.{Fault}
-use Rattle.order_grammar.specs.declared.order.Order.{Order}
-use Rattle.sheets.specs.Block.{block_for}
-use Rattle.sheets.specs.Part.{Numbered}
+use Rattle.operating.proofs.Answered.{none_answered, then_answered, times_answered, turn_answered, unasked_answered}
+use Rattle.operating.specs.Answered.{IsAnswered}
+use Rattle.operating.specs.Calls.{Then, Unasked}
 use Rattle.rounds.specs.GameCalls.{AreOver, IsFinished, IsOpened, NextCalls, OperatingCalls, PlayedCalls, RoundCalls, Stops, TurnsCall, between_after}
 use Rattle.rounds.specs.Play.{Between, before_play}
-use Rattle.rounds.specs.declared.fault.PlayFault.TheVariants as play
-use Rattle.rounds.specs.StepsCall.{AreAnswered, GamesAreAnswered, StepsAreAnswered}
+use Rattle.rounds.specs.StepsCall.{GamesAreAnswered, StepsAreAnswered}
+use Rattle.rounds.specs.declared.fault.PlayFault.TheVariants.{Memory}
 use Rattle.rounds.proofs.CallsJoined.{calls_of_step}
 use Rattle.rounds.proofs.StepByStep.{leads_on, was_on}
-use Rattle.tables.specs.declared.roster.Company.{Company}
 use Rattle.tables.specs.declared.round.Round.{Round}
 use Rattle.tables.specs.declared.round.Round.TheVariants.{Opening, Stock, Operating}
-use Rattle.tables.specs.declared.seat.Seat.{Seat}
-
--- the calls of a course are answered where it leads on
-abbrev IsAnswered : {A B F : Type 0} → Course A B F → Type 0
-IsAnswered {A = A} {B = B} course = (from : A) (to : B) (calls : List Call) → course from (Ok to) calls → AreAnswered calls
-
--- calls, and others after them
-both_answered : (calls others : List Call) → AreAnswered calls → AreAnswered others → AreAnswered (calls ++ others)
-both_answered [] others these those = those
-both_answered (call ∷ calls) others these those = (these.0, both_answered calls others these.1 those)
-
-none_answered : (calls : List Call) → calls ≡ [] → AreAnswered calls
-none_answered calls none = subst AreAnswered (sym none) tt
-
--- a course that makes no call
-unasked_answered : {A B F : Type 0} (memory : F) (leads : A → B → Type 0) → IsAnswered {A = A} {B = B} {F = F} (Unasked memory leads)
-unasked_answered memory leads from to calls course = none_answered calls course.1
-
--- one course after another
-then_answered : {A B C F : Type 0} (first : Course A B F) (second : Course B C F) → IsAnswered first → IsAnswered second → IsAnswered (Then first second)
-then_answered first second one other from to calls course =
-    elim course [
-      | inl never ↦ absurd never
-      | inr joins ↦
-          subst AreAnswered (sym joins.all)
-          (both_answered joins.earlier joins.later (one from joins.between joins.earlier joins.leads) (other joins.between to joins.later joins.goes_on))
-    ]
-
--- a course so many times, and another
-times_answered : {A B F : Type 0} (course : Course A A F) (last : Course A B F) → IsAnswered course → IsAnswered last → (times : ℕ) → IsAnswered (TimesThen times course last)
-times_answered course last one end zero = end
-times_answered course last one end (suc times) = then_answered course (TimesThen times course last) one (times_answered course last one end times)
-
--- a RUN BEST that is obeyed asks, and is answered
-asks_answered : (company : Company) (round : Round) → IsAnswered (Asks company round)
-asks_answered company round events revenue calls is = subst AreAnswered (sym is) (refl, tt)
-
--- so the calls of a RUN BEST are, by the rule that refuses it, if one does
-best_answered : (by : Operator) (round : Round) (number : ℕ) (rule : Option RunRule) → IsAnswered (BestCalls by round number rule)
-best_answered by round number (Some rule) turn to calls course = none_answered calls course.1
-best_answered by round number None turn to calls course =
-    then_answered (Asks by.company round) (Unasked runner.Memory (IsCredited by turn number)) (asks_answered by.company round)
-    (unasked_answered runner.Memory (IsCredited by turn number)) turn.game.events to calls course
-
--- those of an order
-order_answered : (by : Operator) (round : Round) (number : ℕ) (order : Order) → IsAnswered (OrderCalls by round number order)
-order_answered by round number order turn to calls course =
-    elim course [
-      | inl best ↦ best_answered by round number (best_judgement turn by.company) turn to calls best.1
-      | inr other ↦ none_answered calls other.1.1
-    ]
-
--- those of a line
-reading_answered : (by : Operator) (round : Round) (number : ℕ) (reading : Result Order Fault) → IsAnswered (ReadingCalls by round number reading)
-reading_answered by round number (Ok order) turn to calls course = order_answered by round number order turn to calls course
-reading_answered by round number (Err fault) turn to calls course = none_answered calls course.1
-
--- those of lines
-lines_answered : (by : Operator) (round : Round) (lines : List Numbered) → IsAnswered (LinesCall by round lines)
-lines_answered by round [] turn to calls course = none_answered calls course.1
-lines_answered by round (line ∷ lines) turn to calls course =
-    then_answered (LineCalls by round line) (LinesCall by round lines) (reading_answered by round line.number line.reading)
-    (lines_answered by round lines) turn to calls course
-
--- those of a block
-block_answered : (file : List ℕ) (round : Round) (company : Company) (president : Option Seat) → IsAnswered (BlockCalls file round company president)
-block_answered file round company None turn to calls course = none_answered calls course.1
-block_answered file round company (Some seat) turn to calls course =
-    lines_answered (record { company = company; president = seat }) round (block_for file round seat.0 company) turn to calls course
-
--- those of a turn
-turn_answered : (file : List ℕ) (round : Round) (company : Company) → IsAnswered (TurnCalls file round company)
-turn_answered file round company old to calls course =
-    elim course [
-      | inl never ↦ absurd never
-      | inr joins ↦
-          let president : Option Seat = president_of old.events company in
-          let first : AreAnswered joins.earlier = none_answered joins.earlier joins.leads.1 in
-          let rest : AreAnswered joins.later =
-          then_answered (BlockCalls file round company president) (EndCalls file round company president) (block_answered file round company president)
-          (λ last new calls end. none_answered calls end.1) joins.between to joins.later joins.goes_on
-          in
-          subst AreAnswered (sym joins.all) (both_answered joins.earlier joins.later first rest)
-    ]
 
 -- those of the turn of the next company
 next_answered : (file : List ℕ) (round : Round) → IsAnswered (NextCalls file round)
@@ -114,11 +20,11 @@ next_answered file round old to calls course = turn_answered file round course.0
 -- those of an operating round
 operating_answered : (file : List ℕ) (round : Round) → IsAnswered (OperatingCalls file round)
 operating_answered file round old to calls course =
-    then_answered (Unasked play.Memory (IsOpened file round)) (Then (TurnsCall file round) (Unasked play.Memory (IsFinished file round)))
-    (unasked_answered play.Memory (IsOpened file round))
-    (then_answered (TurnsCall file round) (Unasked play.Memory (IsFinished file round))
-        (λ old to calls turns. times_answered (NextCalls file round) (Unasked play.Memory AreOver) (next_answered file round) (unasked_answered play.Memory AreOver) turns.0 old to calls turns.1)
-        (unasked_answered play.Memory (IsFinished file round)))
+    then_answered (Unasked Memory (IsOpened file round)) (Then (TurnsCall file round) (Unasked Memory (IsFinished file round)))
+    (unasked_answered Memory (IsOpened file round))
+    (then_answered (TurnsCall file round) (Unasked Memory (IsFinished file round))
+        (λ old to calls turns. times_answered (NextCalls file round) (Unasked Memory AreOver) (next_answered file round) (unasked_answered Memory AreOver) turns.0 old to calls turns.1)
+        (unasked_answered Memory (IsFinished file round)))
     old to calls course
 
 -- those of a round, by its kind
@@ -128,15 +34,15 @@ played_answered file (Stock set) old to calls course = none_answered calls cours
 played_answered file (Operating set number) old to calls course = operating_answered file (Operating set number) old to calls course
 
 -- those of a round between others
-pub round_answered : (file : List ℕ) → IsAnswered (RoundCalls file)
+round_answered : (file : List ℕ) → IsAnswered (RoundCalls file)
 round_answered file old to calls course =
     let Leads : Game → Between → Type 0 = λ game new. new ≡ between_after course.0 old.in_set game in
-    then_answered (PlayedCalls file course.0) (Unasked play.Memory Leads) (played_answered file course.0) (unasked_answered play.Memory Leads) old.game to calls course.2
+    then_answered (PlayedCalls file course.0) (Unasked Memory Leads) (played_answered file course.0) (unasked_answered Memory Leads) old.game to calls course.2
 
 -- so those of a game are
 pub games_answered : GamesAreAnswered
 games_answered file played calls course =
-    times_answered (RoundCalls file) (Unasked play.Memory (Stops file)) (round_answered file) (unasked_answered play.Memory (Stops file)) course.0
+    times_answered (RoundCalls file) (Unasked Memory (Stops file)) (round_answered file) (unasked_answered Memory (Stops file)) course.0
     (before_play file) played calls course.1
 
 -- and those of a step

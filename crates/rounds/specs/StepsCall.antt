@@ -1,7 +1,7 @@
 -- The calls that the steps of a play make of a runner: those of one step after those of the other, until play stops,
 -- are the calls of the game. Each of them is answered, since one that is not breaks play off.
-use Rattle.std.specs.Prelude.{◌≡◌, ℕ, zero, suc, List, [], ◌++◌, Ok, IsOk}
-use Rattle.std.specs.List.{AllByRecursion}
+use Rattle.std.specs.Prelude.{◌≡◌, ℕ, zero, suc, List, [], ◌++◌, Ok}
+use Rattle.operating.specs.Answered.{AreAnswered}
 use Rattle.operating.specs.Calls.{Call}
 use Rattle.rounds.specs.GameCalls.{GameCalls}
 use Rattle.rounds.specs.Play.{Played}
@@ -22,11 +22,7 @@ StepsCallTheGame =
     (file : List ℕ) (steps : ℕ) (last ended : Underway) (end : End) (calls : List Call) →
     StepsCall steps file last calls → Stays last end ended → (played : Played) × GameCalls file (Ok played) calls
 
--- each of some calls was answered
-abbrev pub AreAnswered : List Call → Type 0
-AreAnswered calls = AllByRecursion (λ call. IsOk call.answer) calls
-
--- so is each call that leads to a game
+-- each call that leads to a game was answered
 abbrev pub GamesAreAnswered : Type 0
 GamesAreAnswered =
     (file : List ℕ) (played : Played) (calls : List Call) → GameCalls file (Ok played) calls → AreAnswered calls

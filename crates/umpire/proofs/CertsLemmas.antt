@@ -1,21 +1,21 @@
 -- Certificates that are written, group by group.
 use Rattle.std.proofs.Common.{◌≡◌, ℕ, ◌+◌, ◌<◌, suc, List, [], ◌∷◌, ◌++◌, Result, Ok, Err, add-one, append_assoc, drop, drop-cons, get_or, length, refl, sym, ap, subst, ◌∙◌}
-use Rattle.std.specs.Prelude.{ℤ, pos, Option, Some, Bool, false, IfSome, IsOk}
+use Rattle.std.specs.Prelude.{ℤ, Option, Some, Bool, false, IfSome, IsOk}
 use Rattle.std.specs.Io.KnownBytes.{Appends}
 use Rattle.std.specs.List.{flat_map}
 use Rattle.std.proofs.KnownBytes.{Appends-trans, Keeps-refl}
 use Rattle.std.proofs.lemmas.List.{append-nil}
 use Rattle.std.proofs.lemmas.List.Concat.{flat_map-append}
-use Rattle.best_run.specs.Keeping.{KeepsBest, KeepsOne}
+use Rattle.best_run.specs.Keeping.{KeepsBest}
 use Rattle.certificate.specs.declared.group.Group.{Group}
 use Rattle.certificate.specs.declared.runner.RunnerFault.{RunnerFault}
 use Rattle.operating.specs.Calls.{AreMade, Call}
 use Rattle.order_grammar.specs.declared.order.Order.TheVariants.{Certs}
-use Rattle.rounds.specs.StepsCall.{AreAnswered}
+use Rattle.operating.specs.Answered.{AreAnswered}
 use Rattle.sheets.specs.File.{IsAccepted}
-use Rattle.umpire.specs.Certified.{AreCertified, Certifies, CertifyGame}
+use Rattle.umpire.specs.Certified.{AreCertified, CertifyGame}
 use Rattle.umpire.specs.Certs.{IsCertified, StopsCerts}
-use Rattle.umpire.specs.Run.{IsFileOf, IsReadFault, IsWriteFault, as_read}
+use Rattle.umpire.specs.Run.{IsReadFault, as_read}
 use Rattle.umpire.specs.Written.{certificates_text, group_text, order_line}
 use Rattle.umpire.specs.declared.fault.Fault.{Fault}
 use Rattle.umpire.specs.declared.fault.Fault.TheVariants.{Read, Write, Memory, File, Certificate}
@@ -114,14 +114,6 @@ read_stops_certs given old read_failed write_failed Memory is unfailed = (is, un
 read_stops_certs given old read_failed write_failed Write is unfailed = absurd is
 read_stops_certs given old read_failed write_failed (File fault) is unfailed = absurd is
 read_stops_certs given old read_failed write_failed (Certificate round company) is unfailed = absurd is
-
--- what writing leaves where it stops early
-pub write_stops_certs : (given old new : Option (List ℕ)) (failed : Bool) (fault : Fault) → IsWriteFault failed fault → StopsCerts given old new false failed fault
-write_stops_certs given old new failed Write is = (refl, is)
-write_stops_certs given old new failed Memory is = (refl, is)
-write_stops_certs given old new failed Read is = absurd is
-write_stops_certs given old new failed (File fault) is = absurd is
-write_stops_certs given old new failed (Certificate round company) is = absurd is
 
 -- the texts of the groups ahead, from a group on
 pub groups_ahead : (groups : List Group) (place : ℕ) (group : Group) → place < length groups → group ≡ get_or groups place group →

@@ -6,11 +6,12 @@ use Rattle.certificate.specs.Checked.{AnswersBy, AnswersByNext}
 use Rattle.certificate.specs.declared.group.Group.{Group}
 use Rattle.certificate.specs.declared.runner.RunnerFault.{RunnerFault}
 use Rattle.certificate.specs.declared.runner.RunnerFault.TheVariants as runner
+use Rattle.operating.specs.Answered.{AreAnswered}
 use Rattle.operating.specs.Calls.{AreCutShort, AreMade, Call, Makes, unanswered}
 use Rattle.rounds.specs.Faults.{fault_in_turn}
 use Rattle.rounds.specs.GameCalls.{AreFront, GameCalls, RefusedCallsAreAFront, SomeCalls}
 use Rattle.rounds.specs.Play.{Played}
-use Rattle.rounds.specs.StepsCall.{AreAnswered, GamesAreAnswered}
+use Rattle.rounds.specs.StepsCall.{GamesAreAnswered}
 use Rattle.rounds.specs.declared.fault.PlayFault.{PlayFault}
 use Rattle.rounds.specs.declared.fault.PlayFault.TheVariants as play
 use Rattle.sheets.specs.File.{IsAccepted}

@@ -5,8 +5,8 @@ use Rattle.rounds.specs.declared.steps.Step.{Step}
 use Rattle.umpire.proofs.CertsLemmas.{certified_more, kept_of, text_grows}
 use Rattle.umpire.proofs.certificates.write_game.Goals as goal
 
-pub loop-play-init : goal.loop-play-init
-loop-play-init g c =
+pub loop-keeping-init : goal.loop-keeping-init
+loop-keeping-init g c =
     record {
       steps = zero;
       calls = [];
@@ -18,11 +18,11 @@ loop-play-init g c =
       unfailed = c.in_ok-write_head.ensures.unfailed;
     }
 
-pub loop-play-preserved : goal.loop-play-preserved
-loop-play-preserved g c =
-    let at = c.loop-play.invariant in
-    let step : PlaysNext c.loop-play.play c.in_default.field-0 c.step.new.play =
-    subst (λ (step : Step). StepLeads c.loop-play.play (Ok step) c.step.new.play) c.in_default.is c.in_ok-step.ensures.step
+pub loop-keeping-preserved : goal.loop-keeping-preserved
+loop-keeping-preserved g c =
+    let at = c.loop-keeping.invariant in
+    let step : PlaysNext c.loop-keeping.play c.in_default.field-0 c.step.new.play =
+    subst (λ (step : Step). StepLeads c.loop-keeping.play (Ok step) c.step.new.play) c.in_default.is c.in_ok-step.ensures.step
     in
     let made = c.in_ok-step.ensures.calls in
     let kept = kept_of made.0 c.new-keeping.result c.step.new.keeping (c.calls_are_answered.ensures.steps _ _ _ made.0 step made.1) made.2 in
@@ -31,7 +31,7 @@ loop-play-preserved g c =
       steps = suc at.steps;
       calls = at.calls ++ made.0;
       groups = at.groups ++ kept.groups;
-      called = (c.loop-play.play, at.calls, at.called, c.in_default.field-0, step, made.0, made.1, refl);
+      called = (c.loop-keeping.play, at.calls, at.called, c.in_default.field-0, step, made.0, made.1, refl);
       certified = certified_more at.calls made.0 at.groups kept.groups at.certified kept.certified;
       written = text_grows _ _ _ at.groups kept.groups c.kept.result.now groups at.written c.in_ok-write_groups.ensures.ok;
       unbroken = subst IsUnbroken (sym step.after) refl;
@@ -40,11 +40,11 @@ loop-play-preserved g c =
 
 pub returns-in-Ended-clause-ok : goal.returns-in-Ended-clause-ok
 returns-in-Ended-clause-ok g c =
-    let at = c.loop-play.invariant in
-    let stays : Stays c.loop-play.play c.in-Ended.field-0 c.step.new.play =
-    subst (λ (step : Step). StepLeads c.loop-play.play (Ok step) c.step.new.play) c.in-Ended.is c.in_ok-step.ensures.step
+    let at = c.loop-keeping.invariant in
+    let stays : Stays c.loop-keeping.play c.in-Ended.field-0 c.step.new.play =
+    subst (λ (step : Step). StepLeads c.loop-keeping.play (Ok step) c.step.new.play) c.in-Ended.is c.in_ok-step.ensures.step
     in
-    let game = c.steps_call_the_game.ensures c.args.sheets.now at.steps c.loop-play.play c.step.new.play c.in-Ended.field-0 at.calls at.called stays in
+    let game = c.steps_call_the_game.ensures c.args.sheets.now at.steps c.loop-keeping.play c.step.new.play c.in-Ended.field-0 at.calls at.called stays in
     record {
       file = c.args.sheets.now;
       groups = at.groups;

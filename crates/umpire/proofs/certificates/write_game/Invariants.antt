@@ -10,19 +10,19 @@ use Rattle.umpire.proofs.certificates.write_game.Given as goal
 
 -- some steps have led here; the groups that certify their calls are written, no fault has broken play off, and no call
 -- of the writer failed
-pub record Certifying (g : goal.Over) (l : goal.Live-loop-play g) : Type 0 where
+pub record Certifying (g : goal.Over) (l : goal.Live-loop-keeping g) : Type 0 where
   pub steps : ℕ
   pub calls : List Call
   pub groups : List Group
-  pub called : StepsCall steps l.sheets l.play calls
+  pub called : StepsCall steps l.fn.sheets l.play calls
   pub certified : AreCertified calls groups
   pub written : Appends (g.W.Write.contents l.fn.writer.inner) (g.W.Write.contents l.writer.inner) (certificates_text groups)
   pub unbroken : IsUnbroken l.play
   pub unfailed : l.writer.failed ≡ false
 
-abbrev pub invariant-loop-play : goal.invariant-loop-play
-invariant-loop-play g l = Certifying g l
+abbrev pub invariant-loop-keeping : goal.invariant-loop-keeping
+invariant-loop-keeping g l = Certifying g l
 
 -- each round has a later place than the one before
-abbrev pub decreases-loop-play : goal.decreases-loop-play
-decreases-loop-play g l = places_ahead l.play
+abbrev pub decreases-loop-keeping : goal.decreases-loop-keeping
+decreases-loop-keeping g l = places_ahead l.play
