@@ -1,11 +1,23 @@
--- A ruling that was told is the ruling that it is said to be.
-use Rattle.std.proofs.Common.{◌≡◌, ℕ, ap, ◌∙◌}
+-- A line that was recorded, and whose order is to be done: it breaks no rule, and is told as obeyed.
+use Rattle.std.proofs.Common.{◌≡◌, ℕ, true, Option, Some, None, is_none, is_some, refl}
 use Rattle.history.specs.LookBack.{Game, with_event}
 use Rattle.history.specs.declared.event.Event.TheVariants as event
-use Rattle.history.specs.declared.ruling.Ruling.{Ruling}
+use Rattle.history.specs.declared.ruling.Refusal.{Refusal}
+use Rattle.history.specs.declared.ruling.Ruling.TheVariants.{Obeyed}
+use Rattle.order_grammar.specs.declared.order.Order.{Order}
 use Rattle.tables.specs.declared.seat.Seat.{Seat}
+use Rattle.turns.specs.Ruling.{judged}
 
--- a list gained the ruling that its value names
-pub told_as : (game told : Game) (seat : Seat) (line : ℕ) (ruling same : Ruling) → told ≡ with_event game (event.Ruled seat line ruling) → ruling ≡ same → told ≡ with_event game (event.Ruled seat line same)
-told_as game told seat line ruling same is_told is_same =
-    is_told ∙ ap (λ (other : Ruling). with_event game (event.Ruled seat line other)) is_same
+-- no rule of its own kind is broken where no rule is
+pub kept_all : {Rule : Type 0} (broken : Option Rule) (refusal : Option Refusal) → is_none refusal ≡ true → is_some refusal ≡ is_some broken →
+    broken ≡ None
+kept_all None refusal none same = refl
+kept_all (Some rule) None none same = absurd (cc)
+kept_all (Some rule) (Some other) none same = absurd (cc)
+
+-- a list gained the ruling that the order is obeyed
+pub told_obeyed : (game told : Game) (seat : Seat) (line : ℕ) (order : Order) (refusal : Option Refusal) →
+    told ≡ with_event game (event.Ruled seat line (judged order refusal)) → is_none refusal ≡ true →
+    told ≡ with_event game (event.Ruled seat line (Obeyed order))
+told_obeyed game told seat line order None is_told none = is_told
+told_obeyed game told seat line order (Some rule) is_told none = absurd (cc)

@@ -3,7 +3,7 @@
 -- those of the bank pool; those of the initial offering are paid nothing. Its token on the chart moves right. Where
 -- it withholds, the bank pays the company all of it, and its token moves left. Either needs a turn that is not past
 -- its pay, and to pay, a revenue over 0; the turn is then past it.
-use Rattle.std.specs.Prelude.{ℕ, ◌==◌, ◌*◌, ◌/◌, Bool, ◌||◌, nat_lt, if◌then◌else◌, List, [], ◌∷◌, Option, Some, None, pos, ◌-ℤ◌, ◌≤ℤ◌}
+use Rattle.std.specs.Prelude.{ℕ, ◌==◌, ◌*◌, ◌/◌, Bool, ◌||◌, nat_lt, if◌then◌else◌, List, [], ◌∷◌, Option, Some, None, option_map, pos, ◌-ℤ◌, ◌≤ℤ◌}
 use Rattle.board.specs.Turn.{place_of_step}
 use Rattle.board.specs.declared.asker.TurnStep.TheVariants as step
 use Rattle.history.specs.LookBack.{Game, cash_of, with_event}
@@ -21,11 +21,10 @@ use Rattle.history.specs.declared.event.Shareholder.TheVariants as place
 use Rattle.history.specs.declared.ruling.PayRule.{PayRule}
 use Rattle.history.specs.declared.ruling.PayRule.TheVariants.{NothingToPay}
 use Rattle.history.specs.declared.ruling.Refusal.TheVariants as refusal
-use Rattle.history.specs.declared.ruling.Ruling.TheVariants.{Obeyed, Refused}
 use Rattle.market.specs.Moves.{right_of}
 use Rattle.market.specs.Token.{with_move}
 use Rattle.operating.specs.Act.{withheld}
-use Rattle.operating.specs.InTurn.{InTurn, in_turn, pay_done, told}
+use Rattle.operating.specs.InTurn.{InTurn, in_turn, pay_done, ruled}
 use Rattle.operating.specs.declared.operator.Operator.{Operator}
 use Rattle.operating.specs.declared.progress.Progress.{Progress}
 use Rattle.order_grammar.specs.declared.order.Order.{Order}
@@ -89,9 +88,9 @@ withhold_judgement progress = first_broken (rule NothingToPay (is_past_pay progr
 
 -- after the line with this number, where this rule refuses its order, if one does; else the game is as given
 abbrev pub pay_ruled : Operator → InTurn → ℕ → Order → Option PayRule → (Game → Game) → InTurn
-pay_ruled by turn number order (Some rule) after = told by turn number (Refused (refusal.Pay rule) order)
-pay_ruled by turn number order None after =
-    in_turn (after (told by turn number (Obeyed order)).game) (pay_done turn.progress)
+pay_ruled by turn number order broken act =
+    ruled by turn number order (option_map refusal.Pay broken)
+    (λ (after : InTurn). in_turn (act after.game) (pay_done after.progress))
 
 -- after an order to pay in the line with this number
 abbrev pub after_pay : Operator → InTurn → ℕ → Order → InTurn

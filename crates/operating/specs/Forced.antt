@@ -4,7 +4,7 @@
 -- block serve in order, each by the rules of a sale, of which none may move the presidency of the company; a line is
 -- refused once he does not fall short, and where no purchase is due. Then he sells one tenth at a time, of the first
 -- company in roster order of which he may. If he still falls short he is bankrupt, and nothing is bought.
-use Rattle.std.specs.Prelude.{◌≡◌, ◌⊎◌, ℕ, Bool, true, false, ◌&&◌, if◌then◌else◌, List, [], ◌∷◌, Option, Some, None, Result, Ok, is_none, find, ℤ, pos, ◌-ℤ◌}
+use Rattle.std.specs.Prelude.{◌≡◌, ◌⊎◌, ℕ, Bool, true, false, ◌&&◌, if◌then◌else◌, List, [], ◌∷◌, Option, Some, None, option_map, Result, Ok, is_none, find, ℤ, pos, ◌-ℤ◌}
 use Rattle.std.specs.Int.Signed.{lt_z}
 use Rattle.board.specs.Ground.{position_of}
 use Rattle.certificate.specs.TwoTrain.{CanRun}
@@ -21,7 +21,6 @@ use Rattle.history.specs.declared.event.TrainSeller.{TrainSeller}
 use Rattle.history.specs.declared.event.TrainSeller.TheVariants as seller
 use Rattle.history.specs.declared.ruling.Refusal.TheVariants as refusal
 use Rattle.history.specs.declared.ruling.Ruling.{Ruling}
-use Rattle.history.specs.declared.ruling.Ruling.TheVariants.{Obeyed, Refused}
 use Rattle.history.specs.declared.ruling.StockRule.{StockRule}
 use Rattle.history.specs.declared.ruling.StockRule.TheVariants.{NotOfStock}
 use Rattle.operating.specs.Ground.{ground_now}
@@ -38,6 +37,7 @@ use Rattle.tables.specs.Steps.{iterate}
 use Rattle.tables.specs.declared.rolling_stock.Kind.{Kind}
 use Rattle.tables.specs.declared.rolling_stock.Kind.TheVariants.{Diesel}
 use Rattle.tables.specs.declared.roster.Company.{Company}
+use Rattle.turns.specs.Ruling.{done, judged, obeyed_by}
 
 -- the company has a train
 abbrev pub has_trains : List Event → Company → Bool
@@ -95,10 +95,9 @@ with_ruling by game number ruling = with_event game (event.Ruled by.president nu
 
 -- after a RAISE in the line with this number, where this rule refuses it, if one does
 abbrev pub raise_ruled : Operator → Game → ℕ → Sale → Option StockRule → Game
-raise_ruled by game number sale None =
-    with_sale by (with_ruling by game number (Obeyed (order.Raise sale.company sale.tenths))) sale
-raise_ruled by game number sale (Some rule) =
-    with_ruling by game number (Refused (refusal.Stock rule) (order.Raise sale.company sale.tenths))
+raise_ruled by game number sale broken =
+    let ruling = judged (order.Raise sale.company sale.tenths) (option_map refusal.Stock broken) in
+    done (λ (after : Game) (its : Order). with_sale by after sale) (with_ruling by game number ruling) (obeyed_by ruling)
 
 -- after a sale of a RAISE in the line with this number
 abbrev pub after_raise : Bool → Operator → Game → ℕ → Sale → Game

@@ -1,17 +1,20 @@
 -- In a company's turn: the game so far, how far the turn has come, and what its trains have done. The steps of the
 -- turn are lay, token, run, pay and trains, and a pointer goes over them.
-use Rattle.std.specs.Prelude.{ℕ, Bool, false, not, ◌||◌, nat_lt, List, replicate, pos}
+use Rattle.std.specs.Prelude.{ℕ, Bool, false, not, ◌||◌, nat_lt, List, Option, replicate, pos}
 use Rattle.board.specs.Powers.{is_cs_lay, is_dh_lay}
 use Rattle.board.specs.Turn.{place_of_step}
 use Rattle.board.specs.declared.asker.Asker.{Asker}
 use Rattle.board.specs.declared.asker.TurnStep.TheVariants as step
 use Rattle.history.specs.LookBack.{Game, with_event}
 use Rattle.history.specs.declared.event.Event.TheVariants as event
+use Rattle.history.specs.declared.ruling.Refusal.{Refusal}
 use Rattle.history.specs.declared.ruling.Ruling.{Ruling}
 use Rattle.map_tables.specs.declared.lay.Lay.{Lay}
 use Rattle.operating.specs.declared.operator.Operator.{Operator}
 use Rattle.operating.specs.declared.progress.Progress.{Progress}
 use Rattle.operating.specs.declared.runs.Runs.{Runs}
+use Rattle.order_grammar.specs.declared.order.Order.{Order}
+use Rattle.turns.specs.Ruling.{done, judged, obeyed_by}
 
 -- no train has run, and no border is used
 abbrev pub no_runs : Runs
@@ -53,3 +56,8 @@ in_turn game progress = record { game = game; progress = progress }
 -- after the ruling of the line with this number
 abbrev pub told : Operator → InTurn → ℕ → Ruling → InTurn
 told by turn number ruling = in_turn (with_event turn.game (event.Ruled by.president number ruling)) turn.progress
+
+-- after the line with this number, whose order breaks this rule first, or none: it is done then
+abbrev pub ruled : Operator → InTurn → ℕ → Order → Option Refusal → (InTurn → InTurn) → InTurn
+ruled by turn number order broken act =
+    done (λ (after : InTurn) (its : Order). act after) (told by turn number (judged order broken)) (obeyed_by (judged order broken))

@@ -1,7 +1,7 @@
 -- The purchase of a private by a company, from the player who owns it. It needs phase 3; a price from half of the
 -- face value to twice that; the consent of the player, as for a train; a private that is not BOP, which is never
 -- sold to a company; and the cash. The company owns the private from then on.
-use Rattle.std.specs.Prelude.{ℕ, ◌+◌, Bool, false, not, ◌||◌, nat_lt, List, [], ◌∷◌, Option, Some, None, pos}
+use Rattle.std.specs.Prelude.{ℕ, ◌+◌, Bool, false, not, ◌||◌, nat_lt, List, [], ◌∷◌, Option, Some, None, option_map, pos}
 use Rattle.std.specs.Int.Signed.{lt_z}
 use Rattle.history.specs.Event.{party_of_company}
 use Rattle.history.specs.LookBack.{Game, cash_of, owner_of, with_event}
@@ -15,8 +15,7 @@ use Rattle.history.specs.declared.event.Holder.TheVariants as holder
 use Rattle.history.specs.declared.ruling.PrivateRule.{PrivateRule}
 use Rattle.history.specs.declared.ruling.PrivateRule.TheVariants.{TooEarly, WrongPrice, NoConsent, NeverSold, CashTooSmall}
 use Rattle.history.specs.declared.ruling.Refusal.TheVariants as refusal
-use Rattle.history.specs.declared.ruling.Ruling.TheVariants.{Obeyed, Refused}
-use Rattle.operating.specs.InTurn.{InTurn, in_turn, told}
+use Rattle.operating.specs.InTurn.{InTurn, in_turn, ruled}
 use Rattle.operating.specs.declared.operator.Operator.{Operator}
 use Rattle.order_grammar.specs.declared.order.Offer.{Offer}
 use Rattle.order_grammar.specs.declared.order.Offer.TheVariants as offer
@@ -78,11 +77,9 @@ private_bought game company private price = sold_by game company private price (
 
 -- after a PRIVATE with this number, where this rule refuses it, if one does
 abbrev pub private_ruled : Operator → InTurn → ℕ → Private → ℕ → Option PrivateRule → InTurn
-private_ruled by turn number private price None =
-    in_turn
-    (private_bought (told by turn number (Obeyed (order.BuyOwnedPrivate private price))).game by.company private price) turn.progress
-private_ruled by turn number private price (Some rule) =
-    told by turn number (Refused (refusal.Private rule) (order.BuyOwnedPrivate private price))
+private_ruled by turn number private price broken =
+    ruled by turn number (order.BuyOwnedPrivate private price) (option_map refusal.Private broken)
+    (λ (after : InTurn). in_turn (private_bought after.game by.company private price) after.progress)
 
 -- after a PRIVATE with this number
 abbrev pub after_private : Operator → InTurn → ℕ → Private → ℕ → InTurn

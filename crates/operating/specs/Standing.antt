@@ -2,51 +2,43 @@
 -- in order. DISCARD is ruled by its rule. An OFFER of a train is refused to a seat that is not the seller's president,
 -- and at price 0; an OFFER of a private to a seat that does not own it; no other OFFER is refused. No other order has
 -- a place there.
-use Rattle.std.specs.Prelude.{ℕ, List, [], ◌∷◌, ◌++◌, Option, Some, None, Result, Ok, Err}
+use Rattle.std.specs.Prelude.{ℕ, Bool, true, false, List, Option, None, option_map, Result}
 use Rattle.std.specs.List.{range_with_len}
 use Rattle.history.specs.declared.event.Event.{Event}
-use Rattle.history.specs.declared.event.Event.TheVariants.{Ruled}
 use Rattle.history.specs.declared.ruling.Refusal.{Refusal}
 use Rattle.history.specs.declared.ruling.Refusal.TheVariants as refusal
 use Rattle.history.specs.declared.ruling.Ruling.{Ruling}
-use Rattle.history.specs.declared.ruling.Ruling.TheVariants.{Obeyed, Refused, Faulty}
-use Rattle.history.specs.declared.ruling.TrainRule.{TrainRule}
 use Rattle.operating.specs.Discards.{discard_judgement}
 use Rattle.operating.specs.Offers.{offer_judgement}
 use Rattle.order_grammar.specs.declared.fault.Fault.{Fault}
-use Rattle.order_grammar.specs.declared.fault.Fault.TheVariants.{OutOfPlace}
 use Rattle.order_grammar.specs.declared.order.Order.{Order}
 use Rattle.order_grammar.specs.declared.order.Order.TheVariants as order
 use Rattle.sheets.specs.Part.{Numbered}
 use Rattle.sheets.specs.Taken.{after_all_before}
 use Rattle.tables.specs.declared.round.Round.{Round}
 use Rattle.tables.specs.declared.seat.Seat.{Seat}
+use Rattle.turns.specs.Ruling.{recorded, ruling_of}
 
--- what becomes of an order that breaks this rule of trains first, or none
-abbrev pub train_judged : Order → Option TrainRule → Ruling
-train_judged order None = Obeyed order
-train_judged order (Some rule) = Refused (refusal.Train rule) order
+-- the orders that may stand before the first head
+abbrev pub has_place_before : Order → Bool
+has_place_before (order.Discard company kind) = true
+has_place_before (order.Offer sale) = true
+has_place_before other = false
 
--- what becomes of an order that breaks this rule first, or none
-abbrev pub judged : Order → Option Refusal → Ruling
-judged order None = Obeyed order
-judged order (Some rule) = Refused rule order
-
--- what becomes of a standing order of a seat
-abbrev pub standing_order_ruling : List Event → Seat → Order → Ruling
-standing_order_ruling events seat (order.Discard company kind) =
-    train_judged (order.Discard company kind) (discard_judgement events seat company kind)
-standing_order_ruling events seat (order.Offer sale) = judged (order.Offer sale) (offer_judgement events seat sale)
-standing_order_ruling events seat other = Faulty OutOfPlace
+-- the rule that a standing order of a seat breaks, if it breaks one
+abbrev pub standing_judgement : List Event → Seat → Order → Option Refusal
+standing_judgement events seat (order.Discard company kind) =
+    option_map refusal.Train (discard_judgement events seat company kind)
+standing_judgement events seat (order.Offer sale) = offer_judgement events seat sale
+standing_judgement events seat other = None
 
 -- what becomes of a standing line of a seat with this reading
 abbrev pub standing_ruling : List Event → Seat → Result Order Fault → Ruling
-standing_ruling events seat (Err fault) = Faulty fault
-standing_ruling events seat (Ok order) = standing_order_ruling events seat order
+standing_ruling events seat reading = ruling_of has_place_before (standing_judgement events seat) reading
 
 -- after a standing line of a seat
 abbrev pub after_standing_line : Seat → List Event → Numbered → List Event
-after_standing_line seat events line = events ++ Ruled seat line.number (standing_ruling events seat line.reading) ∷ []
+after_standing_line seat events line = recorded seat line.number (standing_ruling events seat line.reading) events
 
 -- after the standing lines of all sheets for a round, seat by seat
 abbrev pub after_standing : ℕ → List ℕ → Round → List Event → List Event

@@ -7,7 +7,7 @@
 -- not past its pay withholds by itself before a TRAIN line is ruled, whatever becomes of that, and when the block
 -- ends. It buys a private anywhere in the block, which leaves the pointer. The RAISE lines of the block are ruled
 -- last, when the company buys the train that it must, or need not.
-use Rattle.std.specs.Prelude.{◌≡◌, ℕ, if◌then◌else◌, List, [], ◌∷◌, Option, Some, None, Result, Ok, Err, ℤ}
+use Rattle.std.specs.Prelude.{◌≡◌, ℕ, if◌then◌else◌, List, [], ◌∷◌, Option, Some, None, option_map, Result, Ok, Err, ℤ}
 use Rattle.std.specs.Int.RustNames.{unsigned_abs}
 use Rattle.board.specs.LayRules.{IsLayAnswer}
 use Rattle.board.specs.TokenRules.{IsTokenAnswer}
@@ -29,7 +29,7 @@ use Rattle.operating.specs.Act.{after_lay, after_token, with_home, withheld}
 use Rattle.operating.specs.Dividend.{after_pay, after_withhold}
 use Rattle.operating.specs.Forced.{EndLeads}
 use Rattle.operating.specs.Ground.{ground_now}
-use Rattle.operating.specs.InTurn.{InTurn, at_start, in_turn, is_unpaid, lay_done, pay_done, token_done, told}
+use Rattle.operating.specs.InTurn.{InTurn, at_start, in_turn, is_unpaid, lay_done, pay_done, ruled, token_done, told}
 use Rattle.operating.specs.Judgement.{asker_of, rule_of_lay, rule_of_token}
 use Rattle.operating.specs.Phases.{after_train}
 use Rattle.operating.specs.Privates.{after_private}
@@ -99,9 +99,9 @@ purchase_of kind (source.Company company price) =
 
 -- after a TRAIN with this number that orders this purchase, where this rule refuses it, if one does
 abbrev pub train_ruled : Operator → InTurn → ℕ → Order → Purchase → Option TrainRule → InTurn
-train_ruled by turn number order purchase None =
-    in_turn (after_train (told by turn number (Obeyed order)).game by.company purchase) turn.progress
-train_ruled by turn number order purchase (Some rule) = told by turn number (Refused (refusal.Train rule) order)
+train_ruled by turn number order purchase broken =
+    ruled by turn number order (option_map refusal.Train broken)
+    (λ (after : InTurn). in_turn (after_train after.game by.company purchase) after.progress)
 
 -- after a TRAIN with this number
 abbrev pub after_buying : Operator → InTurn → ℕ → Kind → TrainSource → InTurn

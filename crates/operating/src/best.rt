@@ -17,15 +17,15 @@ use crate::company_turn::CompanyTurn;
 use crate::forced::has_trains;
 use crate::ground::catch_up;
 use crate::progress::Progress;
-use crate::ruling::tell_ruling;
 use crate::running::tell_runs;
 use certificate::{Runner, RunnerFault, a_greatest_exists, one_greatest};
-use history::{History, KeptRuling, Past, Refusal, RunRule, TrainCount, so_many};
+use history::{History, Past, Refusal, RunRule, TrainCount, so_many};
 use order_grammar::Order;
 use reach::Network;
 use smallvec::SmallVec;
 use std::alloc::{AllocError, Global};
 use tables::{Amount, Company, Kind, Money};
+use turns::record;
 
 /// The most trains that a company may have in any phase: so many are kept without memory.
 const TRAINS_MOST: usize = 4;
@@ -68,9 +68,9 @@ impl CompanyTurn {
             (Refused (refusal.Run rule) order.RunBest)) }
         ensures order { OnOk result (GoesOn self.old self.new) }
     {
-        let kept = self.history.keep(&Order::RunBest)?;
-        let refused = KeptRuling::refused(Refusal::Run(rule), kept);
-        tell_ruling(&mut self.history, self.by.president, line, refused)
+        let (seat, refusal) = (self.by.president, Refusal::Run(rule));
+        record(&mut self.history, seat, line, &Order::RunBest, Some(refusal))?;
+        Ok(())
     }
 
     /// Tells that the order of a line with this number to run the best is obeyed, and what it earns.
@@ -82,13 +82,7 @@ impl CompanyTurn {
         ensures order { OnOk result (GoesOn self.old self.new) }
     {
         let by = self.by;
-        let kept = self.history.keep(&Order::RunBest)?;
-        tell_ruling(
-            &mut self.history,
-            by.president,
-            line,
-            KeptRuling::obeyed(kept),
-        )?;
+        record(&mut self.history, by.president, line, &Order::RunBest, None)?;
         tell_runs(&mut self.history, by.company, revenue)?;
         self.progress = self.progress.with_best(revenue);
         Ok(())

@@ -11,13 +11,13 @@ ghost use Rattle.operating.specs.InTurn.{in_turn};
 use crate::company_turn::CompanyTurn;
 use crate::operator::Operator;
 use crate::progress::Progress;
-use crate::ruling::tell_ruling;
 use crate::withholding::withhold;
-use history::{Event, History, Holder, KeptRuling, PayRule, Refusal, Shareholder, so_many};
+use history::{Event, History, Holder, PayRule, Refusal, Shareholder, so_many};
 use market::move_token_right;
 use order_grammar::Order;
 use std::alloc::AllocError;
 use tables::{Amount, Company, Seat};
+use turns::record;
 
 /// How many tenths a company has.
 const TENTHS: Amount = 10;
@@ -43,20 +43,11 @@ impl CompanyTurn {
         ensures order { OnOk result (GoesOn self.old self.new) }
     {
         let by = self.by;
-        let kept = self.history.keep(order)?;
-        if let Some(rule) = withhold_rule(&self.progress) {
-            let refused = KeptRuling::refused(Refusal::Pay(rule), kept);
-            tell_ruling(&mut self.history, by.president, line, refused)?;
-            return Ok(());
+        let broken = withhold_rule(&self.progress).map(Refusal::Pay);
+        if record(&mut self.history, by.president, line, order, broken)? {
+            withhold(&mut self.history, by.company, self.progress.runs.revenue)?;
+            self.progress = self.progress.with_pay();
         }
-        tell_ruling(
-            &mut self.history,
-            by.president,
-            line,
-            KeptRuling::obeyed(kept),
-        )?;
-        withhold(&mut self.history, by.company, self.progress.runs.revenue)?;
-        self.progress = self.progress.with_pay();
         Ok(())
     }
 }
@@ -76,13 +67,10 @@ fn rule_pay(
         ≡ after_pay by (in_turn history.old progress) line order.now) }
     ensures sound { OnOk result (IsSound history.new) }
 {
-    let kept = history.keep(order)?;
-    if let Some(rule) = pay_rule(&progress) {
-        let refused = KeptRuling::refused(Refusal::Pay(rule), kept);
-        tell_ruling(history, by.president, line, refused)?;
+    let broken = pay_rule(&progress).map(Refusal::Pay);
+    if !record(history, by.president, line, order, broken)? {
         return Ok(progress);
     }
-    tell_ruling(history, by.president, line, KeptRuling::obeyed(kept))?;
     pay_out(history, by.company, progress.runs.revenue)?;
     Ok(progress.with_pay())
 }

@@ -13,15 +13,15 @@ use crate::ground::catch_up;
 use crate::operator::Operator;
 use crate::phases::buy_train;
 use crate::purchase::{NUMBERED, Purchase, sells};
-use crate::ruling::tell_ruling;
 use board::Board;
 use certificate::can_run;
 use certs::{Sale, may_sell, sell_block};
-use history::{Event, History, KeptRuling, Party, Past, Refusal, StockRule, TrainSeller, so_many};
+use history::{Event, History, Party, Past, Refusal, StockRule, TrainSeller, so_many};
 use order_grammar::{Order, begins_with_word, read_where_spelt};
 use sheets::{NumberedLine, PartsLeft, UnreadLine};
 use std::alloc::{AllocError, Global};
 use tables::{Amount, Company, Kind, Money};
+use turns::record;
 
 impl CompanyTurn {
     /// Ends the turn once the company has paid or withheld: it buys a train if it must, and the RAISE
@@ -168,16 +168,11 @@ fn rule_raise(
     ensures after { OnOk result (history.new ≡ after_raise due by history.old line sale) }
     ensures sound { OnOk result (IsSound history.new) }
 {
-    let broken = raise_rule(history, by, sale, due);
     let (company, tenths) = (sale.company, sale.tenths);
-    let kept = history.keep(&Order::Raise { company, tenths })?;
-    if let Some(rule) = broken {
-        let refused = KeptRuling::refused(Refusal::Stock(rule), kept);
-        tell_ruling(history, by.president, line, refused)?;
-        return Ok(());
+    let broken = raise_rule(history, by, sale, due).map(Refusal::Stock);
+    if record(history, by.president, line, &Order::Raise { company, tenths }, broken)? {
+        sell_block(history, by.president, sale)?;
     }
-    tell_ruling(history, by.president, line, KeptRuling::obeyed(kept))?;
-    sell_block(history, by.president, sale)?;
     Ok(())
 }
 

@@ -7,12 +7,12 @@ use crate::asker::asker;
 use crate::company_turn::CompanyTurn;
 use crate::cost::amount_of;
 use crate::ground::catch_up;
-use crate::ruling::tell_ruling;
 use board::LayFault;
-use history::{Event, KeptRuling, LayRule, Refusal};
+use history::{Event, LayRule, Refusal};
 use map_tables::Lay;
 use order_grammar::Order;
 use std::alloc::AllocError;
+use turns::record;
 
 impl CompanyTurn {
     /// Rules a LAY of a line with this number, and lays the tile if it is obeyed.
@@ -23,13 +23,12 @@ impl CompanyTurn {
         ensures order { OnOk result (GoesOn self.old self.new) }
     {
         catch_up(&mut self.board, &self.history)?;
-        let order = self.history.keep(&Order::Lay(lay))?;
+        let order = Order::Lay(lay);
         let by = self.by;
         let asker = asker(&self.history, by.company, self.progress);
         match self.board.try_lay(&asker, lay) {
             Ok(cost) => {
-                let obeyed = KeptRuling::obeyed(order);
-                tell_ruling(&mut self.history, by.president, line, obeyed)?;
+                record(&mut self.history, by.president, line, &order, None)?;
                 let company = by.company;
                 let cost = amount_of(cost);
                 self.history.append(Event::Laid { company, lay, cost })?;
@@ -38,8 +37,7 @@ impl CompanyTurn {
             }
             Err(fault) => {
                 let refusal = Refusal::Lay(lay_rule(fault)?);
-                let refused = KeptRuling::refused(refusal, order);
-                tell_ruling(&mut self.history, by.president, line, refused)?;
+                record(&mut self.history, by.president, line, &order, Some(refusal))?;
                 Ok(())
             }
         }

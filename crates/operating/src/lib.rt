@@ -12,7 +12,7 @@
 //! Reading order: `operator` (whose turn it is), `runs` (what its trains have done), `progress`
 //! (how far the turn has come), `company_turn` (all that lasts for the turn: the functions that rule
 //! a line are its methods), `ground` (what lies on the map), `asker` (the company as the rules of
-//! the board see it), `ruling`, `home`, `lay` and `token` (what orders do) with `cost`,
+//! the board see it), `home`, `lay` and `token` (what orders do) with `cost`,
 //! `running`, `best`, `withholding`, `dividend`, `purchase` (the rules of trains), `discards`, `phases`
 //! (what a train brings), `train`, `private` (that it buys), `forced` (what it must buy), `turn`
 //! (the lines of a block), `playing`, `standing` (the lines before the first block) with `offers`,
@@ -42,7 +42,6 @@ mod private;
 mod private_laws;
 mod progress;
 mod purchase;
-mod ruling;
 mod running;
 mod runs;
 mod sale_laws;

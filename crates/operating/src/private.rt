@@ -9,11 +9,11 @@ ghost use Rattle.operating.specs.Privates.{is_too_dear as too_dear, is_too_early
 ghost use Rattle.operating.specs.Privates.{is_wrong_price as wrong_price};
 
 use crate::company_turn::CompanyTurn;
-use crate::ruling::tell_ruling;
-use history::{Event, History, Holder, KeptRuling, Party, Past, PrivateRule, Refusal};
+use history::{Event, History, Holder, Party, Past, PrivateRule, Refusal};
 use order_grammar::{Offer, Order};
 use std::alloc::AllocError;
 use tables::{Amount, Company, Kind, Money, Private, Seat, face};
+use turns::record;
 
 impl CompanyTurn {
     /// Rules a PRIVATE of a line with this number, and buys the private if it is obeyed. The turn has
@@ -30,22 +30,11 @@ impl CompanyTurn {
         ensures order { OnOk result (GoesOn self.old self.new) }
     {
         let by = self.by;
-        let broken = judge_private(&self.history, by.company, private, price);
-        let kept = self
-            .history
-            .keep(&Order::BuyOwnedPrivate { private, price })?;
-        if let Some(rule) = broken {
-            let refused = KeptRuling::refused(Refusal::Private(rule), kept);
-            tell_ruling(&mut self.history, by.president, line, refused)?;
-            return Ok(());
+        let order = Order::BuyOwnedPrivate { private, price };
+        let broken = judge_private(&self.history, by.company, private, price).map(Refusal::Private);
+        if record(&mut self.history, by.president, line, &order, broken)? {
+            buy_private(&mut self.history, by.company, private, price)?;
         }
-        tell_ruling(
-            &mut self.history,
-            by.president,
-            line,
-            KeptRuling::obeyed(kept),
-        )?;
-        buy_private(&mut self.history, by.company, private, price)?;
         Ok(())
     }
 }

@@ -13,16 +13,16 @@ ghost use Rattle.tables.specs.Rules.{first_broken};
 use crate::company_turn::CompanyTurn;
 use crate::ground::catch_up;
 use crate::progress::Progress;
-use crate::ruling::tell_ruling;
 use crate::runs::{Ran, Runs};
 use board::Board;
 use certificate::{RunFault, check_run, runs_earn_by_borders};
-use history::{Event, History, KeptRuling, Refusal, RunRule};
+use history::{Event, History, Refusal, RunRule};
 use map_tables::Run;
 use order_grammar::Order;
 use reach::Network;
 use std::alloc::AllocError;
 use tables::{Amount, Company, Kind};
+use turns::record;
 
 impl CompanyTurn {
     /// Rules an order of a line with this number that a train of a kind runs, and lets it run if
@@ -77,22 +77,17 @@ impl CompanyTurn {
         ensures order { OnOk result (GoesOn self.old self.new) }
     {
         let by = self.by;
-        let kept = self.history.keep(order)?;
         match judged {
             Ok(ran) => {
-                tell_ruling(
-                    &mut self.history,
-                    by.president,
-                    line,
-                    KeptRuling::obeyed(kept),
-                )?;
+                record(&mut self.history, by.president, line, order, None)?;
                 tell_runs(&mut self.history, by.company, ran.earned)?;
                 self.progress = self.progress.with_run(ran);
                 Ok(())
             }
             Err(rule) => {
-                let refused = KeptRuling::refused(Refusal::Run(rule), kept);
-                tell_ruling(&mut self.history, by.president, line, refused)
+                let refusal = Refusal::Run(rule);
+                record(&mut self.history, by.president, line, order, Some(refusal))?;
+                Ok(())
             }
         }
     }

@@ -7,12 +7,12 @@ use crate::asker::asker;
 use crate::company_turn::CompanyTurn;
 use crate::cost::amount_of;
 use crate::ground::catch_up;
-use crate::ruling::tell_ruling;
 use board::TokenFault;
-use history::{Event, KeptRuling, Refusal, TokenRule};
+use history::{Event, Refusal, TokenRule};
 use map_tables::Place;
 use order_grammar::Order;
 use std::alloc::AllocError;
+use turns::record;
 
 impl CompanyTurn {
     /// Rules a TOKEN of a line with this number, and places the token if it is obeyed.
@@ -23,13 +23,12 @@ impl CompanyTurn {
         ensures order { OnOk result (GoesOn self.old self.new) }
     {
         catch_up(&mut self.board, &self.history)?;
-        let order = self.history.keep(&Order::Token(place))?;
+        let order = Order::Token(place);
         let by = self.by;
         let asker = asker(&self.history, by.company, self.progress);
         match self.board.try_token(&asker, place) {
             Ok(cost) => {
-                let obeyed = KeptRuling::obeyed(order);
-                tell_ruling(&mut self.history, by.president, line, obeyed)?;
+                record(&mut self.history, by.president, line, &order, None)?;
                 let company = by.company;
                 let cost = amount_of(cost);
                 self.history.append(Event::Token {
@@ -42,8 +41,7 @@ impl CompanyTurn {
             }
             Err(fault) => {
                 let refusal = Refusal::Token(token_rule(fault)?);
-                let refused = KeptRuling::refused(refusal, order);
-                tell_ruling(&mut self.history, by.president, line, refused)?;
+                record(&mut self.history, by.president, line, &order, Some(refusal))?;
                 Ok(())
             }
         }

@@ -8,11 +8,11 @@ ghost use Rattle.operating.specs.Turn.{after_buying, purchase_of as the_purchase
 use crate::company_turn::CompanyTurn;
 use crate::phases::buy_train;
 use crate::purchase::{Purchase, judge_purchase};
-use crate::ruling::tell_ruling;
-use history::{KeptRuling, Refusal, TrainSeller};
+use history::{Refusal, TrainSeller};
 use order_grammar::{Order, TrainSource};
 use std::alloc::AllocError;
 use tables::Kind;
+use turns::record;
 
 impl CompanyTurn {
     /// Rules a TRAIN of a line with this number, in a turn that is past its pay, and buys the train
@@ -32,20 +32,11 @@ impl CompanyTurn {
     {
         let by = self.by;
         let purchase = purchase_of(kind, from);
-        let broken = judge_purchase(&self.history, by.company, purchase);
-        let kept = self.history.keep(&Order::BuyTrain { kind, from })?;
-        if let Some(rule) = broken {
-            let refused = KeptRuling::refused(Refusal::Train(rule), kept);
-            tell_ruling(&mut self.history, by.president, line, refused)?;
-            return Ok(());
+        let order = Order::BuyTrain { kind, from };
+        let broken = judge_purchase(&self.history, by.company, purchase).map(Refusal::Train);
+        if record(&mut self.history, by.president, line, &order, broken)? {
+            buy_train(self.alloc, &mut self.history, by.company, purchase)?;
         }
-        tell_ruling(
-            &mut self.history,
-            by.president,
-            line,
-            KeptRuling::obeyed(kept),
-        )?;
-        buy_train(self.alloc, &mut self.history, by.company, purchase)?;
         Ok(())
     }
 }

@@ -11,12 +11,11 @@ ghost use Rattle.sheets.specs.Part.{line_read};
 ghost use Rattle.turns.specs.Small.{AreSmall, IsSmallOrder, IsSmallReading};
 
 use crate::company_turn::CompanyTurn;
-use crate::ruling::tell_ruling;
 use certificate::{Runner, RunnerFault};
-use history::KeptRuling;
 use order_grammar::{Fault, Order};
 use sheets::{NumberedLine, PartsLeft};
 use std::alloc::AllocError;
+use turns::record_fault;
 
 impl CompanyTurn {
     /// Rules the lines of the company's orders.
@@ -71,8 +70,7 @@ impl CompanyTurn {
             ≡ told self.old.by (state self.old) line (Faulty fault)) }
         ensures order { OnOk result (GoesOn self.old self.new) }
     {
-        let faulty = KeptRuling::faulty(fault);
-        tell_ruling(&mut self.history, self.by.president, line, faulty)
+        record_fault(&mut self.history, self.by.president, line, fault)
     }
 
     /// Rules an order in a line with this number, and does it if it is obeyed. The runner is asked

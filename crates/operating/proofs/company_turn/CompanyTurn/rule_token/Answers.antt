@@ -2,7 +2,6 @@ use Rattle.std.proofs.Common.{Ok, Err, ap, refl, ◌∙◌}
 use Rattle.std.specs.Int.RustNames.{unsigned_abs}
 use Rattle.operating.proofs.Allowed.{amount_small, cost_kept, token_allowed}
 use Rattle.operating.proofs.Answered.{token_breaks, token_by, token_costs, token_refused_steps, placed_sound, placed_steps}
-use Rattle.operating.proofs.Told.{told_as}
 use Rattle.operating.specs.Ground.{ground_now}
 use Rattle.operating.specs.Judgement.{asker_of}
 use Rattle.operating.specs.InTurn.{in_turn}
@@ -33,7 +32,7 @@ returns-in_ok-append-in-Ok-clause-turn c =
     record {
       answer = Ok cost;
       answered = answered;
-      after = placed_steps c.args.self.now.by (in_turn game c.args.self.now.progress) c.args.line c.args.place cost c.tell_ruling.new.history c.append.new.self _ c.amount_of-cost.result c.with_token-self.result (told_as game _ c.args.self.now.by.president c.args.line c.obeyed-obeyed.result _ c.in_ok-tell_ruling-in-Ok.ensures.event c.obeyed-obeyed.ensures) c.in_ok-order.ensures c.in_ok-append-in-Ok.ensures.ok (c.amount_of-cost.ensures ∙ ap unsigned_abs may.kept) c.with_token-self.ensures;
+      after = placed_steps c.args.self.now.by (in_turn game c.args.self.now.progress) c.args.line c.args.place cost c.record.new.history c.append.new.self _ c.amount_of-cost.result c.with_token-self.result c.in_ok-record-in-Ok.ensures.ruling refl c.in_ok-append-in-Ok.ensures.ok (c.amount_of-cost.ensures ∙ ap unsigned_abs may.kept) c.with_token-self.ensures;
     }
 
 pub returns-in_ok-append-in-Ok-clause-order : goal.returns-in_ok-append-in-Ok-clause-order
@@ -45,17 +44,17 @@ returns-in_ok-append-in-Ok-clause-order c =
     record {
       by = refl;
       round = refl;
-      sound = placed_sound game c.tell_ruling.new.history c.append.new.self c.args.self.now.by.company c.args.self.now.progress c.args.self.now.by.president c.args.line _ c.args.place cost c.amount_of-cost.result answered c.in_ok-tell_ruling-in-Ok.ensures.event c.in_ok-append-in-Ok.ensures.ok (c.amount_of-cost.ensures ∙ ap unsigned_abs may.kept) c.in_ok-tell_ruling-in-Ok.ensures.sound;
+      sound = placed_sound game c.record.new.history c.append.new.self c.args.self.now.by.company c.args.self.now.progress c.args.self.now.by.president c.args.line _ c.args.place cost c.amount_of-cost.result answered c.in_ok-record-in-Ok.ensures.ruling c.in_ok-append-in-Ok.ensures.ok (c.amount_of-cost.ensures ∙ ap unsigned_abs may.kept) c.in_ok-record-in-Ok.ensures.sound;
       front = c.in_ok-catch_up.ensures.front;
     }
 
-pub returns-in_ok-tell_ruling-in-Err-clause-turn : goal.returns-in_ok-tell_ruling-in-Err-clause-turn
-returns-in_ok-tell_ruling-in-Err-clause-turn c =
+pub returns-in_ok-record-in-Err-clause-turn : goal.returns-in_ok-record-in-Err-clause-turn
+returns-in_ok-record-in-Err-clause-turn c =
     let game = c.args.self.now.history in
     let fault = c.in-Err.fault in
     let rule = c.in_ok-token_rule-in-Err.field-0 in
     record {
       answer = Err fault;
       answered = token_by _ _ _ _ c.args.place (Err fault) c.in_ok-catch_up.ensures.ground c.asker-asker.ensures (token_breaks fault rule c.in_ok-token_rule-in-Err.ensures.rule) c.in-Err.ensures.answer;
-      after = token_refused_steps c.args.self.now.by (in_turn game c.args.self.now.progress) c.args.line c.args.place fault rule c.tell_ruling-in-Err.new.history _ (told_as game _ c.args.self.now.by.president c.args.line c.refused-refused.result _ c.in_ok-tell_ruling-in-Err.ensures.event c.refused-refused.ensures) c.in_ok-order.ensures c.in_ok-token_rule-in-Err.ensures.rule;
+      after = token_refused_steps c.args.self.now.by (in_turn game c.args.self.now.progress) c.args.line c.args.place fault rule c.record-in-Err.new.history _ c.in_ok-record-in-Err.ensures.ruling refl c.in_ok-token_rule-in-Err.ensures.rule;
     }
