@@ -3,12 +3,11 @@
 use crate::call::{Call, made};
 use crate::fault::Fault;
 use crate::outcome::Outcome;
-use crate::texts::{FIRST, SCRIPT};
 use best_run::Search;
 use history::{Event, History, Holder, Party};
 use map_tables::{Hex, Lay, Rotation, TileNo};
 use rounds::{End, Play, PlayFault, Step, play, play_with};
-use sheets::collect;
+use sheets::Sheets;
 use std::rt::Runtime;
 use tables::{Company, Money, Private, Round, Seat};
 
@@ -69,12 +68,9 @@ fn event(is_revenue: bool) -> Event {
 }
 
 /// Plays the first game.
-pub fn plays(rt: &HostRuntime) -> Result<Outcome, Fault> {
-    let Ok(sheets) = collect(rt.alloc(), FIRST.as_bytes()) else {
-        return Err(Fault::Position);
-    };
+pub fn plays(rt: &HostRuntime, sheets: &Sheets) -> Result<Outcome, Fault> {
     Call::Play.begin(rt)?;
-    let answer = play(rt.alloc(), &sheets);
+    let answer = play(rt.alloc(), sheets);
     made(rt)?;
     Ok(match answer {
         Ok(game) => Outcome::of_answer(game.outcome() == End::Awaiting(Round::Opening(2))),
@@ -83,13 +79,10 @@ pub fn plays(rt: &HostRuntime) -> Result<Outcome, Fault> {
 }
 
 /// Plays the script with the runner that searches: PRR earns 30, of which ANN has 9.
-pub fn plays_with(rt: &HostRuntime) -> Result<Outcome, Fault> {
-    let Ok(sheets) = collect(rt.alloc(), SCRIPT.as_bytes()) else {
-        return Err(Fault::Position);
-    };
+pub fn plays_with(rt: &HostRuntime, sheets: &Sheets) -> Result<Outcome, Fault> {
     let mut search = Search::new(rt.alloc());
     Call::PlayWith.begin(rt)?;
-    let answer = play_with(rt.alloc(), &sheets, &mut search);
+    let answer = play_with(rt.alloc(), sheets, &mut search);
     made(rt)?;
     Ok(match answer {
         Ok(game) => Outcome::of_answer(game.history().cash(Party::Holder(ANN)) == 528),
@@ -99,12 +92,14 @@ pub fn plays_with(rt: &HostRuntime) -> Result<Outcome, Fault> {
 
 /// Plays a round more of the script, after so many. Where that is refused, play is broken off, and
 /// the next step answers so again.
-pub fn steps(rt: &HostRuntime, call: Call, before: usize) -> Result<Outcome, Fault> {
-    let Ok(sheets) = collect(rt.alloc(), SCRIPT.as_bytes()) else {
-        return Err(Fault::Position);
-    };
+pub fn steps(
+    rt: &HostRuntime,
+    sheets: &Sheets,
+    call: Call,
+    before: usize,
+) -> Result<Outcome, Fault> {
     let mut search = Search::new(rt.alloc());
-    let mut play = Play::start(rt.alloc(), &sheets)?;
+    let mut play = Play::start(rt.alloc(), sheets)?;
     for _ in 0..before {
         if !has_stepped(&mut play, &mut search) {
             return Err(Fault::Position);

@@ -20,9 +20,11 @@ mod texts;
 use call::Call;
 use fault::Fault;
 use outcome::Outcome;
+use sheets::collect;
 use std::env;
 use std::process::ExitCode;
 use std::rt::Runtime;
+use texts::{FIRST, SCRIPT};
 
 fn main(rt: HostRuntime) -> ExitCode {
     match make_all(&rt) {
@@ -72,19 +74,36 @@ fn make(rt: &HostRuntime, call: Call) -> Result<Outcome, Fault> {
         Call::Best => boards::finds_best(rt),
         Call::BestPlain => boards::finds_best_plain(rt),
         Call::Search => boards::searches(rt),
-        Call::PlayOpening => rounds_played::plays_opening(rt),
-        Call::PlayStock => rounds_played::plays_stock(rt),
-        Call::PlayCompany => rounds_played::plays_company(rt),
-        Call::Play => games::plays(rt),
-        Call::PlayWith => games::plays_with(rt),
-        Call::StepOpening => games::steps(rt, call, 0),
-        Call::StepStock => games::steps(rt, call, 1),
-        Call::StepOperating => games::steps(rt, call, 2),
-        Call::StepBest => games::steps(rt, call, 4),
-        Call::HeaderText => reports::tells_header(rt),
-        Call::NextText => reports::tells_next(rt),
-        Call::EndText => reports::tells_end(rt),
-        Call::RoundText => reports::tells_round(rt),
-        Call::Report => reports::tells_all(rt),
+        Call::Play
+        | Call::HeaderText
+        | Call::NextText
+        | Call::EndText
+        | Call::RoundText
+        | Call::Report => make_on(rt, call, FIRST),
+        _ => make_on(rt, call, SCRIPT),
+    }
+}
+
+/// Makes a call on the sheets of an order file.
+fn make_on(rt: &HostRuntime, call: Call, file: &str) -> Result<Outcome, Fault> {
+    let Ok(sheets) = collect(rt.alloc(), file.as_bytes()) else {
+        return Err(Fault::Position);
+    };
+    match call {
+        Call::PlayOpening => rounds_played::plays_opening(rt, &sheets),
+        Call::PlayStock => rounds_played::plays_stock(rt, &sheets),
+        Call::PlayCompany => rounds_played::plays_company(rt, &sheets),
+        Call::Play => games::plays(rt, &sheets),
+        Call::PlayWith => games::plays_with(rt, &sheets),
+        Call::StepOpening => games::steps(rt, &sheets, call, 0),
+        Call::StepStock => games::steps(rt, &sheets, call, 1),
+        Call::StepOperating => games::steps(rt, &sheets, call, 2),
+        Call::StepBest => games::steps(rt, &sheets, call, 4),
+        Call::HeaderText => reports::tells_header(rt, &sheets),
+        Call::NextText => reports::tells_next(rt, &sheets),
+        Call::EndText => reports::tells_end(rt, &sheets),
+        Call::RoundText => reports::tells_round(rt, &sheets),
+        Call::Report => reports::tells_all(rt, &sheets),
+        _ => Err(Fault::Name),
     }
 }

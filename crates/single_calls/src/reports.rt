@@ -4,11 +4,11 @@ use crate::call::{Call, made};
 use crate::fault::Fault;
 use crate::games::has_stepped;
 use crate::outcome::Outcome;
-use crate::texts::{AWAITED, FIRST, FIRST_ROUND, HEADER};
+use crate::texts::{AWAITED, FIRST_ROUND, HEADER};
 use best_run::Search;
 use report::{end_text, header_text, next_text, report, round_text};
 use rounds::{Play, Step, play};
-use sheets::collect;
+use sheets::Sheets;
 use std::alloc::AllocError;
 use std::rt::Runtime;
 use tables::Round;
@@ -22,23 +22,17 @@ fn told(answer: Result<Vec<u8>, AllocError>, owed: &str) -> Outcome {
 }
 
 /// The header of the first game.
-pub fn tells_header(rt: &HostRuntime) -> Result<Outcome, Fault> {
-    let Ok(sheets) = collect(rt.alloc(), FIRST.as_bytes()) else {
-        return Err(Fault::Position);
-    };
+pub fn tells_header(rt: &HostRuntime, sheets: &Sheets) -> Result<Outcome, Fault> {
     Call::HeaderText.begin(rt)?;
-    let answer = header_text(rt.alloc(), &sheets);
+    let answer = header_text(rt.alloc(), sheets);
     made(rt)?;
     Ok(told(answer, HEADER))
 }
 
 /// Its round, as it was played last.
-pub fn tells_next(rt: &HostRuntime) -> Result<Outcome, Fault> {
-    let Ok(sheets) = collect(rt.alloc(), FIRST.as_bytes()) else {
-        return Err(Fault::Position);
-    };
+pub fn tells_next(rt: &HostRuntime, sheets: &Sheets) -> Result<Outcome, Fault> {
     let mut search = Search::new(rt.alloc());
-    let mut play = Play::start(rt.alloc(), &sheets)?;
+    let mut play = Play::start(rt.alloc(), sheets)?;
     if !has_stepped(&mut play, &mut search) {
         return Err(Fault::Position);
     }
@@ -49,12 +43,9 @@ pub fn tells_next(rt: &HostRuntime) -> Result<Outcome, Fault> {
 }
 
 /// What follows its round.
-pub fn tells_end(rt: &HostRuntime) -> Result<Outcome, Fault> {
-    let Ok(sheets) = collect(rt.alloc(), FIRST.as_bytes()) else {
-        return Err(Fault::Position);
-    };
+pub fn tells_end(rt: &HostRuntime, sheets: &Sheets) -> Result<Outcome, Fault> {
     let mut search = Search::new(rt.alloc());
-    let mut play = Play::start(rt.alloc(), &sheets)?;
+    let mut play = Play::start(rt.alloc(), sheets)?;
     if !has_stepped(&mut play, &mut search) {
         return Err(Fault::Position);
     }
@@ -75,11 +66,8 @@ fn ends(rt: &HostRuntime, play: &mut Play, search: &mut Search) -> Result<Outcom
 }
 
 /// Its round, looked back at.
-pub fn tells_round(rt: &HostRuntime) -> Result<Outcome, Fault> {
-    let Ok(sheets) = collect(rt.alloc(), FIRST.as_bytes()) else {
-        return Err(Fault::Position);
-    };
-    let game = play(rt.alloc(), &sheets)?;
+pub fn tells_round(rt: &HostRuntime, sheets: &Sheets) -> Result<Outcome, Fault> {
+    let game = play(rt.alloc(), sheets)?;
     Call::RoundText.begin(rt)?;
     let answer = round_text(rt.alloc(), &game, Round::Opening(1));
     made(rt)?;
@@ -87,11 +75,8 @@ pub fn tells_round(rt: &HostRuntime) -> Result<Outcome, Fault> {
 }
 
 /// The whole report.
-pub fn tells_all(rt: &HostRuntime) -> Result<Outcome, Fault> {
-    let Ok(sheets) = collect(rt.alloc(), FIRST.as_bytes()) else {
-        return Err(Fault::Position);
-    };
-    let game = play(rt.alloc(), &sheets)?;
+pub fn tells_all(rt: &HostRuntime, sheets: &Sheets) -> Result<Outcome, Fault> {
+    let game = play(rt.alloc(), sheets)?;
     Call::Report.begin(rt)?;
     let answer = report(rt.alloc(), &game);
     made(rt)?;

@@ -3,34 +3,23 @@
 use crate::call::{Call, made};
 use crate::fault::Fault;
 use crate::outcome::Outcome;
-use crate::texts::SCRIPT;
 use best_run::Search;
 use certificate::RunnerFault;
 use history::History;
 use operating::play_company;
 use privates::play_opening;
-use sheets::{Sheets, collect};
-use std::alloc::Global;
+use sheets::Sheets;
 use std::rt::Runtime;
 use stock_round::play_stock;
 use tables::{Company, Round, Seat};
 
 const PRR: Company = Company::Pennsylvania;
 
-/// The sheets of the script.
-fn sheets(alloc: Global) -> Result<Sheets<'static>, Fault> {
-    match collect(alloc, SCRIPT.as_bytes()) {
-        Ok(sheets) => Ok(sheets),
-        Err(_) => Err(Fault::Position),
-    }
-}
-
 /// The opening round: all six privates are sold.
-pub fn plays_opening(rt: &HostRuntime) -> Result<Outcome, Fault> {
-    let sheets = sheets(rt.alloc())?;
+pub fn plays_opening(rt: &HostRuntime, sheets: &Sheets) -> Result<Outcome, Fault> {
     let game = History::start(rt.alloc(), sheets.seats());
     Call::PlayOpening.begin(rt)?;
-    let answer = play_opening(game, &sheets, Round::Opening(1));
+    let answer = play_opening(game, sheets, Round::Opening(1));
     made(rt)?;
     Ok(match answer {
         Ok(game) => Outcome::of_answer(game.cheapest_unsold().is_none()),
@@ -39,11 +28,10 @@ pub fn plays_opening(rt: &HostRuntime) -> Result<Outcome, Fault> {
 }
 
 /// A stock round in which nothing has happened before: ANN starts PRR.
-pub fn plays_stock(rt: &HostRuntime) -> Result<Outcome, Fault> {
-    let sheets = sheets(rt.alloc())?;
+pub fn plays_stock(rt: &HostRuntime, sheets: &Sheets) -> Result<Outcome, Fault> {
     let game = History::start(rt.alloc(), sheets.seats());
     Call::PlayStock.begin(rt)?;
-    let answer = play_stock(game, &sheets, Round::Stock(1));
+    let answer = play_stock(game, sheets, Round::Stock(1));
     made(rt)?;
     Ok(match answer {
         Ok(game) => Outcome::of_answer(game.president(PRR) == Some(Seat(0))),
@@ -52,21 +40,20 @@ pub fn plays_stock(rt: &HostRuntime) -> Result<Outcome, Fault> {
 }
 
 /// PRR's first turn: it lays a tile.
-pub fn plays_company(rt: &HostRuntime) -> Result<Outcome, Fault> {
-    let sheets = sheets(rt.alloc())?;
+pub fn plays_company(rt: &HostRuntime, sheets: &Sheets) -> Result<Outcome, Fault> {
     let game = History::start(rt.alloc(), sheets.seats());
-    let game = play_opening(game, &sheets, Round::Opening(1))?;
+    let game = play_opening(game, sheets, Round::Opening(1))?;
     if game.seats() != sheets.seats() {
         return Err(Fault::Position);
     }
-    let game = play_stock(game, &sheets, Round::Stock(1))?;
+    let game = play_stock(game, sheets, Round::Stock(1))?;
     if game.seats() != sheets.seats() || !game.floated(PRR) {
         return Err(Fault::Position);
     }
     let mut search = Search::new(rt.alloc());
     let round = Round::Operating { set: 1, number: 1 };
     Call::PlayCompany.begin(rt)?;
-    let answer = play_company(rt.alloc(), game, &sheets, round, PRR, &mut search);
+    let answer = play_company(rt.alloc(), game, sheets, round, PRR, &mut search);
     made(rt)?;
     Ok(match answer {
         Ok(game) => Outcome::of_answer(game.laid(0).is_some()),
