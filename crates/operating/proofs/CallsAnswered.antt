@@ -49,7 +49,7 @@ asks_answered : (company : Company) (round : Round) → IsAnswered (Asks company
 asks_answered company round events revenue calls is =
     let call : Call = asked company round events (Ok (pos revenue)) in
     let one : AreAnswered (call ∷ []) = (refl, tt) in
-    subst AreAnswered (sym is) one
+    subst AreAnswered (sym is.1) one
 
 -- so the calls of a RUN BEST are, by the rule that refuses it, if one does
 best_answered : (by : Operator) (round : Round) (number : ℕ) (rule : Option RunRule) → IsAnswered (BestCalls by round number rule)
