@@ -1,5 +1,5 @@
 -- What was written behind a file is answered by its report.
-use Rattle.std.proofs.Common.{◌≡◌, ℕ, ◌≤◌, List, [], ◌∷◌, ◌++◌, Ok, length, sym, ap, subst}
+use Rattle.std.proofs.Common.{◌≡◌, ℕ, ◌≤◌, List, [], ◌∷◌, ◌++◌, Ok, length, refl, sym, ap, subst}
 use Rattle.std.specs.Prelude.{Option, Some}
 use Rattle.std.specs.List.{AllByRecursion}
 use Rattle.certificate.specs.declared.group.Group.{Group}
@@ -43,7 +43,7 @@ answered_again some file groups accepted certify can within =
     (record { played = certify.played; calls = certify.calls; made = certify.made; have = have_again certify.calls groups (groups_of (certificates_of input)) certify.certified read }) in
     let report = some (order_file_of input) in (
       report.0,
-      judgement_answers input report.0 (Ok tt)
+      judgement_answers input (order_file_of input) (certificates_of input) report.0 (Ok tt) refl refl
       (subst (λ (behind : List ℕ). length behind ≤ certificates_most) (sym parted.certificates) within)
       (subst IsAccepted (sym parted.order_file) accepted) (all, report.1),
     )

@@ -34,7 +34,7 @@ have_groups :
     AreAnswered (calls ++ others) → HaveGroups calls groups
 have_groups [] rest others groups left made answered = tt
 have_groups (call ∷ calls) rest others [] left made answered =
-    absurd (let wrong : IsOk (Err runner.Refused) = subst (λ (answer : Result ℤ RunnerFault). IsOk answer) made.1.0 answered.0 in cc)
+    absurd (let wrong : IsOk {T = ℤ} (Err runner.Refused) = subst (λ (answer : Result ℤ RunnerFault). IsOk answer) made.1.0 answered.0 in cc)
 have_groups (call ∷ calls) rest others (group ∷ groups) left made answered = (
   has_group call group call.answer made.1.0 answered.0,
   have_groups calls rest others groups left (subst (λ (after : List (Option Group)). AreMade AnswersByNext after (calls ++ rest) left) made.1.1 made.2) answered.1,

@@ -19,6 +19,10 @@ use Rattle.umpire.specs.Verify.{AnswersContent, AnswersGame, AnswersInput, IsAns
 use Rattle.umpire.specs.declared.fault.Fault.{Fault}
 use Rattle.umpire.specs.declared.fault.Fault.TheVariants.{Read, Write, Memory, File, Certificate}
 
+-- one number is at most another, or more
+either : (a b : ℕ) → (a ≤ b) ⊎ (b < a)
+either a b = grind arith
+
 -- one byte at most goes from the end
 less_newline : (bytes : List ℕ) → length bytes ≤ suc (length (without_newline bytes))
 less_newline [] = omega arith
@@ -57,8 +61,7 @@ within_limit input within =
 -- an input over both limits and the LF is refused
 input_too_long : (input : List ℕ) → 71303169 < length input → content_of_input input ≡ Err TooLong
 input_too_long input many =
-    let either : (length (certificates_of input) ≤ certificates_most) ⊎ (certificates_most < length (certificates_of input)) = grind arith in
-    elim either [
+    elim (either (length (certificates_of input)) certificates_most) [
       | inl within ↦ within_limit input within ∙ too_long (order_file_of input) (omega (arith, make_up input))
       | inr over ↦ over_limit input over
     ]
@@ -81,12 +84,12 @@ says_input_by bytes input read (inr many) =
       whole = bytes;
       is_whole = refl;
       content = input_too_long bytes many ∙ sym refused;
-      taken = λ taken. absurd (let wrong : IsOk (Err TooLong) = subst (λ (content : Result Content FileFault). IsOk content) refused taken in cc);
+      taken = λ taken. absurd (let wrong : IsOk {T = Content} (Err TooLong) = subst (λ (content : Result Content FileFault). IsOk content) refused taken in cc);
     }
 
 pub says_input : (given : Option (List ℕ)) (input : List ℕ) → IfSome given (λ bytes. input ≡ take 71303170 bytes) → SaysInput given input
 says_input None input read = record { whole = input; is_whole = tt; content = refl; taken = λ taken. refl }
-says_input (Some bytes) input read = says_input_by bytes input read (grind arith)
+says_input (Some bytes) input read = says_input_by bytes input read (either (length bytes) 71303169)
 
 -- what was read is answered as the whole input is
 answers_whole :
@@ -192,9 +195,13 @@ judgement_by input text outcome (Ok content) accepted answers = answers
 judgement_by input text outcome (Err fault) accepted answers = absurd cc
 
 pub judgement_answers :
-    (input text : List ℕ) (outcome : Result (Unit {0}) Fault) → length (certificates_of input) ≤ certificates_most → IsAccepted (order_file_of input) →
-    AnswersGame (order_file_of input) (groups_of (certificates_of input)) outcome text → AnswersInput input outcome text
-judgement_answers input text outcome within accepted answers =
-    let is = within_limit input within in
-    subst (λ (content : Result Content FileFault). AnswersContent input content outcome text) (sym is)
-    (judgement_by input text outcome (content_of (order_file_of input)) accepted answers)
+    (input file certificates text : List ℕ) (outcome : Result (Unit {0}) Fault) → file ≡ order_file_of input → certificates ≡ certificates_of input →
+    length certificates ≤ certificates_most → IsAccepted file → AnswersGame file (groups_of certificates) outcome text →
+    AnswersInput input outcome text
+judgement_answers input file certificates text outcome of_file of_certificates within accepted answers =
+    let few : length (certificates_of input) ≤ certificates_most = subst (λ (t : List ℕ). length t ≤ certificates_most) of_certificates within in
+    let of_whole : AnswersGame (order_file_of input) (groups_of (certificates_of input)) outcome text =
+    subst (λ (t : List ℕ). AnswersGame (order_file_of input) (groups_of t) outcome text) of_certificates
+    (subst (λ (f : List ℕ). AnswersGame f (groups_of certificates) outcome text) of_file answers) in
+    subst (λ (content : Result Content FileFault). AnswersContent input content outcome text) (sym (within_limit input few))
+    (judgement_by input text outcome (content_of (order_file_of input)) (subst IsAccepted of_file accepted) of_whole)
