@@ -1,97 +1,146 @@
--- Each call of a course that leads on is answered, since one that is not breaks it off.
-use Rattle.std.proofs.Common.{◌≡◌, ℕ, zero, suc, List, [], ◌∷◌, ◌++◌, Some, None, Result, Ok, Err, refl, sym, subst, inl, inr}
-use Rattle.std.specs.Prelude.{Option}
-use Rattle.certificate.specs.declared.runner.RunnerFault.TheVariants.{Memory}
-use Rattle.history.specs.Shares.{president_of}
-use Rattle.history.specs.declared.ruling.RunRule.{RunRule}
-use Rattle.operating.specs.Answered.{AreAnswered, IsAnswered}
-use Rattle.operating.specs.Best.{best_judgement}
-use Rattle.operating.specs.Calls.{Call, Course, Then, TimesThen, Unasked}
-use Rattle.operating.specs.TurnCalls.{Asks, BestCalls, BlockCalls, EndCalls, IsCredited, LineCalls, LinesCall, OrderCalls, ReadingCalls, TurnCalls}
+-- From the answer of the rules of the board to where a line leads.
+use Rattle.std.proofs.Common.{◌≡◌, ℕ, ◌⊎◌, inl, inr, Some, None, Result, Ok, Err, ℤ, pos, ◌≤ℤ◌, refl, sym, ap, subst, ◌∙◌}
+use Rattle.std.specs.Int.RustNames.{unsigned_abs}
+use Rattle.board.specs.Ground.{Ground}
+use Rattle.board.specs.LayRules.{IsLayAnswer, ground_rules}
+use Rattle.board.specs.TokenRules.{IsTokenAnswer, slot_rules}
+use Rattle.board.specs.declared.asker.Asker.{Asker}
+use Rattle.board.specs.declared.fault.LayFault.{LayFault}
+use Rattle.board.specs.declared.fault.LayFault.TheVariants as lay_fault
+use Rattle.board.specs.declared.fault.TokenFault.{TokenFault}
+use Rattle.board.specs.declared.fault.TokenFault.TheVariants as token_fault
+use Rattle.history.proofs.EventAtEnd.{cash_of_before}
+use Rattle.history.proofs.Payments.{lay_sound, token_sound}
+use Rattle.history.specs.Event.{party_of_company}
+use Rattle.history.specs.LookBack.{Game, cash_of, with_event}
+use Rattle.history.specs.Operating.{lays_of}
+use Rattle.history.specs.Sound.{IsSound}
+use Rattle.history.specs.declared.event.Event.TheVariants as event
+use Rattle.history.specs.declared.ruling.LayRule.{LayRule}
+use Rattle.history.specs.declared.ruling.Refusal.TheVariants as refusal
+use Rattle.history.specs.declared.ruling.Ruling.{Ruling}
+use Rattle.history.specs.declared.ruling.Ruling.TheVariants.{Obeyed, Refused}
+use Rattle.history.specs.declared.ruling.TokenRule.{TokenRule}
+use Rattle.map_tables.specs.declared.lay.Lay.{Lay}
+use Rattle.map_tables.specs.declared.place.Place.{Place}
+use Rattle.operating.proofs.Allowed.{lay_allowed, token_allowed}
+use Rattle.operating.proofs.Fitting.{lay_fits, same_ground, token_fits}
+use Rattle.operating.specs.Ground.{ground_now}
+use Rattle.operating.specs.Judgement.{asker_of, rule_of_lay, rule_of_token}
+use Rattle.operating.specs.InTurn.{InTurn, in_turn, lay_done, token_done}
+use Rattle.operating.specs.Turn.{lay_answered, lay_refused, token_answered, token_refused}
 use Rattle.operating.specs.declared.operator.Operator.{Operator}
-use Rattle.order_grammar.specs.declared.fault.Fault.{Fault}
+use Rattle.operating.specs.declared.progress.Progress.{Progress}
 use Rattle.order_grammar.specs.declared.order.Order.{Order}
-use Rattle.sheets.specs.Block.{block_for}
-use Rattle.sheets.specs.Part.{Numbered}
+use Rattle.order_grammar.specs.declared.order.Order.TheVariants as order
+use Rattle.tables.specs.Rules.{first_broken}
 use Rattle.tables.specs.declared.roster.Company.{Company}
-use Rattle.tables.specs.declared.round.Round.{Round}
 use Rattle.tables.specs.declared.seat.Seat.{Seat}
 
--- calls, and others after them
-both_answered : (calls others : List Call) → AreAnswered calls → AreAnswered others → AreAnswered (calls ++ others)
-both_answered [] others these those = those
-both_answered (call ∷ calls) others these those = (these.0, both_answered calls others these.1 those)
+-- the answer to a lay, by what lies and by who asks
+pub lay_by : (board laid : Ground) (asker its : Asker) (lay : Lay) (answer : Result ℤ LayFault) → board ≡ laid → asker ≡ its → ¬ (answer ≡ Err lay_fault.Memory) → (answer ≡ Err lay_fault.Memory) ⊎ IsLayAnswer board asker lay answer → IsLayAnswer laid its lay answer
+lay_by board laid asker its lay answer is_board is_asker known (inl memory) = absurd (known memory)
+lay_by board laid asker its lay answer is_board is_asker known (inr answered) =
+    subst (λ (g : Ground). IsLayAnswer g its lay answer) is_board (subst (λ (a : Asker). IsLayAnswer board a lay answer) is_asker answered)
 
-pub none_answered : (calls : List Call) → calls ≡ [] → AreAnswered calls
-none_answered calls none = subst AreAnswered (sym none) tt
+-- and to a token
+pub token_by : (board laid : Ground) (asker its : Asker) (place : Place) (answer : Result ℤ TokenFault) → board ≡ laid → asker ≡ its → ¬ (answer ≡ Err token_fault.Memory) → (answer ≡ Err token_fault.Memory) ⊎ IsTokenAnswer board asker place answer → IsTokenAnswer laid its place answer
+token_by board laid asker its place answer is_board is_asker known (inl memory) = absurd (known memory)
+token_by board laid asker its place answer is_board is_asker known (inr answered) =
+    subst (λ (g : Ground). IsTokenAnswer g its place answer) is_board (subst (λ (a : Asker). IsTokenAnswer board a place answer) is_asker answered)
 
--- a course that makes no call
-pub unasked_answered : {A B F : Type 0} (memory : F) (leads : A → B → Type 0) → IsAnswered {A = A} {B = B} {F = F} (Unasked memory leads)
-unasked_answered memory leads from to calls course = none_answered calls course.1
+-- an answer that is a cost, or a fault
+abbrev cost_of_lay : ℤ → Result ℤ LayFault
+cost_of_lay cost = Ok cost
 
--- one course after another
-pub then_answered : {A B C F : Type 0} (first : Course A B F) (second : Course B C F) → IsAnswered first → IsAnswered second → IsAnswered (Then first second)
-then_answered first second one other from to calls course =
-    elim course [
-      | inl never ↦ absurd never
-      | inr joins ↦
-          subst AreAnswered (sym joins.all)
-          (both_answered joins.earlier joins.later (one from joins.between joins.earlier joins.leads) (other joins.between to joins.later joins.goes_on))
-    ]
+abbrev fault_of_lay : LayFault → Result ℤ LayFault
+fault_of_lay fault = Err fault
 
--- a course so many times, and another
-pub times_answered : {A B F : Type 0} (course : Course A A F) (last : Course A B F) → IsAnswered course → IsAnswered last → (times : ℕ) → IsAnswered (TimesThen times course last)
-times_answered course last one end zero = end
-times_answered course last one end (suc times) = then_answered course (TimesThen times course last) one (times_answered course last one end times)
+abbrev cost_of_token : ℤ → Result ℤ TokenFault
+cost_of_token cost = Ok cost
 
--- a RUN BEST that is obeyed asks, and is answered
-asks_answered : (company : Company) (round : Round) → IsAnswered (Asks company round)
-asks_answered company round events revenue calls is = subst AreAnswered (sym is) (refl, tt)
+abbrev fault_of_token : TokenFault → Result ℤ TokenFault
+fault_of_token fault = Err fault
 
--- so the calls of a RUN BEST are, by the rule that refuses it, if one does
-best_answered : (by : Operator) (round : Round) (number : ℕ) (rule : Option RunRule) → IsAnswered (BestCalls by round number rule)
-best_answered by round number (Some rule) turn to calls course = none_answered calls course.1
-best_answered by round number None turn to calls course =
-    then_answered (Asks by.company round) (Unasked Memory (IsCredited by turn number)) (asks_answered by.company round)
-    (unasked_answered Memory (IsCredited by turn number)) turn.game.events to calls course
+-- a cost is no want of memory
+pub lay_costs : (cost : ℤ) (answer : Result ℤ LayFault) → answer ≡ Ok cost → ¬ (answer ≡ Err lay_fault.Memory)
+lay_costs cost answer is memory = let wrong : cost_of_lay cost ≡ Err lay_fault.Memory = sym is ∙ memory in let no : ⊥ = cc in no
 
--- those of an order
-order_answered : (by : Operator) (round : Round) (number : ℕ) (order : Order) → IsAnswered (OrderCalls by round number order)
-order_answered by round number order turn to calls course =
-    elim course [
-      | inl best ↦ best_answered by round number (best_judgement turn by.company) turn to calls best.1
-      | inr other ↦ none_answered calls other.1.1
-    ]
+pub token_costs : (cost : ℤ) (answer : Result ℤ TokenFault) → answer ≡ Ok cost → ¬ (answer ≡ Err token_fault.Memory)
+token_costs cost answer is memory = let wrong : cost_of_token cost ≡ Err token_fault.Memory = sym is ∙ memory in let no : ⊥ = cc in no
 
--- those of a line
-reading_answered : (by : Operator) (round : Round) (number : ℕ) (reading : Result Order Fault) → IsAnswered (ReadingCalls by round number reading)
-reading_answered by round number (Ok order) turn to calls course = order_answered by round number order turn to calls course
-reading_answered by round number (Err fault) turn to calls course = none_answered calls course.1
+-- nor is a fault that tells of a rule
+pub lay_breaks : (fault : LayFault) (rule : LayRule) → rule_of_lay fault ≡ Some rule → ¬ (fault_of_lay fault ≡ fault_of_lay lay_fault.Memory)
+lay_breaks fault rule is memory =
+    let same : fault ≡ lay_fault.Memory = cc in
+    let wrong : None ≡ Some rule = sym (ap rule_of_lay same) ∙ is in
+    let no : ⊥ = cc in no
 
--- those of lines
-lines_answered : (by : Operator) (round : Round) (lines : List Numbered) → IsAnswered (LinesCall by round lines)
-lines_answered by round [] turn to calls course = none_answered calls course.1
-lines_answered by round (line ∷ lines) turn to calls course =
-    then_answered (LineCalls by round line) (LinesCall by round lines) (reading_answered by round line.number line.reading)
-    (lines_answered by round lines) turn to calls course
+pub token_breaks : (fault : TokenFault) (rule : TokenRule) → rule_of_token fault ≡ Some rule → ¬ (fault_of_token fault ≡ fault_of_token token_fault.Memory)
+token_breaks fault rule is memory =
+    let same : fault ≡ token_fault.Memory = cc in
+    let wrong : None ≡ Some rule = sym (ap rule_of_token same) ∙ is in
+    let no : ⊥ = cc in no
 
--- those of a block
-block_answered : (file : List ℕ) (round : Round) (company : Company) (president : Option Seat) → IsAnswered (BlockCalls file round company president)
-block_answered file round company None turn to calls course = none_answered calls course.1
-block_answered file round company (Some seat) turn to calls course =
-    lines_answered (record { company = company; president = seat }) round (block_for file round seat.0 company) turn to calls course
+-- how far a turn has come once a tile is laid, by what lies and by who asks
+pub lay_done_by : (board laid : Ground) (asker its : Asker) (lay : Lay) (before after : Progress) → board ≡ laid → asker ≡ its →
+    after ≡ lay_done board.lays asker lay before → after ≡ lay_done laid.lays its lay before
+lay_done_by board laid asker its lay before after is_board is_asker is =
+    is ∙ ap (λ (g : Ground). lay_done g.lays asker lay before) is_board ∙ ap (λ (a : Asker). lay_done laid.lays a lay before) is_asker
 
--- those of a turn
-pub turn_answered : (file : List ℕ) (round : Round) (company : Company) → IsAnswered (TurnCalls file round company)
-turn_answered file round company old to calls course =
-    elim course [
-      | inl never ↦ absurd never
-      | inr joins ↦
-          let president : Option Seat = president_of old.events company in
-          let first : AreAnswered joins.earlier = none_answered joins.earlier joins.leads.1 in
-          let rest : AreAnswered joins.later =
-          then_answered (BlockCalls file round company president) (EndCalls file round company president) (block_answered file round company president)
-          (λ last new calls end. none_answered calls end.1) joins.between to joins.later joins.goes_on
-          in
-          subst AreAnswered (sym joins.all) (both_answered joins.earlier joins.later first rest)
-    ]
+-- a lay that was obeyed, step by step
+pub laid_steps : (by : Operator) (turn : InTurn) (number : ℕ) (lay : Lay) (cost : ℤ) (ruled paid : Game) (kept : Order) (amount : ℕ) (progress : Progress) → ruled ≡ with_event turn.game (event.Ruled by.president number (Obeyed kept)) → kept ≡ order.Lay lay → paid ≡ with_event ruled (event.Laid by.company lay amount) → amount ≡ unsigned_abs cost → progress ≡ lay_done (lays_of turn.game.events) (asker_of turn.game by.company turn.progress) lay turn.progress → in_turn paid progress ≡ lay_answered by turn number lay (Ok cost)
+laid_steps by turn number lay cost ruled paid kept amount progress is_ruled is_kept is_paid is_amount is_progress =
+    ap (λ (g : Game). in_turn g progress) is_paid
+    ∙ ap (λ (n : ℕ). in_turn (with_event ruled (event.Laid by.company lay n)) progress) is_amount
+    ∙ ap (λ (g : Game). in_turn (with_event g (event.Laid by.company lay (unsigned_abs cost))) progress) (is_ruled ∙ ap (λ (o : Order). with_event turn.game (event.Ruled by.president number (Obeyed o))) is_kept)
+    ∙ ap (λ (p : Progress). in_turn (with_event (with_event turn.game (event.Ruled by.president number (Obeyed (order.Lay lay)))) (event.Laid by.company lay (unsigned_abs cost))) p) is_progress
+
+-- a token that was obeyed
+pub placed_steps : (by : Operator) (turn : InTurn) (number : ℕ) (place : Place) (cost : ℤ) (ruled paid : Game) (kept : Order) (amount : ℕ) (progress : Progress) → ruled ≡ with_event turn.game (event.Ruled by.president number (Obeyed kept)) → kept ≡ order.Token place → paid ≡ with_event ruled (event.Token by.company place amount) → amount ≡ unsigned_abs cost → progress ≡ token_done turn.progress → in_turn paid progress ≡ token_answered by turn number place (Ok cost)
+placed_steps by turn number place cost ruled paid kept amount progress is_ruled is_kept is_paid is_amount is_progress =
+    ap (λ (g : Game). in_turn g progress) is_paid
+    ∙ ap (λ (n : ℕ). in_turn (with_event ruled (event.Token by.company place n)) progress) is_amount
+    ∙ ap (λ (g : Game). in_turn (with_event g (event.Token by.company place (unsigned_abs cost))) progress) (is_ruled ∙ ap (λ (o : Order). with_event turn.game (event.Ruled by.president number (Obeyed o))) is_kept)
+    ∙ ap (λ (p : Progress). in_turn (with_event (with_event turn.game (event.Ruled by.president number (Obeyed (order.Token place)))) (event.Token by.company place (unsigned_abs cost))) p) is_progress
+
+-- a lay that was refused
+pub lay_refused_steps : (by : Operator) (turn : InTurn) (number : ℕ) (lay : Lay) (fault : LayFault) (rule : LayRule) (ruled : Game) (kept : Order) → ruled ≡ with_event turn.game (event.Ruled by.president number (Refused (refusal.Lay rule) kept)) → kept ≡ order.Lay lay → rule_of_lay fault ≡ Some rule → in_turn ruled turn.progress ≡ lay_answered by turn number lay (Err fault)
+lay_refused_steps by turn number lay fault rule ruled kept is_ruled is_kept is_rule =
+    ap (λ (g : Game). in_turn g turn.progress) (is_ruled ∙ ap (λ (o : Order). with_event turn.game (event.Ruled by.president number (Refused (refusal.Lay rule) o))) is_kept)
+    ∙ sym (ap (lay_refused by turn number lay) is_rule)
+
+-- a token that was refused
+pub token_refused_steps : (by : Operator) (turn : InTurn) (number : ℕ) (place : Place) (fault : TokenFault) (rule : TokenRule) (ruled : Game) (kept : Order) → ruled ≡ with_event turn.game (event.Ruled by.president number (Refused (refusal.Token rule) kept)) → kept ≡ order.Token place → rule_of_token fault ≡ Some rule → in_turn ruled turn.progress ≡ token_answered by turn number place (Err fault)
+token_refused_steps by turn number place fault rule ruled kept is_ruled is_kept is_rule =
+    ap (λ (g : Game). in_turn g turn.progress) (is_ruled ∙ ap (λ (o : Order). with_event turn.game (event.Ruled by.president number (Refused (refusal.Token rule) o))) is_kept)
+    ∙ sym (ap (token_refused by turn number place) is_rule)
+
+-- the same lies after a ruling, and the company has as much
+pub same_after_ruling : (game ruled : Game) (seat : Seat) (number : ℕ) (ruling : Ruling) → ruled ≡ with_event game (event.Ruled seat number ruling) → ground_now ruled.events ≡ ground_now game.events
+same_after_ruling game ruled seat number ruling is =
+    ap (λ (g : Game). ground_now g.events) is ∙ same_ground game.events (event.Ruled seat number ruling) refl refl refl
+
+same_cash : (game ruled : Game) (seat : Seat) (number : ℕ) (ruling : Ruling) (company : Company) → ruled ≡ with_event game (event.Ruled seat number ruling) → cash_of ruled.seats ruled.events (party_of_company company) ≡ cash_of game.seats game.events (party_of_company company)
+same_cash game ruled seat number ruling company is =
+    ap (λ (g : Game). cash_of g.seats g.events (party_of_company company)) is ∙ cash_of_before game.seats game.events (event.Ruled seat number ruling) (party_of_company company) refl
+
+-- a game goes on after a lay that is allowed
+pub laid_sound : (game ruled new : Game) (company : Company) (progress : Progress) (seat : Seat) (number : ℕ) (ruling : Ruling) (lay : Lay) (cost : ℤ) (amount : ℕ) → IsLayAnswer (ground_now game.events) (asker_of game company progress) lay (Ok cost) → ruled ≡ with_event game (event.Ruled seat number ruling) → new ≡ with_event ruled (event.Laid company lay amount) → amount ≡ unsigned_abs cost → IsSound ruled → IsSound new
+laid_sound game ruled new company progress seat number ruling lay cost amount answered is_ruled is_new is_amount sound =
+    let asker : Asker = asker_of game company progress in
+    let may = lay_allowed (ground_now game.events) asker lay cost answered in
+    let rules : first_broken (ground_rules (ground_now ruled.events) asker lay) ≡ None = subst (λ (g : Ground). first_broken (ground_rules g asker lay) ≡ None) (sym (same_after_ruling game ruled seat number ruling is_ruled)) may.allowed in
+    let pays : pos amount ≤ℤ cash_of ruled.seats ruled.events (party_of_company company) = subst (λ (n : ℕ). pos n ≤ℤ cash_of ruled.seats ruled.events (party_of_company company)) (sym is_amount) (subst (λ (z : ℤ). pos (unsigned_abs cost) ≤ℤ z) (sym (same_cash game ruled seat number ruling company is_ruled)) may.pays) in
+    subst IsSound (sym is_new)
+    (lay_sound ruled company lay amount pays (lay_fits ruled.events asker lay amount rules sound.fit) sound)
+
+-- and after a token
+pub placed_sound : (game ruled new : Game) (company : Company) (progress : Progress) (seat : Seat) (number : ℕ) (ruling : Ruling) (place : Place) (cost : ℤ) (amount : ℕ) → IsTokenAnswer (ground_now game.events) (asker_of game company progress) place (Ok cost) → ruled ≡ with_event game (event.Ruled seat number ruling) → new ≡ with_event ruled (event.Token company place amount) → amount ≡ unsigned_abs cost → IsSound ruled → IsSound new
+placed_sound game ruled new company progress seat number ruling place cost amount answered is_ruled is_new is_amount sound =
+    let asker : Asker = asker_of game company progress in
+    let may = token_allowed (ground_now game.events) asker place cost answered in
+    let rules : first_broken (slot_rules (ground_now ruled.events) asker place) ≡ None = subst (λ (g : Ground). first_broken (slot_rules g asker place) ≡ None) (sym (same_after_ruling game ruled seat number ruling is_ruled)) may.allowed in
+    let pays : pos amount ≤ℤ cash_of ruled.seats ruled.events (party_of_company company) = subst (λ (n : ℕ). pos n ≤ℤ cash_of ruled.seats ruled.events (party_of_company company)) (sym is_amount) (subst (λ (z : ℤ). pos (unsigned_abs cost) ≤ℤ z) (sym (same_cash game ruled seat number ruling company is_ruled)) may.pays) in
+    subst IsSound (sym is_new)
+    (token_sound ruled company place amount pays (token_fits ruled.events asker place amount rules sound.fit) sound)

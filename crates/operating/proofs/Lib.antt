@@ -56,4 +56,4 @@ pub mod BestEarnings
 pub mod Raises
 pub mod Going
 pub mod Begun
-pub mod Answered
+pub mod CallsAnswered

@@ -1,7 +1,7 @@
 -- Each call that leads to a game is answered.
 use Rattle.std.proofs.Common.{◌≡◌, ℕ, List, refl}
 use Rattle.history.specs.LookBack.{Game}
-use Rattle.operating.proofs.Answered.{none_answered, then_answered, times_answered, turn_answered, unasked_answered}
+use Rattle.operating.proofs.CallsAnswered.{none_answered, then_answered, times_answered, turn_answered, unasked_answered}
 use Rattle.operating.specs.Answered.{IsAnswered}
 use Rattle.operating.specs.Calls.{Then, Unasked}
 use Rattle.rounds.specs.GameCalls.{AreOver, IsFinished, IsOpened, NextCalls, OperatingCalls, PlayedCalls, RoundCalls, Stops, TurnsCall, between_after}
