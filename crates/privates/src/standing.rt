@@ -1,4 +1,4 @@
-ghost use Rattle.std.specs.Prelude.{◌≡◌, OnOk, ⊤};
+ghost use Rattle.std.specs.Prelude.{◌≡◌, OnOk};
 ghost use Rattle.turns.specs.Small.{IsSmallReading};
 ghost use Rattle.privates.specs.Standing.{after_standing_line, has_place_before as may_stand_before, standing_judgement, standing_refusal};
 ghost use Rattle.privates.specs.Underway.{IsUnderway};
