@@ -1,5 +1,6 @@
 -- The call that an order to run the best makes of a runner.
 use Rattle.std.proofs.Common.{◌≡◌, ℕ, ℤ, pos, List, [], ◌∷◌, Result, Ok, Err, refl, sym, subst, inl}
+use Rattle.certificate.specs.Set.{IsGreatest}
 use Rattle.certificate.specs.declared.runner.RunnerFault.{RunnerFault}
 use Rattle.history.specs.declared.event.Event.{Event}
 use Rattle.operating.specs.Best.{trains_now}
@@ -27,10 +28,11 @@ module _ {Runner : Type 0} (earns : Earns Runner) where
       (events : List Event) (position : Position) (round : Round) (company : Company) (trains : List Kind) (answer : Result ℤ RunnerFault) (revenue : ℕ)
       (before after : Runner) →
       position ≡ position_now events → trains ≡ trains_now events company → answer ≡ Ok (pos revenue) →
+      IsGreatest (position_now events) company (trains_now events company) revenue →
       earns before position round company trains answer after → Makes earns before (Asks company round events (Ok revenue)) after
-  told_revenue events position round company trains answer revenue before after is_position are_trains is_answer earned = (
+  told_revenue events position round company trains answer revenue before after is_position are_trains is_answer greatest earned = (
     asked company round events (Ok (pos revenue)) ∷ [],
-    refl,
+    (greatest, refl),
     (
       after,
       subst (λ (said : Result ℤ RunnerFault). earns before (position_now events) round company (trains_now events company) said after) is_answer (is_asked events position round company trains answer before after is_position are_trains earned),

@@ -18,6 +18,8 @@ pub mod BestLemmas
 pub mod Calls
 pub mod BestCalls
 pub mod TurnCalled
+pub mod OneCourse
+mod OneTurnCalled
 pub mod Blocks
 pub mod Buying
 pub mod TrainSteps

@@ -125,6 +125,10 @@ module _ (all : AllLawful) where
   one_order by turn number order.RunBest = one_best by turn number (best_judgement turn by.company)
   one_order by turn number other = record { it = _; so = refl; only = λ new leads. leads }
 
+  -- two turns to which an order leads are the same
+  pub order_once : (by : Operator) (turn : InTurn) (number : ℕ) (its : Order) (a b : InTurn) → OrderLeads by turn number its a → OrderLeads by turn number its b → a ≡ b
+  order_once by turn number its a b first second = let one = one_order by turn number its in one.only a first ∙ sym (one.only b second)
+
   -- a line does
   one_line : (by : Operator) (turn : InTurn) (number : ℕ) (reading : Result Order Fault) → IsOne (ReadingLeads by turn number reading)
   one_line by turn number (Err fault) = record { it = _; so = refl; only = λ new leads. leads }
@@ -184,6 +188,12 @@ module _ (all : AllLawful) where
   one_block_end file round company game None = record { it = game; so = refl; only = λ new ends. ends }
   one_block_end file round company game (Some seat) =
       one_end (record { company = company; president = seat }) (block_for file round seat.0 company) game
+
+  -- two games to which that leads are the same
+  pub block_end_once : (file : List ℕ) (round : Round) (company : Company) (game : Game) (president : Option Seat) (a b : Game) →
+      BlockEnds file round company game president a → BlockEnds file round company game president b → a ≡ b
+  block_end_once file round company game president a b first second =
+      let one = one_block_end file round company game president in one.only a first ∙ sym (one.only b second)
 
   -- and a turn
   outcome : (file : List ℕ) (round : Round) (company : Company) (old : Game) → IsOne (IsCompanyTurn file round company old)

@@ -1,5 +1,6 @@
 -- The calls of a company's turn, line by line and part by part.
-use Rattle.std.proofs.Common.{◌≡◌, ℕ, List, [], ◌∷◌, Option, Some, None, Result, Ok, Err, refl, sym, subst, inl, inr}
+use Rattle.std.proofs.Common.{◌≡◌, ℕ, List, [], ◌∷◌, ◌++◌, Option, Some, None, Result, Ok, Err, pos, refl, sym, subst, inl, inr}
+use Rattle.std.proofs.lemmas.List.{append-nil}
 use Rattle.certificate.specs.declared.runner.RunnerFault.{RunnerFault}
 use Rattle.certificate.specs.declared.runner.RunnerFault.TheVariants.{Memory}
 use Rattle.history.specs.LookBack.{Game}
@@ -11,11 +12,12 @@ use Rattle.operating.specs.Best.{BestRuled, best_judgement}
 use Rattle.operating.specs.Calls.{Call, Earns, Makes, Unasked}
 use Rattle.operating.specs.InTurn.{InTurn, at_start, in_turn}
 use Rattle.operating.specs.Turn.{BlockEnds, BlockLeads, IsCompanyTurn, LinesLead, OrderLeads, ReadingLeads, begun, settled}
-use Rattle.operating.specs.TurnCalls.{BegunCalls, BestCalls, BlockCalls, EndCalls, LineCalls, LinesCall, OrderCalls, ReadingCalls, TurnCalls}
+use Rattle.operating.specs.TurnCalls.{BegunCalls, BestCalls, BlockCalls, EndCalls, LineCalls, LinesCall, OrderCalls, ReadingCalls, SomeTurnCalls, TurnCalls, asked}
 use Rattle.operating.specs.declared.operator.Operator.{Operator}
 use Rattle.operating.specs.declared.progress.Progress.{Progress}
 use Rattle.order_grammar.specs.declared.fault.Fault.{Fault}
 use Rattle.order_grammar.specs.declared.order.Order.{Order}
+use Rattle.order_grammar.specs.declared.order.Order.TheVariants as order
 use Rattle.sheets.specs.Block.{block_for}
 use Rattle.sheets.specs.Part.{Numbered}
 use Rattle.tables.specs.declared.roster.Company.{Company}
@@ -104,7 +106,7 @@ best_leads by round number (Some rule) turn new calls course = course.0
 best_leads by round number None turn new calls course =
     elim course [
       | inl never ↦ absurd never
-      | inr joins ↦ (joins.between, joins.goes_on.0.greatest, joins.goes_on.0.after)
+      | inr joins ↦ (joins.between, joins.leads.0, joins.goes_on.0)
     ]
 
 -- so does an order
@@ -167,3 +169,71 @@ turn_leads file round company old new calls course =
         }
       ]
     ]
+
+-- an order to run the best that leads on as it is ruled makes calls
+best_called :
+    (by : Operator) (round : Round) (number : ℕ) (rule : Option RunRule) (turn new : InTurn) →
+    BestRuled by turn number rule new → (calls : List Call) × BestCalls by round number rule turn (Ok new) calls
+best_called by round number (Some rule) turn new leads = ([], (leads, refl))
+best_called by round number None turn new leads = (
+  asked by.company round turn.game.events (Ok (pos leads.0)) ∷ [],
+  inr (record {
+    between = leads.0;
+    earlier = asked by.company round turn.game.events (Ok (pos leads.0)) ∷ [];
+    later = [];
+    leads = (leads.1, refl);
+    goes_on = (leads.2, refl);
+    all = refl;
+  }),
+)
+
+-- so does an order
+order_called :
+    (by : Operator) (round : Round) (number : ℕ) (its : Order) (turn new : InTurn) →
+    OrderLeads by turn number its new → (calls : List Call) × OrderCalls by round number its turn (Ok new) calls
+order_called by round number order.RunBest turn new leads =
+    let best = best_called by round number (best_judgement turn by.company) turn new leads in (best.0, inl (refl, best.1))
+order_called by round number other turn new leads = ([], inr ((λ (best : other ≡ order.RunBest). cc), (leads, refl)))
+
+-- so does a line
+reading_called :
+    (by : Operator) (round : Round) (number : ℕ) (reading : Result Order Fault) (turn new : InTurn) →
+    ReadingLeads by turn number reading new → (calls : List Call) × ReadingCalls by round number reading turn (Ok new) calls
+reading_called by round number (Ok its) turn new leads = order_called by round number its turn new leads
+reading_called by round number (Err fault) turn new leads = ([], (leads, refl))
+
+-- so do lines
+lines_called :
+    (by : Operator) (round : Round) (lines : List Numbered) (turn new : InTurn) →
+    LinesLead by turn lines new → (calls : List Call) × LinesCall by round lines turn (Ok new) calls
+lines_called by round [] turn new leads = ([], (leads, refl))
+lines_called by round (line ∷ lines) turn new leads =
+    let first = reading_called by round line.number line.reading turn leads.0 leads.1 in
+    let rest = lines_called by round lines leads.0 new leads.2 in (
+      first.0 ++ rest.0,
+      inr (record { between = leads.0; earlier = first.0; later = rest.0; leads = first.1; goes_on = rest.1; all = refl }),
+    )
+
+-- so does a block
+block_called :
+    (file : List ℕ) (round : Round) (company : Company) (president : Option Seat) (turn new : InTurn) →
+    BlockLeads file round company turn president new → (calls : List Call) × BlockCalls file round company president turn (Ok new) calls
+block_called file round company None turn new leads = ([], (leads, refl))
+block_called file round company (Some seat) turn new leads =
+    lines_called (record { company = company; president = seat }) round (block_for file round seat.0 company) turn new leads
+
+-- and so does a turn
+pub turn_called : SomeTurnCalls
+turn_called file round company old new turn =
+    let president : Option Seat = president_of old.events company in
+    let block = block_called file round company president (begun old company) turn.last turn.block in (
+      block.0,
+      inr (record {
+        between = begun old company;
+        earlier = [];
+        later = block.0;
+        leads = (refl, refl);
+        goes_on = inr (record { between = turn.last; earlier = block.0; later = []; leads = block.1; goes_on = (turn.after, refl); all = sym (append-nil block.0) });
+        all = refl;
+      }),
+    )

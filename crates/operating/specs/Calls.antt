@@ -71,3 +71,27 @@ abbrev pub Named : {A B Fault Other : Type 0} → (Fault → Other) → Course A
 Named name course from (Ok to) calls = course from (Ok to) calls
 Named {Fault = Fault} name course from (Err named) calls =
     (fault : Fault) × (named ≡ name fault) × course from (Err fault) calls
+
+-- a call that was not answered, for this fault
+abbrev pub unanswered : RunnerFault → Call → Call
+unanswered why call = record call { answer = Err why }
+
+-- some calls are the first of all
+pub record AreFirst (some all : List Call) : Type 0 where
+  pub later : List Call
+  pub are : all ≡ some ++ later
+
+-- some calls are the first of all up to their last, which asks what the next of all asks and was not answered
+pub record AreCutShort (why : RunnerFault) (some all : List Call) : Type 0 where
+  pub earlier : List Call
+  pub next : Call
+  pub later : List Call
+  pub are : all ≡ earlier ++ next ∷ later
+  pub cut : some ≡ earlier ++ unanswered why next ∷ []
+
+-- the calls of a course that was broken off are a front of all its calls: where memory was refused, the first of them; or
+-- those up to one that was not answered, of which the fault tells
+abbrev pub IsFront : {Fault : Type 0} → Fault → (Fault → RunnerFault → Call → Type 0) → Fault → List Call → List Call → Type 0
+IsFront memory Tells fault some all =
+    ((fault ≡ memory) × AreFirst some all)
+    ⊎ ((why : RunnerFault) × (short : AreCutShort why some all) × Tells fault why short.next)

@@ -11,10 +11,10 @@ use Rattle.history.specs.declared.event.Event.{Event}
 use Rattle.history.specs.declared.ruling.Ruling.TheVariants.{Faulty}
 use Rattle.history.specs.declared.ruling.RunRule.{RunRule}
 use Rattle.operating.specs.Best.{BestRuled, best_earned, best_judgement, trains_now}
-use Rattle.operating.specs.Calls.{Call, Course, Then, Unasked}
+use Rattle.operating.specs.Calls.{Call, Course, IsFront, Then, Unasked}
 use Rattle.operating.specs.InTurn.{InTurn, told}
 use Rattle.operating.specs.Runs.{position_now}
-use Rattle.operating.specs.Turn.{BlockEnds, OrderLeads, begun, settled}
+use Rattle.operating.specs.Turn.{BlockEnds, IsCompanyTurn, OrderLeads, begun, settled}
 use Rattle.operating.specs.declared.operator.Operator.{Operator}
 use Rattle.order_grammar.specs.declared.fault.Fault.{Fault}
 use Rattle.order_grammar.specs.declared.order.Order.{Order}
@@ -36,16 +36,18 @@ asked company round events answer =
       answer = answer;
     }
 
--- the runner is asked for the best runs of a company, and tells a revenue or why it does not; or memory is refused before
+-- the runner is asked for the best runs of a company, and tells the greatest revenue or why it does not; or memory is
+-- refused before
 abbrev pub Asks : Company → Round → Course (List Event) ℕ RunnerFault
-Asks company round events (Ok revenue) calls = calls ≡ asked company round events (Ok (pos revenue)) ∷ []
+Asks company round events (Ok revenue) calls =
+    IsGreatest (position_now events) company (trains_now events company) revenue
+    × (calls ≡ asked company round events (Ok (pos revenue)) ∷ [])
 Asks company round events (Err fault) calls =
     (calls ≡ asked company round events (Err fault) ∷ []) ⊎ ((fault ≡ Memory) × (calls ≡ []))
 
--- a greatest revenue is credited to a company that is ordered to run its best, in the line with this number
-pub record IsCredited (by : Operator) (turn : InTurn) (number revenue : ℕ) (new : InTurn) : Type 0 where
-  pub greatest : IsGreatest (position_now turn.game.events) by.company (trains_now turn.game.events by.company) revenue
-  pub after : new ≡ best_earned by turn number revenue
+-- a revenue is credited to a company that is ordered to run its best, in the line with this number
+abbrev pub IsCredited : Operator → InTurn → ℕ → ℕ → InTurn → Type 0
+IsCredited by turn number revenue new = new ≡ best_earned by turn number revenue
 
 -- the course of a RUN BEST with this number, where this rule refuses it, if one does
 abbrev pub BestCalls : Operator → Round → ℕ → Option RunRule → Course InTurn InTurn RunnerFault
@@ -99,3 +101,28 @@ TurnCalls file round company old =
 abbrev pub led_to : InTurn → Result (Unit {0}) RunnerFault → Result InTurn RunnerFault
 led_to turn (Ok done) = Ok turn
 led_to turn (Err fault) = Err fault
+
+-- the calls of a turn that was broken off are a front of all its calls: one that was not answered is for this company in
+-- this round
+abbrev pub IsTurnFront : Round → Company → RunnerFault → List Call → List Call → Type 0
+IsTurnFront round company =
+    IsFront Memory (λ fault why call. (fault ≡ why) × (call.round ≡ round) × (call.company ≡ company))
+
+-- a turn makes one list of calls, and leads to one game
+abbrev pub OneListOfTurnCalls : Type 0
+OneListOfTurnCalls =
+    (file : List ℕ) (round : Round) (company : Company) (old a b : Game) (some others : List Call) →
+    TurnCalls file round company old (Ok a) some → TurnCalls file round company old (Ok b) others → (a ≡ b) × (some ≡ others)
+
+-- each turn makes some
+abbrev pub SomeTurnCalls : Type 0
+SomeTurnCalls =
+    (file : List ℕ) (round : Round) (company : Company) (old new : Game) →
+    IsCompanyTurn file round company old new → (calls : List Call) × TurnCalls file round company old (Ok new) calls
+
+-- where it is broken off, it has made a front of them
+abbrev pub RefusedTurnCallsAreAFront : Type 0
+RefusedTurnCallsAreAFront =
+    (file : List ℕ) (round : Round) (company : Company) (old new : Game) (fault : RunnerFault) (refused whole : List Call) →
+    TurnCalls file round company old (Err fault) refused → TurnCalls file round company old (Ok new) whole →
+    IsTurnFront round company fault refused whole

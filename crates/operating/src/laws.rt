@@ -2,6 +2,7 @@
 ghost use Rattle.operating.specs.Dividend.{NoMoreIsPaid};
 ghost use Rattle.operating.specs.Laws.{CompanyOperates, CompanyTurnEnds, HomeTokenLies, OneCompanyTurn, TurnOnlyAdds};
 ghost use Rattle.operating.specs.LegalRuns.{ObeyedRunsAreLegal};
+ghost use Rattle.operating.specs.TurnCalls.{OneListOfTurnCalls, RefusedTurnCallsAreAFront, SomeTurnCalls};
 
 use map_tables::{
     laid_links_are_in_order, neighbours_pair, printed_links_are_in_order, values_are_at_most_80,
@@ -36,6 +37,19 @@ pub fn one_company_turn()
 /// A company's turn has an outcome.
 pub fn company_turn_ends()
     ensures { CompanyTurnEnds }
+{
+    neighbours_pair();
+    printed_links_are_in_order();
+    laid_links_are_in_order();
+    values_are_at_most_80();
+}
+
+/// A company's turn makes one list of calls of its runner, and there is one for each turn. Where the
+/// turn is broken off, the calls made are a front of that list.
+pub fn one_list_of_turn_calls()
+    ensures one { OneListOfTurnCalls }
+    ensures some { SomeTurnCalls }
+    ensures front { RefusedTurnCallsAreAFront }
 {
     neighbours_pair();
     printed_links_are_in_order();

@@ -61,7 +61,7 @@ pub use forced_laws::{
 };
 pub use laws::{
     company_operates, company_turn_ends, home_token_lies, no_more_is_paid, obeyed_runs_are_legal,
-    one_company_turn, turn_only_adds,
+    one_company_turn, one_list_of_turn_calls, turn_only_adds,
 };
 pub use playing::play_company;
 pub use private_laws::closed_for_good;

@@ -1,13 +1,15 @@
 -- The calls of a game, turn by turn and round by round.
-use Rattle.std.proofs.Common.{◌≡◌, ℕ, zero, suc, List, [], ◌∷◌, Some, None, Result, Ok, Err, refl, sym, ap, subst, ◌∙◌, inl, inr}
+use Rattle.std.proofs.Common.{◌≡◌, ℕ, zero, suc, List, [], ◌∷◌, ◌++◌, Some, None, Result, Ok, Err, refl, sym, ap, subst, ◌∙◌, inl, inr}
+use Rattle.std.proofs.lemmas.List.{append-nil}
 use Rattle.history.specs.LookBack.{Game}
 use Rattle.operating.proofs.Calls.{broken_off, joined, silent}
 use Rattle.operating.proofs.Played.{seats_stay}
 use Rattle.operating.proofs.TurnCalled.{turn_leads}
-use Rattle.operating.specs.Calls.{Call, Course, Earns, Makes, Then, TimesThen, Unasked}
-use Rattle.rounds.specs.GameCalls.{AreOver, CallsAreOfTheGame, CompanyCalls, IsFinished, IsOpened, NextCalls, OperatingCalls, PlayedCalls, RoundCalls, Stops, TurnsCall, between_after}
-use Rattle.rounds.specs.OperatingRound.{IsOperatingRound, TakesTurn, TurnsLead, finished, next_company, opened}
-use Rattle.rounds.specs.Play.{AreRounds, Between, IsPlayed, IsRound, IsTheGame, IsToPlay, Played, before_play, coming, in_set_before}
+use Rattle.operating.specs.Calls.{Call, Course, Earns, Makes, SomeTimesThen, Then, TimesThen, Unasked}
+use Rattle.operating.specs.TurnCalls.{SomeTurnCalls}
+use Rattle.rounds.specs.GameCalls.{AreOver, CallsAreOfTheGame, CompanyCalls, EachGameCalls, IsFinished, IsOpened, NextCalls, OperatingCalls, PlayedCalls, RoundCalls, SomeCalls, Stops, TurnsCall, between_after}
+use Rattle.rounds.specs.OperatingRound.{IsOperatingRound, TakeTurns, TakesTurn, TurnsLead, finished, next_company, opened}
+use Rattle.rounds.specs.Play.{AreRounds, Between, IsPlayed, IsRound, IsTheGame, IsToPlay, Played, SomeGame, before_play, coming, end_of, in_set_before}
 use Rattle.rounds.specs.declared.fault.PlayFault.{PlayFault}
 use Rattle.rounds.specs.declared.fault.PlayFault.TheVariants.{Memory}
 use Rattle.rounds.specs.declared.following.Next.{Next}
@@ -148,6 +150,98 @@ is_round file old new calls course =
             in_set_then = refl;
           })
     ]
+
+-- turns of companies make calls
+turns_called :
+    SomeTurnCalls → (file : List ℕ) (round : Round) (companies : List Company) (old new : Game) →
+    TakeTurns file round companies old new → next_company new.events ≡ None → (calls : List Call) × TurnsCall file round old (Ok new) calls
+turns_called some file round [] old new turns over = (
+  [],
+  (zero, (record { none = ap (λ (game : Game). next_company game.events) turns ∙ over; stays = sym turns }, refl)),
+)
+turns_called some file round (company ∷ others) old new turns over =
+    let first = some file round company old turns.0 turns.1.turn in
+    let rest = turns_called some file round others turns.0 new turns.2 over in (
+      first.0 ++ rest.0,
+      (
+        suc rest.1.0,
+        inr (record { between = turns.0; earlier = first.0; later = rest.0; leads = (company, turns.1.is_next, first.1); goes_on = rest.1.1; all = refl }),
+      ),
+    )
+
+-- so does an operating round
+operating_called :
+    SomeTurnCalls → (file : List ℕ) (round : Round) (old new : Game) → IsOperatingRound file round old new →
+    (calls : List Call) × OperatingCalls file round old (Ok new) calls
+operating_called some file round old new played =
+    let turned : Game = played.turned in
+    let turns = turns_called some file round played.turns.companies (opened file round old) turned played.turns.turns played.turns.over_then in
+    let seats : turned.seats ≡ old.seats = (turns_lead file round turns.1.0 (opened file round old) turned turns.0 turns.1.1).1 in
+    let after : new ≡ record { seats = turned.seats; events = finished file round turned.seats turned.events } =
+    played.after ∙ ap (λ (n : ℕ). record { seats = n; events = finished file round n turned.events }) (sym seats)
+    in (
+      turns.0,
+      inr (record {
+        between = opened file round old;
+        earlier = [];
+        later = turns.0;
+        leads = (refl, refl);
+        goes_on = inr (record { between = turned; earlier = turns.0; later = []; leads = turns.1; goes_on = (after, refl); all = sym (append-nil turns.0) });
+        all = refl;
+      }),
+    )
+
+-- so does a round of each kind
+played_called :
+    SomeTurnCalls → (file : List ℕ) (round : Round) (old new : Game) → IsPlayed file round old new →
+    (calls : List Call) × PlayedCalls file round old (Ok new) calls
+played_called some file (Opening number) old new played = ([], (played, refl))
+played_called some file (Stock set) old new played = ([], (played, refl))
+played_called some file (Operating set number) old new played = operating_called some file (Operating set number) old new played
+
+-- so does a round between others
+round_called : SomeTurnCalls → (file : List ℕ) (old new : Between) → IsRound file old new → (calls : List Call) × RoundCalls file old (Ok new) calls
+round_called some file old new round =
+    let played = played_called some file round.round old.game new.game round.played in
+    let after = after_round round.round old.in_set new.in_set new.next new.game round.next_then round.in_set_then in (
+      played.0,
+      (
+        round.round,
+        record { comes = round.comes; posted = round.posted },
+        inr (record { between = new.game; earlier = played.0; later = []; leads = played.1; goes_on = (after, refl); all = sym (append-nil played.0) }),
+      ),
+    )
+
+-- so do rounds before others that do
+rounds_called :
+    SomeTurnCalls → (file : List ℕ) (rounds : ℕ) (old mid : Between) (played : Played) → AreRounds file rounds old mid →
+    (later : List Call) × SomeTimesThen (RoundCalls file) (Unasked Memory (Stops file)) mid (Ok played) later →
+    (calls : List Call) × SomeTimesThen (RoundCalls file) (Unasked Memory (Stops file)) old (Ok played) calls
+rounds_called some file zero old mid played rounds later =
+    subst (λ (at : Between). (calls : List Call) × SomeTimesThen (RoundCalls file) (Unasked Memory (Stops file)) at (Ok played) calls) (sym rounds) later
+rounds_called some file (suc rounds) old mid played are later =
+    let last = round_called some file are.0 mid are.2 in
+    rounds_called some file rounds old are.0 played are.1 (
+      last.0 ++ later.0,
+      (suc later.1.0, inr (record { between = mid; earlier = last.0; later = later.0; leads = last.1; goes_on = later.1.1; all = refl })),
+    )
+
+-- and so does each game
+pub game_called : SomeTurnCalls → EachGameCalls
+game_called some played game =
+    let is : played ≡ record { file = played.file; game = game.last.game; end = end_of game.last.next game.last.game.events } =
+    λ i. record { file = played.file; game = game.game i; end = game.end i }
+    in
+    rounds_called some played.file game.plays.rounds (before_play played.file) game.last played game.plays.reached
+    ([], (zero, (record { stopped = game.plays.stopped; game = is }, refl)))
+
+-- and so there are calls for each file that is not refused
+pub some_called : SomeGame → SomeTurnCalls → SomeCalls
+some_called game some file accepted =
+    let it = game file accepted in
+    let played : Played = record { file = file; game = it.0.game; end = end_of it.0.next it.0.game.events } in
+    let calls = game_called some played (record { last = it.0; plays = it.1; game = refl; end = refl }) in
+    (played, calls.0, calls.1)
 
 -- one round before others
 one_before : (file : List ℕ) (n : ℕ) (old mid new : Between) → IsRound file old mid → AreRounds file n mid new → AreRounds file (suc n) old new

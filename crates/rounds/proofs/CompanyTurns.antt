@@ -27,12 +27,12 @@ abbrev AreOrdered : Type 0
 AreOrdered = (events : List Event) → IsOperatingOrder events (operating_order_of events)
 
 -- two companies that are the next are the same
-next_once : (found : Option Company) (a b : Company) → found ≡ Some a → found ≡ Some b → a ≡ b
+pub next_once : (found : Option Company) (a b : Company) → found ≡ Some a → found ≡ Some b → a ≡ b
 next_once None a b first second = cc
 next_once (Some company) a b first second = cc
 
 -- none is the next, and some is: not both
-not_both : (found : Option Company) (company : Company) → found ≡ None → found ≡ Some company → ⊥
+pub not_both : (found : Option Company) (company : Company) → found ≡ None → found ≡ Some company → ⊥
 not_both None company none some = cc
 not_both (Some other) company none some = cc
 

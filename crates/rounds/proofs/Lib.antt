@@ -18,6 +18,7 @@ mod Idle
 mod CompanyTurns
 mod WholeOperatingRound
 mod Called
+mod OneCalled
 mod InSet
 mod InOrder
 mod Sets

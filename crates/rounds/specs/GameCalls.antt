@@ -1,14 +1,15 @@
 -- The calls that play makes of a runner, over the one game of a file: those of the turns of companies, in order. The
 -- other steps of a round ask nothing of it. Once a call is not answered, or memory is refused, play is broken off.
-use Rattle.std.specs.Prelude.{◌≡◌, ℕ, false, List, Option, Some, None, Result, Ok}
+use Rattle.std.specs.Prelude.{◌≡◌, ℕ, false, List, Some, None, Result, Ok, Err}
 use Rattle.history.specs.LookBack.{Game}
-use Rattle.operating.specs.Calls.{Call, Course, Named, SomeTimesThen, Then, Unasked}
+use Rattle.operating.specs.Calls.{Call, Course, IsFront, Named, SomeTimesThen, Then, Unasked}
 use Rattle.operating.specs.TurnCalls.{TurnCalls}
 use Rattle.rounds.specs.Faults.{fault_in_turn}
 use Rattle.rounds.specs.OperatingRound.{finished, next_company, opened}
 use Rattle.rounds.specs.Play.{Between, IsPlayed, IsTheGame, IsToPlay, Played, before_play, coming, end_of, goes_on, in_set_before}
 use Rattle.rounds.specs.declared.fault.PlayFault.{PlayFault}
 use Rattle.rounds.specs.declared.fault.PlayFault.TheVariants.{Memory}
+use Rattle.sheets.specs.File.{IsAccepted}
 use Rattle.tables.specs.declared.roster.Company.{Company}
 use Rattle.tables.specs.declared.round.Round.{Round}
 use Rattle.tables.specs.declared.round.Round.TheVariants.{Opening, Stock, Operating}
@@ -79,3 +80,28 @@ GameCalls file = SomeTimesThen (RoundCalls file) (Unasked Memory (Stops file)) (
 abbrev pub CallsAreOfTheGame : Type 0
 CallsAreOfTheGame =
     (file : List ℕ) (played : Played) (calls : List Call) → GameCalls file (Ok played) calls → (played.file ≡ file) × IsTheGame played
+
+-- the calls of play that was broken off for this fault are a front of all calls of a game: the first of them, where memory
+-- was refused; or those up to one that was not answered, whose round and company the fault names if the runner refused it
+abbrev pub AreFront : PlayFault → List Call → List Call → Type 0
+AreFront = IsFront Memory (λ fault why call. fault ≡ fault_in_turn why call.round call.company)
+
+-- the game of a file makes one list of calls
+abbrev pub OneListOfCalls : Type 0
+OneListOfCalls =
+    (file : List ℕ) (a b : Played) (some others : List Call) →
+    GameCalls file (Ok a) some → GameCalls file (Ok b) others → (a ≡ b) × (some ≡ others)
+
+-- each game makes some
+abbrev pub EachGameCalls : Type 0
+EachGameCalls = (played : Played) → IsTheGame played → (calls : List Call) × GameCalls played.file (Ok played) calls
+
+-- so does that of each file that is not refused
+abbrev pub SomeCalls : Type 0
+SomeCalls = (file : List ℕ) → IsAccepted file → (played : Played) × (calls : List Call) × GameCalls file (Ok played) calls
+
+-- where play is broken off, it has made a front of the calls of the one game
+abbrev pub RefusedCallsAreAFront : Type 0
+RefusedCallsAreAFront =
+    (file : List ℕ) (fault : PlayFault) (played : Played) (refused whole : List Call) →
+    GameCalls file (Err fault) refused → GameCalls file (Ok played) whole → AreFront fault refused whole

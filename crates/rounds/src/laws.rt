@@ -6,7 +6,7 @@ ghost use Rattle.rounds.specs.Begun.{RoundsFollowInOrder, RoundsOnlyAdd};
 ghost use Rattle.rounds.specs.Causality.{LaterSheetsChangeNothing};
 ghost use Rattle.rounds.specs.Ends.{BankruptcyEndsGames, BrokenBankEndsSets, GamesEndOnce, NoSetAfterBroken, NoTurnAfterBankruptcy, NothingElseEndsGames};
 ghost use Rattle.rounds.specs.Example.{first_end, first_file, second_end, second_file};
-ghost use Rattle.rounds.specs.GameCalls.{CallsAreOfTheGame};
+ghost use Rattle.rounds.specs.GameCalls.{CallsAreOfTheGame, EachGameCalls, OneListOfCalls, RefusedCallsAreAFront, SomeCalls};
 ghost use Rattle.rounds.specs.OperatingRound.{CompaniesOperateOnce, EndsSoon, OneOperatingRound};
 ghost use Rattle.rounds.specs.Play.{OneGame, Plays, SomeGame};
 ghost use Rattle.rounds.specs.Privates.{BidsRiseInEachGame, ClosedForGood, SellersAgreeInEachGame};
@@ -22,8 +22,8 @@ ghost use Rattle.tables.specs.declared.round.Round.{Round};
 use market::floated_companies_in_order;
 use operating::{
     all_tiles_are_there, all_trains_are_there, closed_for_good, company_operates,
-    company_turn_ends, one_company_turn, phases_go_on, sellers_agree_in_turns, turn_only_adds,
-    turns_say_no_bid,
+    company_turn_ends, one_company_turn, one_list_of_turn_calls, phases_go_on,
+    sellers_agree_in_turns, turn_only_adds, turns_say_no_bid,
 };
 use privates::{one_opening_round, opening_bids_rise, opening_round_ends};
 use sheets::{arrival_changes_nothing, sheets_are_numbered, three_to_six_play};
@@ -228,3 +228,32 @@ pub fn empty_example()
 pub fn calls_are_of_the_game()
     ensures { CallsAreOfTheGame }
 {}
+
+/// The one game of a file makes one list of calls of its runner.
+pub fn one_list_of_calls()
+    ensures { OneListOfCalls }
+{
+    one_opening_round();
+    one_stock_round();
+    one_list_of_turn_calls()
+}
+
+/// Each game makes such a list, and so there is one for each file that is not refused.
+pub fn some_calls()
+    ensures each { EachGameCalls }
+    ensures accepted { SomeCalls }
+{
+    some_game();
+    one_list_of_turn_calls()
+}
+
+/// Where memory is refused, or the runner refuses to answer, the calls made of it by then are a
+/// front of those of the one game: they end with the call that was not answered, if one was not,
+/// and that asks what the game's next call asks.
+pub fn refused_calls_are_a_front()
+    ensures { RefusedCallsAreAFront }
+{
+    one_opening_round();
+    one_stock_round();
+    one_list_of_turn_calls()
+}

@@ -24,10 +24,10 @@ pub use laws::{
     all_tiles_are_there_in_each_game, all_trains_are_there_in_each_game, arrival_changes_no_game,
     bank_alone_ends_it, bankruptcy_ends_games, bids_rise_in_each_game, broken_bank_ends_games,
     calls_are_of_the_game, closed_for_good_in_each_game, companies_operate_once, empty_example,
-    first_example, games_end_once, later_sheets_change_nothing, one_game, one_operating_round,
-    operating_round_ends, phases_go_on_in_rounds, rounds_follow_in_order, rounds_only_add,
-    second_example, sellers_agree_in_each_game, sequence_goes_forward, sets_keep_their_number,
-    some_game, steps_play_the_game,
+    first_example, games_end_once, later_sheets_change_nothing, one_game, one_list_of_calls,
+    one_operating_round, operating_round_ends, phases_go_on_in_rounds, refused_calls_are_a_front,
+    rounds_follow_in_order, rounds_only_add, second_example, sellers_agree_in_each_game,
+    sequence_goes_forward, sets_keep_their_number, some_calls, some_game, steps_play_the_game,
 };
 pub use sequence::next;
 pub use steps::{Play, Step};

@@ -33,4 +33,4 @@ returns-clause-calls g c =
     told_revenue g.R.Runner.earns c.args.self.now.history.events _ c.args.self.now.round c.args.self.now.by.company _ c.earn.result _ c.args.runner.now c.earn.new.self
     (ap position_of c.in_ok-catch_up.ensures.ground)
     (c.as_slice.ensures.value ∙ c.in_ok-trains.ensures ∙ ap (λ events. trains_now events c.args.self.now.by.company) c.now.ensures.events)
-    (c.in_ok-money.was ∙ ap Ok (same_sum c.a_greatest_exists.ensures c.one_greatest.ensures _ c.args.self.now.by.company _ c.in_ok-money.money c.amount.result c.keeps_laws.ensures c.amount.ensures c.in_ok-money.ensures.greatest)) c.earn.ensures.earns
+    (c.in_ok-money.was ∙ ap Ok (same_sum c.a_greatest_exists.ensures c.one_greatest.ensures _ c.args.self.now.by.company _ c.in_ok-money.money c.amount.result c.keeps_laws.ensures c.amount.ensures c.in_ok-money.ensures.greatest)) (returns-clause-greatest g c) c.earn.ensures.earns

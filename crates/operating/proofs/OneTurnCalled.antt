@@ -1,0 +1,150 @@
+-- A company's turn makes one list of calls, and a front of them where it is broken off.
+use Rattle.std.proofs.Common.{◌≡◌, ℕ, List, [], ◌∷◌, Option, Some, None, Result, Ok, Err, pos, refl, sym, ap, ◌∙◌, inl, inr}
+use Rattle.certificate.proofs.Greatest.{one_greatest}
+use Rattle.certificate.specs.declared.runner.RunnerFault.{RunnerFault}
+use Rattle.certificate.specs.declared.runner.RunnerFault.TheVariants.{Memory}
+use Rattle.history.specs.Shares.{president_of}
+use Rattle.history.specs.declared.ruling.Ruling.TheVariants.{Faulty}
+use Rattle.history.specs.declared.ruling.RunRule.{RunRule}
+use Rattle.operating.proofs.OneCourse.{Agree, none_first, then_agree, unasked_agrees}
+use Rattle.operating.proofs.Outcome.{AllLawful, block_end_once, order_once}
+use Rattle.operating.specs.Best.{BestRuled, best_judgement, trains_now}
+use Rattle.operating.specs.Calls.{Call, Course, Unasked}
+use Rattle.operating.specs.InTurn.{InTurn, told}
+use Rattle.operating.specs.Runs.{position_now}
+use Rattle.operating.specs.Turn.{BlockEnds, OrderLeads, begun, settled}
+use Rattle.operating.specs.TurnCalls.{Asks, BegunCalls, BestCalls, BlockCalls, EndCalls, IsCredited, LineCalls, LinesCall, OneListOfTurnCalls, OrderCalls, ReadingCalls, RefusedTurnCallsAreAFront, TurnCalls, asked}
+use Rattle.operating.specs.declared.operator.Operator.{Operator}
+use Rattle.order_grammar.specs.declared.fault.Fault.{Fault}
+use Rattle.order_grammar.specs.declared.order.Order.{Order}
+use Rattle.sheets.specs.Block.{block_for}
+use Rattle.sheets.specs.Part.{Numbered}
+use Rattle.tables.specs.declared.roster.Company.{Company}
+use Rattle.tables.specs.declared.round.Round.{Round}
+use Rattle.tables.specs.declared.seat.Seat.{Seat}
+
+-- a fault in the turn of a company tells why a call for it was not answered
+abbrev TellsOf : Round → Company → RunnerFault → RunnerFault → Call → Type 0
+TellsOf round company fault why call = (fault ≡ why) × (call.round ≡ round) × (call.company ≡ company)
+
+-- from each place such a course leads to one end by one list of calls, and by a front of them where it is broken off
+abbrev IsOne : {A B : Type 0} → Round → Company → Course A B RunnerFault → Type 0
+IsOne round company course = Agree Memory (TellsOf round company) course course
+
+-- that a runner is asked for the best runs, of which it tells the greatest revenue
+asks_once : (round : Round) (company : Company) → IsOne round company (Asks company round)
+asks_once round company =
+    record {
+      once = λ events a b some others first second.
+          let same : a ≡ b = one_greatest (position_now events) company (trains_now events company) a b first.0 second.0 in
+          (same, first.1 ∙ ap (λ (revenue : ℕ). asked company round events (Ok (pos revenue)) ∷ []) same ∙ sym second.1);
+      front = λ events fault to some all broken led.
+          elim broken [
+            | inl cut ↦ inr (
+              fault,
+              record { earlier = []; next = asked company round events (Ok (pos to)); later = []; are = led.1; cut = cut },
+              (refl, refl, refl),
+            )
+            | inr before ↦ none_first Memory (TellsOf round company) fault some all before.0 before.1
+          ];
+    }
+
+module _ (all : AllLawful) (by : Operator) (round : Round) where
+  -- an order to run the best
+  best_once : (number : ℕ) (turn : InTurn) (rule : Option RunRule) →
+      IsOne round by.company (λ (from : InTurn). BestCalls by round number rule turn)
+  best_once number turn (Some rule) =
+      let ruled = unasked_agrees Memory (TellsOf round by.company) (λ old new. BestRuled by old number (Some rule) new) (λ from a b first second. first ∙ sym second) in
+      record {
+        once = λ from. ruled.once turn;
+        front = λ from. ruled.front turn;
+      }
+  best_once number turn None =
+      let credited = unasked_agrees Memory (TellsOf round by.company) (IsCredited by turn number) (λ from a b first second. first ∙ sym second) in
+      let both = then_agree Memory (TellsOf round by.company) (Asks by.company round) (Asks by.company round) (Unasked Memory (IsCredited by turn number)) (Unasked Memory (IsCredited by turn number)) (asks_once round by.company) credited in
+      record {
+        once = λ from. both.once turn.game.events;
+        front = λ from. both.front turn.game.events;
+      }
+
+  -- an order
+  order_called_once : (number : ℕ) (its : Order) → IsOne round by.company (OrderCalls by round number its)
+  order_called_once number its =
+      let led = unasked_agrees Memory (TellsOf round by.company) (λ old new. OrderLeads by old number its new) (λ from a b first second. order_once all by from number its a b first second) in
+      record {
+        once = λ from a b some others first second.
+            let best = best_once number from (best_judgement from by.company) in
+            elim first [
+              | inl one ↦ elim second [
+                | inl other ↦ best.once from a b some others one.1 other.1
+                | inr other ↦ absurd (other.0 one.0)
+              ]
+              | inr one ↦ elim second [
+                | inl other ↦ absurd (one.0 other.0)
+                | inr other ↦ led.once from a b some others one.1 other.1
+              ]
+            ];
+        front = λ from fault to some whole first second.
+            let best = best_once number from (best_judgement from by.company) in
+            elim first [
+              | inl one ↦ elim second [
+                | inl other ↦ best.front from fault to some whole one.1 other.1
+                | inr other ↦ absurd (other.0 one.0)
+              ]
+              | inr one ↦ elim second [
+                | inl other ↦ absurd (one.0 other.0)
+                | inr other ↦ led.front from fault to some whole one.1 other.1
+              ]
+            ];
+      }
+
+  -- a line
+  reading_called_once : (number : ℕ) (reading : Result Order Fault) → IsOne round by.company (ReadingCalls by round number reading)
+  reading_called_once number (Ok its) = order_called_once number its
+  reading_called_once number (Err fault) =
+      unasked_agrees Memory (TellsOf round by.company) (λ turn new. new ≡ told by turn number (Faulty fault)) (λ from a b first second. first ∙ sym second)
+
+  -- lines
+  lines_called_once : (lines : List Numbered) → IsOne round by.company (LinesCall by round lines)
+  lines_called_once [] = unasked_agrees Memory (TellsOf round by.company) (λ turn new. new ≡ turn) (λ from a b first second. first ∙ sym second)
+  lines_called_once (line ∷ lines) =
+      then_agree Memory (TellsOf round by.company) (LineCalls by round line) (LineCalls by round line) (LinesCall by round lines) (LinesCall by round lines) (reading_called_once line.number line.reading) (lines_called_once lines)
+
+module _ (all : AllLawful) (file : List ℕ) (round : Round) (company : Company) where
+  -- a block
+  block_called_once : (president : Option Seat) → IsOne round company (BlockCalls file round company president)
+  block_called_once None = unasked_agrees Memory (TellsOf round company) (λ turn new. new ≡ turn) (λ from a b first second. first ∙ sym second)
+  block_called_once (Some seat) =
+      lines_called_once all (record { company = company; president = seat }) round (block_for file round seat.0 company)
+
+  -- a turn that has begun
+  begun_called_once : (president : Option Seat) → IsOne round company (BegunCalls file round company president)
+  begun_called_once president =
+      then_agree Memory (TellsOf round company) (BlockCalls file round company president) (BlockCalls file round company president) (EndCalls file round company president) (EndCalls file round company president)
+      (block_called_once president)
+      (unasked_agrees Memory (TellsOf round company) (λ last new. BlockEnds file round company (settled company last).game president new) (λ from a b first second. block_end_once all file round company (settled company from).game president a b first second))
+
+  -- and a whole turn
+  turn_called_once : IsOne round company (TurnCalls file round company)
+  turn_called_once =
+      let start = unasked_agrees Memory (TellsOf round company) (λ game turn. turn ≡ begun game company) (λ from a b first second. first ∙ sym second) in
+      record {
+        once = λ old.
+            let president : Option Seat = president_of old.events company in
+            let whole = then_agree Memory (TellsOf round company) (Unasked Memory (λ game turn. turn ≡ begun game company)) (Unasked Memory (λ game turn. turn ≡ begun game company)) (BegunCalls file round company president) (BegunCalls file round company president) start (begun_called_once president) in
+            whole.once old;
+        front = λ old.
+            let president : Option Seat = president_of old.events company in
+            let whole = then_agree Memory (TellsOf round company) (Unasked Memory (λ game turn. turn ≡ begun game company)) (Unasked Memory (λ game turn. turn ≡ begun game company)) (BegunCalls file round company president) (BegunCalls file round company president) start (begun_called_once president) in
+            whole.front old;
+      }
+
+-- so a turn makes one list of calls
+pub one_list : AllLawful → OneListOfTurnCalls
+one_list all file round company old a b some others first second =
+    let one = turn_called_once all file round company in one.once old a b some others first second
+
+-- and a front of them where it is broken off
+pub a_front : AllLawful → RefusedTurnCallsAreAFront
+a_front all file round company old new fault refused whole broken led =
+    let one = turn_called_once all file round company in one.front old fault new refused whole broken led
