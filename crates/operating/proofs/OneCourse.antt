@@ -1,7 +1,7 @@
 -- Courses of play that make one list of calls and lead to one end, and a front of those calls where they are broken off.
-use Rattle.std.proofs.Common.{◌≡◌, ◌⊎◌, ℕ, zero, suc, List, [], ◌∷◌, ◌++◌, append_assoc, Result, Ok, Err, refl, sym, ap, subst, ◌∙◌, inl, inr}
+use Rattle.std.proofs.Common.{◌≡◌, ℕ, zero, suc, List, [], ◌∷◌, ◌++◌, append_assoc, Result, Ok, Err, sym, ap, subst, ◌∙◌, inl, inr}
 use Rattle.certificate.specs.declared.runner.RunnerFault.{RunnerFault}
-use Rattle.operating.specs.Calls.{AreCutShort, AreFirst, Call, Course, IsFront, SomeTimesThen, Then, TimesThen, Unasked, unanswered}
+use Rattle.operating.specs.Calls.{Call, Course, IsFront, SomeTimesThen, Then, TimesThen, Unasked, unanswered}
 
 -- calls before those of a front
 behind :

@@ -1,17 +1,15 @@
 -- A company's turn makes one list of calls, and a front of them where it is broken off.
-use Rattle.std.proofs.Common.{◌≡◌, ℕ, List, [], ◌∷◌, ◌++◌, Option, Some, None, Result, Ok, Err, pos, refl, sym, ap, subst, ◌∙◌, inl, inr}
+use Rattle.std.proofs.Common.{◌≡◌, ℕ, List, [], ◌∷◌, Option, Some, None, Result, Ok, Err, pos, refl, sym, ap, ◌∙◌, inl, inr}
 use Rattle.certificate.proofs.Greatest.{one_greatest}
 use Rattle.certificate.specs.declared.runner.RunnerFault.{RunnerFault}
 use Rattle.certificate.specs.declared.runner.RunnerFault.TheVariants.{Memory}
-use Rattle.history.specs.LookBack.{Game}
 use Rattle.history.specs.Shares.{president_of}
-use Rattle.history.specs.declared.event.Event.{Event}
 use Rattle.history.specs.declared.ruling.Ruling.TheVariants.{Faulty}
 use Rattle.history.specs.declared.ruling.RunRule.{RunRule}
 use Rattle.operating.proofs.OneCourse.{Agree, none_first, then_agree, unasked_agrees}
 use Rattle.operating.proofs.Outcome.{AllLawful, block_end_once, order_once}
 use Rattle.operating.specs.Best.{BestRuled, best_judgement, trains_now}
-use Rattle.operating.specs.Calls.{Call, Course, Then, Unasked}
+use Rattle.operating.specs.Calls.{Call, Course, Unasked}
 use Rattle.operating.specs.InTurn.{InTurn, told}
 use Rattle.operating.specs.Runs.{position_now}
 use Rattle.operating.specs.Turn.{BlockEnds, OrderLeads, begun, settled}

@@ -1,6 +1,6 @@
 -- The sequence goes forward in the order of all rounds, and no sheet is past the last of them: so play
 -- comes to an end.
-use Rattle.std.proofs.Common.{◌≡◌, ℕ, ◌+◌, ◌-◌, ◌<◌, ◌≤◌, Bool, true, false, List, length, is_some, refl, ap, arith, rules}
+use Rattle.std.proofs.Common.{◌≡◌, ℕ, ◌+◌, ◌<◌, ◌≤◌, Bool, true, false, List, length, is_some, refl, ap, arith, rules}
 use Rattle.std.proofs.lemmas.Bool.{lt-ltb}
 use Rattle.history.specs.declared.event.Event.{Event}
 use Rattle.history.specs.LookBack.{broken_in}

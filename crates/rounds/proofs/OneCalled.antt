@@ -1,5 +1,5 @@
 -- The game of a file makes one list of calls, and a front of them where play is broken off.
-use Rattle.std.proofs.Common.{◌≡◌, ℕ, List, Option, Some, None, Result, Ok, Err, true, refl, sym, ap, subst, ◌∙◌, inl, inr}
+use Rattle.std.proofs.Common.{◌≡◌, ℕ, List, Result, Ok, Err, sym, ap, subst, ◌∙◌, inl, inr}
 use Rattle.std.proofs.lemmas.Bool.{true≢false}
 use Rattle.certificate.specs.declared.runner.RunnerFault.{RunnerFault}
 use Rattle.history.specs.LookBack.{Game}
@@ -12,7 +12,7 @@ use Rattle.rounds.proofs.OneGame.{OneOpeningRound, OneStockRound}
 use Rattle.rounds.specs.Faults.{fault_in_turn}
 use Rattle.rounds.specs.GameCalls.{AreFront, AreOver, CompanyCalls, IsFinished, IsOpened, NextCalls, OneListOfCalls, OperatingCalls, PlayedCalls, RefusedCallsAreAFront, RoundCalls, Stops, TurnsCall, between_after}
 use Rattle.rounds.specs.OperatingRound.{next_company}
-use Rattle.rounds.specs.Play.{Between, IsPlayed, IsToPlay, Played, before_play, goes_on}
+use Rattle.rounds.specs.Play.{Between, IsPlayed, before_play, goes_on}
 use Rattle.rounds.specs.declared.fault.PlayFault.{PlayFault}
 use Rattle.rounds.specs.declared.fault.PlayFault.TheVariants.{Memory}
 use Rattle.tables.specs.declared.roster.Company.{Company}

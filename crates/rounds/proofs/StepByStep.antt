@@ -18,7 +18,7 @@ use Rattle.rounds.specs.Steps.{BreaksOff, CallsBetween, ComesNext, HasComeTo, Is
 use Rattle.rounds.specs.declared.fault.PlayFault.{PlayFault}
 use Rattle.rounds.specs.declared.following.Next.{Next}
 use Rattle.rounds.specs.declared.game.End.{End}
-use Rattle.sheets.specs.File.{IsAccepted, players_of}
+use Rattle.sheets.specs.File.{players_of}
 use Rattle.sheets.specs.Laws.{SheetsAreNumbered, number_of}
 use Rattle.tables.specs.Round.{number_most}
 use Rattle.tables.specs.declared.round.Round.{Round}

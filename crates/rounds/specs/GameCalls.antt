@@ -1,6 +1,6 @@
 -- The calls that play makes of a runner, over the one game of a file: those of the turns of companies, in order. The
 -- other steps of a round ask nothing of it. Once a call is not answered, or memory is refused, play is broken off.
-use Rattle.std.specs.Prelude.{◌≡◌, ℕ, false, List, Option, Some, None, Result, Ok, Err}
+use Rattle.std.specs.Prelude.{◌≡◌, ℕ, false, List, Some, None, Result, Ok, Err}
 use Rattle.history.specs.LookBack.{Game}
 use Rattle.operating.specs.Calls.{Call, Course, IsFront, Named, SomeTimesThen, Then, Unasked}
 use Rattle.operating.specs.TurnCalls.{TurnCalls}

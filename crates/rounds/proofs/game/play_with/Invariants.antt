@@ -1,4 +1,4 @@
-use Rattle.std.proofs.Common.{◌≡◌, ℕ, Ok, Result, length}
+use Rattle.std.proofs.Common.{◌≡◌, ℕ, Ok, Result}
 use Rattle.operating.specs.Calls.{Makes, SomeTimesThen, Unasked}
 use Rattle.rounds.specs.GameCalls.{GameCalls, RoundCalls, Stops}
 use Rattle.rounds.specs.Play.{AreRounds, Between, Played, before_play}

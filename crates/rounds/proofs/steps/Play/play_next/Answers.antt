@@ -1,4 +1,4 @@
-use Rattle.std.proofs.Common.{◌≡◌, Some, Ok, Err, Option, refl, rules, sym, subst}
+use Rattle.std.proofs.Common.{◌≡◌, Some, Ok, Err, Option, rules, sym, subst}
 use Rattle.history.specs.LookBack.{Game}
 use Rattle.operating.specs.Calls.{Makes}
 use Rattle.rounds.proofs.Called.{after_round, round_broken, round_on}
