@@ -1,5 +1,5 @@
 -- A company's turn that has begun, as its own record says it and as the game does.
-use Rattle.std.proofs.Common.{◌≡◌, ℕ, List, Option, Some, Result, subst, sym, ap, ◌∙◌}
+use Rattle.std.proofs.Common.{◌≡◌, ℕ, List, Some, Result, subst, ap, ◌∙◌}
 use Rattle.certificate.specs.declared.runner.RunnerFault.{RunnerFault}
 use Rattle.history.specs.LookBack.{Game}
 use Rattle.operating.specs.Calls.{Earns, Makes}

@@ -1,4 +1,4 @@
-use Rattle.std.proofs.Common.{◌≡◌, subst, sym, ◌∙◌}
+use Rattle.std.proofs.Common.{subst, sym, ◌∙◌}
 use Rattle.board.specs.Ground.{Ground}
 use Rattle.operating.proofs.Going.{after_settling, train_leads_on}
 use Rattle.operating.specs.CompanyTurn.{state}
