@@ -3,7 +3,7 @@
 -- those of the bank pool; those of the initial offering are paid nothing. Its token on the chart moves right. Where
 -- it withholds, the bank pays the company all of it, and its token moves left. Either needs a turn that is not past
 -- its pay, and to pay, a revenue over 0; the turn is then past it.
-use Rattle.std.specs.Prelude.{ℕ, ◌==◌, ◌*◌, ◌/◌, Bool, ◌||◌, nat_lt, if◌then◌else◌, List, [], ◌∷◌, Option, Some, None, option_map, pos, ◌-ℤ◌, ◌≤ℤ◌}
+use Rattle.std.specs.Prelude.{ℕ, ◌==◌, ◌*◌, ◌/◌, Bool, ◌||◌, nat_lt, if◌then◌else◌, List, [], ◌∷◌, Option, option_map, pos, ◌-ℤ◌, ◌≤ℤ◌}
 use Rattle.board.specs.Turn.{place_of_step}
 use Rattle.board.specs.declared.asker.TurnStep.TheVariants as step
 use Rattle.history.specs.LookBack.{Game, cash_of, with_event}

@@ -1,7 +1,7 @@
 -- The purchase of a private by a company, from the player who owns it. It needs phase 3; a price from half of the
 -- face value to twice that; the consent of the player, as for a train; a private that is not BOP, which is never
 -- sold to a company; and the cash. The company owns the private from then on.
-use Rattle.std.specs.Prelude.{ℕ, ◌+◌, Bool, false, not, ◌||◌, nat_lt, List, [], ◌∷◌, Option, Some, None, option_map, pos}
+use Rattle.std.specs.Prelude.{ℕ, ◌+◌, Bool, false, not, ◌||◌, nat_lt, List, [], ◌∷◌, Option, Some, option_map, pos}
 use Rattle.std.specs.Int.Signed.{lt_z}
 use Rattle.history.specs.Event.{party_of_company}
 use Rattle.history.specs.LookBack.{Game, cash_of, owner_of, with_event}

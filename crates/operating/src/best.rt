@@ -69,7 +69,13 @@ impl CompanyTurn {
         ensures order { OnOk result (GoesOn self.old self.new) }
     {
         let (seat, refusal) = (self.by.president, Refusal::Run(rule));
-        record(&mut self.history, seat, line, &Order::RunBest, Some(refusal))?;
+        record(
+            &mut self.history,
+            seat,
+            line,
+            &Order::RunBest,
+            Some(refusal),
+        )?;
         Ok(())
     }
 

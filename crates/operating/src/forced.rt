@@ -170,7 +170,13 @@ fn rule_raise(
 {
     let (company, tenths) = (sale.company, sale.tenths);
     let broken = raise_rule(history, by, sale, due).map(Refusal::Stock);
-    if record(history, by.president, line, &Order::Raise { company, tenths }, broken)? {
+    if record(
+        history,
+        by.president,
+        line,
+        &Order::Raise { company, tenths },
+        broken,
+    )? {
         sell_block(history, by.president, sale)?;
     }
     Ok(())
