@@ -23,8 +23,8 @@ operating_answered file round old to calls course =
     then_answered (Unasked Memory (IsOpened file round)) (Then (TurnsCall file round) (Unasked Memory (IsFinished file round)))
     (unasked_answered Memory (IsOpened file round))
     (then_answered (TurnsCall file round) (Unasked Memory (IsFinished file round))
-        (λ old to calls turns. times_answered (NextCalls file round) (Unasked Memory AreOver) (next_answered file round) (unasked_answered Memory AreOver) turns.0 old to calls turns.1)
-        (unasked_answered Memory (IsFinished file round)))
+    (λ old to calls turns. times_answered (NextCalls file round) (Unasked Memory AreOver) (next_answered file round) (unasked_answered Memory AreOver) turns.0 old to calls turns.1)
+    (unasked_answered Memory (IsFinished file round)))
     old to calls course
 
 -- those of a round, by its kind

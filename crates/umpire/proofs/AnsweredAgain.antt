@@ -44,6 +44,6 @@ answered_again some file groups accepted certify can within =
     let report = some (order_file_of input) in (
       report.0,
       judgement_answers input (order_file_of input) (certificates_of input) report.0 (Ok tt) refl refl
-      (subst (λ (behind : List ℕ). length behind ≤ certificates_most) (sym parted.certificates) within)
-      (subst IsAccepted (sym parted.order_file) accepted) (all, report.1),
+          (subst (λ (behind : List ℕ). length behind ≤ certificates_most) (sym parted.certificates) within)
+          (subst IsAccepted (sym parted.order_file) accepted) (all, report.1),
     )

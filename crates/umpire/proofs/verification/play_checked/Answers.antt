@@ -9,4 +9,4 @@ pub returns-clause-judged : goal.returns-clause-judged
 returns-clause-judged c =
     subst (λ (groups : List (Option Group)). IsJudged c.args.sheets.now groups c.play_with.result) c.new-checked.ensures
     (judged c.calls_are_answered.ensures.games c.some_calls.ensures.accepted c.refused_calls_are_a_front.ensures c.args.sheets.now c.requires
-        _ _ c.play_with.result c.play_with.ensures.calls)
+    _ _ c.play_with.result c.play_with.ensures.calls)
