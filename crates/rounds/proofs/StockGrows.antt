@@ -32,7 +32,6 @@ use Rattle.tables.specs.declared.squares.Square.{Square}
 use Rattle.turns.proofs.RoundLeads.{round_leads}
 use Rattle.turns.proofs.Ruled.{of_ruled}
 use Rattle.turns.specs.Ruling.{has_place_in_group, obeyed_by, recorded}
-use Rattle.turns.specs.RoundOfTurns.{in_turn}
 
 -- by the presidency of a company, where it moves from this seat, if any has it
 successor_grows : (seats : ℕ) (events : List Event) (company : Company) (old : Option Seat) → GrowsStill events (with_successor seats events company old)
