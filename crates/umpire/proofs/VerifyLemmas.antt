@@ -174,7 +174,7 @@ reported_by file text played (Err fault) accepted is game told = absurd cc
 reported_by file text played (Ok content) accepted is game told =
     record {
       last = game.last;
-      plays = subst (λ (f : List ℕ). Plays f game.last) is game.plays;
+      game = subst (λ (f : List ℕ). Plays f game.last) is game.plays;
       is = told ∙ (λ i. report_text (is i) (game.game i).seats (game.game i).events (game.end i));
     }
 
