@@ -5,6 +5,7 @@ use Rattle.std.specs.List.{AllByRecursion, flat_map, list_all}
 use Rattle.std.proofs.lemmas.Bool.{and_from, and_parts, false≢true, le-leb}
 use Rattle.std.proofs.lemmas.List.{append-nil, length-append, length-map}
 use Rattle.std.proofs.lemmas.List.Concat.{flat_map-cons}
+use Rattle.reach.specs.Position.{IsAmong}
 use Rattle.certificate.specs.Digits.{AreLower, bits_of_digit, bits_of_digits, digits_of, lower_digits}
 use Rattle.certificate.specs.Holding.{AreFilling}
 use Rattle.certificate.proofs.Printed.{prints_in_lower_case, reads_what_was_printed}
@@ -19,13 +20,8 @@ use Rattle.order_grammar.proofs.PartLemmas.{rows_of_certificates}
 use Rattle.order_grammar.proofs.SpellsLemmas.{spells_read}
 use Rattle.umpire.proofs.WrittenLines.{ArePrintable, both_printable}
 
--- a byte is one of some
-abbrev IsOneOf : ℕ → List ℕ → Type 0
-IsOneOf byte [] = ⊥
-IsOneOf byte (other ∷ others) = (other ≡ byte) ⊎ IsOneOf byte others
-
--- what holds of each of some bytes holds of one of them
-among_all : (p : ℕ → Bool) (xs : List ℕ) (x : ℕ) → list_all p xs ≡ true → IsOneOf x xs → p x ≡ true
+-- what holds of each of some things holds of one of them
+among_all : (p : ℕ → Bool) (xs : List ℕ) (x : ℕ) → list_all p xs ≡ true → IsAmong x xs → p x ≡ true
 among_all p [] x all among = absurd among
 among_all p (y ∷ ys) x all among =
     let parts = and_parts (p y) (list_all p ys) all in
