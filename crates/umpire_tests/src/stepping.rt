@@ -150,19 +150,23 @@ SHEET BOB OR1.1
 SHEET CYD OR1.1
 ";
 
-/// What shows after a step of a play: what it answered, what the play says of itself, and the text
-/// of the round that was played last.
+/// What shows of a play: what the step that was taken last answered, if one was taken, what the
+/// play says of itself, and the text of the round that was played last.
 #[derive(Drop)]
 struct Shown {
-    answer: Result<Step, PlayFault>,
+    answer: Option<Result<Step, PlayFault>>,
     last_round: Option<Round>,
     outcome: Option<End>,
     has_history: bool,
     round_text: Vec<u8>,
 }
 
-/// What shows of a play, of which a step has answered this.
-fn shown(alloc: Global, play: &Play, answer: Result<Step, PlayFault>) -> Result<Shown, AllocError> {
+/// What shows of a play, of which the last step has answered this.
+fn what_shows(
+    alloc: Global,
+    play: &Play,
+    answer: Option<Result<Step, PlayFault>>,
+) -> Result<Shown, AllocError> {
     let round_text = next_text(alloc, play)?;
     Ok(Shown {
         answer,
@@ -176,7 +180,7 @@ fn shown(alloc: Global, play: &Play, answer: Result<Step, PlayFault>) -> Result<
 /// Takes a step.
 fn step<R: Runner>(alloc: Global, play: &mut Play, runner: &mut R) -> Result<Shown, AllocError> {
     let answer = play.step(runner);
-    shown(alloc, play, answer)
+    what_shows(alloc, play, Some(answer))
 }
 
 /// Takes a step: the end of the report, if it answers that play has stopped.
@@ -189,6 +193,42 @@ fn end_at<R: Runner>(
         Ok(Step::Ended(_)) => Ok(Some(end_text(alloc, play)?)),
         Ok(Step::Played(_)) | Err(_) => Ok(None),
     }
+}
+
+/// What shows of the game of these sheets once so many steps are taken.
+fn after(alloc: Global, sheets: &Sheets, steps: u32) -> Result<Shown, AllocError> {
+    let mut search = Search::new(alloc);
+    let mut play = Play::start(alloc, sheets)?;
+    let mut shown = what_shows(alloc, &play, None)?;
+    for _ in 0..steps {
+        shown = step(alloc, &mut play, &mut search)?;
+    }
+    Ok(shown)
+}
+
+/// The end of the report, if the second step answers that play has stopped.
+fn end_at_second(alloc: Global, sheets: &Sheets) -> Result<Option<Vec<u8>>, AllocError> {
+    let mut search = Search::new(alloc);
+    let mut play = Play::start(alloc, sheets)?;
+    let _first = step(alloc, &mut play, &mut search)?;
+    end_at(alloc, &mut play, &mut search)
+}
+
+/// What shows once so many steps are taken with a runner that refuses to answer, and what shows
+/// after one more, with one that would answer.
+fn after_refusals(
+    alloc: Global,
+    sheets: &Sheets,
+    steps: u32,
+) -> Result<(Shown, Shown), AllocError> {
+    let mut play = Play::start(alloc, sheets)?;
+    let mut refused = what_shows(alloc, &play, None)?;
+    for _ in 0..steps {
+        refused = step(alloc, &mut play, &mut Refusing)?;
+    }
+    let mut search = Search::new(alloc);
+    let later = step(alloc, &mut play, &mut search)?;
+    Ok((refused, later))
 }
 
 /// How many rounds the steps of a play come to, and why it then stops.
@@ -245,26 +285,24 @@ fn steps_through_a_game(rt: HostRuntime) -> Result<(), Fail> {
     let end = joined(rt.alloc(), &["AWAITING", end])?;
     let text = header_text(rt.alloc(), &sheets)?;
     assert_eq!(rt; text.as_slice(), header.as_bytes());
-    let first = Round::Opening(1);
-    let awaiting = End::Awaiting(Round::Opening(2));
-    let mut search = Search::new(rt.alloc());
-    let mut play = Play::start(rt.alloc(), &sheets)?;
-    let before = shown(rt.alloc(), &play, Ok(Step::Played(first)))?;
+    let before = after(rt.alloc(), &sheets, 0)?;
     assert_eq!(rt; (before.last_round, before.outcome), (None, None));
     assert!(rt; before.round_text.is_empty());
-    let played = step(rt.alloc(), &mut play, &mut search)?;
-    assert_eq!(rt; played.answer, Ok(Step::Played(first)));
+    let first = Round::Opening(1);
+    let played = after(rt.alloc(), &sheets, 1)?;
+    assert_eq!(rt; played.answer, Some(Ok(Step::Played(first))));
     assert_eq!(rt; (played.last_round, played.outcome), (Some(first), None));
     assert_eq!(rt; played.round_text.as_slice(), round.as_slice());
-    for _ in 0..2 {
-        let ended = step(rt.alloc(), &mut play, &mut search)?;
-        assert_eq!(rt; ended.answer, Ok(Step::Ended(awaiting)));
+    let awaiting = End::Awaiting(Round::Opening(2));
+    for steps in 2..4 {
+        let ended = after(rt.alloc(), &sheets, steps)?;
+        assert_eq!(rt; ended.answer, Some(Ok(Step::Ended(awaiting))));
         assert_eq!(rt;
             (ended.last_round, ended.outcome),
             (Some(first), Some(awaiting))
         );
     }
-    let told = end_at(rt.alloc(), &mut play, &mut search)?.ok_or("goes on")?;
+    let told = end_at_second(rt.alloc(), &sheets)?.ok_or("goes on")?;
     assert_eq!(rt; told.as_slice(), end.as_slice());
     Ok(())
 }
@@ -278,21 +316,17 @@ fn stays_broken_off(rt: HostRuntime) -> Result<(), Fail> {
     let last = Round::Stock(2);
     let round = Round::Operating { set: 2, number: 1 };
     let refused = PlayFault::Refused(round, Company::Pennsylvania);
-    let mut play = Play::start(rt.alloc(), &sheets)?;
-    for _ in 0..4 {
-        let played = step(rt.alloc(), &mut play, &mut Refusing)?;
-        assert!(rt; played.has_history);
+    let (played, later) = after_refusals(rt.alloc(), &sheets, 4)?;
+    assert_eq!(rt; played.answer, Some(Ok(Step::Played(last))));
+    assert!(rt; played.has_history);
+    assert_eq!(rt; later.answer, Some(Ok(Step::Played(round))));
+    let (broken, again) = after_refusals(rt.alloc(), &sheets, 5)?;
+    for shown in [broken, again] {
+        assert_eq!(rt; shown.answer, Some(Err(refused)));
+        assert_eq!(rt; (shown.last_round, shown.outcome), (Some(last), None));
+        assert!(rt; !shown.has_history);
+        assert!(rt; shown.round_text.is_empty());
     }
-    assert_eq!(rt; play.last_round(), Some(last));
-    let broken = step(rt.alloc(), &mut play, &mut Refusing)?;
-    assert_eq!(rt; broken.answer, Err(refused));
-    // (one that would answer is not asked any more)
-    let mut search = Search::new(rt.alloc());
-    let again = step(rt.alloc(), &mut play, &mut search)?;
-    assert_eq!(rt; again.answer, Err(refused));
-    assert_eq!(rt; (again.last_round, again.outcome), (Some(last), None));
-    assert!(rt; !again.has_history);
-    assert!(rt; again.round_text.is_empty());
     Ok(())
 }
 
