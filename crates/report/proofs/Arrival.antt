@@ -155,13 +155,20 @@ behind_same : (f g : List ℕ) (seats : ℕ) (events : List Event) (end : End) �
 behind_same f g seats events end same unread =
     rw (same.players, rounds_same f g seats [] (rounds_in events) same.players, unread, end_same f g seats events end same)
 
+-- a first text of five is before the rest
+first_of_five : (a b c d e : List ℕ) → a ++ b ++ c ++ d ++ e ≡ a ++ (b ++ c ++ d ++ e)
+first_of_five a b c d e =
+    ap (λ (front : List ℕ). front ++ d ++ e) (append_assoc a b c)
+    ∙ ap (λ (front : List ℕ). front ++ e) (append_assoc a (b ++ c) d)
+    ∙ append_assoc a (b ++ c ++ d) e
+
 -- the report is the first line and that
 in_two : (file : List ℕ) (seats : ℕ) (events : List Event) (end : End) →
     report_text file seats events end ≡ game_line (version_of file) ++ behind file seats events end
 unfolding header
 in_two file seats events end =
-    append_assoc (game_line (version_of file)) (players_line file)
-    (rounds_text file seats events ++ unread_lines 0 (unread_of file) ++ end_text file seats events end)
+    first_of_five (game_line (version_of file)) (players_line file) (rounds_text file seats events) (unread_lines 0 (unread_of file))
+    (end_text file seats events end)
 
 -- a report is that of the other file with its version
 report_carried : SamePartsSameGame → (f g : List ℕ) (of_f of_g : Result Content FileFault) → IsOk of_f → IsOk of_g → content_of g ≡ of_g →
