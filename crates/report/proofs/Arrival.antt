@@ -19,7 +19,7 @@ use Rattle.report.specs.Report.{IsReport, IsReportOf, end_text, game_line, heade
 use Rattle.report.specs.Statement.{company_line, company_lines, line_on_square, player_line, player_lines, president_name, started_line, statement}
 use Rattle.report.specs.Worth.{worth_lines}
 use Rattle.rounds.specs.Play.{Between, end_of}
-use Rattle.rounds.specs.SameParts.{SameFor, SameParts, SamePartsSameGame, SameSheetsAreReadAlike}
+use Rattle.rounds.specs.ReadAlike.{ReadAlikeFor, AreReadAlike, SamePartsSameGame, SameSheetsAreReadAlike}
 use Rattle.rounds.specs.declared.game.End.{End}
 use Rattle.rounds.specs.declared.game.End.TheVariants.{Awaiting, Bank, Bankrupt}
 use Rattle.sheets.specs.File.{Content, content_of, players_of, sheet_of, unread_of, version_of}
@@ -119,14 +119,14 @@ owed_same None (Some b) same = absurd cc
 owed_same (Some a) None same = absurd cc
 
 -- the same of some seats owe a sheet
-names_same : (f g : List ℕ) (round : table.Round) (seats : List ℕ) → players_of f ≡ players_of g → SameFor round f g →
+names_same : (f g : List ℕ) (round : table.Round) (seats : List ℕ) → players_of f ≡ players_of g → ReadAlikeFor round f g →
     flat_map (λ seat. name_owing f round seat) seats ≡ flat_map (λ seat. name_owing g round seat) seats
 names_same f g round [] players same = refl
 names_same f g round (seat ∷ seats) players same =
     rw (players, owed_same (sheet_of f seat round) (sheet_of g seat round) (same.posted seat), names_same f g round seats players same)
 
 -- the same owe a sheet
-owing_same : (f g : List ℕ) (round : table.Round) → players_of f ≡ players_of g → SameFor round f g → owing f round ≡ owing g round
+owing_same : (f g : List ℕ) (round : table.Round) → players_of f ≡ players_of g → ReadAlikeFor round f g → owing f round ≡ owing g round
 unfolding owing
 owing_same f g round players same =
     names_same f g round (range_with_len 0 (length (players_of f))) players same
@@ -138,7 +138,7 @@ unfolding worth_lines
 worths_same f g seats events players = rw players refl
 
 -- the same end is printed the same
-end_same : (f g : List ℕ) (seats : ℕ) (events : List Event) (end : End) → SameParts f g →
+end_same : (f g : List ℕ) (seats : ℕ) (events : List Event) (end : End) → AreReadAlike f g →
     end_text f seats events end ≡ end_text g seats events end
 end_same f g seats events (Awaiting round) same = rw (owing_same f g round same.players (same.sheets round))
 end_same f g seats events Bank same = rw (worths_same f g seats events same.players) refl
@@ -150,7 +150,7 @@ behind file seats events end =
     players_line file ++ rounds_text file seats events ++ unread_lines 0 (unread_of file) ++ end_text file seats events end
 
 -- it is the same of the same game
-behind_same : (f g : List ℕ) (seats : ℕ) (events : List Event) (end : End) → SameParts f g → unread_of f ≡ unread_of g →
+behind_same : (f g : List ℕ) (seats : ℕ) (events : List Event) (end : End) → AreReadAlike f g → unread_of f ≡ unread_of g →
     behind f seats events end ≡ behind g seats events end
 behind_same f g seats events end same unread =
     rw (same.players, rounds_same f g seats [] (rounds_in events) same.players, unread, end_same f g seats events end same)
@@ -172,7 +172,7 @@ in_two file seats events end =
 
 -- a report is that of the other file with its version
 report_carried : SamePartsSameGame → (f g : List ℕ) (of_f of_g : Result Content FileFault) → IsOk of_f → IsOk of_g → content_of g ≡ of_g →
-    SameParts f g → unread_of f ≡ unread_of g → (text : List ℕ) → IsReportOf f of_f text → DiffersInVersion f g text
+    AreReadAlike f g → unread_of f ≡ unread_of g → (text : List ℕ) → IsReportOf f of_f text → DiffersInVersion f g text
 report_carried same_game f g (Ok a) (Ok b) ok_f ok_g is_g same unread text report =
     let last : Between = report.last in
     let end : End = end_of last.next last.game.events in
@@ -201,7 +201,7 @@ same_report same_game f g accepted_f accepted_g same unread text report =
 -- arrival changes no report
 pub arrival_by : ArrivalChangesNothing → SameSheetsAreReadAlike → SamePartsSameGame → ArrivalChangesNoReport
 arrival_by nothing alike same_game f g accepted_f accepted_g version players sent unread text report =
-    let same : SameParts f g = record {
+    let same : AreReadAlike f g = record {
       players = players;
       sheets = λ round. alike f g round version (λ seat. nothing f g sent seat round);
     } in

@@ -7,7 +7,7 @@ use Rattle.report.specs.Parts.{StepsTell, end_text_of}
 use Rattle.report.specs.Report.{IsReport, end_of_play, game_line, header, report_of, round_text_of, unread_lines}
 use Rattle.rounds.specs.Begun.{rounds_begun}
 use Rattle.rounds.specs.Play.{IsTheGame, Played}
-use Rattle.rounds.specs.SameParts.{SameParts}
+use Rattle.rounds.specs.ReadAlike.{AreReadAlike}
 use Rattle.rounds.specs.Steps.{StepLeads, Underway, started}
 use Rattle.rounds.specs.declared.game.End.{End}
 use Rattle.rounds.specs.declared.steps.Step.TheVariants.{Ended}
@@ -27,7 +27,7 @@ SamePartsSameReport =
     (first second : List ℕ)
     → IsAccepted first
     → IsAccepted second
-    → SameParts first second
+    → AreReadAlike first second
     → unread_of first ≡ unread_of second
     → (text : List ℕ)
     → IsReport first text

@@ -6,7 +6,7 @@ use Rattle.privates.specs.Turn.{all_sold}
 use Rattle.rounds.proofs.Coming.{comes_once, follows}
 use Rattle.rounds.proofs.Forward.{played_forward}
 use Rattle.rounds.proofs.InSet.{StandsNext, comes_in_set}
-use Rattle.rounds.proofs.SameParts.{same_before, same_round}
+use Rattle.rounds.proofs.ReadAlike.{same_before, same_round}
 use Rattle.rounds.specs.Causality.{AgreeUpTo, LaterSheetsChangeNothing}
 use Rattle.rounds.specs.Play.{AreRounds, Between, IsRound, before_play}
 use Rattle.rounds.specs.declared.following.Next.TheVariants as next

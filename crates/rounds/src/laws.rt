@@ -10,7 +10,7 @@ ghost use Rattle.rounds.specs.GameCalls.{CallsAreOfTheGame, EachGameCalls, OneLi
 ghost use Rattle.rounds.specs.OperatingRound.{CompaniesOperateOnce, EndsSoon, OneOperatingRound};
 ghost use Rattle.rounds.specs.Play.{OneGame, Plays, SomeGame};
 ghost use Rattle.rounds.specs.Privates.{BidsRiseInEachGame, ClosedForGood, SellersAgreeInEachGame};
-ghost use Rattle.rounds.specs.SameParts.{SamePartsSameGame, SameSheetsAreReadAlike};
+ghost use Rattle.rounds.specs.ReadAlike.{SamePartsSameGame, SameSheetsAreReadAlike};
 ghost use Rattle.rounds.specs.Sequence.{BankAloneEndsIt, SequenceGoesForward};
 ghost use Rattle.rounds.specs.Sets.{SetsKeepTheirNumber};
 ghost use Rattle.rounds.specs.Steps.{StepsPlayTheGame};

@@ -7,7 +7,7 @@ use Rattle.sheets.specs.Part.{parts_for}
 use Rattle.tables.specs.declared.round.Round.{Round}
 
 -- the sheets for a round are read alike
-pub record SameFor (round : Round) (first second : List ℕ) : Type 0 where
+pub record ReadAlikeFor (round : Round) (first second : List ℕ) : Type 0 where
   pub posted : (seat : ℕ) → is_some (sheet_of first seat round) ≡ is_some (sheet_of second seat round)
   pub parts : (seat : ℕ) → parts_for first round seat ≡ parts_for second round seat
 
@@ -15,13 +15,13 @@ pub record SameFor (round : Round) (first second : List ℕ) : Type 0 where
 abbrev pub SameSheetsAreReadAlike : Type 0
 SameSheetsAreReadAlike =
     (first second : List ℕ) (round : Round) → version_of first ≡ version_of second
-    → ((seat : ℕ) → sheet_of first seat round ≡ sheet_of second seat round) → SameFor round first second
+    → ((seat : ℕ) → sheet_of first seat round ≡ sheet_of second seat round) → ReadAlikeFor round first second
 
 -- the files have the same players, and their sheets for each round are read alike
-pub record SameParts (first second : List ℕ) : Type 0 where
+pub record AreReadAlike (first second : List ℕ) : Type 0 where
   pub players : players_of first ≡ players_of second
-  pub sheets : (round : Round) → SameFor round first second
+  pub sheets : (round : Round) → ReadAlikeFor round first second
 
 -- where the sheets of two files of the same players are read alike, the game of the one is the game of the other
 abbrev pub SamePartsSameGame : Type 0
-SamePartsSameGame = (first second : List ℕ) → SameParts first second → (last : Between) → Plays first last → Plays second last
+SamePartsSameGame = (first second : List ℕ) → AreReadAlike first second → (last : Between) → Plays first last → Plays second last
