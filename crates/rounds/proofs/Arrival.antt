@@ -34,7 +34,7 @@ pub read_alike : SameSheetsAreReadAlike
 read_alike first second round version same =
     record {
       posted = λ seat. ap (λ (sheet : Option (List (List ℕ))). is_some sheet) (same seat);
-      parts = λ seat i. parts_of round (unwrap_or (same seat i) []);
+      parts = λ seat i. parts_of (version i) round (unwrap_or (same seat i) []);
     }
 
 -- in which order the sheets of different players arrive changes nothing in the game
