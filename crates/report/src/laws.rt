@@ -1,5 +1,5 @@
 //! Laws of the definitions, each the contract of a function that does nothing.
-ghost use Rattle.report.specs.Laws.{ArrivalChangesNoReport, PartsAreAFront, PartsAreTheReport, ReportIsItsParts, SamePartsSameReport};
+ghost use Rattle.report.specs.Laws.{ArrivalChangesNoReport, PartsAreAFront, PartsAreTheReport, PlainReports, ReportIsItsParts, SamePartsSameReport};
 ghost use Rattle.report.specs.Report.{IsReport};
 ghost use Rattle.std.specs.Prelude.{◌≡◌, ℕ, List};
 
@@ -31,6 +31,13 @@ pub fn same_parts_same_report()
 {
     same_parts_same_game()
 }
+
+/// A report of a file of version 1 has that version in its first line, and a ruling of an order
+/// without a condition has the spelling of the order alone. (No line of such a file stands under a
+/// condition: `sheets` has that law.)
+pub fn plain_reports()
+    ensures { PlainReports }
+{}
 
 /// In which order the sheets of different players arrive changes nothing in the report: two accepted
 /// files of one version and the same players have one report, where each player sent the same sheets
