@@ -156,8 +156,11 @@ pub fn record(
         Some(rule) => KeptRuling::refused(rule, kept),
         None => KeptRuling::obeyed(kept),
     };
-    let line = line.number;
-    history.tell(Event::Ruled { seat, line, ruling })?;
+    history.tell(Event::Ruled {
+        seat,
+        line: line.number,
+        ruling,
+    })?;
     Ok(obeyed)
 }
 
