@@ -89,7 +89,7 @@ after_lines by turn before [] new all are ran =
     subst (λ (walks : List (List Step)). AreWalks walks new) (sym ran.1) (left_as before turn new (ap marks_in ran.0) are)
 after_lines by turn before (line ∷ lines) new all are ran =
     after_lines by ran.0 (walk_obeyed by.company turn line line.reading ++ before) lines new all
-    (after_line by turn line.number before line.reading ran.0 ran.1 are) ran.2
+    (after_line by turn line before line.reading ran.0 ran.1 are) ran.2
 
 -- none is marked at first
 none_set : (count border : ℕ) → IsUsed (replicate count false) border → ⊥

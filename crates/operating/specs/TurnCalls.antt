@@ -1,7 +1,7 @@
 -- The calls that a company's turn makes of a runner: one for each RUN BEST that is obeyed, in order, for the position
 -- that lies then and the trains that the company has then. A line that is refused, be it by its condition, or orders
 -- something else, makes none. Once a call is not answered the turn is broken off; so it is where memory is refused.
-use Rattle.std.specs.Prelude.{◌≡◌, ◌≢◌, ◌⊎◌, ℕ, ℤ, pos, List, [], ◌∷◌, Option, Some, None, Result, Ok, Err}
+use Rattle.std.specs.Prelude.{◌≡◌, ◌≢◌, ◌⊎◌, ℕ, ℤ, pos, Bool, true, false, List, [], ◌∷◌, Option, Some, None, Result, Ok, Err}
 use Rattle.certificate.specs.Set.{IsGreatest}
 use Rattle.certificate.specs.declared.runner.RunnerFault.{RunnerFault}
 use Rattle.certificate.specs.declared.runner.RunnerFault.TheVariants.{Memory}
