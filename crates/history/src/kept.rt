@@ -400,10 +400,7 @@ impl KeptRuling {
     pub(crate) fn limit_on(&self, private: Private) -> Option<Amount>
         ensures { result ≡ limit_obeyed private self.now }
     {
-        match self.limit() {
-            Some((other, amount)) if other == private => Some(amount),
-            _ => None,
-        }
+        limit_said(private, self.limit())
     }
 
     /// The sale that the order that it obeys offers, if it does.
@@ -440,6 +437,16 @@ impl KeptRuling {
             }
             _ => None,
         }
+    }
+}
+
+/// How far to go in the auction of a private, where that is the one that is named with a sum.
+fn limit_said(private: Private, said: Option<(Private, Amount)>) -> Option<Amount>
+    ensures { result ≡ limit_said private said }
+{
+    match said {
+        Some((other, amount)) if other == private => Some(amount),
+        _ => None,
     }
 }
 
