@@ -1,6 +1,6 @@
 -- What the search finds for some trains, greatest first: the greatest revenue, with a trail that tells the runs of a legal
--- set that earns it. All of these can be written out, and their places name them.
-use Rattle.std.specs.Prelude.{◌≡◌, List}
+-- set that earns it. All of these can be written out, and their places name them. It is under 50,000 dollars.
+use Rattle.std.specs.Prelude.{◌≡◌, ◌<◌, List}
 use Rattle.reach.specs.Position.{Position}
 use Rattle.tables.specs.declared.rolling_stock.Kind.{Kind}
 use Rattle.tables.specs.declared.roster.Company.{Company}
@@ -15,3 +15,4 @@ pub record IsBest (position : Position) (company : Company) (kinds : List Kind) 
   pub set : IsLegalSet position company kinds (runs_in kinds found.trail)
   pub earns : revenue_of position (runs_in kinds found.trail) ≡ found.amount
   pub greatest : IsGreatest position company kinds found.amount
+  pub small : found.amount < 50000

@@ -1,7 +1,7 @@
 -- What is kept of the best runs that are found: each call adds, last, a group for its round and company, which is
 -- accepted at its position for its trains, whatever fills up its last digit as it is printed, and claims what the call
--- answers; where memory is refused none is added.
-use Rattle.std.specs.Prelude.{◌≡◌, ℤ, pos, List, [], ◌∷◌, ◌++◌, Result, Ok, Err}
+-- answers, which is under 50,000 dollars; where memory is refused none is added.
+use Rattle.std.specs.Prelude.{◌≡◌, ◌<◌, ℤ, pos, List, [], ◌∷◌, ◌++◌, Result, Ok, Err}
 use Rattle.certificate.specs.Filled.{IsAcceptedFilled}
 use Rattle.certificate.specs.Holding.{IsAccepted}
 use Rattle.certificate.specs.declared.group.Group.{Group}
@@ -20,6 +20,7 @@ pub record KeepsOne (position : Position) (round : Round) (company : Company) (t
   pub accepted : IsAccepted position company trains group.claim group.bits
   pub filled : IsAcceptedFilled position company trains group.claim group.bits
   pub answered : money ≡ pos group.claim.revenue
+  pub small : group.claim.revenue < 50000
 
 -- what a call keeps, by its answer
 abbrev pub KeepsBest : List Group → Position → Round → Company → List Kind → Result ℤ RunnerFault → List Group → Type 0

@@ -1,4 +1,4 @@
-ghost use Rattle.std.specs.Prelude.{◌≡◌, ◌-◌, ◌≤◌, IfOk, length};
+ghost use Rattle.std.specs.Prelude.{◌≡◌, ◌-◌, ◌<◌, ◌≤◌, IfOk, length};
 ghost use Rattle.best_run.specs.Answer.{IsBest};
 ghost use Rattle.best_run.specs.Fit.{IsFit};
 ghost use Rattle.best_run.specs.Kept.{IsNothing};
@@ -111,8 +111,8 @@ pub(crate) fn greatest_revenue<N: Network>(
 
 /// The greatest revenue that any legal set of runs for these trains of a company earns on a network,
 /// with the runs of a legal set that earns it and with marks that show that no set earns more, also as
-/// they are read again once they were printed. Where no run is legal, that is nothing, by no run. It
-/// fails only if memory is refused.
+/// they are read again once they were printed. Where no run is legal, that is nothing, by no run. The
+/// revenue is under 50,000 dollars. It fails only if memory is refused.
 pub fn best<N: Network>(
     alloc: Global,
     network: &N,
@@ -126,6 +126,7 @@ pub fn best<N: Network>(
         IsAcceptedFilled position company trains.now best.claim best.marks) }
     ensures greatest { let position = N.position network.now in
         IfOk result (λ best. IsGreatest position company trains.now best.claim.revenue) }
+    ensures small { IfOk result (λ best. best.claim.revenue < 50000) }
 {
     let kinds = greatest_first(alloc, trains)?;
     let found = find(alloc, network, company, &kinds)?;

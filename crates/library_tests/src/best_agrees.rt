@@ -17,12 +17,12 @@ type Tile = (Hex, TileNo, Rotation, bool);
 type Token = (Hex, StopNumber, Company);
 
 /// What lies on a board.
-struct Laid {
-    name: &'static str,
-    phase: Kind,
-    tiles: &'static [Tile],
-    tokens: &'static [Token],
-    companies: &'static [Company],
+pub(crate) struct Laid {
+    pub(crate) name: &'static str,
+    pub(crate) phase: Kind,
+    pub(crate) tiles: &'static [Tile],
+    pub(crate) tokens: &'static [Token],
+    pub(crate) companies: &'static [Company],
     /// What the first of these companies earns with three 2s, found by hand on the map.
     by_three_twos: Amount,
 }
@@ -44,7 +44,7 @@ const LISTS: [&[Kind]; 12] = [
 ];
 
 /// The tiles of a board, as they lie.
-fn lays_of(alloc: Global, tiles: &[Tile]) -> Result<Vec<Lay>, AllocError> {
+pub(crate) fn lays_of(alloc: Global, tiles: &[Tile]) -> Result<Vec<Lay>, AllocError> {
     let mut lays = Vec::new(alloc);
     for (hex, tile, rot, swap) in tiles {
         lays.push(Lay {
@@ -58,7 +58,10 @@ fn lays_of(alloc: Global, tiles: &[Tile]) -> Result<Vec<Lay>, AllocError> {
 }
 
 /// The tokens of a board, at their places.
-fn tokens_of(alloc: Global, tokens: &[Token]) -> Result<Vec<(Place, Company)>, AllocError> {
+pub(crate) fn tokens_of(
+    alloc: Global,
+    tokens: &[Token],
+) -> Result<Vec<(Place, Company)>, AllocError> {
     let mut places = Vec::new(alloc);
     for (hex, number, company) in tokens {
         let place = Place {
@@ -86,7 +89,7 @@ const NYNH: Company = Company::NewHaven;
 
 const BM: Company = Company::BostonMaine;
 /// The boards. On each a company is tried that has no token there.
-const BOARDS: [Laid; 12] = [
+pub(crate) const BOARDS: [Laid; 12] = [
     Laid {
         name: "a line of three cities, a token in the middle and one at an end",
         phase: Kind::Two,

@@ -5,8 +5,9 @@
 //! Reading order: `lines` (lines read and printed), `boards` (tiles and tokens), `best` (the greatest
 //! revenue), `best_agrees` (the same beside a slow search, on small boards and on four stops),
 //! `four_stops` (a network that is no board), `slow_search` (that search), `claims` (the runs of a
-//! claim, checked one after the other), `marks` (bits kept, read and printed), `books` (money, tenths,
-//! events).
+//! claim, checked one after the other), `marks` (bits kept, read and printed), `marks_agree` (those that are
+//! written, beside those of `choice_tree`, the same tree made once more from its definition), `books` (money,
+//! tenths, events).
 #![tactic(auto)]
 
 #[cfg(test)]
@@ -18,11 +19,15 @@ mod boards;
 #[cfg(test)]
 mod books;
 #[cfg(test)]
+mod choice_tree;
+#[cfg(test)]
 mod claims;
 mod four_stops;
 #[cfg(test)]
 mod lines;
 #[cfg(test)]
 mod marks;
+#[cfg(test)]
+mod marks_agree;
 #[cfg(test)]
 mod slow_search;

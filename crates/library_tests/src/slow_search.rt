@@ -35,7 +35,7 @@ struct RunSet {
 }
 
 /// The links of the map, each in both directions.
-fn all_steps<N: Network>(alloc: Global, network: &N) -> Result<Vec<Step>, AllocError> {
+pub(crate) fn all_steps<N: Network>(alloc: Global, network: &N) -> Result<Vec<Step>, AllocError> {
     let mut steps = Vec::new(alloc);
     for hex in Hex::ALL {
         let links = network.links(hex);

@@ -32,3 +32,5 @@ pub mod GameEnds
 mod StepByStep
 mod CallsJoined
 mod Answered
+mod CallsNamed
+mod StepsBroken

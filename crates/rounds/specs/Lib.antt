@@ -16,3 +16,5 @@ pub mod Ends
 pub mod GameCalls
 pub mod Steps
 pub mod StepsCall
+pub mod CallsNamed
+pub mod StepsBroken

@@ -6,9 +6,10 @@
 //! played here, company by company, each company's turn by the crate `operating`.
 //!
 //! Reading order: `following`, `sequence` (`next`), `fault`, `operating_round`, `steps` (`Play`, a
-//! round at a time), `game` (`Game`, `play_with`, `play`), `laws`.
+//! round at a time), `game` (`Game`, `play_with`, `play`), `laws`, `call_laws`.
 #![tactic(auto)]
 
+mod call_laws;
 mod fault;
 mod following;
 mod game;
@@ -17,6 +18,7 @@ mod operating_round;
 mod sequence;
 mod steps;
 
+pub use call_laws::{broken_steps_call_a_broken_game, calls_are_named};
 pub use fault::PlayFault;
 pub use following::Next;
 pub use game::{End, Game, play, play_with};

@@ -13,7 +13,7 @@ use Rattle.umpire.specs.Certified.{AreCertified, Certifies, CertifyGame}
 use Rattle.umpire.specs.Groups.{groups_of}
 use Rattle.umpire.specs.Laws.{ArePartedAgain}
 use Rattle.umpire.specs.Parting.{certificates_most, certificates_of, order_file_of}
-use Rattle.umpire.specs.ReadAgain.{AcceptsWhatWasWritten, AreReadAgain, CanBeWritten, IsReadAgain}
+use Rattle.umpire.specs.ReadAgain.{AcceptsWhatWasWritten, AreReadAgain, CanBeWritten, CertifyingCanBeWritten, IsReadAgain}
 use Rattle.umpire.specs.Verify.{AnswersGame, AnswersInput, HasAllGroups, HasGroup, HaveGroups}
 use Rattle.umpire.specs.Written.{certificates_text}
 
@@ -31,8 +31,9 @@ have_again (call ∷ calls) (group ∷ groups) (one ∷ read) certified again =
     (shown_again call group one certified.0 again.0, have_again calls groups read certified.1 again.1)
 
 -- so the game that they certify has all its groups
-pub answered_again : ((file : List ℕ) → (text : List ℕ) × IsReport file text) → AcceptsWhatWasWritten
-answered_again some file groups accepted certify can within =
+pub answered_again : ((file : List ℕ) → (text : List ℕ) × IsReport file text) → CertifyingCanBeWritten → AcceptsWhatWasWritten
+answered_again some written file groups accepted certify within =
+    let can : AllByRecursion CanBeWritten groups = written file groups accepted certify in
     let text : List ℕ = certificates_text groups in
     let input : List ℕ = file ++ 10 ∷ text in
     let parted : ArePartedAgain file text = parted_again file text (begins_alone groups can) in

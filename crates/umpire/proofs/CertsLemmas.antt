@@ -56,6 +56,7 @@ kept_first call calls (Ok money) before between after is answered one rest =
           accepted = one.accepted;
           filled = one.filled;
           answered = is ∙ ap Ok one.answered;
+          small = one.small;
         },
         rest.certified,
       );

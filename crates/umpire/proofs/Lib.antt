@@ -11,4 +11,5 @@ pub mod Judged
 mod WrittenLines
 mod MarksLines
 mod ReadAgain
+mod Writable
 mod AnsweredAgain

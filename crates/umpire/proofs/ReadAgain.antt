@@ -17,7 +17,7 @@ use Rattle.tables.specs.declared.round.Round.{Round}
 use Rattle.order_grammar.specs.Form.{cert_forms}
 use Rattle.order_grammar.specs.Line.{cert_reading_of}
 use Rattle.order_grammar.specs.Print.{spaced, spelling_of, text_of_round}
-use Rattle.order_grammar.specs.Spells.{ArePlaces, End, FitsLineIn, HasSpelling, IsCompany, IsKind, IsNumber, IsRoundOfLine, IsWord, SpellsIn, Then}
+use Rattle.order_grammar.specs.Spells.{ArePlaces, End, HasSpelling, IsCompany, IsKind, IsNumber, IsRoundOfLine, IsWord, SpellsIn, Then}
 use Rattle.order_grammar.specs.Texts.{certificate}
 use Rattle.order_grammar.specs.Words.{first_of_words, raised, same_word, words_of}
 use Rattle.order_grammar.specs.declared.order.Order.{Order}
@@ -29,11 +29,11 @@ use Rattle.sheets.specs.Text.{lines_of}
 use Rattle.umpire.specs.Groups.{begins_group, group_begun, groups_in, groups_of, with_line, with_lines, with_reading}
 use Rattle.umpire.specs.Laws.{BeginsAlone}
 use Rattle.umpire.specs.Parting.{is_divider, says_certs}
-use Rattle.umpire.specs.ReadAgain.{AreReadAgain, CanBeClaimed, CanBeWritten, IsReadAgain, ReadsBack}
+use Rattle.umpire.specs.ReadAgain.{AreReadAgain, CanBeWritten, IsReadAgain, ReadsBack}
 use Rattle.umpire.specs.Written.{certificates_text, claim_line, group_text, marks_lines, marks_lines_within, order_line}
 use Rattle.umpire.proofs.GroupLemmas.{raised_digits}
 use Rattle.umpire.proofs.MarksLines.{HasLine, full_digits, has_line, marks_of}
-use Rattle.umpire.proofs.WrittenLines.{ArePrintable, IsWritten, all_written, both_printable, both_written, line_written, lines_written, nothing_written, printable_company, printable_kind, printable_number, printable_places, printable_round, printable_spaced}
+use Rattle.umpire.proofs.WrittenLines.{ArePrintable, IsWritten, all_written, both_printable, both_written, claim_fits, line_written, lines_written, nothing_written, printable_company, printable_kind, printable_number, printable_places, printable_round, printable_spaced}
 
 -- whether a line begins a group, by its first word
 begins_by : (line word : List ℕ) → first_of_words (words_of line) ≡ word → begins_group line ≡ same_word word (codes "CERT")
@@ -95,6 +95,10 @@ cert_line round company revenue spelt =
       begins = begins_by (spelling_of order) (codes "CERT") (first_word (codes "CERT") (Then (IsRoundOfLine round) (Then (IsCompany company) (Then (IsNumber revenue) End))) (words_of (spelling_of order)) spells.loosely.words);
     }
 
+-- a run has a CLAIM line
+abbrev CanBeClaimed : ClaimedRun → Type 0
+CanBeClaimed claimed = HasSpelling (Claim claimed.kind claimed.run)
+
 -- a CLAIM line
 record IsClaimLine (claimed : ClaimedRun) : Type 0 where
   printable : ArePrintable (spelling_of (Claim claimed.kind claimed.run))
@@ -102,10 +106,10 @@ record IsClaimLine (claimed : ClaimedRun) : Type 0 where
   begins : begins_group (spelling_of (Claim claimed.kind claimed.run)) ≡ false
 
 claim_line_is : (claimed : ClaimedRun) → CanBeClaimed claimed → IsClaimLine claimed
-claim_line_is claimed can =
+claim_line_is claimed spelt =
     let order : Order = Claim claimed.kind claimed.run in
     let reads : cert_reading_of (spelling_of order) ≡ Ok order =
-    spelling_read certificate cert_forms rows_of_certificates (omega arith) order (can.spelt, can.fits, (2, omega arith, refl)) in
+    spelling_read certificate cert_forms rows_of_certificates (omega arith) order (spelt, claim_fits claimed.kind claimed.run spelt.1, (2, omega arith, refl)) in
     let spells : SpellsIn certificate (spelling_of order) order = read_spells certificate cert_forms rows_of_certificates (spelling_of order) order reads in
     let words : List (List ℕ) = code_of_kind claimed.kind ∷ map text_of_place claimed.run in
     record {

@@ -16,7 +16,7 @@ use Rattle.map_tables.specs.declared.hex.Hex.{Hex}
 use Rattle.map_tables.specs.declared.place.Place.{Place}
 use Rattle.map_tables.specs.declared.place.StopNumber.{StopNumber}
 use Rattle.map_tables.specs.declared.place.StopNumber.TheVariants.{First, Second}
-use Rattle.map_tables.proofs.Texts.{column_short, row_capital}
+use Rattle.map_tables.proofs.Texts.{column_short, hex_text-le, row_capital}
 use Rattle.tables.specs.Roster.{code_of_company}
 use Rattle.tables.specs.Train.{code_of_kind}
 use Rattle.tables.specs.declared.rolling_stock.Kind.{Kind}
@@ -26,9 +26,11 @@ use Rattle.tables.specs.declared.roster.Company.TheVariants as companies
 use Rattle.tables.specs.declared.round.Round.{Round}
 use Rattle.tables.specs.declared.round.Round.TheVariants.{Opening, Stock, Operating}
 use Rattle.tables.specs.Round.{number_most, operating_most}
-use Rattle.order_grammar.specs.Print.{spaced, text_of_round}
-use Rattle.order_grammar.specs.Spells.{is_round_of_line}
+use Rattle.order_grammar.specs.Print.{spaced, spelling_of, text_of_round}
+use Rattle.order_grammar.specs.Spells.{FitsLineIn, is_round_of_line}
+use Rattle.order_grammar.specs.Texts.{certificate}
 use Rattle.order_grammar.specs.Words.{is_printable}
+use Rattle.order_grammar.specs.declared.order.Order.TheVariants.{Claim}
 use Rattle.sheets.specs.Text.{lines_from, lines_of, without_return}
 
 -- every byte is printable
@@ -149,6 +151,37 @@ printable_spaced [] all = refl
 printable_spaced (word ∷ words) all =
     ap (list_all is_printable) (flat_map-cons (λ (w : List ℕ). 32 ∷ w) word words)
     ∙ both_printable (32 ∷ word) (spaced words) all.0 (printable_spaced words all.1)
+
+-- how long these are
+short_stop : (stop : Option StopNumber) → length (stop_text stop) ≤ 2
+short_stop None = omega arith
+short_stop (Some First) = omega arith
+short_stop (Some Second) = omega arith
+
+short_place : (place : Place) → length (text_of_place place) ≤ 5
+short_place place =
+    omega (arith, length-append (text_of_hex place.hex) (stop_text place.stop), hex_text-le place.hex, short_stop place.stop)
+
+one_more : (word : List ℕ) (words : List (List ℕ)) → length (spaced (word ∷ words)) ≡ 1 + length word + length (spaced words)
+one_more word words =
+    ap length (flat_map-cons (λ (w : List ℕ). 32 ∷ w) word words) ∙ length-append (32 ∷ word) (spaced words) ∙ omega arith
+
+short_places : (places : List Place) → length (spaced (map text_of_place places)) ≤ 6 * length places
+short_places [] = omega arith
+short_places (place ∷ places) =
+    omega (arith, one_more (text_of_place place) (map text_of_place places), short_place place, short_places places)
+
+short_kind : (kind : Kind) → length (code_of_kind kind) ≡ 1
+short_kind kinds.Two = refl
+short_kind other = refl
+
+-- a CLAIM line of up to 280 places is within the length of a line
+pub claim_fits : (kind : Kind) (run : List Place) → length run ≤ 280 → FitsLineIn certificate (Claim kind run)
+claim_fits kind run few =
+    let places : List (List ℕ) = map text_of_place run in
+    let long : length (spelling_of (Claim kind run)) ≡ 5 + length (spaced (code_of_kind kind ∷ places)) =
+    length-append (codes "CLAIM") (spaced (code_of_kind kind ∷ places)) in
+    omega (arith, long, one_more (code_of_kind kind) places, short_kind kind, short_places run, few)
 
 pub printable_places : (places : List Place) → AllByRecursion ArePrintable (map text_of_place places)
 printable_places [] = tt

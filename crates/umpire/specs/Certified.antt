@@ -1,7 +1,7 @@
 -- What certifies a game: for each call that it makes of its runner, in order, a group for the round and the company of
--- the call, which claims what was answered and is accepted at the position of the call for its trains, whatever fills up
--- the last digit of its marks as they are printed.
-use Rattle.std.specs.Prelude.{◌≡◌, ℕ, pos, List, [], ◌∷◌, Ok}
+-- the call, which claims what was answered, under 50,000 dollars, and is accepted at the position of the call for its
+-- trains, whatever fills up the last digit of its marks as they are printed.
+use Rattle.std.specs.Prelude.{◌≡◌, ◌<◌, ℕ, pos, List, [], ◌∷◌, Ok}
 use Rattle.certificate.specs.Filled.{IsAcceptedFilled}
 use Rattle.certificate.specs.Holding.{IsAccepted}
 use Rattle.certificate.specs.declared.group.Group.{Group}
@@ -16,6 +16,7 @@ pub record Certifies (call : Call) (group : Group) : Type 0 where
   pub accepted : IsAccepted call.position call.company call.trains group.claim group.bits
   pub filled : IsAcceptedFilled call.position call.company call.trains group.claim group.bits
   pub answered : call.answer ≡ Ok (pos group.claim.revenue)
+  pub small : group.claim.revenue < 50000
 
 -- groups certify calls, one each, in order
 abbrev pub AreCertified : List Call → List Group → Type 0

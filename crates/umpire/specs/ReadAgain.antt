@@ -2,10 +2,8 @@
 use Rattle.std.specs.Prelude.{◌≡◌, ℕ, ◌≤◌, Option, Some, Ok, List, [], ◌∷◌, ◌++◌, length, Bool}
 use Rattle.std.specs.List.{AllByRecursion}
 use Rattle.certificate.specs.Holding.{AreFilling}
-use Rattle.certificate.specs.declared.claim.ClaimedRun.{ClaimedRun}
 use Rattle.certificate.specs.declared.group.Group.{Group}
-use Rattle.order_grammar.specs.Spells.{FitsLineIn, HasSpelling}
-use Rattle.order_grammar.specs.Texts.{certificate}
+use Rattle.order_grammar.specs.Spells.{HasSpelling}
 use Rattle.order_grammar.specs.declared.order.Order.TheVariants.{Cert, Claim}
 use Rattle.sheets.specs.File.{IsAccepted}
 use Rattle.umpire.specs.Certified.{CertifyGame}
@@ -14,15 +12,10 @@ use Rattle.umpire.specs.Parting.{certificates_most}
 use Rattle.umpire.specs.Verify.{AnswersInput}
 use Rattle.umpire.specs.Written.{certificates_text}
 
--- a run has a CLAIM line, and that is not too long
-pub record CanBeClaimed (claimed : ClaimedRun) : Type 0 where
-  pub spelt : HasSpelling (Claim claimed.kind claimed.run)
-  pub fits : FitsLineIn certificate (Claim claimed.kind claimed.run)
-
 -- a group can be written: its CERT line and its CLAIM lines have a spelling
 pub record CanBeWritten (group : Group) : Type 0 where
   pub cert : HasSpelling (Cert group.round group.company group.claim.revenue)
-  pub claims : AllByRecursion CanBeClaimed group.claim.runs
+  pub claims : AllByRecursion (λ claimed. HasSpelling (Claim claimed.kind claimed.run)) group.claim.runs
 
 -- a group is read again: the last digit of its bits is filled up
 pub record IsReadAgain (group : Group) (read : Option Group) : Type 0 where
@@ -41,10 +34,14 @@ AreReadAgain (group ∷ groups) (read ∷ others) = IsReadAgain group read × Ar
 abbrev pub ReadsBack : Type 0
 ReadsBack = (groups : List Group) → AllByRecursion CanBeWritten groups → AreReadAgain groups (groups_of (certificates_text groups))
 
--- behind their file and one LF such groups are answered by its report, where they certify its game and their text is within
--- its limit
+-- so can groups that certify a game
+abbrev pub CertifyingCanBeWritten : Type 0
+CertifyingCanBeWritten =
+    (file : List ℕ) (groups : List Group) → IsAccepted file → CertifyGame file groups → AllByRecursion CanBeWritten groups
+
+-- behind their file and one LF groups that certify its game are answered by its report, where their text is within its limit
 abbrev pub AcceptsWhatWasWritten : Type 0
 AcceptsWhatWasWritten =
-    (file : List ℕ) (groups : List Group) → IsAccepted file → CertifyGame file groups → AllByRecursion CanBeWritten groups →
+    (file : List ℕ) (groups : List Group) → IsAccepted file → CertifyGame file groups →
     length (certificates_text groups) ≤ certificates_most →
     (text : List ℕ) × AnswersInput (file ++ 10 ∷ certificates_text groups) (Ok tt) text

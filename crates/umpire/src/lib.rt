@@ -25,7 +25,10 @@ mod watched;
 pub use certificates::certs;
 pub use fault::{Fault, status, word};
 pub use groups::read_groups;
-pub use laws::{certificates_are_read_again, joined_is_parted, written_certificates_are_accepted};
+pub use laws::{
+    certificates_are_read_again, certifying_groups_can_be_written, joined_is_parted,
+    written_certificates_are_accepted,
+};
 pub use parting::{CERTIFICATES_MOST, Parted, part};
 pub use program::run;
 pub use verification::verify;

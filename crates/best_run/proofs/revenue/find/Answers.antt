@@ -1,6 +1,7 @@
 -- What has been explored from the start is the greatest, and the runs that the trail tells earn it.
-use Rattle.std.proofs.Common.{List, []}
-use Rattle.certificate.specs.Set.{TrainRun}
+use Rattle.std.proofs.Common.{◌≡◌, List, [], arith}
+use Rattle.certificate.specs.Set.{IsGreatest, TrainRun}
+use Rattle.certificate.proofs.Greatest.{a_greatest_exists, one_greatest}
 use Rattle.best_run.specs.Described.{Describes}
 use Rattle.best_run.specs.Trail.{marks_in, runs_told}
 use Rattle.best_run.proofs.Greatest.{TellSet, can_claim, greatest_found, names_them, tell_set}
@@ -17,10 +18,14 @@ returns g c =
     let laid : Describes position company kinds task = c.in_ok-task.ensures.described in
     let tells : TellSet position company lawful kinds task laid (marks_in found.trail) found.amount = tell_set position company lawful kinds task laid (marks_in found.trail) found.amount c.in_ok-found.ensures.earns in
     let runs : List TrainRun = runs_told kinds [] (marks_in found.trail) in
+    let greatest : IsGreatest position company kinds found.amount = greatest_found position company lawful kinds task laid found c.in_ok-found.ensures in
+    let some = a_greatest_exists position company kinds lawful in
+    let same : found.amount ≡ some.0 = one_greatest position company kinds found.amount some.0 greatest some.1 in
     record {
       written_out = can_claim position company lawful runs tells.set.legal;
       names = names_them position company lawful runs tells.set.legal;
       set = tells.set;
       earns = tells.earns;
-      greatest = greatest_found position company lawful kinds task laid found c.in_ok-found.ensures;
+      greatest = greatest;
+      small = omega (arith, same, some.2);
     }
