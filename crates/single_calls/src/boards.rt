@@ -3,9 +3,9 @@
 use crate::call::{Call, made};
 use crate::fault::Fault;
 use crate::outcome::Outcome;
-use best_run::{Best, Search, best};
+use best_run::{Best, Keeping, Search, best};
 use board::{Asker, Board, BoardFault, LayFault, PlainBoard, TokenFault, TurnStep};
-use certificate::{Runner, RunnerFault};
+use certificate::{Group, Runner, RunnerFault};
 use map_tables::{Hex, Lay, Place, Rotation, Stop, StopNumber, TileNo};
 use reach::{Network, reached};
 use std::alloc::{AllocError, Global};
@@ -19,6 +19,12 @@ const TRAINS: [Kind; 2] = [Kind::Three, Kind::Two];
 
 /// More tokens than have their place in the value of a board, and than a list first has room for.
 const MANY: usize = 60;
+
+/// How often the best is kept: more often than a list first has room for.
+const KEPT: usize = 6;
+
+/// A round.
+const ROUND: Round = Round::Operating { set: 1, number: 1 };
 
 /// PRR, which has laid nothing in its turn and has this cash.
 fn asker(cash: Money) -> Asker {
@@ -232,12 +238,45 @@ pub fn finds_best_plain(rt: &HostRuntime) -> Result<Outcome, Fault> {
 pub fn searches(rt: &HostRuntime) -> Result<Outcome, Fault> {
     let board = board(rt.alloc())?;
     let mut search = Search::new(rt.alloc());
-    let round = Round::Operating { set: 1, number: 1 };
     Call::Search.begin(rt)?;
-    let answer = search.earn(&board, round, PRR, &TRAINS);
+    let answer = search.earn(&board, ROUND, PRR, &TRAINS);
     made(rt)?;
     Ok(match answer {
         Err(fault) => Outcome::of_refusal(fault == RunnerFault::Memory),
         Ok(money) => Outcome::of_answer(money == 60),
     })
+}
+
+/// Keeps the best of one call after another; where one is refused, those before it are kept.
+pub fn keeps(rt: &HostRuntime) -> Result<Outcome, Fault> {
+    let board = board(rt.alloc())?;
+    let mut keeping = Keeping::new(rt.alloc());
+    Call::Keeping.begin(rt)?;
+    let (count, fault) = keep_many(&mut keeping, &board);
+    made(rt)?;
+    let are_as_told = keeping.kept().len() == count && are_best(keeping.kept());
+    Ok(match fault {
+        None => Outcome::of_answer(are_as_told && count == KEPT),
+        Some(fault) => Outcome::of_refusal(are_as_told && fault == RunnerFault::Memory),
+    })
+}
+
+/// Keeps the best up to the first that is refused: how many were kept, and why no more.
+fn keep_many(keeping: &mut Keeping, board: &Board) -> (usize, Option<RunnerFault>) {
+    for count in 0..KEPT {
+        if let Err(fault) = keeping.earn(board, ROUND, PRR, &TRAINS) {
+            return (count, Some(fault));
+        }
+    }
+    (KEPT, None)
+}
+
+/// Whether each group is that of the best that PRR's trains do on the line.
+fn are_best(groups: &[Group]) -> bool {
+    for group in groups {
+        if group.round != ROUND || group.company != PRR || group.claim.revenue != 60 {
+            return false;
+        }
+    }
+    true
 }

@@ -19,6 +19,7 @@ pub enum Call {
     Best,
     BestPlain,
     Search,
+    Keeping,
     PlayOpening,
     PlayStock,
     PlayCompany,
@@ -37,7 +38,7 @@ pub enum Call {
 
 impl Call {
     /// Each of them.
-    pub const ALL: [Call; 29] = [
+    pub const ALL: [Call; 30] = [
         Call::Collect,
         Call::PrintLine,
         Call::ReadHex,
@@ -53,6 +54,7 @@ impl Call {
         Call::Best,
         Call::BestPlain,
         Call::Search,
+        Call::Keeping,
         Call::PlayOpening,
         Call::PlayStock,
         Call::PlayCompany,
@@ -87,6 +89,7 @@ impl Call {
             Call::Best => "best",
             Call::BestPlain => "best on a plain board",
             Call::Search => "Search",
+            Call::Keeping => "Keeping",
             Call::PlayOpening => "play_opening",
             Call::PlayStock => "play_stock",
             Call::PlayCompany => "play_company",

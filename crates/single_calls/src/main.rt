@@ -74,6 +74,7 @@ fn make(rt: &HostRuntime, call: Call) -> Result<Outcome, Fault> {
         Call::Best => boards::finds_best(rt),
         Call::BestPlain => boards::finds_best_plain(rt),
         Call::Search => boards::searches(rt),
+        Call::Keeping => boards::keeps(rt),
         Call::Play
         | Call::HeaderText
         | Call::NextText

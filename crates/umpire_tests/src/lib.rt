@@ -4,11 +4,14 @@
 //! `./check` plays; the libraries below the sequence of rounds have their tests in `library_tests`.
 //!
 //! Reading order: `support` (readers and writers that give and take as they are told), `running`
-//! (whole runs over them), `watching` (a reader or writer that remembers a failure), `texts`
-//! (reports), `sequence` (the rounds after the bank is broken), `refusing` (a runner that refuses to
-//! answer), `stepping` (a game a round at a time).
+//! (whole runs over them), `certifying` (certificates, written and verified, over them), `watching`
+//! (a reader or writer that remembers a failure), `texts` (reports), `sequence` (the rounds after the
+//! bank is broken), `refusing` (a runner that refuses to answer), `stepping` (a game a round at a
+//! time).
 #![tactic(auto)]
 
+#[cfg(test)]
+mod certifying;
 #[cfg(test)]
 mod refusing;
 #[cfg(test)]

@@ -4,7 +4,7 @@
 use std::alloc::Global;
 use std::io;
 use std::io::{Read, Write};
-use umpire::{Fault, Watched, run};
+use umpire::{Fault, Watched, certs, run, verify};
 
 /// ANN buys SV in the first opening round, and then all pass.
 pub(crate) const FIRST: &str = "GAME 1830 1
@@ -62,8 +62,12 @@ pub(crate) struct Source<'a> {
 
 impl<'a> Source<'a> {
     pub(crate) fn giving(text: &'a str, most: usize) -> Source<'a> {
+        Source::of(text.as_bytes(), most)
+    }
+
+    pub(crate) fn of(text: &'a [u8], most: usize) -> Source<'a> {
         Source {
-            text: text.as_bytes(),
+            text,
             most,
             bad: None,
             after_end: AfterEnd::Ends,
@@ -183,10 +187,27 @@ pub(crate) struct Outcome {
 }
 
 /// The outcome of a run from this reader to this writer.
-pub(crate) fn outcome_of(alloc: Global, mut source: Source, mut sink: Sink) -> Outcome {
+pub(crate) fn outcome_of(alloc: Global, source: Source, sink: Sink) -> Outcome {
+    outcome_by(alloc, Call::Run, source, sink)
+}
+
+/// A call of the umpire.
+#[derive(Clone, Copy)]
+pub(crate) enum Call {
+    Run,
+    Certs,
+    Verify,
+}
+
+/// The outcome of a call from this reader to this writer.
+pub(crate) fn outcome_by(alloc: Global, call: Call, mut source: Source, mut sink: Sink) -> Outcome {
     let mut reader = Watched::new(&mut source);
     let mut writer = Watched::new(&mut sink);
-    let result = run(alloc, &mut reader, &mut writer);
+    let result = match call {
+        Call::Run => run(alloc, &mut reader, &mut writer),
+        Call::Certs => certs(alloc, &mut reader, &mut writer),
+        Call::Verify => verify(alloc, &mut reader, &mut writer),
+    };
     let read_failed = reader.failed();
     let write_failed = writer.failed();
     Outcome {
