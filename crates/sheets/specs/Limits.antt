@@ -3,11 +3,11 @@ use Rattle.std.specs.Prelude.{ℕ}
 
 -- the most bytes of an order file
 abbrev pub file_most : ℕ
-file_most = 4194304
+file_most = 67108864
 
 -- the most good SHEET lines of an order file
 abbrev pub sheets_most : ℕ
-sheets_most = 4096
+sheets_most = 65536
 
 -- the last line of a sheet that may be an order
 abbrev pub lines_most : ℕ

@@ -19,7 +19,7 @@ use std::alloc::{AllocError, Global};
 use std::collections::HashMap;
 
 /// The most good SHEET lines of an order file.
-pub const SHEETS_MOST: usize = 4_096;
+pub const SHEETS_MOST: usize = 65_536;
 
 /// What has come of the lines after the players line.
 #[derive(Drop)]

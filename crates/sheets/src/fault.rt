@@ -16,10 +16,10 @@ pub enum FileFault {
     #[error("no line after the header names 3 to 6 different players")]
     Players,
     /// F3: the file has over `FILE_MOST` bytes.
-    #[error("the file has over 4,194,304 bytes")]
+    #[error("the file has over 67,108,864 bytes")]
     TooLong,
     /// F4: the file has over `SHEETS_MOST` good SHEET lines.
-    #[error("the file has over 4,096 good SHEET lines")]
+    #[error("the file has over 65,536 good SHEET lines")]
     TooManySheets,
     /// F5: memory was refused. No report prints this code, since the file itself is not refused.
     #[error("memory was refused")]

@@ -22,7 +22,7 @@ use tables::{Company, Round, Seat};
 const GAME: u32 = 1830;
 
 /// The most bytes of an order file.
-pub const FILE_MOST: usize = 4_194_304;
+pub const FILE_MOST: usize = 67_108_864;
 
 /// The sheets of an order file.
 #[derive(Drop)]

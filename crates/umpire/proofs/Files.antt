@@ -14,11 +14,11 @@ use Rattle.umpire.specs.declared.fault.Fault.{Fault}
 use Rattle.umpire.specs.declared.fault.Fault.TheVariants.{Read, Write, Memory, File, Certificate}
 
 -- all of a file was read, or it is too long and so is what was read of it
-read_or_long : (bytes file : List ℕ) → file ≡ as_read bytes → (length bytes ≤ 4194304) ⊎ (4194304 < length bytes) → (bytes ≡ file) ⊎ ((content_of bytes ≡ Err TooLong) × (content_of file ≡ Err TooLong))
+read_or_long : (bytes file : List ℕ) → file ≡ as_read bytes → (length bytes ≤ 67108864) ⊎ (67108864 < length bytes) → (bytes ≡ file) ⊎ ((content_of bytes ≡ Err TooLong) × (content_of file ≡ Err TooLong))
 unfolding as_read
-read_or_long bytes file read (inl within) = inl (sym (read ∙ take_all 4194305 bytes (grind arith)))
+read_or_long bytes file read (inl within) = inl (sym (read ∙ take_all 67108865 bytes (grind arith)))
 read_or_long bytes file read (inr over) =
-    let many : length file ≡ 4194305 = rw read (length-take-le 4194305 bytes (grind arith)) in
+    let many : length file ≡ 67108865 = rw read (length-take-le 67108865 bytes (grind arith)) in
     inr (too_long bytes over, too_long file (grind arith))
 
 -- what a whole file says, of which this was read

@@ -22,4 +22,4 @@ pub record TakesAtMost (most : ℕ) (old new : Option (List ℕ)) : Type 0 where
 
 -- it gave no byte past the first that is over the limit of a file
 abbrev pub TakesWithin : Option (List ℕ) → Option (List ℕ) → Type 0
-TakesWithin old new = TakesAtMost 4194305 old new
+TakesWithin old new = TakesAtMost 67108865 old new

@@ -10,7 +10,7 @@ use Rattle.umpire.specs.declared.fault.Fault.TheVariants.{Read, Write, Memory, F
 
 -- as much of a file as is read: one byte more than the most that a file may have
 unfoldable pub as_read : List ℕ → List ℕ
-as_read bytes = take 4194305 bytes
+as_read bytes = take 67108865 bytes
 
 -- the first of the bytes that a reader gives, so many at most, where they are known
 abbrev pub AreFirst : ℕ → Option (List ℕ) → List ℕ → Type 0
