@@ -12,3 +12,9 @@ mod WrittenLines
 mod MarksLines
 mod ReadAgain
 mod AnsweredAgain
+mod GatherLemmas
+mod EndedLines
+mod MigratedLines
+mod LinesInTwo
+mod BodyLemmas
+mod MigrationLemmas
