@@ -249,9 +249,19 @@ pub record Obeyance : Type 0 where
   pub line : ℕ
   pub order : Order
 
--- the order that a ruling obeys
+-- the order that a ruling obeys, whatever its condition
+abbrev pub order_obeyed : Ruling → Option Order
+order_obeyed (Obeyed condition order) = Some order
+order_obeyed other = None
+
+-- what the order that is obeyed says
+abbrev pub obeyed_says : {A : Type 0} → (Order → Option A) → Option Order → Option A
+obeyed_says says None = None
+obeyed_says says (Some order) = says order
+
+-- the order that a ruling obeys, with the seat and the line
 abbrev pub obeyed_by : Seat → ℕ → Ruling → Option Obeyance
-obeyed_by seat line (Obeyed order) = Some (record { seat = seat; line = line; order = order })
+obeyed_by seat line (Obeyed condition order) = Some (record { seat = seat; line = line; order = order })
 obeyed_by seat line other = None
 
 -- the order that an event obeys
@@ -267,10 +277,14 @@ is_act (order.Bid private amount) = true
 is_act (order.Sell company tenths) = true
 is_act other = false
 
+-- so is the order that is obeyed, if one is
+abbrev pub is_act_obeyed : Option Order → Bool
+is_act_obeyed None = false
+is_act_obeyed (Some order) = is_act order
+
 -- a ruling obeys such an order
 abbrev pub acts : Ruling → Bool
-acts (Obeyed order) = is_act order
-acts other = false
+acts ruling = is_act_obeyed (order_obeyed ruling)
 
 -- an event says nothing of what parties have and own, of SV's price, or of what lies on the map
 pub record IsQuiet (event : Event) : Type 0 where
@@ -380,3 +394,4 @@ code_of_refusal (refusal.Run rule) = code_of_run_rule rule
 code_of_refusal (refusal.Pay rule) = code_of_pay_rule rule
 code_of_refusal (refusal.Train rule) = code_of_train_rule rule
 code_of_refusal (refusal.Private rule) = code_of_private_rule rule
+code_of_refusal refusal.Condition = codes "I1"

@@ -1,8 +1,12 @@
--- Orders and rulings as events keep them, in few bytes.
-use Rattle.std.specs.Prelude.{◌≡◌, ◌<◌, Bool, true, false, length}
+-- Orders and rulings as events keep them, in few bytes; an order under a condition stands behind a box.
+use Rattle.std.specs.Prelude.{◌≡◌, ◌<◌, Bool, true, false, List, length, Option, Some, None}
 use Rattle.history.specs.KeptRun.{places_in}
 use Rattle.history.specs.declared.kept.OrderKept.{OrderKept}
 use Rattle.history.specs.declared.kept.OrderKept.TheVariants as kept
+use Rattle.history.specs.declared.kept.OrderSeen.{OrderSeen}
+use Rattle.history.specs.declared.kept.OrderSeen.TheVariants as seen
+use Rattle.history.specs.declared.kept.OrderedKept.{OrderedKept}
+use Rattle.history.specs.declared.kept.OrderedKept.TheVariants as ordered_kept
 use Rattle.history.specs.declared.kept.RulingKept.{RulingKept}
 use Rattle.history.specs.declared.kept.RulingKept.TheVariants as ruled
 use Rattle.history.specs.declared.kept.ShortOrder.{ShortOrder}
@@ -11,8 +15,12 @@ use Rattle.history.specs.declared.kept.Verdict.{Verdict}
 use Rattle.history.specs.declared.kept.Verdict.TheVariants as verdict
 use Rattle.history.specs.declared.ruling.Ruling.{Ruling}
 use Rattle.history.specs.declared.ruling.Ruling.TheVariants.{Obeyed, Refused, Faulty}
+use Rattle.map_tables.specs.declared.place.Place.{Place}
+use Rattle.order_grammar.specs.Condition.{Ordered, ordered}
+use Rattle.order_grammar.specs.declared.condition.Condition.{Condition}
 use Rattle.order_grammar.specs.declared.order.Order.{Order}
 use Rattle.order_grammar.specs.declared.order.Order.TheVariants as order
+use Rattle.tables.specs.declared.rolling_stock.Kind.{Kind}
 
 -- an order of few bytes
 abbrev pub order_in_short : ShortOrder → Order
@@ -55,10 +63,11 @@ has_short_form (order.Raise company tenths) = true
 has_short_form (order.Offer offer) = true
 has_short_form other = false
 
--- an order that is kept behind a box: a run of over five places, or an order of no play
-abbrev pub TakesBox : Order → Type 0
-TakesBox (order.Run kind run) = 5 < length run
-TakesBox other = has_short_form other ≡ false
+-- an order that is kept behind a box: one under a condition, a run of over five places, or an order of no play
+abbrev pub TakesBox : Option Condition → Order → Type 0
+TakesBox None (order.Run kind run) = 5 < length run
+TakesBox None other = has_short_form other ≡ false
+TakesBox (Some condition) order = Unit {0}
 
 -- the order that is kept
 abbrev pub order_in : OrderKept → Order
@@ -67,15 +76,34 @@ order_in (kept.ShortRun kind run) = order.Run kind (places_in run)
 order_in (kept.LongRun kind run) = order.Run kind run.value
 order_in (kept.Boxed order) = order.value
 
--- an order with its verdict
-abbrev pub ruling_by : Verdict → Order → Ruling
-ruling_by verdict.Obeyed order = Obeyed order
-ruling_by (verdict.Refused refusal) order = Refused refusal order
+-- the order that is kept with its condition, if it has one
+abbrev pub ordered_in : OrderedKept → Ordered
+ordered_in (ordered_kept.Plain order) = ordered None (order_in order)
+ordered_in (ordered_kept.Conditional order) = ordered (Some order.value.condition) (order_in order.value.order)
+
+-- an order with its condition, if it has one, and its verdict
+abbrev pub ruling_by : Verdict → Option Condition → Order → Ruling
+ruling_by verdict.Obeyed condition order = Obeyed condition order
+ruling_by (verdict.Refused rule) condition order = Refused rule condition order
 
 -- the ruling that is kept
 abbrev pub ruling_in : RulingKept → Ruling
-ruling_in (ruled.Short verdict order) = ruling_by verdict (order_in_short order)
-ruling_in (ruled.ShortRun verdict kind run) = ruling_by verdict (order.Run kind (places_in run))
-ruling_in (ruled.LongRun verdict kind run) = ruling_by verdict (order.Run kind run.value)
-ruling_in (ruled.Boxed verdict order) = ruling_by verdict order.value
+ruling_in (ruled.Short verdict order) = ruling_by verdict None (order_in_short order)
+ruling_in (ruled.ShortRun verdict kind run) = ruling_by verdict None (order.Run kind (places_in run))
+ruling_in (ruled.LongRun verdict kind run) = ruling_by verdict None (order.Run kind run.value)
+ruling_in (ruled.Boxed verdict order) = ruling_by verdict None order.value
+ruling_in (ruled.Conditional verdict order) =
+    ruling_by verdict (Some order.value.condition) (order_in order.value.order)
 ruling_in (ruled.Faulty fault) = Faulty fault
+
+-- an order that is obeyed is a run
+pub record IsRun (obeyed : Option Order) : Type 0 where
+  pub kind : Kind
+  pub run : List Place
+  pub is : obeyed ≡ Some (order.Run kind run)
+
+-- the order that is obeyed, as a reader sees it: all but the places of a run
+abbrev pub IsSeenAs : Option Order → OrderSeen → Type 0
+IsSeenAs obeyed (seen.Short order) = obeyed ≡ Some (order_in_short order)
+IsSeenAs obeyed (seen.Long order) = obeyed ≡ Some order.now
+IsSeenAs obeyed seen.Run = IsRun obeyed

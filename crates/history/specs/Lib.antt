@@ -12,6 +12,7 @@ pub mod Operating
 pub mod Trains
 pub mod Orders
 pub mod Offers
+pub mod Conditions
 pub mod Tell
 pub mod Sound
 pub mod Laws

@@ -4,12 +4,11 @@
 -- serves any number of times.
 use Rattle.std.specs.Prelude.{◌≡◌, ℕ, ◌==◌, Bool, false, ◌&&◌, ◌||◌, if◌then◌else◌, List, Option, Some, None, is_some}
 use Rattle.std.specs.List.{list_any}
-use Rattle.history.specs.Event.{obeyed_of}
+use Rattle.history.specs.Event.{obeyed_of, obeyed_says, order_obeyed}
 use Rattle.history.specs.LookBack.{in_round, now_said}
 use Rattle.history.specs.Orders.{said_by}
 use Rattle.history.specs.declared.event.Event.{Event}
 use Rattle.history.specs.declared.ruling.Ruling.{Ruling}
-use Rattle.history.specs.declared.ruling.Ruling.TheVariants.{Obeyed}
 use Rattle.order_grammar.specs.declared.order.Offer.{Offer}
 use Rattle.order_grammar.specs.declared.order.Offer.TheVariants as offer
 use Rattle.order_grammar.specs.declared.order.Order.{Order}
@@ -39,8 +38,7 @@ offered_in sale other = None
 
 -- the same, of the order that a ruling obeys
 abbrev pub offer_obeyed : Offer → Ruling → Option Offer
-offer_obeyed sale (Obeyed order) = offered_in sale order
-offer_obeyed sale other = None
+offer_obeyed sale ruling = obeyed_says (offered_in sale) (order_obeyed ruling)
 
 -- the same, where an order offers this sale, or none
 abbrev pub offer_said : Offer → Option Offer → Option Offer

@@ -3,12 +3,11 @@
 use Rattle.std.specs.Prelude.{ℕ, ◌==◌, ◌&&◌, if◌then◌else◌, List, Option, Some, None}
 use Rattle.order_grammar.specs.declared.order.Order.{Order}
 use Rattle.order_grammar.specs.declared.order.Order.TheVariants as order
-use Rattle.history.specs.Event.{Obeyance, obeyed_of}
+use Rattle.history.specs.Event.{Obeyance, obeyed_of, obeyed_says, order_obeyed}
 use Rattle.history.specs.LookBack.{in_round, last_said, now_said}
 use Rattle.history.specs.Shares.{is_par_value}
 use Rattle.history.specs.declared.event.Event.{Event}
 use Rattle.history.specs.declared.ruling.Ruling.{Ruling}
-use Rattle.history.specs.declared.ruling.Ruling.TheVariants.{Obeyed}
 use Rattle.tables.specs.Roster.{same_company, same_private}
 use Rattle.tables.specs.declared.roster.Company.TheVariants.{BaltimoreOhio}
 use Rattle.tables.specs.declared.roster.Private.{Private}
@@ -32,13 +31,11 @@ limit_said private (Some limit) = if same_private limit.0 private then Some limi
 
 -- the same, of the order that a ruling obeys
 abbrev pub limit_obeyed : Private → Ruling → Option ℕ
-limit_obeyed private (Obeyed order) = limit_in private order
-limit_obeyed private other = None
+limit_obeyed private ruling = obeyed_says (limit_in private) (order_obeyed ruling)
 
 -- the same, of the order that a ruling obeys
 abbrev pub par_of_baltimore_obeyed : Ruling → Option ℕ
-par_of_baltimore_obeyed (Obeyed order) = par_of_baltimore_in order
-par_of_baltimore_obeyed other = None
+par_of_baltimore_obeyed ruling = obeyed_says par_of_baltimore_in (order_obeyed ruling)
 
 -- what an obeyed order says, if it is of this seat
 abbrev pub said_by : {A : Type 0} → Seat → (Order → Option A) → Option Obeyance → Option A

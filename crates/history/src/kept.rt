@@ -1,16 +1,19 @@
-//! Orders and rulings as events keep them, in few bytes.
-ghost use Rattle.std.specs.Prelude.{◌≡◌, false, MatchOption, MatchResult};
-ghost use Rattle.history.specs.Event.{acts};
-ghost use Rattle.history.specs.Kept.{TakesBox, has_short_form, order_in_short, ruling_by};
+//! Orders and rulings as events keep them, in few bytes; an order under a condition stands behind a
+//! box with it.
+ghost use Rattle.std.specs.Prelude.{◌≡◌, None, Some, false, MatchOption, MatchResult};
+ghost use Rattle.std.specs.Option.{option_copied};
+ghost use Rattle.history.specs.Event.{acts, order_obeyed};
+ghost use Rattle.history.specs.Kept.{IsSeenAs, TakesBox, has_short_form, order_in, order_in_short, ruling_by};
 ghost use Rattle.history.specs.Offers.{offer_obeyed, offer_said, same_offer, same_terms};
 ghost use Rattle.history.specs.Orders.{limit_obeyed, limit_said, par_of_baltimore_in, par_of_baltimore_obeyed};
 ghost use Rattle.history.specs.declared.ruling.Ruling.TheVariants.{Faulty, Obeyed, Refused};
+ghost use Rattle.order_grammar.specs.Condition.{ordered};
 ghost use Rattle.order_grammar.specs.declared.order.Order.TheVariants as order;
 
 use crate::kept_run::{LongRun, ShortRun};
 use crate::ruling::{Refusal, Ruling};
-use map_tables::{Lay, Place};
-use order_grammar::{Fault, Offer, Order, ShareSource, TrainSource};
+use map_tables::{Lay, Place, Run};
+use order_grammar::{Condition, Fault, Offer, Order, ShareSource, TrainSource};
 use std::alloc::{AllocError, Global};
 use std::marker::Model;
 use tables::{Amount, Company, Kind, Private, par_square};
@@ -96,10 +99,25 @@ impl ShortOrder {
     }
 }
 
-/// An order that is to be ruled, in few bytes; contracts see the order.
+/// An order that is to be ruled, with its condition if it has one, in few bytes; contracts see the
+/// two.
 #[derive(Debug, Drop)]
 pub struct KeptOrder {
-    kept: OrderKept,
+    kept: OrderedKept,
+}
+
+/// An order without a condition, or one under a condition behind a box.
+#[derive(Debug, Drop)]
+enum OrderedKept {
+    Plain(OrderKept),
+    Conditional(Box<ConditionalKept>),
+}
+
+/// An order under its condition.
+#[derive(Debug, Drop)]
+struct ConditionalKept {
+    condition: Condition,
+    order: OrderKept,
 }
 
 /// An order of few bytes, a run of few places, any other run behind a box, or any other order
@@ -113,19 +131,44 @@ enum OrderKept {
 }
 
 impl Model for KeptOrder {
-    ghost use Rattle.history.specs.Kept.{order_in};
-    ghost use Rattle.order_grammar.specs.declared.order.Order.{Order};
+    ghost use Rattle.history.specs.Kept.{ordered_in};
+    ghost use Rattle.order_grammar.specs.Condition.{Ordered};
 
-    ghost Value = { Order };
+    ghost Value = { Ordered };
 
-    ghost view = { λ a. order_in a.kept };
+    ghost view = { λ a. ordered_in a.kept };
 }
 
 impl KeptOrder {
-    /// Keeps a copy of an order. An `Err` comes only where a box gets no memory; of the orders that
-    /// are ruled, only a run of more than five places needs one.
-    pub fn keep(alloc: Global, order: &Order) -> Result<KeptOrder, AllocError>
-        ensures { MatchResult result (λ kept. kept ≡ order.now) (λ _. TakesBox order.now) }
+    /// Keeps a copy of an order with its condition, if it has one. An `Err` comes only where a box
+    /// gets no memory; of the orders that are ruled, only one under a condition and a run of more
+    /// than five places need one.
+    pub fn keep(
+        alloc: Global,
+        condition: Option<&Condition>,
+        order: &Order,
+    ) -> Result<KeptOrder, AllocError>
+        ensures { MatchResult result
+            (λ kept. kept ≡ ordered (option_copied condition.entry) order.now)
+            (λ _. TakesBox (option_copied condition.entry) order.now) }
+    {
+        let order = OrderKept::keep(alloc, order)?;
+        let kept = match condition {
+            None => OrderedKept::Plain(order),
+            Some(condition) => {
+                let condition = *condition;
+                OrderedKept::Conditional(Box::new(alloc, ConditionalKept { condition, order })?)
+            }
+        };
+        Ok(KeptOrder { kept })
+    }
+}
+
+impl OrderKept {
+    /// Keeps a copy of an order.
+    fn keep(alloc: Global, order: &Order) -> Result<OrderKept, AllocError>
+        ensures { MatchResult result (λ kept. order_in kept ≡ order.now)
+            (λ _. TakesBox None order.now) }
     {
         let kept = match order {
             Order::Run { kind, run } => match ShortRun::keep(run) {
@@ -140,8 +183,39 @@ impl KeptOrder {
                 None => OrderKept::Boxed(Box::new(alloc, other.duplicate())?),
             },
         };
-        Ok(KeptOrder { kept })
+        Ok(kept)
     }
+
+    /// The order that is kept.
+    fn order(&self) -> Order
+        ensures { result ≡ order_in self.now }
+    {
+        match self {
+            OrderKept::Short(order) => order.order(),
+            OrderKept::ShortRun { kind, run } => run_order(*kind, run.run()),
+            OrderKept::LongRun { kind, run } => run_order(*kind, run.run()),
+            OrderKept::Boxed(order) => order.duplicate(),
+        }
+    }
+
+    /// The order as a reader sees it.
+    fn seen(&self) -> OrderSeen<'_>
+        ensures { IsSeenAs (Some (order_in self.now)) result }
+    {
+        match self {
+            OrderKept::Short(order) => OrderSeen::Short(*order),
+            OrderKept::Boxed(order) => OrderSeen::Long(order),
+            _ => OrderSeen::Run,
+        }
+    }
+}
+
+/// An order as a reader sees it that asks for no run.
+#[derive(Clone, Copy, Debug)]
+enum OrderSeen<'a> {
+    Short(ShortOrder),
+    Long(&'a Order),
+    Run,
 }
 
 /// A ruling as an event keeps it, in few bytes; contracts see the ruling.
@@ -178,6 +252,10 @@ enum RulingKept {
         verdict: Verdict,
         order: Box<Order>,
     },
+    Conditional {
+        verdict: Verdict,
+        order: Box<ConditionalKept>,
+    },
     Faulty(Fault),
 }
 
@@ -194,18 +272,18 @@ impl Model for KeptRuling {
 }
 
 impl KeptRuling {
-    /// The order was carried out.
+    /// The order was carried out; its condition held, if it has one.
     pub fn obeyed(order: KeptOrder) -> KeptRuling
-        ensures { result ≡ Obeyed order }
+        ensures { result ≡ Obeyed order.condition order.order }
     {
         KeptRuling::of(Verdict::Obeyed, order)
     }
 
-    /// The order breaks a rule of play; this is the first.
-    pub fn refused(refusal: Refusal, order: KeptOrder) -> KeptRuling
-        ensures { result ≡ Refused refusal order }
+    /// The order breaks a rule of play, of which this is the first.
+    pub fn refused(rule: Refusal, order: KeptOrder) -> KeptRuling
+        ensures { result ≡ Refused rule order.condition order.order }
     {
-        KeptRuling::of(Verdict::Refused(refusal), order)
+        KeptRuling::of(Verdict::Refused(rule), order)
     }
 
     /// The line has a fault by itself or has no place where it stands.
@@ -219,13 +297,18 @@ impl KeptRuling {
 
     /// An order with its verdict.
     fn of(verdict: Verdict, order: KeptOrder) -> KeptRuling
-        ensures { result ≡ ruling_by verdict order }
+        ensures { result ≡ ruling_by verdict order.condition order.order }
     {
         let kept = match order.kept {
-            OrderKept::Short(order) => RulingKept::Short { verdict, order },
-            OrderKept::ShortRun { kind, run } => RulingKept::ShortRun { verdict, kind, run },
-            OrderKept::LongRun { kind, run } => RulingKept::LongRun { verdict, kind, run },
-            OrderKept::Boxed(order) => RulingKept::Boxed { verdict, order },
+            OrderedKept::Plain(OrderKept::Short(order)) => RulingKept::Short { verdict, order },
+            OrderedKept::Plain(OrderKept::ShortRun { kind, run }) => {
+                RulingKept::ShortRun { verdict, kind, run }
+            }
+            OrderedKept::Plain(OrderKept::LongRun { kind, run }) => {
+                RulingKept::LongRun { verdict, kind, run }
+            }
+            OrderedKept::Plain(OrderKept::Boxed(order)) => RulingKept::Boxed { verdict, order },
+            OrderedKept::Conditional(order) => RulingKept::Conditional { verdict, order },
         };
         KeptRuling { kept }
     }
@@ -235,17 +318,48 @@ impl KeptRuling {
         ensures { result ≡ self.now }
     {
         match &self.kept {
-            RulingKept::Short { verdict, order } => ruling_of(*verdict, order.order()),
+            RulingKept::Short { verdict, order } => ruling_of(*verdict, None, order.order()),
             RulingKept::ShortRun { verdict, kind, run } => {
-                let (kind, run) = (*kind, run.run());
-                ruling_of(*verdict, Order::Run { kind, run })
+                ruling_of(*verdict, None, run_order(*kind, run.run()))
             }
             RulingKept::LongRun { verdict, kind, run } => {
-                let (kind, run) = (*kind, run.run());
-                ruling_of(*verdict, Order::Run { kind, run })
+                ruling_of(*verdict, None, run_order(*kind, run.run()))
             }
-            RulingKept::Boxed { verdict, order } => ruling_of(*verdict, order.duplicate()),
+            RulingKept::Boxed { verdict, order } => ruling_of(*verdict, None, order.duplicate()),
+            RulingKept::Conditional { verdict, order } => {
+                ruling_of(*verdict, Some(order.condition), order.order.order())
+            }
             RulingKept::Faulty(fault) => Ruling::Faulty(*fault),
+        }
+    }
+
+    /// The order that it obeys, as a reader sees it, if it obeys one.
+    fn obeyed_order(&self) -> Option<OrderSeen<'_>>
+        ensures { MatchOption result (order_obeyed self.now ≡ None)
+            (λ seen. IsSeenAs (order_obeyed self.now) seen) }
+    {
+        match &self.kept {
+            RulingKept::Short {
+                verdict: Verdict::Obeyed,
+                order,
+            } => Some(OrderSeen::Short(*order)),
+            RulingKept::ShortRun {
+                verdict: Verdict::Obeyed,
+                ..
+            } => Some(OrderSeen::Run),
+            RulingKept::LongRun {
+                verdict: Verdict::Obeyed,
+                ..
+            } => Some(OrderSeen::Run),
+            RulingKept::Boxed {
+                verdict: Verdict::Obeyed,
+                order,
+            } => Some(OrderSeen::Long(order)),
+            RulingKept::Conditional {
+                verdict: Verdict::Obeyed,
+                order,
+            } => Some(order.order.seen()),
+            _ => None,
         }
     }
 
@@ -254,19 +368,13 @@ impl KeptRuling {
     pub fn is_act(&self) -> bool
         ensures { result ≡ acts self.now }
     {
-        match &self.kept {
-            RulingKept::Short {
-                verdict: Verdict::Obeyed,
-                order,
-            } => matches!(
+        match self.obeyed_order() {
+            Some(OrderSeen::Short(order)) => matches!(
                 order,
                 ShortOrder::BuyPrivate(_) | ShortOrder::Bid { .. } | ShortOrder::Sell { .. }
             ),
-            RulingKept::Boxed {
-                verdict: Verdict::Obeyed,
+            Some(OrderSeen::Long(order)) => matches!(
                 order,
-            } => matches!(
-                **order,
                 Order::BuyPrivate(_) | Order::Bid { .. } | Order::Sell { .. }
             ),
             _ => false,
@@ -279,18 +387,11 @@ impl KeptRuling {
         ensures { (private : Private) →
             limit_said private result ≡ limit_obeyed private self.now }
     {
-        match &self.kept {
-            RulingKept::Short {
-                verdict: Verdict::Obeyed,
-                order: ShortOrder::Limit { private, amount },
-            } => Some((*private, *amount)),
-            RulingKept::Boxed {
-                verdict: Verdict::Obeyed,
-                order,
-            } => match &**order {
-                Order::Limit { private, amount } => Some((*private, *amount)),
-                _ => None,
-            },
+        match self.obeyed_order() {
+            Some(OrderSeen::Short(ShortOrder::Limit { private, amount })) => {
+                Some((private, amount))
+            }
+            Some(OrderSeen::Long(Order::Limit { private, amount })) => Some((*private, *amount)),
             _ => None,
         }
     }
@@ -299,28 +400,16 @@ impl KeptRuling {
     pub(crate) fn limit_on(&self, private: Private) -> Option<Amount>
         ensures { result ≡ limit_obeyed private self.now }
     {
-        match self.limit() {
-            Some((other, amount)) if other == private => Some(amount),
-            _ => None,
-        }
+        limit_said(private, self.limit())
     }
 
     /// The sale that the order that it obeys offers, if it does.
     pub(crate) fn offer(&self) -> Option<Offer>
         ensures { (sale : Offer) → offer_said sale result ≡ offer_obeyed sale self.now }
     {
-        match &self.kept {
-            RulingKept::Short {
-                verdict: Verdict::Obeyed,
-                order: ShortOrder::Offer(sale),
-            } => Some(*sale),
-            RulingKept::Boxed {
-                verdict: Verdict::Obeyed,
-                order,
-            } => match &**order {
-                Order::Offer(sale) => Some(*sale),
-                _ => None,
-            },
+        match self.obeyed_order() {
+            Some(OrderSeen::Short(ShortOrder::Offer(sale))) => Some(sale),
+            Some(OrderSeen::Long(Order::Offer(sale))) => Some(*sale),
             _ => None,
         }
     }
@@ -339,20 +428,25 @@ impl KeptRuling {
     pub(crate) fn par_of_baltimore(&self) -> Option<Amount>
         ensures { result ≡ par_of_baltimore_obeyed self.now }
     {
-        match &self.kept {
-            RulingKept::Short {
-                verdict: Verdict::Obeyed,
-                order: ShortOrder::Par { company, price },
-            } => par_of_baltimore(*company, *price),
-            RulingKept::Boxed {
-                verdict: Verdict::Obeyed,
-                order,
-            } => match &**order {
-                Order::Par { company, price } => par_of_baltimore(*company, *price),
-                _ => None,
-            },
+        match self.obeyed_order() {
+            Some(OrderSeen::Short(ShortOrder::Par { company, price })) => {
+                par_of_baltimore(company, price)
+            }
+            Some(OrderSeen::Long(Order::Par { company, price })) => {
+                par_of_baltimore(*company, *price)
+            }
             _ => None,
         }
+    }
+}
+
+/// How far to go in the auction of a private, where that is the one that is named with a sum.
+fn limit_said(private: Private, said: Option<(Private, Amount)>) -> Option<Amount>
+    ensures { result ≡ limit_said private said }
+{
+    match said {
+        Some((other, amount)) if other == private => Some(amount),
+        _ => None,
     }
 }
 
@@ -398,13 +492,24 @@ fn is_on_terms(buyer: Company, price: Amount, to: Company, sum: Amount) -> bool
 }
 
 /// The ruling of an order.
-fn ruling_of(verdict: Verdict, order: Order) -> Ruling
-    ensures { result ≡ ruling_by verdict order }
+fn ruling_of(verdict: Verdict, condition: Option<Condition>, order: Order) -> Ruling
+    ensures { result ≡ ruling_by verdict condition order }
 {
     match verdict {
-        Verdict::Obeyed => Ruling::Obeyed(order),
-        Verdict::Refused(refusal) => Ruling::Refused(refusal, order),
+        Verdict::Obeyed => Ruling::Obeyed { condition, order },
+        Verdict::Refused(rule) => Ruling::Refused {
+            rule,
+            condition,
+            order,
+        },
     }
+}
+
+/// The order to run a train.
+fn run_order(kind: Kind, run: Run) -> Order
+    ensures { result ≡ order.Run kind run }
+{
+    Order::Run { kind, run }
 }
 
 /// The par value that BO is to have where a company is to have this one.

@@ -14,14 +14,15 @@
 //! `kept_run` and `kept` (how an event keeps that), `aspect` (the ways of looking back), `topics`
 //! (what is looked for), `nets` and `noting` (how an event changes what is kept), `books` (what a
 //! list says, kept event by event), `kept_books` (how a game keeps that), `look_back`, `owners`,
-//! `bids`, `offers`, `shares`, `operating` and `trains` (the readers of `Past`), `walk` (along a
-//! list, with its books), `list` (`History`), `tell` (events that follow from the list alone),
-//! `laws`.
+//! `bids`, `offers`, `shares`, `operating`, `trains` and `conditions` (the readers of `Past`), `walk`
+//! (along a list, with its books), `list` (`History`), `tell` (events that follow from the list
+//! alone), `laws`.
 #![tactic(auto)]
 
 mod aspect;
 mod bids;
 mod books;
+mod conditions;
 mod event;
 mod kept;
 mod kept_books;

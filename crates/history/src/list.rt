@@ -1,6 +1,8 @@
 ghost use Rattle.std.specs.Prelude.{◌≡◌, ◌↔◌, ◌≤◌, ◌<◌, ◌++◌, IsTrue, IsOk, MatchResult, OnOk, OnErr, option_map, pos, slice_get, vec_capacity, vec_len, []};
 ghost use Rattle.std.specs.List.{cons_option};
+ghost use Rattle.std.specs.Option.{option_copied};
 ghost use Rattle.history.specs.Bids.{bid_of, free_cash_of};
+ghost use Rattle.history.specs.Conditions.{is_met};
 ghost use Rattle.history.specs.Event.{sum_of};
 ghost use Rattle.history.specs.Kept.{TakesBox};
 ghost use Rattle.history.specs.LookBack.{FitsMemory, IsModerate, bankrupt_in, broken_in, cash_of, cheapest_in, cheapest_of, is_sold, is_sold_in, owner_in, owner_of, priority_of, round_of, sv_price_of, with_event};
@@ -8,6 +10,7 @@ ghost use Rattle.history.specs.Operating.{has_operated, lays_of, rulings_in_roun
 ghost use Rattle.history.specs.Shares.{arrival_of, has_sold_in_round, is_floated, is_started, par_of, president_of, shares_of, square_of};
 ghost use Rattle.history.specs.Sound.{IsSound};
 ghost use Rattle.history.specs.Trains.{phase_of, trains_held, trains_sold};
+ghost use Rattle.order_grammar.specs.Condition.{ordered};
 
 use crate::event::{Event, Holder, Party, SUM_MOST, Shareholder};
 use crate::kept::KeptOrder;
@@ -18,7 +21,7 @@ use crate::owners::Owners;
 use crate::shares::Tenths;
 use crate::trains::TrainCount;
 use map_tables::{Lay, Place};
-use order_grammar::{Offer, Order};
+use order_grammar::{Condition, Offer, Order};
 use std::alloc::{AllocError, Global};
 use std::marker::Model;
 use tables::{Company, Kind, Money, Private, Round, Seat, Square};
@@ -193,12 +196,26 @@ impl History {
         self.now().priority()
     }
 
-    /// Keeps a copy of an order, by the list's own allocator. An `Err` comes only where a box gets
-    /// no memory; of the orders that are ruled, only a run of more than five places needs one.
-    pub fn keep(&self, order: &Order) -> Result<KeptOrder, AllocError>
-        ensures { MatchResult result (λ kept. kept ≡ order.now) (λ _. TakesBox order.now) }
+    /// Keeps a copy of an order with its condition, if it has one, by the list's own allocator. An
+    /// `Err` comes only where a box gets no memory; of the orders that are ruled, only one under a
+    /// condition and a run of more than five places need one.
+    pub fn keep(
+        &self,
+        condition: Option<&Condition>,
+        order: &Order,
+    ) -> Result<KeptOrder, AllocError>
+        ensures { MatchResult result
+            (λ kept. kept ≡ ordered (option_copied condition.entry) order.now)
+            (λ _. TakesBox (option_copied condition.entry) order.now) }
     {
-        KeptOrder::keep(*self.events.allocator(), order)
+        KeptOrder::keep(*self.events.allocator(), condition, order)
+    }
+
+    /// Whether the condition of an order holds, if it has one.
+    pub fn is_met(&self, condition: Option<&Condition>) -> bool
+        ensures { result ≡ is_met self.now.events (option_copied condition.entry) }
+    {
+        self.now().is_met(condition)
     }
 
     /// The owners of all privates.

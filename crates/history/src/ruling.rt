@@ -1,7 +1,7 @@
 ghost use Rattle.std.specs.Prelude.{◌≡◌};
 ghost use Rattle.history.specs.Event.{code_of_lay_rule, code_of_opening_rule, code_of_pay_rule, code_of_private_rule, code_of_refusal, code_of_run_rule, code_of_stock_rule, code_of_token_rule, code_of_train_rule};
 
-use order_grammar::{Fault, Order};
+use order_grammar::{Condition, Fault, Order};
 use thiserror::Error;
 
 /// Which rule of play an order breaks first, by the family of the rule.
@@ -23,6 +23,8 @@ pub enum Refusal {
     Train(TrainRule),
     /// A rule of privates that companies buy.
     Private(PrivateRule),
+    /// I1: the order stands under a condition that does not hold.
+    Condition,
 }
 
 impl Refusal {
@@ -39,6 +41,7 @@ impl Refusal {
             Refusal::Pay(rule) => rule.code(),
             Refusal::Train(rule) => rule.code(),
             Refusal::Private(rule) => rule.code(),
+            Refusal::Condition => "I1",
         }
     }
 }
@@ -374,10 +377,17 @@ impl PrivateRule {
 /// What became of a line that was taken up.
 #[derive(Debug, Drop)]
 pub enum Ruling {
-    /// The order was carried out.
-    Obeyed(Order),
-    /// The order breaks a rule of play; this is the first.
-    Refused(Refusal, Order),
+    /// The order was carried out; its condition held, if it has one.
+    Obeyed {
+        condition: Option<Condition>,
+        order: Order,
+    },
+    /// The order breaks a rule of play, of which this is the first.
+    Refused {
+        rule: Refusal,
+        condition: Option<Condition>,
+        order: Order,
+    },
     /// The line has a fault by itself or has no place where it stands.
     Faulty(Fault),
 }

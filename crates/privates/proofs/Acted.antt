@@ -6,6 +6,7 @@ use Rattle.history.specs.declared.event.Bid.{Bid}
 use Rattle.history.specs.declared.event.Event.{Event}
 use Rattle.history.specs.declared.event.Event.TheVariants as event
 use Rattle.history.specs.declared.ruling.Ruling.TheVariants.{Obeyed}
+use Rattle.order_grammar.specs.declared.condition.Condition.{Condition}
 use Rattle.order_grammar.specs.declared.order.Order.{Order}
 use Rattle.order_grammar.specs.declared.order.Order.TheVariants as order
 use Rattle.privates.specs.Judgement.{price_of, refusal_of}
@@ -58,28 +59,28 @@ unfolding settled
 in_settled seat seats events = nobody_in_steps seat (settle seats) (λ list. in_cheapest seat seats list (cheapest_of list)) 6 events
 
 -- by a line whose order is done
-order_tells : (seats : ℕ) (seat : Seat) (turn : InTurn) (number : ℕ) (done : Order) → refusal_of seats turn.events seat turn.deeds done ≡ None →
-    LineTells opening_rules seat turn (after_ruling seats seat turn number (Obeyed done))
-order_tells seats seat turn number (order.BuyPrivate private) kept =
-    let ruled : List Event = recorded seat number (Obeyed (order.BuyPrivate private)) turn.events in
+order_tells : (seats : ℕ) (seat : Seat) (turn : InTurn) (number : ℕ) (condition : Option Condition) (done : Order) → refusal_of seats turn.events seat turn.deeds done ≡ None →
+    LineTells opening_rules seat turn (after_ruling seats seat turn number (Obeyed condition done))
+order_tells seats seat turn number condition (order.BuyPrivate private) kept =
+    let ruled : List Event = recorded seat number (Obeyed condition (order.BuyPrivate private)) turn.events in
     let sold : List Event = after_sale ruled private seat (price_of ruled private) in
     record {
       acts = true;
       told =
-          in_both seat true false turn.events ruled (settled seats sold) (one_more seat true turn.events (event.Ruled seat number (Obeyed (order.BuyPrivate private))) refl)
+          in_both seat true false turn.events ruled (settled seats sold) (one_more seat true turn.events (event.Ruled seat number (Obeyed condition (order.BuyPrivate private))) refl)
           (in_both seat false false ruled sold (settled seats sold) (in_sale seat ruled private seat (price_of ruled private)) (in_settled seat seats sold));
       acted = now_acted turn.deeds;
     }
-order_tells seats seat turn number (order.Bid private amount) kept =
-    let ruled : List Event = recorded seat number (Obeyed (order.Bid private amount)) turn.events in
+order_tells seats seat turn number condition (order.Bid private amount) kept =
+    let ruled : List Event = recorded seat number (Obeyed condition (order.Bid private amount)) turn.events in
     record {
       acts = true;
       told =
-          in_both seat true false turn.events ruled (ruled ++ event.Bids private seat amount ∷ []) (one_more seat true turn.events (event.Ruled seat number (Obeyed (order.Bid private amount))) refl)
+          in_both seat true false turn.events ruled (ruled ++ event.Bids private seat amount ∷ []) (one_more seat true turn.events (event.Ruled seat number (Obeyed condition (order.Bid private amount))) refl)
           (one_more seat false ruled (event.Bids private seat amount) refl);
       acted = now_acted turn.deeds;
     }
-order_tells seats seat turn number other kept = absurd (cc)
+order_tells seats seat turn number condition other kept = absurd (cc)
 
 -- so each turn of an opening round tells who acted in it
 pub opening_turns_tell : TurnsTellWhoActed opening_rules
@@ -87,4 +88,4 @@ opening_turns_tell =
     turns_tell opening_rules refl
     (λ (seats : ℕ) (seat : Seat) (turn : InTurn) (line : Numbered).
     of_ruled (acted seats seat) (refusal_of seats turn.events seat turn.deeds) seat turn line.number (LineTells opening_rules seat turn)
-    (nobody_ruled opening_rules seat turn line.number) (order_tells seats seat turn line.number) has_place_in_group line.reading)
+    (nobody_ruled opening_rules seat turn line.number) (order_tells seats seat turn line.number) has_place_in_group turn.events line)

@@ -19,6 +19,7 @@ use Rattle.history.specs.declared.event.Holder.{Holder}
 use Rattle.history.specs.declared.ruling.Refusal.TheVariants.{Opening}
 use Rattle.history.specs.declared.ruling.Ruling.{Ruling}
 use Rattle.history.specs.declared.ruling.Ruling.TheVariants.{Obeyed}
+use Rattle.order_grammar.specs.declared.condition.Condition.{Condition}
 use Rattle.order_grammar.specs.declared.order.Order.{Order}
 use Rattle.order_grammar.specs.declared.order.Order.TheVariants as order
 use Rattle.privates.proofs.BidsRise.{both, standing_bids_suffice}
@@ -202,29 +203,29 @@ bid_rise seats events seat private amount may under before =
     }
 
 -- after a line whose order is done
-order_rise : (seats : ℕ) (seat : Seat) (turn : InTurn) (number : ℕ) → seat.0 < seats → RiseAt seats turn.events → (done : Order) →
-    refusal_of seats turn.events seat turn.deeds done ≡ None → RiseAt seats (after_ruling seats seat turn number (Obeyed done)).events
-order_rise seats seat turn number under before (order.BuyPrivate private) kept =
-    let told : Event = event.Ruled seat number (Obeyed (order.BuyPrivate private)) in
+order_rise : (seats : ℕ) (seat : Seat) (turn : InTurn) (number : ℕ) → seat.0 < seats → RiseAt seats turn.events → (condition : Option Condition) (done : Order) →
+    refusal_of seats turn.events seat turn.deeds done ≡ None → RiseAt seats (after_ruling seats seat turn number (Obeyed condition done)).events
+order_rise seats seat turn number under before condition (order.BuyPrivate private) kept =
+    let told : Event = event.Ruled seat number (Obeyed condition (order.BuyPrivate private)) in
     let ruled : List Event = turn.events ++ told ∷ [] in
     settled_rise seats (after_sale ruled private seat (price_of ruled private))
     (after_sale_rise seats ruled private seat (price_of ruled private) (with_other seats turn.events told refl before))
-order_rise seats seat turn number under before (order.Bid private amount) kept =
-    let told : Event = event.Ruled seat number (Obeyed (order.Bid private amount)) in
+order_rise seats seat turn number under before condition (order.Bid private amount) kept =
+    let told : Event = event.Ruled seat number (Obeyed condition (order.Bid private amount)) in
     let ruled : List Event = turn.events ++ told ∷ [] in
     let none = none_as_refusal Opening (judgement_of seats turn.events seat turn.deeds (order.Bid private amount)) kept in
     bid_rise seats ruled seat private amount
     (may_act_after (record { seats = seats; events = turn.events }) (record { seats = seats; events = ruled }) told seat turn.deeds (order.Bid private amount) refl (record { payment = refl; ownership = refl; bidding = refl; transfer = refl; par = refl; square = refl; office = refl; float = refl; sv_price = refl; train = refl; tile = refl; token = refl }) none)
     under (with_other seats turn.events told refl before)
-order_rise seats seat turn number under before other kept = absurd (cc)
+order_rise seats seat turn number under before condition other kept = absurd (cc)
 
--- after a line with this reading
+-- after a line
 line_rise : (seats : ℕ) (seat : Seat) (turn : InTurn) (line : Numbered) → seat.0 < seats → RiseAt seats turn.events →
     RiseAt seats (after_line seats seat turn line).events
 line_rise seats seat turn line under before =
     of_ruled (acted seats seat) (refusal_of seats turn.events seat turn.deeds) seat turn line.number (λ (after : InTurn). RiseAt seats after.events)
     (λ (ruling : Ruling) (none : obeyed_by ruling ≡ None). with_other seats turn.events (event.Ruled seat line.number ruling) refl before)
-    (order_rise seats seat turn line.number under before) has_place_in_group line.reading
+    (order_rise seats seat turn line.number under before) has_place_in_group turn.events line
 
 -- the rules of an opening round at a table of so many seats: a line of a seat elsewhere does nothing
 abbrev rules_at : ℕ → RoundRules Bool
@@ -308,7 +309,7 @@ opening_bids_rise file round old new played some seated rise =
     (record {
       stays = λ events before. before;
       further = λ a b c first second before. second (first before);
-      standing = λ seat events line before. with_other seats events (event.Ruled seat line.number (standing_ruling events line.reading)) refl before;
+      standing = λ seat events line before. with_other seats events (event.Ruled seat line.number (standing_ruling events line)) refl before;
       line = λ any seat turn line before. tested_rise seats seat turn line (nat_lt seat.0 seats) (λ under. is_under seat.0 seats under) before;
       passes = λ events seat before. with_other seats events (event.Passes seat) refl before;
       closed = λ any events before. closed_rise seats events before;

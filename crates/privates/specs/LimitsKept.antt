@@ -53,11 +53,11 @@ said_small false private its amount small said = cc
 
 -- the ruling of a small order leaves limits small
 pub limits_ruled : (events : List Event) (seat : Seat) (line : ℕ) (ruling : Ruling) → IsSmallRuling ruling → LimitsAreSmall events → LimitsAreSmall (events ++ event.Ruled seat line ruling ∷ [])
-limits_ruled events seat line (Obeyed its) small limits =
+limits_ruled events seat line (Obeyed condition its) small limits =
     λ private other amount is.
-    elim (after_said private other events (event.Ruled seat line (Obeyed its)) (if seat.0 == other.0 then limit_in private its else None) amount refl is) [
+    elim (after_said private other events (event.Ruled seat line (Obeyed condition its)) (if seat.0 == other.0 then limit_in private its else None) amount refl is) [
       | inl said ↦ said_small (seat.0 == other.0) private its amount small said
       | inr before ↦ limits private other amount before
     ]
-limits_ruled events seat line (Refused refusal its) small limits = limits_kept events (event.Ruled seat line (Refused refusal its)) (λ private other. refl) limits
+limits_ruled events seat line (Refused rule condition its) small limits = limits_kept events (event.Ruled seat line (Refused rule condition its)) (λ private other. refl) limits
 limits_ruled events seat line (Faulty fault) small limits = limits_kept events (event.Ruled seat line (Faulty fault)) (λ private other. refl) limits

@@ -1,7 +1,7 @@
 -- The standing lines of an opening sheet, those before its first group, are ruled at the round's start,
--- seat by seat. A LIMIT says how far the seat goes in an auction of a private, which must be unsold. A PAR
+-- seat by seat, and the condition of one is asked then. A LIMIT says how far the seat goes in an auction of a private, which must be unsold. A PAR
 -- says the par value that the seat sets for BO if it buys BOP: it must name BO and a par value.
-use Rattle.std.specs.Prelude.{ℕ, Bool, true, false, ◌&&◌, if◌then◌else◌, List, Option, Some, None, Result, option_map}
+use Rattle.std.specs.Prelude.{ℕ, Bool, true, false, ◌&&◌, if◌then◌else◌, List, Option, Some, None, option_map}
 use Rattle.history.specs.LookBack.{is_sold}
 use Rattle.history.specs.declared.event.Event.{Event}
 use Rattle.history.specs.declared.ruling.OpeningRule.{OpeningRule}
@@ -9,7 +9,6 @@ use Rattle.history.specs.declared.ruling.OpeningRule.TheVariants.{NotOfOpening, 
 use Rattle.history.specs.declared.ruling.Refusal.{Refusal}
 use Rattle.history.specs.declared.ruling.Refusal.TheVariants.{Opening}
 use Rattle.history.specs.declared.ruling.Ruling.{Ruling}
-use Rattle.order_grammar.specs.declared.fault.Fault.{Fault}
 use Rattle.order_grammar.specs.declared.order.Order.{Order}
 use Rattle.order_grammar.specs.declared.order.Order.TheVariants.{Limit, Par}
 use Rattle.sheets.specs.Part.{Numbered}
@@ -18,7 +17,7 @@ use Rattle.history.specs.Shares.{is_par_value}
 use Rattle.tables.specs.declared.roster.Company.{Company}
 use Rattle.tables.specs.declared.roster.Company.TheVariants.{BaltimoreOhio}
 use Rattle.tables.specs.declared.seat.Seat.{Seat}
-use Rattle.turns.specs.Ruling.{recorded, ruling_of}
+use Rattle.turns.specs.Ruling.{line_ruling, recorded}
 
 -- the orders that may stand before the first group
 abbrev pub has_place_before : Order → Bool
@@ -40,10 +39,10 @@ standing_judgement events other = Some NotOfOpening
 abbrev pub standing_refusal : List Event → Order → Option Refusal
 standing_refusal events order = option_map Opening (standing_judgement events order)
 
--- what becomes of a standing line with this reading
-abbrev pub standing_ruling : List Event → Result Order Fault → Ruling
-standing_ruling events reading = ruling_of has_place_before (standing_refusal events) reading
+-- what becomes of a standing line
+abbrev pub standing_ruling : List Event → Numbered → Ruling
+standing_ruling events line = line_ruling has_place_before (standing_refusal events) events line
 
 -- after a standing line of a seat
 abbrev pub after_standing_line : Seat → List Event → Numbered → List Event
-after_standing_line seat events line = recorded seat line.number (standing_ruling events line.reading) events
+after_standing_line seat events line = recorded seat line.number (standing_ruling events line) events

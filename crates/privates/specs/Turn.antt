@@ -1,11 +1,10 @@
 -- A seat's turn: the lines of its group are ruled in order, each on the list that the one before left. An
 -- obeyed purchase is a sale at the price that the bank asks, with the sales that follow from it; an obeyed
 -- bid stands. A seat that neither bought nor bid passes.
-use Rattle.std.specs.Prelude.{ℕ, Bool, true, false, List, [], ◌∷◌, ◌++◌, Result}
+use Rattle.std.specs.Prelude.{ℕ, Bool, true, false, List, [], ◌∷◌, ◌++◌}
 use Rattle.history.specs.declared.event.Event.{Event}
 use Rattle.history.specs.declared.event.Event.TheVariants.{Bids}
 use Rattle.history.specs.declared.ruling.Ruling.{Ruling}
-use Rattle.order_grammar.specs.declared.fault.Fault.{Fault}
 use Rattle.order_grammar.specs.declared.order.Order.{Order}
 use Rattle.order_grammar.specs.declared.order.Order.TheVariants.{BuyPrivate, Bid}
 pub use Rattle.privates.specs.Closing.{all_sold}
@@ -18,7 +17,7 @@ use Rattle.tables.specs.Turns.{Play}
 use Rattle.tables.specs.declared.seat.Seat.{Seat}
 use Rattle.turns.specs.RoundOfTurns.{RoundRules, in_turn, turns_of}
 use Rattle.turns.specs.RoundOfTurns as turns
-use Rattle.turns.specs.Ruling.{after_ruling as turn_ruled, has_place_in_group, ruling_of}
+use Rattle.turns.specs.Ruling.{after_ruling as turn_ruled, has_place_in_group, line_ruling}
 
 -- in a turn: the list so far, and whether the seat has bought or bid
 abbrev pub InTurn : Type 0
@@ -38,14 +37,14 @@ acted seats seat turn order = in_turn (after_act seats seat turn.events order) t
 abbrev pub after_ruling : ℕ → Seat → InTurn → ℕ → Ruling → InTurn
 after_ruling seats seat turn number ruling = turn_ruled (acted seats seat) seat turn number ruling
 
--- what becomes of a line of a group with this reading
-abbrev pub ruling_in : ℕ → Seat → InTurn → Result Order Fault → Ruling
-ruling_in seats seat turn reading =
-    ruling_of has_place_in_group (refusal_of seats turn.events seat turn.deeds) reading
+-- what becomes of a line of a group
+abbrev pub ruling_in : ℕ → Seat → InTurn → Numbered → Ruling
+ruling_in seats seat turn line =
+    line_ruling has_place_in_group (refusal_of seats turn.events seat turn.deeds) turn.events line
 
 -- in a turn, after a line of a group
 abbrev pub after_line : ℕ → Seat → InTurn → Numbered → InTurn
-after_line seats seat turn line = after_ruling seats seat turn line.number (ruling_in seats seat turn line.reading)
+after_line seats seat turn line = after_ruling seats seat turn line.number (ruling_in seats seat turn line)
 
 -- the rules of an opening round: a seat that bought or bid has acted, and the turns are over once all privates
 -- are sold, also where not all seats have passed in succession

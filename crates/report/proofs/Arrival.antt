@@ -1,6 +1,7 @@
--- Where files have the same players, sheets and unread lines, a game of theirs is printed the same.
-use Rattle.std.proofs.Common.{◌≡◌, ℕ, List, [], ◌∷◌, ◌++◌, length, ap, refl, ◌∙◌}
-use Rattle.std.specs.Prelude.{Option, Some, None, Result, Ok, Err, IsOk}
+-- Where files have the same players, sheets that are read alike and the same unread lines, a game of theirs is
+-- printed the same behind the first line.
+use Rattle.std.proofs.Common.{◌≡◌, ℕ, List, [], ◌∷◌, ◌++◌, length, is_some, append_assoc, ap, refl, subst, sym, ◌∙◌}
+use Rattle.std.specs.Prelude.{Option, Some, None, is_none, Result, Ok, Err, IsOk}
 use Rattle.std.specs.List.{flat_map, range_with_len}
 use Rattle.history.specs.declared.event.Event.{Event}
 use Rattle.history.specs.declared.event.Event.TheVariants.{Round, Ruled, Passes, Left, Sold, Bids, Price, Revenue, Given, Par, President, Bought, Sells, Exchanged, Floats, Moves, Home, Laid, Token, Withheld, Runs, Dividend, Traded, Train, Phase, Rusted, Discarded, Closed, PrivateBought, Forced, Aid, Bankrupt, Broken}
@@ -11,17 +12,18 @@ use Rattle.tables.specs.Roster.{companies}
 use Rattle.tables.specs.declared.roster.Company.{Company}
 use Rattle.tables.specs.declared.seat.Seat.{Seat}
 use Rattle.tables.specs.declared.squares.Square.{Square}
-use Rattle.report.specs.Laws.{ArrivalChangesNoReport}
+use Rattle.order_grammar.specs.declared.condition.Version.{Version}
+use Rattle.report.specs.Laws.{ArrivalChangesNoReport, DiffersInVersion, SamePartsSameReport}
 use Rattle.report.specs.Line.{event_line, holder_text}
-use Rattle.report.specs.Report.{IsReportOf, end_text, header, name_owing, owing, report_text, rounds_in, texts_of_rounds}
+use Rattle.report.specs.Report.{IsReport, IsReportOf, end_text, game_line, header, name_owing, owing, players_line, report_text, rounds_in, rounds_text, texts_of_rounds, unread_lines}
 use Rattle.report.specs.Statement.{company_line, company_lines, line_on_square, player_line, player_lines, president_name, started_line, statement}
 use Rattle.report.specs.Worth.{worth_lines}
-use Rattle.rounds.specs.Arrival.{ArrivalChangesNoGame}
-use Rattle.rounds.specs.Play.{end_of}
+use Rattle.rounds.specs.Play.{Between, end_of}
+use Rattle.rounds.specs.ReadAlike.{ReadAlikeFor, AreReadAlike, SamePartsSameGame, SameSheetsAreReadAlike}
 use Rattle.rounds.specs.declared.game.End.{End}
 use Rattle.rounds.specs.declared.game.End.TheVariants.{Awaiting, Bank, Bankrupt}
-use Rattle.sheets.specs.File.{Content, content_of, players_of, sheet_of, unread_of}
-use Rattle.sheets.specs.Laws.{ArrivalChangesNothing, SentTheSame}
+use Rattle.sheets.specs.File.{Content, content_of, players_of, sheet_of, unread_of, version_of}
+use Rattle.sheets.specs.Laws.{ArrivalChangesNothing}
 use Rattle.sheets.specs.declared.fault.FileFault.{FileFault}
 use Rattle.tables.specs.declared.round.Round as table
 
@@ -109,21 +111,25 @@ rounds_same f g seats before [] players = refl
 rounds_same f g seats before (round ∷ rounds) players =
     rw (events_same f g round players, statement_same f g seats (before ++ round) players, rounds_same f g seats (before ++ round) rounds players)
 
--- the same players are printed the same
-header_same : (f g : List ℕ) → players_of f ≡ players_of g → header f ≡ header g
-unfolding header
-header_same f g players = rw players
+-- of two sheets that are both there or both missing, both are owed or none
+owed_same : (a b : Option (List (List ℕ))) → is_some a ≡ is_some b → is_none a ≡ is_none b
+owed_same None None same = refl
+owed_same (Some a) (Some b) same = refl
+owed_same None (Some b) same = absurd cc
+owed_same (Some a) None same = absurd cc
 
 -- the same of some seats owe a sheet
-names_same : (f g : List ℕ) (round : table.Round) (seats : List ℕ) → players_of f ≡ players_of g → ((seat : ℕ) (round : table.Round) → sheet_of f seat round ≡ sheet_of g seat round) → flat_map (λ seat. name_owing f round seat) seats ≡ flat_map (λ seat. name_owing g round seat) seats
-names_same f g round [] players sheets = refl
-names_same f g round (seat ∷ seats) players sheets = rw (players, sheets seat round, names_same f g round seats players sheets)
+names_same : (f g : List ℕ) (round : table.Round) (seats : List ℕ) → players_of f ≡ players_of g → ReadAlikeFor round f g →
+    flat_map (λ seat. name_owing f round seat) seats ≡ flat_map (λ seat. name_owing g round seat) seats
+names_same f g round [] players same = refl
+names_same f g round (seat ∷ seats) players same =
+    rw (players, owed_same (sheet_of f seat round) (sheet_of g seat round) (same.posted seat), names_same f g round seats players same)
 
 -- the same owe a sheet
-owing_same : (f g : List ℕ) (round : table.Round) → players_of f ≡ players_of g → ((seat : ℕ) (round : table.Round) → sheet_of f seat round ≡ sheet_of g seat round) → owing f round ≡ owing g round
+owing_same : (f g : List ℕ) (round : table.Round) → players_of f ≡ players_of g → ReadAlikeFor round f g → owing f round ≡ owing g round
 unfolding owing
-owing_same f g round players sheets =
-    names_same f g round (range_with_len 0 (length (players_of f))) players sheets
+owing_same f g round players same =
+    names_same f g round (range_with_len 0 (length (players_of f))) players same
     ∙ ap (λ (names : List (List ℕ)). flat_map (λ seat. name_owing g round seat) (range_with_len 0 (length names))) players
 
 -- the same players are worth the same
@@ -132,29 +138,73 @@ unfolding worth_lines
 worths_same f g seats events players = rw players refl
 
 -- the same end is printed the same
-end_same : (f g : List ℕ) (seats : ℕ) (events : List Event) (end : End) → players_of f ≡ players_of g →
-    ((seat : ℕ) (round : table.Round) → sheet_of f seat round ≡ sheet_of g seat round) → end_text f seats events end ≡ end_text g seats events end
-end_same f g seats events (Awaiting round) players sheets = rw (owing_same f g round players sheets)
-end_same f g seats events Bank players sheets = rw (worths_same f g seats events players) refl
-end_same f g seats events Bankrupt players sheets = rw (worths_same f g seats events players) refl
+end_same : (f g : List ℕ) (seats : ℕ) (events : List Event) (end : End) → AreReadAlike f g →
+    end_text f seats events end ≡ end_text g seats events end
+end_same f g seats events (Awaiting round) same = rw (owing_same f g round same.players (same.sheets round))
+end_same f g seats events Bank same = rw (worths_same f g seats events same.players) refl
+end_same f g seats events Bankrupt same = rw (worths_same f g seats events same.players) refl
 
--- the same game is reported the same
-report_same : (f g : List ℕ) (seats : ℕ) (events : List Event) (end : End) → players_of f ≡ players_of g → ((seat : ℕ) (round : table.Round) → sheet_of f seat round ≡ sheet_of g seat round) → unread_of f ≡ unread_of g → report_text f seats events end ≡ report_text g seats events end
-report_same f g seats events end players sheets unread =
-    rw (header_same f g players, rounds_same f g seats [] (rounds_in events) players, unread, end_same f g seats events end players sheets)
+-- what stands behind the first line of the report of a file whose game has these events and this end
+abbrev behind : List ℕ → ℕ → List Event → End → List ℕ
+behind file seats events end =
+    players_line file ++ rounds_text file seats events ++ unread_lines 0 (unread_of file) ++ end_text file seats events end
 
--- a report is that of the other file too
-report_carried : ArrivalChangesNoGame → ArrivalChangesNothing → (f g : List ℕ) (of_f of_g : Result Content FileFault) → IsOk of_f → IsOk of_g → players_of f ≡ players_of g → SentTheSame f g → unread_of f ≡ unread_of g → (text : List ℕ) → IsReportOf f of_f text → IsReportOf g of_g text
-report_carried no_game nothing f g (Ok a) (Ok b) ok_f ok_g players sent unread text report =
+-- it is the same of the same game
+behind_same : (f g : List ℕ) (seats : ℕ) (events : List Event) (end : End) → AreReadAlike f g → unread_of f ≡ unread_of g →
+    behind f seats events end ≡ behind g seats events end
+behind_same f g seats events end same unread =
+    rw (same.players, rounds_same f g seats [] (rounds_in events) same.players, unread, end_same f g seats events end same)
+
+-- a first text of five is before the rest
+first_of_five : (a b c d e : List ℕ) → a ++ b ++ c ++ d ++ e ≡ a ++ (b ++ c ++ d ++ e)
+first_of_five a b c d e =
+    ap (λ (front : List ℕ). front ++ d ++ e) (append_assoc a b c)
+    ∙ ap (λ (front : List ℕ). front ++ e) (append_assoc a (b ++ c) d)
+    ∙ append_assoc a (b ++ c ++ d) e
+
+-- the report is the first line and that
+in_two : (file : List ℕ) (seats : ℕ) (events : List Event) (end : End) →
+    report_text file seats events end ≡ game_line (version_of file) ++ behind file seats events end
+unfolding header
+in_two file seats events end =
+    first_of_five (game_line (version_of file)) (players_line file) (rounds_text file seats events) (unread_lines 0 (unread_of file))
+    (end_text file seats events end)
+
+-- a report is that of the other file with its version
+report_carried : SamePartsSameGame → (f g : List ℕ) (of_f of_g : Result Content FileFault) → IsOk of_f → IsOk of_g → content_of g ≡ of_g →
+    AreReadAlike f g → unread_of f ≡ unread_of g → (text : List ℕ) → IsReportOf f of_f text → DiffersInVersion f g text
+report_carried same_game f g (Ok a) (Ok b) ok_f ok_g is_g same unread text report =
+    let last : Between = report.last in
+    let end : End = end_of last.next last.game.events in
     record {
-      last = report.last;
-      game = no_game f g players sent report.last report.game;
-      is = report.is ∙ report_same f g report.last.game.seats report.last.game.events (end_of report.last.next report.last.game.events) players (nothing f g sent) unread;
+      rest = behind f last.game.seats last.game.events end;
+      is = report.is ∙ in_two f last.game.seats last.game.events end;
+      report =
+          subst (λ (content : Result Content FileFault). IsReportOf g content (game_line (version_of g) ++ behind f last.game.seats last.game.events end))
+          (sym is_g)
+          (record {
+            last = last;
+            game = same_game f g same last report.game;
+            is =
+                ap (λ (rest : List ℕ). game_line (version_of g) ++ rest) (behind_same f g last.game.seats last.game.events end same unread)
+                ∙ sym (in_two g last.game.seats last.game.events end);
+          });
     }
-report_carried no_game nothing f g (Ok a) (Err fault) ok_f ok_g players sent unread text report = absurd cc
-report_carried no_game nothing f g (Err fault) of_g ok_f ok_g players sent unread text report = absurd cc
+report_carried same_game f g (Ok a) (Err fault) ok_f ok_g is_g same unread text report = absurd cc
+report_carried same_game f g (Err fault) of_g ok_f ok_g is_g same unread text report = absurd cc
 
--- arrival changes no report if it changes no game
-pub arrival_by : ArrivalChangesNoGame → ArrivalChangesNothing → ArrivalChangesNoReport
-arrival_by no_game nothing f g accepted_f accepted_g players sent unread text report =
-    report_carried no_game nothing f g (content_of f) (content_of g) accepted_f accepted_g players sent unread text report
+-- files whose sheets are read alike have reports that differ in the version alone
+pub same_report : SamePartsSameGame → SamePartsSameReport
+same_report same_game f g accepted_f accepted_g same unread text report =
+    report_carried same_game f g (content_of f) (content_of g) accepted_f accepted_g refl same unread text report
+
+-- arrival changes no report
+pub arrival_by : ArrivalChangesNothing → SameSheetsAreReadAlike → SamePartsSameGame → ArrivalChangesNoReport
+arrival_by nothing alike same_game f g accepted_f accepted_g version players sent unread text report =
+    let same : AreReadAlike f g = record {
+      players = players;
+      sheets = λ round. alike f g round version (λ seat. nothing f g sent seat round);
+    } in
+    let differs : DiffersInVersion f g text = same_report same_game f g accepted_f accepted_g same unread text report in
+    subst (λ (whole : List ℕ). IsReport g whole)
+    (ap (λ (version : Version). game_line version ++ differs.rest) (sym version) ∙ sym differs.is) differs.report

@@ -6,3 +6,4 @@ pub mod ByRound
 pub mod LastRound
 pub mod Told
 pub mod Worths
+pub mod PlainReports

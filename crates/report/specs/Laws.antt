@@ -1,24 +1,67 @@
--- Laws of reports: in which order the sheets of different players arrive changes nothing in the report,
--- and the report is its parts, one after the other, also as they are told while the game is played.
-use Rattle.std.specs.Prelude.{◌≡◌, ℕ, List, ◌++◌, Ok}
+-- Laws of reports: files whose sheets are read alike have reports that differ in the version alone; in which order
+-- the sheets of different players arrive changes nothing in the report; and the report is its parts, one after the
+-- other, also as they are told while the game is played.
+use Rattle.std.specs.Prelude.{◌≡◌, ℕ, List, [], ◌∷◌, ◌++◌, codes, decimal, None, Ok}
 use Rattle.std.specs.List.{flat_map}
+use Rattle.history.specs.Event.{code_of_refusal}
+use Rattle.history.specs.declared.event.Event.TheVariants.{Ruled}
+use Rattle.history.specs.declared.ruling.Refusal.{Refusal}
+use Rattle.history.specs.declared.ruling.Ruling.TheVariants.{Obeyed, Refused}
+use Rattle.order_grammar.specs.Print.{spaced, spelling_of}
+use Rattle.order_grammar.specs.declared.condition.Version.TheVariants.{One}
+use Rattle.order_grammar.specs.declared.order.Order.{Order}
+use Rattle.report.specs.Line.{event_line, line_of, name_of}
 use Rattle.report.specs.Parts.{StepsTell, end_text_of}
-use Rattle.report.specs.Report.{IsReport, end_of_play, header, report_of, round_text_of, unread_lines}
+use Rattle.report.specs.Report.{IsReport, end_of_play, game_line, header, report_of, round_text_of, unread_lines}
 use Rattle.rounds.specs.Begun.{rounds_begun}
 use Rattle.rounds.specs.Play.{IsTheGame, Played}
+use Rattle.rounds.specs.ReadAlike.{AreReadAlike}
 use Rattle.rounds.specs.Steps.{StepLeads, Underway, started}
 use Rattle.rounds.specs.declared.game.End.{End}
 use Rattle.rounds.specs.declared.steps.Step.TheVariants.{Ended}
-use Rattle.sheets.specs.File.{IsAccepted, players_of, unread_of}
+use Rattle.sheets.specs.File.{IsAccepted, players_of, unread_of, version_of}
 use Rattle.sheets.specs.Laws.{SentTheSame}
+use Rattle.tables.specs.declared.seat.Seat.{Seat}
 
--- files of the same players have the same report, where each sent the same sheets in the same order and
--- the same faults stand in no sheet
+-- the text of the first file's report has a first line with its version; with that of the second file's in its
+-- place it is the report of the second
+pub record DiffersInVersion (first second text : List ℕ) : Type 0 where
+  pub rest : List ℕ
+  pub is : text ≡ game_line (version_of first) ++ rest
+  pub report : IsReport second (game_line (version_of second) ++ rest)
+
+-- so it is where the sheets of two files of the same players are read alike, and the same faults stand in no sheet
+abbrev pub SamePartsSameReport : Type 0
+SamePartsSameReport =
+    (first second : List ℕ)
+    → IsAccepted first
+    → IsAccepted second
+    → AreReadAlike first second
+    → unread_of first ≡ unread_of second
+    → (text : List ℕ)
+    → IsReport first text
+    → DiffersInVersion first second text
+
+-- what a report says of a file of version 1, and of orders without a condition, such as all of its are: its first line
+-- has that version, and a ruling has the spelling of its order alone
+pub record PlainReports : Type 0 where
+  pub head : (file : List ℕ) → version_of file ≡ One →
+      header file ≡ codes "GAME 1830 1" ++ 10 ∷ codes "PLAYERS" ++ spaced (players_of file) ++ 10 ∷ []
+  pub obeyed : (file : List ℕ) (seat : Seat) (line : ℕ) (order : Order) →
+      event_line file (Ruled seat line (Obeyed None order))
+      ≡ line_of (name_of file seat) (decimal line ∷ codes "OBEYED" ∷ spelling_of order ∷ [])
+  pub refused : (file : List ℕ) (seat : Seat) (line : ℕ) (rule : Refusal) (order : Order) →
+      event_line file (Ruled seat line (Refused rule None order))
+      ≡ line_of (name_of file seat) (decimal line ∷ codes "REFUSED" ∷ code_of_refusal rule ∷ spelling_of order ∷ [])
+
+-- files of one version and the same players have the same report, where each sent the same sheets in the same order
+-- and the same faults stand in no sheet
 abbrev pub ArrivalChangesNoReport : Type 0
 ArrivalChangesNoReport =
     (f g : List ℕ)
     → IsAccepted f
     → IsAccepted g
+    → version_of f ≡ version_of g
     → players_of f ≡ players_of g
     → SentTheSame f g
     → unread_of f ≡ unread_of g

@@ -14,7 +14,7 @@ use Rattle.map_tables.specs.declared.lay.Lay.{Lay}
 use Rattle.order_grammar.specs.Fault.{code_of as code_of_fault}
 use Rattle.order_grammar.specs.Order.{text_of_source}
 use Rattle.order_grammar.specs.declared.order.ShareSource.{ShareSource}
-use Rattle.order_grammar.specs.Print.{spaced, spelling_of, text_of_round}
+use Rattle.order_grammar.specs.Print.{conditional_spelling, spaced, text_of_round}
 use Rattle.report.specs.declared.line.Field.{Field}
 use Rattle.report.specs.declared.line.Field.TheVariants.{Word, Name, Holds, Number, Tenths, Source, On, Tile, In, Turned, At, OfRound, Spelt}
 use Rattle.sheets.specs.File.{players_of}
@@ -36,10 +36,11 @@ abbrev pub holder_text : List ℕ → Holder → List ℕ
 holder_text file (holder.Seat seat) = name_of file seat
 holder_text file (holder.Company company) = code_of_company company
 
--- what became of a line
+-- what became of a line: the order with its condition, if it has one; of a fault the code alone
 abbrev pub ruling_words : Ruling → List (List ℕ)
-ruling_words (Obeyed order) = codes "OBEYED" ∷ spelling_of order ∷ []
-ruling_words (Refused refusal order) = codes "REFUSED" ∷ code_of_refusal refusal ∷ spelling_of order ∷ []
+ruling_words (Obeyed condition order) = codes "OBEYED" ∷ conditional_spelling condition order ∷ []
+ruling_words (Refused rule condition order) =
+    codes "REFUSED" ∷ code_of_refusal rule ∷ conditional_spelling condition order ∷ []
 ruling_words (Faulty fault) = codes "REFUSED" ∷ code_of_fault fault ∷ []
 
 -- a line of these words, with its LF
@@ -206,7 +207,7 @@ field_text file (In hex) = text_of_hex hex
 field_text file (Turned rotation) = text_of_rotation rotation
 field_text file (At place) = text_of_place place
 field_text file (OfRound round) = text_of_round round
-field_text file (Spelt order) = spelling_of order.now
+field_text file (Spelt condition order) = conditional_spelling condition order.now
 
 -- fields as their texts
 abbrev pub field_texts : List ℕ → List Field → List (List ℕ)

@@ -6,6 +6,8 @@ use Rattle.history.specs.Event.{round_of}
 use Rattle.history.specs.declared.event.Event.{Event}
 use Rattle.order_grammar.specs.Fault.{code_of as code_of_fault}
 use Rattle.order_grammar.specs.Print.{spaced, text_of_round}
+use Rattle.order_grammar.specs.declared.condition.Version.{Version}
+use Rattle.order_grammar.specs.declared.condition.Version.TheVariants.{One, Two}
 use Rattle.order_grammar.specs.declared.fault.Fault.{Fault}
 use Rattle.report.specs.Line.{event_line, line_of, name_of}
 use Rattle.report.specs.Statement.{statement}
@@ -13,7 +15,7 @@ use Rattle.report.specs.Worth.{worth_lines}
 use Rattle.rounds.specs.Play.{Between, Played, Plays, end_of}
 use Rattle.rounds.specs.declared.game.End.{End}
 use Rattle.rounds.specs.declared.game.End.TheVariants.{Awaiting, Bank, Bankrupt}
-use Rattle.sheets.specs.File.{Content, content_of, code_of_fault as code_of_file_fault, sheet_of, players_of, unread_of}
+use Rattle.sheets.specs.File.{Content, content_of, code_of_fault as code_of_file_fault, sheet_of, players_of, unread_of, version_of}
 use Rattle.sheets.specs.declared.fault.FileFault.{FileFault}
 use Rattle.tables.specs.Round.{same_round}
 use Rattle.tables.specs.declared.round.Round as round
@@ -22,9 +24,22 @@ use Rattle.tables.specs.declared.round.Round as round
 abbrev pub refusal_line : FileFault → List ℕ
 refusal_line fault = codes "FILE REFUSED " ++ code_of_file_fault fault ++ 10 ∷ []
 
+-- the word of a version
+abbrev pub word_of_version : Version → List ℕ
+word_of_version One = codes "1"
+word_of_version Two = codes "2"
+
+-- the first line: the game, and the version of its file
+abbrev pub game_line : Version → List ℕ
+game_line version = codes "GAME 1830 " ++ word_of_version version ++ 10 ∷ []
+
+-- the second line: the players
+abbrev pub players_line : List ℕ → List ℕ
+players_line file = codes "PLAYERS" ++ spaced (players_of file) ++ 10 ∷ []
+
 -- the two lines at the head
 unfoldable pub header : List ℕ → List ℕ
-header file = codes "GAME 1830 1" ++ 10 ∷ codes "PLAYERS" ++ spaced (players_of file) ++ 10 ∷ []
+header file = game_line (version_of file) ++ players_line file
 
 -- a later round begins before these events, or nothing follows
 abbrev pub ends_round : List Event → Bool

@@ -1,11 +1,11 @@
 //! Laws of the definitions, each the contract of a function that does nothing.
-ghost use Rattle.report.specs.Laws.{ArrivalChangesNoReport, PartsAreAFront, PartsAreTheReport, ReportIsItsParts};
+ghost use Rattle.report.specs.Laws.{ArrivalChangesNoReport, PartsAreAFront, PartsAreTheReport, PlainReports, ReportIsItsParts, SamePartsSameReport};
 ghost use Rattle.report.specs.Report.{IsReport};
 ghost use Rattle.std.specs.Prelude.{◌≡◌, ℕ, List};
 
 use rounds::{
-    arrival_changes_no_game, one_game, rounds_follow_in_order, rounds_only_add, some_game,
-    steps_play_the_game,
+    one_game, rounds_follow_in_order, rounds_only_add, same_parts_same_game,
+    same_sheets_are_read_alike, some_game, steps_play_the_game,
 };
 use sheets::arrival_changes_nothing;
 
@@ -23,14 +23,31 @@ pub fn some_report()
     some_game()
 }
 
+/// Two accepted files of the same players have reports that differ in the version of the first line
+/// alone, where each seat has a sheet for a round in both files or in none, its lines are read
+/// alike, and the unread lines have the same faults in the same order.
+pub fn same_parts_same_report()
+    ensures { SamePartsSameReport }
+{
+    same_parts_same_game()
+}
+
+/// A report of a file of version 1 has that version in its first line, and a ruling of an order
+/// without a condition has the spelling of the order alone. (No line of such a file stands under a
+/// condition: `sheets` has that law.)
+pub fn plain_reports()
+    ensures { PlainReports }
+{}
+
 /// In which order the sheets of different players arrive changes nothing in the report: two accepted
-/// files of the same players have one report, where each player sent the same sheets in the same
-/// order, and the unread lines have the same faults in the same order.
+/// files of one version and the same players have one report, where each player sent the same sheets
+/// in the same order, and the unread lines have the same faults in the same order.
 pub fn arrival_changes_no_report()
     ensures { ArrivalChangesNoReport }
 {
-    arrival_changes_no_game();
-    arrival_changes_nothing()
+    arrival_changes_nothing();
+    same_sheets_are_read_alike();
+    same_parts_same_game()
 }
 
 /// The report of the game of a file is its header, the text of each of its rounds, the unread lines

@@ -22,7 +22,8 @@ mod text;
 mod worth;
 
 pub use laws::{
-    arrival_changes_no_report, one_report, parts_are_the_report, report_is_its_parts, some_report,
+    arrival_changes_no_report, one_report, parts_are_the_report, plain_reports,
+    report_is_its_parts, same_parts_same_report, some_report,
 };
 pub use parts::{end_text, header_text, next_text};
 pub use text::{refusal_text, report, round_text};

@@ -6,7 +6,9 @@ ghost use Rattle.report.specs.Line.{IsOfCompany, IsOfForce, IsOfPrivate, IsOfTen
 use Field::{At, Holds, In, Name, Number, OfRound, On, Source, Spelt, Tenths, Tile, Turned, Word};
 use history::{Event, Holder, KeptRuling, Refusal, Ruling, TrainSeller};
 use map_tables::{Hex, Lay, Place, Rotation, TileNo};
-use order_grammar::{Order, ShareSource, print_number, print_order, print_round};
+use order_grammar::{
+    Condition, Order, ShareSource, print_conditional_order, print_number, print_round,
+};
 use sheets::Sheets;
 use std::alloc::AllocError;
 use tables::{Amount, Company, Private, Round, Seat, Square, price};
@@ -38,8 +40,8 @@ pub(crate) enum Field<'a> {
     At(Place),
     /// A round.
     OfRound(Round),
-    /// The spelling of an order.
-    Spelt(&'a Order),
+    /// The spelling of an order under its condition, if it has one.
+    Spelt(Option<Condition>, &'a Order),
 }
 
 /// The letters of the rows of the stock market.
@@ -422,7 +424,7 @@ fn push_field(out: &mut Vec<u8>, sheets: &Sheets, field: &Field) -> Result<(), A
         Turned(rotation) => print_number(out, rotation.turns()),
         At(place) => out.extend_from_slice(place.text().as_slice()),
         OfRound(round) => print_round(out, round),
-        Spelt(order) => print_order(out, order),
+        Spelt(condition, order) => print_conditional_order(out, condition.as_ref(), order),
     }
 }
 
@@ -448,8 +450,14 @@ fn push_ruled(
     ensures { OnOk result (Adds out.old out.new (ruled_line sheets.now seat line ruling.now)) }
 {
     match ruling.ruling() {
-        Ruling::Obeyed(order) => push_obeyed(out, sheets, seat, line, &order),
-        Ruling::Refused(refusal, order) => push_refused(out, sheets, seat, line, refusal, &order),
+        Ruling::Obeyed { condition, order } => {
+            push_obeyed(out, sheets, seat, line, condition, &order)
+        }
+        Ruling::Refused {
+            rule,
+            condition,
+            order,
+        } => push_refused(out, sheets, seat, line, rule, condition, &order),
         Ruling::Faulty(fault) => tell_of(
             out,
             sheets,
@@ -465,16 +473,17 @@ fn push_obeyed(
     sheets: &Sheets,
     seat: Seat,
     line: u32,
+    condition: Option<Condition>,
     order: &Order,
 ) -> Result<(), AllocError>
     ensures { OnOk result (Adds out.old out.new
-        (ruled_line sheets.now seat line (Obeyed order.now))) }
+        (ruled_line sheets.now seat line (Obeyed condition order.now))) }
 {
     tell_of(
         out,
         sheets,
         seat,
-        &[Number(line), Word("OBEYED"), Spelt(order)],
+        &[Number(line), Word("OBEYED"), Spelt(condition, order)],
     )
 }
 
@@ -484,11 +493,12 @@ fn push_refused(
     sheets: &Sheets,
     seat: Seat,
     line: u32,
-    refusal: Refusal,
+    rule: Refusal,
+    condition: Option<Condition>,
     order: &Order,
 ) -> Result<(), AllocError>
     ensures { OnOk result (Adds out.old out.new
-        (ruled_line sheets.now seat line (Refused refusal order.now))) }
+        (ruled_line sheets.now seat line (Refused rule condition order.now))) }
 {
     tell_of(
         out,
@@ -497,8 +507,8 @@ fn push_refused(
         &[
             Number(line),
             Word("REFUSED"),
-            Word(refusal.code()),
-            Spelt(order),
+            Word(rule.code()),
+            Spelt(condition, order),
         ],
     )
 }

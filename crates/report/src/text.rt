@@ -1,21 +1,18 @@
 ghost use Rattle.std.specs.Prelude.{◌≡◌, ◌≤◌, IfOk, OnOk, drop, length};
 ghost use Rattle.report.specs.Column.{Adds};
 ghost use Rattle.report.specs.Parts.{last_round, last_round_text};
-ghost use Rattle.report.specs.Report.{IsLengthOfRound, awaiting_text, end_text, ends_round as ends_a_round, header, is_round as is_the_round, name_owing, over_text, refusal_line, report_of, round_text_of, rounds_text, text_between, unread_lines};
+ghost use Rattle.report.specs.Report.{IsLengthOfRound, awaiting_text, end_text, ends_round as ends_a_round, game_line, header, is_round as is_the_round, name_owing, over_text, refusal_line, report_of, round_text_of, rounds_text, text_between, unread_lines};
 ghost use Rattle.sheets.specs.File.{players_of};
 
 use crate::line::{push_event, push_name};
 use crate::statement::{Standing, push_statement};
 use crate::worth::push_worths;
 use history::{Event, History, Walk};
-use order_grammar::{Fault, print_number, print_round};
+use order_grammar::{Fault, Version, print_number, print_round};
 use rounds::{End, Game};
 use sheets::{FileFault, Sheets};
 use std::alloc::{AllocError, Global};
 use tables::{Round, Seat};
-
-/// The words at the head of each report: the game, its version, and what the names after them are.
-const HEAD: &[u8] = b"GAME 1830 1\nPLAYERS";
 
 /// The text of a refused file, or an error where memory is refused.
 pub fn refusal_text(alloc: Global, fault: FileFault) -> Result<Vec<u8>, AllocError>
@@ -64,13 +61,24 @@ pub fn report(alloc: Global, game: &Game) -> Result<Vec<u8>, AllocError>
 pub(crate) fn push_header(out: &mut Vec<u8>, sheets: &Sheets) -> Result<(), AllocError>
     ensures { OnOk result (Adds out.old out.new (header sheets.now)) }
 {
-    out.extend_from_slice(HEAD)?;
+    out.extend_from_slice(game_line(sheets.version()))?;
+    out.extend_from_slice(b"PLAYERS")?;
     for seat in 0..sheets.seats() {
         out.push(b' ')?;
         push_name(out, sheets, Seat(seat as u8))?;
     }
     out.push(b'\n')?;
     Ok(())
+}
+
+/// The first line of a report: the game, and the version of its file.
+fn game_line(version: Version) -> &'static [u8]
+    ensures { result.now ≡ game_line version }
+{
+    match version {
+        Version::One => b"GAME 1830 1\n",
+        Version::Two => b"GAME 1830 2\n",
+    }
 }
 
 /// Adds the texts of all rounds of a game.

@@ -6,7 +6,7 @@ use Rattle.privates.specs.Turn.{all_sold}
 use Rattle.rounds.proofs.Coming.{comes_once, follows}
 use Rattle.rounds.proofs.Forward.{played_forward}
 use Rattle.rounds.proofs.InSet.{StandsNext, comes_in_set}
-use Rattle.rounds.proofs.SameSheets.{same_before, same_round}
+use Rattle.rounds.proofs.ReadAlike.{same_before, same_round}
 use Rattle.rounds.specs.Causality.{AgreeUpTo, LaterSheetsChangeNothing}
 use Rattle.rounds.specs.Play.{AreRounds, Between, IsRound, before_play}
 use Rattle.rounds.specs.declared.following.Next.TheVariants as next
@@ -26,7 +26,7 @@ module _ (numbered : SheetsAreNumbered) (last : Round) (first second : List ℕ)
   -- a round up to the last is played alike
   alike : (old new : Between) (round : IsRound first old new) → rank_of round.round ≤ rank_of last → IsRound second old new
   alike old new round up_to =
-      same_round first second old new agree.players round (λ seat. agree.sheets seat round.round up_to)
+      same_round first second old new agree.players round (agree.sheets round.round up_to)
 
   -- so are those that lead to one up to the last
   pub all_alike : (rounds : ℕ) (there : Between) (upcoming : Round) → there.next ≡ next.Round upcoming → rank_of upcoming ≤ rank_of last →

@@ -3,7 +3,7 @@ mod Coming
 pub mod Forward
 pub mod OneGame
 pub mod Ending
-pub mod SameSheets
+pub mod ReadAlike
 pub mod Causal
 pub mod Arrival
 pub mod Example

@@ -15,6 +15,7 @@ use Rattle.history.specs.declared.event.Event.TheVariants as event
 use Rattle.history.specs.declared.ruling.Refusal.TheVariants.{Opening}
 use Rattle.history.specs.declared.ruling.Ruling.{Ruling}
 use Rattle.history.specs.declared.ruling.Ruling.TheVariants.{Obeyed}
+use Rattle.order_grammar.specs.declared.condition.Condition.{Condition}
 use Rattle.order_grammar.specs.declared.order.Order.{Order}
 use Rattle.order_grammar.specs.declared.order.Order.TheVariants as order
 use Rattle.privates.proofs.Judged.{may_act_after}
@@ -131,26 +132,26 @@ module _ (Sits : Seat → Type 0) (R : List Event → List Event → Type 0) (of
       of.both events sold (settled seats sold) (of_sale events private buyer price unsold) (of_settled seats sold)
 
   -- of a line whose order is done
-  of_order : (seats : ℕ) (seat : Seat) (turn : InTurn) (number : ℕ) → Sits seat → (done : Order) →
+  of_order : (seats : ℕ) (seat : Seat) (turn : InTurn) (number : ℕ) → Sits seat → (condition : Option Condition) (done : Order) →
       refusal_of seats turn.events seat turn.deeds done ≡ None →
-      R turn.events (after_ruling seats seat turn number (Obeyed done)).events
-  of_order seats seat turn number sits (order.BuyPrivate private) kept =
-      let told : Event = event.Ruled seat number (Obeyed (order.BuyPrivate private)) in
+      R turn.events (after_ruling seats seat turn number (Obeyed condition done)).events
+  of_order seats seat turn number sits condition (order.BuyPrivate private) kept =
+      let told : Event = event.Ruled seat number (Obeyed condition (order.BuyPrivate private)) in
       let ruled : List Event = turn.events ++ told ∷ [] in
       let none = none_as_refusal Opening
       (judgement_of seats turn.events seat turn.deeds (order.BuyPrivate private)) kept in
       let may = may_act_after (record { seats = seats; events = turn.events })
       (record { seats = seats; events = ruled }) told seat turn.deeds (order.BuyPrivate private) refl
-      (ruling_quiet seat number (Obeyed (order.BuyPrivate private))) none in
+      (ruling_quiet seat number (Obeyed condition (order.BuyPrivate private))) none in
       of.both turn.events ruled (settled seats (after_sale ruled private seat (price_of ruled private)))
       (of.still turn.events told refl)
       (of_sales seats ruled private seat (price_of ruled private) may.unsold)
-  of_order seats seat turn number sits (order.Bid private amount) kept =
-      let told : Event = event.Ruled seat number (Obeyed (order.Bid private amount)) in
+  of_order seats seat turn number sits condition (order.Bid private amount) kept =
+      let told : Event = event.Ruled seat number (Obeyed condition (order.Bid private amount)) in
       let ruled : List Event = turn.events ++ told ∷ [] in
       of.both turn.events ruled (ruled ++ event.Bids private seat amount ∷ []) (of.still turn.events told refl)
       (of.bids ruled private seat amount sits)
-  of_order seats seat turn number sits other kept = absurd (cc)
+  of_order seats seat turn number sits condition other kept = absurd (cc)
 
   -- of a line
   pub of_line : (seats : ℕ) (seat : Seat) (turn : InTurn) (line : Numbered) → Sits seat →
@@ -160,7 +161,7 @@ module _ (Sits : Seat → Type 0) (R : List Event → List Event → Type 0) (of
       (λ (after : InTurn). R turn.events after.events)
       (λ (ruling : Ruling) (none : obeyed_by ruling ≡ None).
       of.still turn.events (event.Ruled seat line.number ruling) refl)
-      (of_order seats seat turn line.number sits) has_place_in_group line.reading
+      (of_order seats seat turn line.number sits) has_place_in_group turn.events line
 
   -- of the fall of SV's price
   of_fall : (seats : ℕ) (events : List Event) (price : ℕ) (holder : Seat) →

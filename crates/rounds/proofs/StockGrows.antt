@@ -13,6 +13,7 @@ use Rattle.history.specs.declared.ruling.Ruling.TheVariants as ruling
 use Rattle.market.specs.Moves.{fallen, up_of}
 use Rattle.market.specs.OperatingOrder.{operating_order_of}
 use Rattle.market.specs.Token.{moved_from, same_square}
+use Rattle.order_grammar.specs.declared.condition.Condition.{Condition}
 use Rattle.order_grammar.specs.declared.order.Order.{Order}
 use Rattle.order_grammar.specs.declared.order.Order.TheVariants as order
 use Rattle.order_grammar.specs.declared.order.ShareSource.{ShareSource}
@@ -99,20 +100,21 @@ act_grows seats seat events order.ExchangeMohawk = exchange_grows seats events s
 act_grows seats seat events other = stays events
 
 -- by a line of a turn whose order is done
-done_grows : (seats : ℕ) (seat : Seat) (turn : InTurn) (number : ℕ) (done : Order) →
-    GrowsStill turn.events (after_ruling seats seat turn number (ruling.Obeyed done)).events
-done_grows seats seat turn number done =
-    let ruled : List Event = recorded seat number (ruling.Obeyed done) turn.events in
+done_grows : (seats : ℕ) (seat : Seat) (turn : InTurn) (number : ℕ) (condition : Option Condition) (done : Order) →
+    GrowsStill turn.events (after_ruling seats seat turn number (ruling.Obeyed condition done)).events
+done_grows seats seat turn number condition done =
+    let ruled : List Event = recorded seat number (ruling.Obeyed condition done) turn.events in
     further turn.events ruled (after_act seats seat ruled done)
-    (told turn.events (event.Ruled seat number (ruling.Obeyed done)) refl) (act_grows seats seat ruled done)
+    (told turn.events (event.Ruled seat number (ruling.Obeyed condition done)) refl) (act_grows seats seat ruled done)
 
 -- by a line of a turn
 line_grows : (seats : ℕ) (seat : Seat) (turn : InTurn) (line : Numbered) → GrowsStill turn.events (after_line seats seat turn line).events
 line_grows seats seat turn line =
     of_ruled (acted seats seat) (refusal_of seats turn.events seat turn.deeds.bought) seat turn line.number (λ (after : InTurn). GrowsStill turn.events after.events)
     (λ (ruled : Ruling) (none : obeyed_by ruled ≡ None). told turn.events (event.Ruled seat line.number ruled) refl)
-    (λ (done : Order) (kept : refusal_of seats turn.events seat turn.deeds.bought done ≡ None). done_grows seats seat turn line.number done)
-    has_place_in_group line.reading
+    (λ (condition : Option Condition) (done : Order) (kept : refusal_of seats turn.events seat turn.deeds.bought done ≡ None).
+    done_grows seats seat turn line.number condition done)
+    has_place_in_group turn.events line
 
 -- by the rise of a company that is sold out
 rise_grows : (events : List Event) (company : Company) → GrowsStill events (risen events company)

@@ -1,15 +1,16 @@
 -- Sheets for later rounds change nothing in the rounds before them.
 use Rattle.std.specs.Prelude.{◌≡◌, ℕ, ◌≤◌, List}
 use Rattle.rounds.specs.Play.{AreRounds, Between, IsRound, before_play}
+use Rattle.rounds.specs.ReadAlike.{ReadAlikeFor}
 use Rattle.rounds.specs.declared.following.Next.TheVariants as next
-use Rattle.sheets.specs.File.{IsAccepted, players_of, sheet_of}
+use Rattle.sheets.specs.File.{IsAccepted, players_of}
 use Rattle.tables.specs.Round.{rank_of}
 use Rattle.tables.specs.declared.round.Round.{Round}
 
--- the files have the same players, and the same sheet of each seat for each round up to this one
+-- the files have the same players, and their sheets for each round up to this one are read alike
 pub record AgreeUpTo (last : Round) (first second : List ℕ) : Type 0 where
   pub players : players_of first ≡ players_of second
-  pub sheets : (seat : ℕ) (round : Round) → rank_of round ≤ rank_of last → sheet_of first seat round ≡ sheet_of second seat round
+  pub sheets : (round : Round) → rank_of round ≤ rank_of last → ReadAlikeFor round first second
 
 -- the game of the file comes to this round, and plays it from old to new
 pub record PlaysRound (file : List ℕ) (round : Round) (old new : Between) : Type 0 where

@@ -2,7 +2,7 @@
 -- others pass, and the second round is awaited. In the second all privates are sold in one opening round; in
 -- the stock round ANN starts PRR and BOB buys a tenth of it, which leaves ANN president, since CA brought him
 -- one before; then all pass, and the first operating round is awaited.
-use Rattle.std.specs.Prelude.{ℕ, List, [], ◌∷◌, ◌++◌, codes}
+use Rattle.std.specs.Prelude.{ℕ, List, [], ◌∷◌, ◌++◌, None, codes}
 use Rattle.history.specs.declared.event.Event.{Event}
 use Rattle.history.specs.declared.event.Event.TheVariants as event
 use Rattle.history.specs.declared.event.Holder.TheVariants as holder
@@ -24,7 +24,7 @@ first_file = codes "GAME 1830 1\nPLAYERS ANN BOB CYD\nSHEET ANN PR1\nTURN\nBUY S
 abbrev pub first_events : List Event
 first_events =
     event.Round (Opening 1)
-    ∷ event.Ruled (seat_at 0) 2 (Obeyed (BuyPrivate SchuylkillValley))
+    ∷ event.Ruled (seat_at 0) 2 (Obeyed None (BuyPrivate SchuylkillValley))
     ∷ event.Sold SchuylkillValley (seat_at 0) 20
     ∷ event.Passes (seat_at 1)
     ∷ event.Passes (seat_at 2)
@@ -45,18 +45,18 @@ second_file =
 abbrev pub second_opening : List Event
 second_opening =
     event.Round (Opening 1)
-    ∷ event.Ruled (seat_at 0) 2 (Obeyed (BuyPrivate SchuylkillValley))
+    ∷ event.Ruled (seat_at 0) 2 (Obeyed None (BuyPrivate SchuylkillValley))
     ∷ event.Sold SchuylkillValley (seat_at 0) 20
-    ∷ event.Ruled (seat_at 1) 2 (Obeyed (BuyPrivate ChamplainStLawrence))
+    ∷ event.Ruled (seat_at 1) 2 (Obeyed None (BuyPrivate ChamplainStLawrence))
     ∷ event.Sold ChamplainStLawrence (seat_at 1) 40
-    ∷ event.Ruled (seat_at 2) 2 (Obeyed (BuyPrivate DelawareHudson))
+    ∷ event.Ruled (seat_at 2) 2 (Obeyed None (BuyPrivate DelawareHudson))
     ∷ event.Sold DelawareHudson (seat_at 2) 70
-    ∷ event.Ruled (seat_at 0) 4 (Obeyed (BuyPrivate MohawkHudson))
+    ∷ event.Ruled (seat_at 0) 4 (Obeyed None (BuyPrivate MohawkHudson))
     ∷ event.Sold MohawkHudson (seat_at 0) 110
-    ∷ event.Ruled (seat_at 1) 4 (Obeyed (BuyPrivate CamdenAmboy))
+    ∷ event.Ruled (seat_at 1) 4 (Obeyed None (BuyPrivate CamdenAmboy))
     ∷ event.Sold CamdenAmboy (seat_at 1) 160
     ∷ event.Given company.Pennsylvania (seat_at 1) 1
-    ∷ event.Ruled (seat_at 2) 4 (Obeyed (BuyPrivate BaltimoreOhio))
+    ∷ event.Ruled (seat_at 2) 4 (Obeyed None (BuyPrivate BaltimoreOhio))
     ∷ event.Sold BaltimoreOhio (seat_at 2) 220
     ∷ event.Par company.BaltimoreOhio 67
     ∷ event.Given company.BaltimoreOhio (seat_at 2) 2
@@ -67,11 +67,11 @@ second_opening =
 abbrev pub second_stock_round : List Event
 second_stock_round =
     event.Round (Stock 1)
-    ∷ event.Ruled (seat_at 0) 2 (Obeyed (Par company.Pennsylvania 67))
+    ∷ event.Ruled (seat_at 0) 2 (Obeyed None (Par company.Pennsylvania 67))
     ∷ event.Par company.Pennsylvania 67
     ∷ event.Bought company.Pennsylvania (seat_at 0) 2 InitialOffering 134
     ∷ event.President company.Pennsylvania (seat_at 0)
-    ∷ event.Ruled (seat_at 1) 2 (Obeyed (BuyShare company.Pennsylvania InitialOffering))
+    ∷ event.Ruled (seat_at 1) 2 (Obeyed None (BuyShare company.Pennsylvania InitialOffering))
     ∷ event.Bought company.Pennsylvania (seat_at 1) 1 InitialOffering 67
     ∷ event.Passes (seat_at 2)
     ∷ event.Passes (seat_at 0)

@@ -4,6 +4,7 @@ pub mod Gifts
 pub mod OperatingRound
 pub mod Play
 pub mod Example
+pub mod ReadAlike
 pub mod Causality
 pub mod Arrival
 pub mod Begun

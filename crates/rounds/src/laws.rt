@@ -10,6 +10,7 @@ ghost use Rattle.rounds.specs.GameCalls.{CallsAreOfTheGame, EachGameCalls, OneLi
 ghost use Rattle.rounds.specs.OperatingRound.{CompaniesOperateOnce, EndsSoon, OneOperatingRound};
 ghost use Rattle.rounds.specs.Play.{OneGame, Plays, SomeGame};
 ghost use Rattle.rounds.specs.Privates.{BidsRiseInEachGame, ClosedForGood, SellersAgreeInEachGame};
+ghost use Rattle.rounds.specs.ReadAlike.{SamePartsSameGame, SameSheetsAreReadAlike};
 ghost use Rattle.rounds.specs.Sequence.{BankAloneEndsIt, SequenceGoesForward};
 ghost use Rattle.rounds.specs.Sets.{SetsKeepTheirNumber};
 ghost use Rattle.rounds.specs.Steps.{StepsPlayTheGame};
@@ -192,7 +193,19 @@ pub fn broken_bank_ends_games()
     turn_only_adds()
 }
 
-/// In which order the sheets of different players arrive changes nothing in the game.
+/// In files of one version the same sheets of a round are read alike.
+pub fn same_sheets_are_read_alike()
+    ensures { SameSheetsAreReadAlike }
+{}
+
+/// Two files of the same players have the same game, where each seat has a sheet for a round in both
+/// files or in none, and its lines are read alike.
+pub fn same_parts_same_game()
+    ensures { SamePartsSameGame }
+{}
+
+/// In which order the sheets of different players arrive changes nothing in the game: of two files
+/// of one version and the same players each player sent the same sheets in the same order.
 pub fn arrival_changes_no_game()
     ensures { ArrivalChangesNoGame }
 {
@@ -200,8 +213,8 @@ pub fn arrival_changes_no_game()
 }
 
 /// Sheets for later rounds change nothing: where two files, the first of which is not refused, have
-/// the same players and the same sheets for the rounds up to one, and the first plays that round,
-/// the second plays it too, and all is the same up to its end.
+/// the same players, and their sheets for the rounds up to one are read alike, and the first plays
+/// that round, the second plays it too, and all is the same up to its end.
 pub fn later_sheets_change_nothing()
     ensures { LaterSheetsChangeNothing }
 {

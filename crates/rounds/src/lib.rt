@@ -27,9 +27,9 @@ pub use laws::{
     companies_operate_once, empty_example, first_example, games_end_once,
     later_sheets_change_nothing, one_game, one_list_of_calls, one_operating_round,
     operating_round_ends, phases_go_on_in_rounds, refused_calls_are_a_front,
-    rounds_follow_in_order, rounds_only_add, second_example, sellers_agree_in_each_game,
-    sequence_goes_forward, sets_keep_their_number, some_calls, some_game, steps_call_the_game,
-    steps_play_the_game,
+    rounds_follow_in_order, rounds_only_add, same_parts_same_game, same_sheets_are_read_alike,
+    second_example, sellers_agree_in_each_game, sequence_goes_forward, sets_keep_their_number,
+    some_calls, some_game, steps_call_the_game, steps_play_the_game,
 };
 pub use sequence::next;
 pub use steps::{Play, Step};

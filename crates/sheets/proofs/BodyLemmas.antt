@@ -4,6 +4,7 @@ use Rattle.std.specs.Prelude.{not}
 use Rattle.std.specs.Option.{option_or}
 use Rattle.std.specs.List.{prefix_len}
 use Rattle.std.proofs.lemmas.List.{append-nil}
+use Rattle.order_grammar.specs.declared.condition.Version.{Version}
 use Rattle.order_grammar.specs.declared.fault.Fault.{Fault}
 use Rattle.sheets.specs.File.{is_sheet_line, begins, same_post, block, sheet_in, good_lines, unread_fault, unread_in}
 use Rattle.sheets.specs.Collecting.{Open, open_with, Stands}
@@ -56,29 +57,29 @@ block-end : (line : List ℕ) (lines : List (List ℕ)) → is_sheet_line line �
 block-end line lines e = rw e refl
 
 -- a line inside a sheet has no code
-unread-inside : (players lines : List (List ℕ)) (line : List ℕ) → is_sheet_line line ≡ false →
-    unread_in players true (line ∷ lines) ≡ unread_in players true lines
-unread-inside players lines line e = rw e refl
+unread-inside : (version : Version) (players lines : List (List ℕ)) (line : List ℕ) → is_sheet_line line ≡ false →
+    unread_in version players true (line ∷ lines) ≡ unread_in version players true lines
+unread-inside version players lines line e = rw e refl
 
 -- a line outside has one
-unread-outside : (players lines : List (List ℕ)) (line : List ℕ) → is_sheet_line line ≡ false →
-    unread_in players false (line ∷ lines) ≡ unread_fault line ∷ unread_in players false lines
-unread-outside players lines line e = rw e refl
+unread-outside : (version : Version) (players lines : List (List ℕ)) (line : List ℕ) → is_sheet_line line ≡ false →
+    unread_in version players false (line ∷ lines) ≡ unread_fault version line ∷ unread_in version players false lines
+unread-outside version players lines line e = rw e refl
 
 -- a good SHEET line has none
-unread-good : (players lines : List (List ℕ)) (line : List ℕ) (inside : Bool) (post : Post) → is_sheet_line line ≡ true → begins players line ≡ Some post →
-    unread_in players inside (line ∷ lines) ≡ unread_in players true lines
-unread-good players lines line inside post e b = rw (e, b) refl
+unread-good : (version : Version) (players lines : List (List ℕ)) (line : List ℕ) (inside : Bool) (post : Post) → is_sheet_line line ≡ true → begins players line ≡ Some post →
+    unread_in version players inside (line ∷ lines) ≡ unread_in version players true lines
+unread-good version players lines line inside post e b = rw (e, b) refl
 
 -- a SHEET line with a fault has one
-unread-bad : (players lines : List (List ℕ)) (line : List ℕ) (inside : Bool) → is_sheet_line line ≡ true → begins players line ≡ None →
-    unread_in players inside (line ∷ lines) ≡ unread_fault line ∷ unread_in players false lines
-unread-bad players lines line inside e b = rw (e, b) refl
+unread-bad : (version : Version) (players lines : List (List ℕ)) (line : List ℕ) (inside : Bool) → is_sheet_line line ≡ true → begins players line ≡ None →
+    unread_in version players inside (line ∷ lines) ≡ unread_fault version line ∷ unread_in version players false lines
+unread-bad version players lines line inside e b = rw (e, b) refl
 
 -- what a SHEET line leaves to read is the same whether a sheet is open before it or not
-unread-either : (players lines : List (List ℕ)) (line : List ℕ) → is_sheet_line line ≡ true →
-    unread_in players true (line ∷ lines) ≡ unread_in players false (line ∷ lines)
-unread-either players lines line e = rw e refl
+unread-either : (version : Version) (players lines : List (List ℕ)) (line : List ℕ) → is_sheet_line line ≡ true →
+    unread_in version players true (line ∷ lines) ≡ unread_in version players false (line ∷ lines)
+unread-either version players lines line e = rw e refl
 
 -- a block that goes on
 open-line : (post q : Post) (had lines : List (List ℕ)) (line : List ℕ) → is_sheet_line line ≡ false →
@@ -96,9 +97,9 @@ begun : (players lines : List (List ℕ)) (line : List ℕ) (post q : Post) (had
     option_or (sheet_in players (line ∷ lines) q) had ≡ option_or (sheet_in players lines q) (option_or (open_with (Some (record { post = post; lines = [] })) lines q) had)
 begun players lines line post q had e = rw e (option_or-option_or (sheet_in players lines q) (cond (same_post post q) (Some (block lines)) None) had)
 
-module _ (players body : List (List ℕ)) (sheets : Post → Option (List (List ℕ))) (unread : List Fault) (good : ℕ) where
+module _ (version : Version) (players body : List (List ℕ)) (sheets : Post → Option (List (List ℕ))) (unread : List Fault) (good : ℕ) where
   -- other sheets with the same look-ups
-  pub stands_same : (others : Post → Option (List (List ℕ))) (lines : List (List ℕ)) (current : Option Open) → ((post : Post) → others post ≡ sheets post) → Stands players body lines current sheets unread good → Stands players body lines current others unread good
+  pub stands_same : (others : Post → Option (List (List ℕ))) (lines : List (List ℕ)) (current : Option Open) → ((post : Post) → others post ≡ sheets post) → Stands version players body lines current sheets unread good → Stands version players body lines current others unread good
   stands_same others lines current same s = record {
     sheets_are = λ post. ap (λ o. option_or (sheet_in players lines post) (option_or (open_with current lines post) o)) (same post) ∙ s.sheets_are post;
     unread_are = s.unread_are;
@@ -107,57 +108,57 @@ module _ (players body : List (List ℕ)) (sheets : Post → Option (List (List 
   }
 
   -- a line inside a sheet
-  pub stands_inside : (line : List ℕ) (lines : List (List ℕ)) (post : Post) (had : List (List ℕ)) → is_sheet_line line ≡ false → Stands players body (line ∷ lines) (Some (record { post = post; lines = had })) sheets unread good → Stands players body lines (Some (record { post = post; lines = had ++ line ∷ [] })) sheets unread good
+  pub stands_inside : (line : List ℕ) (lines : List (List ℕ)) (post : Post) (had : List (List ℕ)) → is_sheet_line line ≡ false → Stands version players body (line ∷ lines) (Some (record { post = post; lines = had })) sheets unread good → Stands version players body lines (Some (record { post = post; lines = had ++ line ∷ [] })) sheets unread good
   stands_inside line lines post had other s =
       let none : begins players line ≡ None = begins_none players line other in
       record {
         sheets_are = λ q. ap (λ o. option_or o (option_or (open_with (Some (record { post = post; lines = had ++ line ∷ [] })) lines q) (sheets q))) (sym (skipped players lines line q none)) ∙ sym (ap (λ o. option_or (sheet_in players (line ∷ lines) q) (option_or o (sheets q))) (open-line post q had lines line other)) ∙ s.sheets_are q;
-        unread_are = ap (λ codes. unread ++ codes) (sym (unread-inside players lines line other)) ∙ s.unread_are;
+        unread_are = ap (λ codes. unread ++ codes) (sym (unread-inside version players lines line other)) ∙ s.unread_are;
         good_are = ap (λ n. good + n) (sym (uncounted players lines line none)) ∙ s.good_are;
         few = s.few;
       }
 
   -- a line outside
-  pub stands_stray : (line : List ℕ) (lines : List (List ℕ)) → is_sheet_line line ≡ false → Stands players body (line ∷ lines) None sheets unread good → Stands players body lines None sheets (unread ++ unread_fault line ∷ []) good
+  pub stands_stray : (line : List ℕ) (lines : List (List ℕ)) → is_sheet_line line ≡ false → Stands version players body (line ∷ lines) None sheets unread good → Stands version players body lines None sheets (unread ++ unread_fault version line ∷ []) good
   stands_stray line lines other s =
       let none : begins players line ≡ None = begins_none players line other in
       record {
         sheets_are = λ q. ap (λ o. option_or o (sheets q)) (sym (skipped players lines line q none)) ∙ s.sheets_are q;
-        unread_are = append_assoc unread (unread_fault line ∷ []) (unread_in players false lines) ∙ ap (λ codes. unread ++ codes) (sym (unread-outside players lines line other)) ∙ s.unread_are;
+        unread_are = append_assoc unread (unread_fault version line ∷ []) (unread_in version players false lines) ∙ ap (λ codes. unread ++ codes) (sym (unread-outside version players lines line other)) ∙ s.unread_are;
         good_are = ap (λ n. good + n) (sym (uncounted players lines line none)) ∙ s.good_are;
         few = s.few;
       }
 
   -- a SHEET line ends the sheet before it
-  pub stands_closed : (line : List ℕ) (lines : List (List ℕ)) (post : Post) (had : List (List ℕ)) → is_sheet_line line ≡ true → Stands players body (line ∷ lines) (Some (record { post = post; lines = had })) sheets unread good → Stands players body (line ∷ lines) None (λ q. cond (same_post post q) (Some had) (sheets q)) unread good
+  pub stands_closed : (line : List ℕ) (lines : List (List ℕ)) (post : Post) (had : List (List ℕ)) → is_sheet_line line ≡ true → Stands version players body (line ∷ lines) (Some (record { post = post; lines = had })) sheets unread good → Stands version players body (line ∷ lines) None (λ q. cond (same_post post q) (Some had) (sheets q)) unread good
   stands_closed line lines post had is s =
       record {
         sheets_are = λ q. ap (λ o. option_or (sheet_in players (line ∷ lines) q) o) (sym (option_or-cond (same_post post q) had (sheets q)) ∙ ap (λ o. option_or o (sheets q)) (sym (open-end post q had lines line is))) ∙ s.sheets_are q;
-        unread_are = ap (λ codes. unread ++ codes) (sym (unread-either players lines line is)) ∙ s.unread_are;
+        unread_are = ap (λ codes. unread ++ codes) (sym (unread-either version players lines line is)) ∙ s.unread_are;
         good_are = s.good_are;
         few = s.few;
       }
 
   -- a good SHEET line begins a sheet
-  pub stands_begun : (line : List ℕ) (lines : List (List ℕ)) (post : Post) → is_sheet_line line ≡ true → begins players line ≡ Some post → good < sheets_most → Stands players body (line ∷ lines) None sheets unread good → Stands players body lines (Some (record { post = post; lines = [] })) sheets unread (good + 1)
+  pub stands_begun : (line : List ℕ) (lines : List (List ℕ)) (post : Post) → is_sheet_line line ≡ true → begins players line ≡ Some post → good < sheets_most → Stands version players body (line ∷ lines) None sheets unread good → Stands version players body lines (Some (record { post = post; lines = [] })) sheets unread (good + 1)
   stands_begun line lines post is some below s =
       record {
         sheets_are = λ q. sym (begun players lines line post q (sheets q) some) ∙ s.sheets_are q;
-        unread_are = ap (λ codes. unread ++ codes) (sym (unread-good players lines line false post is some)) ∙ s.unread_are;
+        unread_are = ap (λ codes. unread ++ codes) (sym (unread-good version players lines line false post is some)) ∙ s.unread_are;
         good_are = omega (arith, s.good_are, counted players lines line post some);
         few = omega arith;
       }
 
   -- a SHEET line with a fault begins none
-  pub stands_bad : (line : List ℕ) (lines : List (List ℕ)) → is_sheet_line line ≡ true → begins players line ≡ None → Stands players body (line ∷ lines) None sheets unread good → Stands players body lines None sheets (unread ++ unread_fault line ∷ []) good
+  pub stands_bad : (line : List ℕ) (lines : List (List ℕ)) → is_sheet_line line ≡ true → begins players line ≡ None → Stands version players body (line ∷ lines) None sheets unread good → Stands version players body lines None sheets (unread ++ unread_fault version line ∷ []) good
   stands_bad line lines is none s =
       record {
         sheets_are = λ q. ap (λ o. option_or o (sheets q)) (sym (skipped players lines line q none)) ∙ s.sheets_are q;
-        unread_are = append_assoc unread (unread_fault line ∷ []) (unread_in players false lines) ∙ ap (λ codes. unread ++ codes) (sym (unread-bad players lines line false is none)) ∙ s.unread_are;
+        unread_are = append_assoc unread (unread_fault version line ∷ []) (unread_in version players false lines) ∙ ap (λ codes. unread ++ codes) (sym (unread-bad version players lines line false is none)) ∙ s.unread_are;
         good_are = ap (λ n. good + n) (sym (uncounted players lines line none)) ∙ s.good_are;
         few = s.few;
       }
 
   -- one good SHEET line too many
-  pub too_many : (line : List ℕ) (lines : List (List ℕ)) (post : Post) → begins players line ≡ Some post → sheets_most ≤ good → Stands players body (line ∷ lines) None sheets unread good → sheets_most < good_lines players body
+  pub too_many : (line : List ℕ) (lines : List (List ℕ)) (post : Post) → begins players line ≡ Some post → sheets_most ≤ good → Stands version players body (line ∷ lines) None sheets unread good → sheets_most < good_lines players body
   too_many line lines post some full s = omega (arith, s.good_are, counted players lines line post some)

@@ -1,5 +1,5 @@
 -- What a file is kept as, and why it is refused.
-use Rattle.std.proofs.Common.{◌≡◌, ℕ, ◌<◌, ◌≤◌, List, true, false, Option, Some, Result, Ok, Err, length, refl, ◌∙◌}
+use Rattle.std.proofs.Common.{◌≡◌, ℕ, ◌<◌, ◌≤◌, List, true, false, Option, Some, Result, Ok, Err, length, refl, ap, ◌∙◌}
 use Rattle.std.proofs.lemmas.Bool.{lt-ltb, le-ltb}
 use Rattle.std.specs.Prelude.{nat_lt}
 use Rattle.order_grammar.specs.declared.condition.Version.{Version}
@@ -51,7 +51,7 @@ fails_by players body TooManySheets content e h = e ∙ many players body h
 -- what is kept of a file is what it says
 pub collected : (file : List ℕ) (version : Version) (players body : List (List ℕ)) (sheets : Post → Option (List (List ℕ))) (unread : List Fault) →
     version ≡ version_in (written_lines file) → content_of file ≡ Ok (record { players = players; body = body }) → 3 ≤ length players → length players ≤ 6 →
-    ((post : Post) → sheets post ≡ sheet_in players body post) → unread ≡ unread_in players false body → IsCollected file version players sheets unread
+    ((post : Post) → sheets post ≡ sheet_in players body post) → unread ≡ unread_in version players false body → IsCollected file version players sheets unread
 unfolding version_of players_of body_of sheet_of unread_of
 collected file version players body sheets unread named e least most same codes = record {
   accepted = rw e refl;
@@ -60,5 +60,5 @@ collected file version players body sheets unread named e least most same codes 
   least = least;
   most = most;
   sheets_are = λ post. rw e (same post);
-  unread_are = rw e codes;
+  unread_are = rw e (codes ∙ ap (λ (v : Version). unread_in v players false body) named);
 }

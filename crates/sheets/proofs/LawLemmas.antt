@@ -1,9 +1,11 @@
 -- The sheet of a seat for a round is the last of those that the seat sent.
 use Rattle.std.proofs.Common.{◌≡◌, ℕ, List, [], ◌∷◌, ◌++◌, true, false, cond, eqb, Option, Some, None, refl, sym, ◌∙◌, ap}
-use Rattle.std.specs.Prelude.{◌&&◌}
+use Rattle.std.specs.Prelude.{◌&&◌, unwrap_or}
 use Rattle.std.specs.Option.{option_or}
-use Rattle.sheets.specs.File.{Sent, begins, block, lines_begun, sheet_in, sent_by, sent_in, last_for, post_at, sheet_of, posts_of, players_of, body_of}
-use Rattle.sheets.specs.Laws.{LastSheetCounts, ArrivalChangesNothing}
+use Rattle.sheets.specs.File.{Sent, begins, block, lines_begun, sheet_in, sent_by, sent_in, last_for, post_at, sheet_of, posts_of, players_of, body_of, version_of}
+use Rattle.sheets.specs.Part.{parts_of}
+use Rattle.sheets.specs.Laws.{LastSheetCounts, ArrivalChangesNoParts, ArrivalChangesNothing}
+use Rattle.order_grammar.specs.declared.condition.Version.{Version}
 use Rattle.sheets.specs.declared.post.Post.{Post}
 use Rattle.tables.specs.Round.{same_round}
 use Rattle.tables.specs.declared.round.Round.{Round}
@@ -35,3 +37,9 @@ last_sheet_counts_law file seat round = last_in (players_of file) (body_of file)
 pub arrival_law : ArrivalChangesNothing
 arrival_law f g same seat round =
     last_sheet_counts_law f seat round ∙ ap (last_for round) (same seat) ∙ sym (last_sheet_counts_law g seat round)
+
+-- and that of the parts that are read of the sheets
+pub no_parts_law : ArrivalChangesNoParts
+no_parts_law f g same version round seat =
+    ap (λ (v : Version). parts_of v round (unwrap_or (sheet_of f seat round) [])) version
+    ∙ ap (λ (sheet : Option (List (List ℕ))). parts_of (version_of g) round (unwrap_or sheet [])) (arrival_law f g same seat round)

@@ -10,3 +10,4 @@ pub mod NumberLemmas
 pub mod GroupLemmas
 pub mod TakenLemmas
 pub mod Heads
+pub mod PlainLemmas

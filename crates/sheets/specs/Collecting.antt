@@ -35,16 +35,16 @@ sheet_with players current sheets lines post =
     option_or (sheet_in players lines post) (option_or (open_with current lines post) (sheets post))
 
 -- what is kept and what is left are together what the whole body has
-pub record Stands (players body lines : List (List ℕ)) (current : Option Open) (sheets : Post → Option (List (List ℕ))) (unread : List Fault) (good : ℕ) : Type 0 where
+pub record Stands (version : Version) (players body lines : List (List ℕ)) (current : Option Open) (sheets : Post → Option (List (List ℕ))) (unread : List Fault) (good : ℕ) : Type 0 where
   pub sheets_are : (post : Post) → sheet_with players current sheets lines post ≡ sheet_in players body post
-  pub unread_are : unread ++ unread_in players (is_some current) lines ≡ unread_in players false body
+  pub unread_are : unread ++ unread_in version players (is_some current) lines ≡ unread_in version players false body
   pub good_are : good + good_lines players lines ≡ good_lines players body
   pub few : good ≤ sheets_most
 
 -- the same, where this text is left
-abbrev pub Reaches : List (List ℕ) → List (List ℕ) → List ℕ → Option OpenSheet → (Post → Option (List (List ℕ))) → List Fault → ℕ → Type 0
-Reaches players body rest sheet sheets unread good =
-    (current : Option Open) × IsOpen sheet current rest × Stands players body (written_lines rest) current sheets unread good
+abbrev pub Reaches : Version → List (List ℕ) → List (List ℕ) → List ℕ → Option OpenSheet → (Post → Option (List (List ℕ))) → List Fault → ℕ → Type 0
+Reaches version players body rest sheet sheets unread good =
+    (current : Option Open) × IsOpen sheet current rest × Stands version players body (written_lines rest) current sheets unread good
 
 -- the sheets once an open one is kept that ends where this is left
 abbrev pub closed : Option OpenSheet → List ℕ → (Post → Option (List (List ℕ))) → Post → Option (List (List ℕ))

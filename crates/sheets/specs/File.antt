@@ -4,14 +4,16 @@ use Rattle.std.specs.Prelude.{◌≡◌, ℕ, ◌==◌, ◌+◌, Bool, true, fal
 use Rattle.std.specs.Option.{option_or}
 use Rattle.std.specs.List.{list_any}
 use Rattle.order_grammar.specs.Line.{reading_of}
+use Rattle.order_grammar.specs.Version.{reading_in}
 use Rattle.order_grammar.specs.Words.{words_of, first_of_words, same_word}
 use Rattle.order_grammar.specs.declared.condition.Version.{Version}
-use Rattle.order_grammar.specs.declared.condition.Version.TheVariants.{One}
+use Rattle.order_grammar.specs.declared.condition.Version.TheVariants.{One, Two}
 use Rattle.order_grammar.specs.declared.fault.Fault.{Fault}
 use Rattle.order_grammar.specs.declared.fault.Fault.TheVariants.{OutOfPlace, UnknownPlayer}
 use Rattle.order_grammar.specs.declared.order.Order.{Order}
 use Rattle.order_grammar.specs.declared.order.Order.TheVariants as order
 use Rattle.sheets.specs.Limits.{file_most, sheets_most}
+use Rattle.sheets.specs.Reading.{order_read}
 use Rattle.sheets.specs.Text.{written_lines}
 use Rattle.sheets.specs.declared.fault.FileFault.{FileFault}
 use Rattle.sheets.specs.declared.fault.FileFault.TheVariants.{Header, Players, TooLong, TooManySheets, Memory}
@@ -29,9 +31,13 @@ code_of_fault TooLong = codes "F3"
 code_of_fault TooManySheets = codes "F4"
 code_of_fault Memory = codes "F5"
 
--- the version that the order of a header line names: game 1830, and version 1 of its files
+-- the version with this number
+abbrev pub version_numbered : ℕ → Option Version
+version_numbered number = if number == 1 then Some One else (if number == 2 then Some Two else None)
+
+-- the version that the order of a header line names: of the files of game 1830
 abbrev pub header_version : Result Order Fault → Option Version
-header_version (Ok (order.Game game version)) = if game == 1830 && version == 1 then Some One else None
+header_version (Ok (order.Game game version)) = if game == 1830 then version_numbered version else None
 header_version other = None
 
 -- the order of a header line
@@ -91,7 +97,8 @@ abbrev pub post_begun : List (List ℕ) → Result Order Fault → Option Post
 post_begun players (Ok (order.Sheet name round)) = post_for round (seat_from 0 players name)
 post_begun players other = None
 
--- the sheet that a line begins whose first word is SHEET; a line that begins one is a good SHEET line
+-- the sheet that a line begins whose first word is SHEET, which all versions read alike; a line that begins one is a
+-- good SHEET line
 unfoldable pub begins : List (List ℕ) → List ℕ → Option Post
 begins players line = if is_sheet_line line then post_begun players (reading_of line) else None
 
@@ -126,17 +133,23 @@ fault_of_reading (Err fault) = fault
 fault_of_reading (Ok (order.Sheet name round)) = UnknownPlayer
 fault_of_reading (Ok other) = OutOfPlace
 
--- the code of a line that is in no sheet
-unfoldable pub unread_fault : List ℕ → Fault
-unread_fault line = fault_of_reading (reading_of line)
+-- the code of a line that is in no sheet of a file of some version
+unfoldable pub unread_fault : Version → List ℕ → Fault
+unread_fault version line = fault_of_reading (order_read (reading_in version line))
 
 -- the codes of the lines that are in no sheet, where a sheet is open before them or none is
-abbrev pub unread_in : List (List ℕ) → Bool → List (List ℕ) → List Fault
-unread_in players inside [] = []
-unread_in players inside (line ∷ lines) =
+abbrev pub unread_in : Version → List (List ℕ) → Bool → List (List ℕ) → List Fault
+unread_in version players inside [] = []
+unread_in version players inside (line ∷ lines) =
     if is_sheet_line line
-    then (if is_some (begins players line) then unread_in players true lines else unread_fault line ∷ unread_in players false lines)
-    else (if inside then unread_in players true lines else unread_fault line ∷ unread_in players false lines)
+    then
+    (if is_some (begins players line)
+    then unread_in version players true lines
+    else unread_fault version line ∷ unread_in version players false lines)
+    else
+    (if inside
+    then unread_in version players true lines
+    else unread_fault version line ∷ unread_in version players false lines)
 
 -- a file that is not refused: its players, and the lines after their line
 pub record Content : Type 0 where
@@ -196,7 +209,7 @@ sheet_of file seat round = sheet_in (players_of file) (body_of file) (post_at se
 
 -- the codes of the unread lines, in order
 unfoldable pub unread_of : List ℕ → List Fault
-unread_of file = unread_in (players_of file) false (body_of file)
+unread_of file = unread_in (version_of file) (players_of file) false (body_of file)
 
 -- a sheet as it was sent: for which round, and its lines
 pub record Sent : Type 0 where

@@ -1,8 +1,12 @@
 -- Laws of order files.
-use Rattle.std.specs.Prelude.{◌≡◌, ℕ, ◌<◌, ◌≤◌, List, length, Err, IsSome}
-use Rattle.sheets.specs.File.{IsAccepted, content_of, sheet_of, players_of, posts_of, last_for}
+use Rattle.std.specs.Prelude.{◌≡◌, ℕ, ◌+◌, ◌<◌, ◌≤◌, Bool, List, [], ◌∷◌, length, None, Result, Err, IsSome, unwrap_or}
+use Rattle.order_grammar.specs.Line.{reading_of}
+use Rattle.order_grammar.specs.declared.condition.Version.TheVariants.{One}
+use Rattle.order_grammar.specs.declared.fault.Fault.{Fault}
+use Rattle.order_grammar.specs.declared.order.Order.{Order}
+use Rattle.sheets.specs.File.{IsAccepted, content_of, fault_of_reading, sheet_of, players_of, posts_of, last_for, unread_fault, version_of}
 use Rattle.sheets.specs.Limits.{file_most, lines_most}
-use Rattle.sheets.specs.Part.{groups_of, parts_for}
+use Rattle.sheets.specs.Part.{Numbered, Parts, groups_of, opens_part, parts_for, reading_at, with_line}
 use Rattle.sheets.specs.declared.fault.FileFault.TheVariants.{TooLong}
 use Rattle.tables.specs.Round.{number_most}
 use Rattle.tables.specs.declared.round.Round.{Round}
@@ -20,6 +24,33 @@ SentTheSame f g = (seat : ℕ) → posts_of f seat ≡ posts_of g seat
 abbrev pub ArrivalChangesNothing : Type 0
 ArrivalChangesNothing =
     (f g : List ℕ) → SentTheSame f g → (seat : ℕ) (round : Round) → sheet_of f seat round ≡ sheet_of g seat round
+
+-- the sheets of both files have the same parts, for each round and seat
+abbrev pub SameParts : List ℕ → List ℕ → Type 0
+SameParts f g = (round : Round) (seat : ℕ) → parts_for f round seat ≡ parts_for g round seat
+
+-- files of one version in which each player sent the same have the same parts
+abbrev pub ArrivalChangesNoParts : Type 0
+ArrivalChangesNoParts = (f g : List ℕ) → SentTheSame f g → version_of f ≡ version_of g → SameParts f g
+
+-- a line with this number that stands under no condition
+abbrev pub plain : ℕ → List ℕ → Numbered
+plain number line = record { number = number; condition = None; reading = reading_at number (reading_of line) }
+
+-- the parts of lines that stand under no condition, of which so many came before
+abbrev pub plain_parts : (Result Order Fault → Bool) → ℕ → List (List ℕ) → Parts
+plain_parts opens count [] = record { before = []; opened = [] }
+plain_parts opens count (line ∷ lines) = with_line opens (plain (count + 1) line) (plain_parts opens (count + 1) lines)
+
+-- no line of a file of version 1 stands under a condition, and each has the order that it spells by itself
+abbrev pub VersionOneIsPlain : Type 0
+VersionOneIsPlain =
+    (file : List ℕ) (round : Round) (seat : ℕ) → version_of file ≡ One
+    → parts_for file round seat ≡ plain_parts (opens_part round) 0 (unwrap_or (sheet_of file seat round) [])
+
+-- so has a line that is in no sheet
+abbrev pub VersionOneIsPlainOutside : Type 0
+VersionOneIsPlainOutside = (line : List ℕ) → unread_fault One line ≡ fault_of_reading (reading_of line)
 
 -- a file with too many bytes is refused as that, whatever it says
 abbrev pub LongFileIsRefused : Type 0

@@ -1,4 +1,4 @@
--- The limits of version 1 of order files.
+-- The limits of order files.
 use Rattle.std.specs.Prelude.{ℕ}
 
 -- the most bytes of an order file

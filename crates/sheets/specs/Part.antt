@@ -3,22 +3,28 @@
 -- one, and opens a block. The lines before the first head stand alone. A line past 512 has that fault
 -- before any other, so it is no head.
 use Rattle.std.specs.Prelude.{◌≡◌, ℕ, ◌+◌, Bool, true, false, nat_lt, if◌then◌else◌, List, [], ◌∷◌, length, map, Option, Some, None, Result, Ok, Err, codes, unwrap_or}
-use Rattle.order_grammar.specs.Line.{order_of, reading_of}
+use Rattle.order_grammar.specs.Condition.{Ordered}
+use Rattle.order_grammar.specs.Version.{ordered_of, reading_in}
+use Rattle.order_grammar.specs.declared.condition.Condition.{Condition}
+use Rattle.order_grammar.specs.declared.condition.Version.{Version}
 use Rattle.order_grammar.specs.declared.fault.Fault.{Fault}
 use Rattle.order_grammar.specs.declared.fault.Fault.TheVariants.{PastLastLine}
 use Rattle.order_grammar.specs.declared.order.Order.{Order}
 use Rattle.order_grammar.specs.declared.order.Order.TheVariants.{Company, Turn}
-use Rattle.sheets.specs.File.{sheet_of}
+use Rattle.sheets.specs.File.{sheet_of, version_of}
 use Rattle.sheets.specs.Limits.{lines_most}
-use Rattle.sheets.specs.Sheet.{Unruled}
+use Rattle.sheets.specs.Reading.{order_read}
+use Rattle.sheets.specs.Sheet.{Unruled, condition_at}
 use Rattle.sheets.specs.declared.sheet.NumberedLine.{NumberedLine}
 use Rattle.sheets.specs.declared.sheet.UnreadLine.{UnreadLine}
 use Rattle.tables.specs.declared.round.Round.{Round}
 use Rattle.tables.specs.declared.round.Round.TheVariants.{Operating}
 
--- a line where it stands in its sheet: its number, and its order or the first fault that it has there
+-- a line where it stands in its sheet: its number, and its order or the first fault that it has there; an order may
+-- stand under a condition, a fault has none
 pub record Numbered : Type 0 where
   pub number : ℕ
+  pub condition : Option Condition
   pub reading : Result Order Fault
 
 -- what a line with this number is where it stands, if by itself it is this
@@ -26,16 +32,26 @@ abbrev pub reading_at : ℕ → Result Order Fault → Result Order Fault
 reading_at number reading = if nat_lt lines_most number then Err PastLastLine else reading
 
 -- the line with this number that by itself is this
-abbrev pub numbered : ℕ → Result Order Fault → Numbered
-numbered number reading = record { number = number; reading = reading_at number reading }
+abbrev pub numbered : ℕ → Result Ordered Fault → Numbered
+numbered number reading =
+    record {
+      number = number;
+      condition = condition_at number reading;
+      reading = reading_at number (order_read reading);
+    }
 
 -- a line that was read, where it stands
 abbrev pub line_read : NumberedLine → Numbered
-line_read line = numbered line.number (order_of line.reading)
+line_read line =
+    record {
+      number = line.number;
+      condition = line.condition;
+      reading = reading_at line.number (order_read (ordered_of line.reading));
+    }
 
 -- a line that is not read, where it stands
 abbrev pub line_unread : UnreadLine → Numbered
-line_unread line = numbered line.number (reading_of line.text.now)
+line_unread line = numbered line.number (reading_in line.version line.text.now)
 
 -- the order that opens a group
 abbrev pub is_turn : Result Order Fault → Bool
@@ -80,23 +96,23 @@ after_line line parts = record { before = line ∷ parts.before; opened = parts.
 abbrev pub with_line : (Result Order Fault → Bool) → Numbered → Parts → Parts
 with_line opens line parts = if opens line.reading then after_head line parts else after_line line parts
 
--- the parts of lines of which so many came before
-abbrev pub parts_after : (Result Order Fault → Bool) → ℕ → List (List ℕ) → Parts
-parts_after opens count [] = record { before = []; opened = [] }
-parts_after opens count (line ∷ lines) =
-    with_line opens (numbered (count + 1) (reading_of line)) (parts_after opens (count + 1) lines)
+-- the parts of lines of a file of some version, of which so many came before
+abbrev pub parts_after : Version → (Result Order Fault → Bool) → ℕ → List (List ℕ) → Parts
+parts_after version opens count [] = record { before = []; opened = [] }
+parts_after version opens count (line ∷ lines) =
+    with_line opens (numbered (count + 1) (reading_in version line)) (parts_after version opens (count + 1) lines)
 
 -- the parts of the lines of a sheet for a round that are still to come
 abbrev pub parts_left : Round → Unruled → Parts
-parts_left round unruled = parts_after (opens_part round) unruled.number unruled.lines
+parts_left round unruled = parts_after unruled.version (opens_part round) unruled.number unruled.lines
 
 -- the parts of the lines of a sheet for a round
-abbrev pub parts_of : Round → List (List ℕ) → Parts
-parts_of round lines = parts_after (opens_part round) 0 lines
+abbrev pub parts_of : Version → Round → List (List ℕ) → Parts
+parts_of version round lines = parts_after version (opens_part round) 0 lines
 
 -- the parts of the sheet of a seat for a round; without a sheet there are none
 abbrev pub parts_for : List ℕ → Round → ℕ → Parts
-parts_for file round seat = parts_of round (unwrap_or (sheet_of file seat round) [])
+parts_for file round seat = parts_of (version_of file) round (unwrap_or (sheet_of file seat round) [])
 
 -- the lines of each group or block
 abbrev pub groups_of : Parts → List (List Numbered)

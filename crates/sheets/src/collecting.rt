@@ -1,8 +1,9 @@
-ghost use Rattle.std.specs.Prelude.{◌≡◌, false, ℕ, ◌+◌, ◌<◌, ◌≤◌, List, [], ◌∷◌, ◌++◌, length, IfOk, OnOk, IfErr, MatchOption, MatchResult};
+ghost use Rattle.std.specs.Prelude.{◌≡◌, false, ℕ, ◌+◌, ◌<◌, ◌≤◌, List, [], ◌∷◌, ◌++◌, length, IfOk, Ok, OnOk, IfErr, MatchOption, MatchResult};
 ghost use Rattle.std.specs.HashMap.{get};
 ghost use Rattle.order_grammar.specs.Line.{order_of, reading_of};
+ghost use Rattle.order_grammar.specs.Version.{ordered_of};
 ghost use Rattle.sheets.specs.Collecting.{HasBegun, Reaches, StopsAt, StopsBy, closed};
-ghost use Rattle.sheets.specs.File.{is_sheet_line, post_begun, fault_of_reading, same_post, sheet_in, unread_in, good_lines};
+ghost use Rattle.sheets.specs.File.{is_sheet_line, post_begun, fault_of_reading, same_post, sheet_in, unread_fault, unread_in, good_lines};
 ghost use Rattle.sheets.specs.Limits.{file_most, sheets_most};
 ghost use Rattle.sheets.specs.Text.{IsFirstLine, written_lines};
 ghost use Rattle.sheets.specs.declared.post.Post.{Post};
@@ -13,7 +14,7 @@ use crate::players::Players;
 use crate::post::Post;
 use crate::sheet::Sheet;
 use crate::text::{Piece, first_written};
-use order_grammar::{Fault, Line, Order, begins_with_word, read_line};
+use order_grammar::{Fault, Line, Order, Version, begins_with_word, read_line, read_line_in};
 use std::alloc::{AllocError, Global};
 use std::collections::HashMap;
 
@@ -32,6 +33,7 @@ pub(crate) struct Collection<'a> {
 /// Collects the lines after the players line.
 pub(crate) fn collect_body<'a>(
     alloc: Global,
+    version: Version,
     players: &Players,
     body: &'a [u8],
 ) -> Result<Collection<'a>, FileFault>
@@ -40,7 +42,7 @@ pub(crate) fn collect_body<'a>(
     ensures sheets { IfOk result (λ c. (post : Post) →
         get same_post c.sheets post ≡ sheet_in players.now (written_lines body.now) post) }
     ensures unread { IfOk result (λ c.
-        c.unread.items ≡ unread_in players.now false (written_lines body.now)) }
+        c.unread.items ≡ unread_in version players.now false (written_lines body.now)) }
     ensures good { OnOk result (good_lines players.now (written_lines body.now) ≤ sheets_most) }
     ensures err { IfErr result (StopsBy (good_lines players.now (written_lines body.now))) }
 {
@@ -52,7 +54,7 @@ pub(crate) fn collect_body<'a>(
     };
     let mut rest = body;
     while let Some(piece) = first_written(rest) {
-        collection.take_line(players, rest, piece)?;
+        collection.take_line(version, players, rest, piece)?;
         rest = piece.rest;
     }
     collection.close(&[])?;
@@ -63,6 +65,7 @@ impl<'a> Collection<'a> {
     /// Takes the next line, which begins a text and leaves its rest.
     fn take_line(
         &mut self,
+        version: Version,
         players: &Players,
         text: &'a [u8],
         piece: Piece<'a>,
@@ -72,22 +75,22 @@ impl<'a> Collection<'a> {
         requires lines { written_lines text.now ≡ piece.line.now ∷ written_lines piece.rest.now }
         requires first { IsFirstLine piece.line.now piece.rest.now text.now }
         ensures ok { OnOk result ((body : List (List ℕ)) →
-            Reaches players.now body text.now self.old.current
+            Reaches version players.now body text.now self.old.current
             (get same_post self.old.sheets) self.old.unread.items self.old.good →
-            Reaches players.now body piece.entry.rest.now self.new.current
+            Reaches version players.now body piece.entry.rest.now self.new.current
             (get same_post self.new.sheets) self.new.unread.items self.new.good) }
         ensures err { IfErr result (λ fault. (body : List (List ℕ)) →
-            Reaches players.now body text.now self.old.current
+            Reaches version players.now body text.now self.old.current
             (get same_post self.old.sheets) self.old.unread.items self.old.good →
             StopsBy (good_lines players.now body) fault) }
     {
         if is_sheet_line(piece.line) {
             self.close(text)?;
-            self.begin(players, piece)
+            self.begin(version, players, piece)
         } else if self.current.is_some() {
             Ok(())
         } else {
-            self.unread.push(unread_fault(&read_line(piece.line)))?;
+            self.unread.push(unread_fault(version, piece.line))?;
             Ok(())
         }
     }
@@ -110,14 +113,20 @@ impl<'a> Collection<'a> {
     }
 
     /// Takes a SHEET line where no sheet is open.
-    fn begin(&mut self, players: &Players, piece: Piece<'a>) -> Result<(), FileFault>
+    fn begin(
+        &mut self,
+        version: Version,
+        players: &Players,
+        piece: Piece<'a>,
+    ) -> Result<(), FileFault>
         requires few { length players.now ≤ 6 }
         requires short { length piece.rest.now ≤ file_most }
         requires none { self.old.current ≡ None }
         ensures sheets { self.new.sheets ≡ self.old.sheets }
-        ensures ok { OnOk result (let reading = reading_of piece.entry.line.now in
-            HasBegun piece.entry.rest.now (fault_of_reading reading)
-            self.old.good self.old.unread.items (post_begun players.now reading)
+        ensures ok { OnOk result (
+            HasBegun piece.entry.rest.now (unread_fault version piece.entry.line.now)
+            self.old.good self.old.unread.items
+            (post_begun players.now (reading_of piece.entry.line.now))
             self.new.current self.new.good self.new.unread.items) }
         ensures err { IfErr result
             (StopsAt self.old.good (post_begun players.now (reading_of piece.entry.line.now))) }
@@ -134,7 +143,7 @@ impl<'a> Collection<'a> {
                     text: piece.rest,
                 });
             }
-            None => self.unread.push(unread_fault(&reading))?,
+            None => self.unread.push(unread_fault(version, piece.line))?,
         }
         Ok(())
     }
@@ -166,15 +175,24 @@ fn post_begun(players: &Players, reading: &Result<Line, Fault>) -> Option<Post>
     })
 }
 
-/// The code of a line that is in no sheet.
-fn unread_fault(reading: &Result<Line, Fault>) -> Fault
-    ensures { result ≡ fault_of_reading (order_of reading.now) }
+/// The code of a line of a file of some version that is in no sheet.
+#[tactic(auto, unfolding(crate::specs::File::unread_fault))]
+fn unread_fault(version: Version, line: &[u8]) -> Fault
+    ensures { result ≡ unread_fault version line.now }
 {
-    match reading {
+    match &read_line_in(version, line) {
         Err(fault) => *fault,
-        Ok(line) => match &line.order {
-            Order::Sheet { .. } => Fault::UnknownPlayer,
-            _ => Fault::OutOfPlace,
-        },
+        Ok(line) => fault_of_order(&line.order),
+    }
+}
+
+/// The code of a line with this order that is in no sheet: it is a sheet of nobody who plays, or out
+/// of place.
+fn fault_of_order(order: &Order) -> Fault
+    ensures { result ≡ fault_of_reading (Ok order.now) }
+{
+    match order {
+        Order::Sheet { .. } => Fault::UnknownPlayer,
+        _ => Fault::OutOfPlace,
     }
 }

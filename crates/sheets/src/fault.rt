@@ -9,8 +9,8 @@ use thiserror::Error;
 /// or memory was refused, which says nothing of the file.
 #[derive(Clone, Copy, Debug, PartialEq, Eq, Drop, Error)]
 pub enum FileFault {
-    /// F1: the first line that is not blank is not `GAME 1830 1`.
-    #[error("the first line that is not blank is not GAME 1830 1")]
+    /// F1: the first line that is not blank is neither `GAME 1830 1` nor `GAME 1830 2`.
+    #[error("the first line that is not blank is neither GAME 1830 1 nor GAME 1830 2")]
     Header,
     /// F2: the next line that is not blank does not name 3 to 6 different players.
     #[error("no line after the header names 3 to 6 different players")]

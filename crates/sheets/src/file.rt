@@ -1,7 +1,7 @@
 ghost use Rattle.std.specs.Prelude.{◌≡◌, ℕ, ◌≤◌, List, length, MatchResult, IfOk, OnOk, option_copied, option_map, slice_get, Err};
 ghost use Rattle.order_grammar.specs.Line.{reading_of};
 ghost use Rattle.sheets.specs.Block.{block_for};
-ghost use Rattle.sheets.specs.File.{Fails, IsAccepted, body_content, content_of, header_version, lines_content, players_content, players_of, sheet_of, unread_of, version_in, version_of};
+ghost use Rattle.sheets.specs.File.{Fails, IsAccepted, body_content, content_of, header_version, lines_content, players_content, players_of, sheet_of, unread_of, version_in, version_numbered, version_of};
 ghost use Rattle.sheets.specs.Part.{parts_for};
 ghost use Rattle.sheets.specs.Text.{written_lines};
 
@@ -51,7 +51,7 @@ impl<'a> Model for Sheets<'a> {
 }
 
 impl<'a> Sheets<'a> {
-    /// The version of the file, as its header line names it. (Files of version 2 are refused.)
+    /// The version of the file, as its header line names it.
     pub fn version(&self) -> Version
         ensures { result ≡ version_of self.now }
     {
@@ -75,7 +75,7 @@ impl<'a> Sheets<'a> {
         ensures { result ≡ parts_for self.now round seat.0 }
     {
         let lines = match self.sheet(seat, &round) {
-            Some(sheet) => sheet.lines(),
+            Some(sheet) => sheet.lines(self.version),
             None => Lines::none(),
         };
         PartsLeft::of(lines, round)
@@ -132,7 +132,7 @@ pub fn collect(alloc: Global, file: &[u8]) -> Result<Sheets<'_>, FileFault>
     }
     let (version, after_header) = read_header(file)?;
     let (players, body) = read_players(alloc, after_header)?;
-    let collection = collect_body(alloc, &players, body)?;
+    let collection = collect_body(alloc, version, &players, body)?;
     Ok(Sheets {
         file,
         version,
@@ -160,7 +160,8 @@ fn read_header(file: &[u8]) -> Result<(Version, &[u8]), FileFault>
     }
 }
 
-/// The version of a file whose header line is this one, `GAME 1830 1`; `None` for other lines.
+/// The version of a file whose header line is this one, `GAME 1830 1` or `GAME 1830 2`; `None` for
+/// other lines.
 fn header_version(line: &[u8]) -> Option<Version>
     ensures { result ≡ header_version (reading_of line.now) }
 {
@@ -170,8 +171,19 @@ fn header_version(line: &[u8]) -> Option<Version>
     match &line.order {
         Order::Game {
             game: GAME,
-            version: 1,
-        } => Some(Version::One),
+            version,
+        } => version_numbered(*version),
+        _ => None,
+    }
+}
+
+/// The version with this number.
+fn version_numbered(number: u32) -> Option<Version>
+    ensures { result ≡ version_numbered number }
+{
+    match number {
+        1 => Some(Version::One),
+        2 => Some(Version::Two),
         _ => None,
     }
 }

@@ -1,8 +1,8 @@
 //! Laws of order files: each function does nothing, and its contract is the law.
 
-ghost use Rattle.sheets.specs.Laws.{ArrivalChangesNothing, LastSheetCounts, LongFileIsRefused, SheetsAreNumbered, SheetsHaveFewGroups, ThreeToSixPlay};
+ghost use Rattle.sheets.specs.Laws.{ArrivalChangesNoParts, ArrivalChangesNothing, LastSheetCounts, LongFileIsRefused, SheetsAreNumbered, SheetsHaveFewGroups, ThreeToSixPlay, VersionOneIsPlain, VersionOneIsPlainOutside};
 
-use order_grammar::read_where_spelt;
+use order_grammar::{read_where_spelt, version_one_has_no_conditions};
 
 /// The sheet of a player for a round is the last that the player sent for it.
 pub fn last_sheet_counts()
@@ -15,6 +15,21 @@ pub fn last_sheet_counts()
 pub fn arrival_changes_nothing()
     ensures { ArrivalChangesNothing }
 {}
+
+/// Nor does it change what is read of a sheet, where both files are of one version: each sheet has the
+/// same parts.
+pub fn arrival_changes_no_parts()
+    ensures { ArrivalChangesNoParts }
+{}
+
+/// A file of version 1 is read as if there were no conditions: each line has the order that it spells
+/// by itself, or its first fault, and stands under no condition.
+pub fn version_one_is_plain()
+    ensures sheets { VersionOneIsPlain }
+    ensures outside { VersionOneIsPlainOutside }
+{
+    version_one_has_no_conditions()
+}
 
 /// A file of over `FILE_MOST` bytes is refused as too long, whatever it says.
 pub fn long_file_is_refused()

@@ -1,7 +1,8 @@
 //! From the bytes of an order file to sheets: what each player last sent for each round.
 //!
 //! `collect` goes once over the file and keeps for each sheet only where its text lies; a sheet's
-//! lines are read when they are asked for, and taking them up takes no memory. To a contract
+//! lines are read when they are asked for, by the version of the file, and taking them up takes no
+//! memory. To a contract
 //! `Sheets` is the file that it was collected from, a `Sheet` the list of its lines, and
 //! `PartsLeft` what is still to come of a sheet: the lines before its next head, and the groups or
 //! blocks that heads open.
@@ -9,7 +10,7 @@
 //! Reading order: `fault`, `text` (the lines of a text), `sheet`, `parts` (a sheet as the rounds
 //! take it up), `place` (orders that have none), `players`, `post` and `open_sheet` (whose sheet it
 //! is, and where it began), `collecting` (line after line), `file` (`collect`), `laws`. In
-//! `specs/`, `File` says what a file says, `Part` what the parts of a sheet are, `Block` which of
+//! `specs/`, `File` says what a file says, `Reading` what is read of a line, `Part` what the parts of a sheet are, `Block` which of
 //! them is a company's, `Place` what becomes of an order without a place, `Limits` the limits of a
 //! file, and `Collecting` how far a file was collected.
 #![tactic(auto)]
@@ -30,8 +31,8 @@ pub use collecting::SHEETS_MOST;
 pub use fault::FileFault;
 pub use file::{FILE_MOST, Sheets, collect};
 pub use laws::{
-    arrival_changes_nothing, last_sheet_counts, long_file_is_refused, sheets_are_numbered,
-    sheets_have_few_groups, three_to_six_play,
+    arrival_changes_no_parts, arrival_changes_nothing, last_sheet_counts, long_file_is_refused,
+    sheets_are_numbered, sheets_have_few_groups, three_to_six_play, version_one_is_plain,
 };
 pub use parts::PartsLeft;
 pub use place::{fault_out_of_place, is_of_file};

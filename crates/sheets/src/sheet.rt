@@ -1,13 +1,15 @@
 ghost use Rattle.std.specs.Prelude.{◌≡◌, ◌≤◌, [], length, IfOk, MatchResult, Ok, Err};
+ghost use Rattle.order_grammar.specs.Version.{ordered_of};
 ghost use Rattle.order_grammar.specs.Words.{AreWordsOf};
 ghost use Rattle.std.specs.Iterator.{at_most};
 ghost use Rattle.sheets.specs.Limits.{file_most};
 ghost use Rattle.sheets.specs.Part.{line_read, line_unread};
-ghost use Rattle.sheets.specs.Sheet.{Unruled, TakesLine, TakesUnread};
+ghost use Rattle.sheets.specs.Sheet.{IsReadAs, TakesLine, TakesUnread, condition_at, unruled};
 ghost use Rattle.sheets.specs.Text.{written_lines};
+ghost use Rattle.order_grammar.specs.declared.condition.Version.TheVariants.{One};
 
 use crate::text::first_written;
-use order_grammar::{Fault, Line, Order, read_line};
+use order_grammar::{Condition, Fault, Line, Order, Version, read_line_in};
 use std::marker::Model;
 
 /// The last line of a sheet that may be an order.
@@ -41,11 +43,12 @@ impl<'a> Sheet<'a> {
         Sheet { text }
     }
 
-    /// Its lines in order, numbered from 1, each read or a fault.
-    pub fn lines(&self) -> Lines<'a>
-        ensures { result ≡ record { number = 0; lines = self.now } }
+    /// Its lines in order, numbered from 1, each read by the version of its file, or a fault.
+    pub fn lines(&self, version: Version) -> Lines<'a>
+        ensures { result ≡ unruled version 0 self.now }
     {
         Lines {
+            version,
             rest: self.text,
             number: 0,
         }
@@ -57,6 +60,8 @@ impl<'a> Sheet<'a> {
 pub struct NumberedLine<'a> {
     /// Its number in the sheet, from 1; blank lines have none.
     pub number: u32,
+    /// The condition of its order where it stands, if that has one; a line with a fault there has none.
+    pub condition: Option<Condition>,
     /// Its order, or the first fault that it has by itself.
     pub reading: Result<Line<'a>, Fault>,
 }
@@ -84,6 +89,8 @@ impl<'a> NumberedLine<'a> {
 /// A line of a sheet that is not read.
 #[derive(Clone, Copy, Debug)]
 pub struct UnreadLine<'a> {
+    /// The version of its file.
+    pub version: Version,
     /// Its number in the sheet, from 1; blank lines have none.
     pub number: u32,
     /// Its bytes, without its LF and a CR before that.
@@ -91,37 +98,52 @@ pub struct UnreadLine<'a> {
 }
 
 impl<'a> UnreadLine<'a> {
-    /// The line, read.
+    /// The line, read by the version of its file.
     pub fn read(self) -> NumberedLine<'a>
-        ensures number { result.number ≡ self.entry.number }
+        ensures read { IsReadAs self.entry.version self.entry.number self.entry.text.now result }
         ensures line { line_read result ≡ line_unread self.entry }
-        ensures words { IfOk result.reading (λ read. AreWordsOf self.entry.text.now read.words) }
     {
+        let reading = read_line_in(self.version, self.text);
         NumberedLine {
             number: self.number,
-            reading: read_line(self.text),
+            condition: condition_at(self.number, &reading),
+            reading,
         }
+    }
+}
+
+/// The condition of the line with this number that by itself is this.
+fn condition_at(number: u32, reading: &Result<Line, Fault>) -> Option<Condition>
+    ensures { result ≡ condition_at number (ordered_of reading.now) }
+{
+    if number > LINES_MOST {
+        return None;
+    }
+    match reading {
+        Ok(line) => line.condition,
+        Err(_) => None,
     }
 }
 
 /// The lines of a sheet that are still to come.
 #[derive(Debug, Drop)]
 pub struct Lines<'a> {
+    version: Version,
     rest: &'a [u8],
     number: u32,
 }
 
-/// To a contract they are the lines, with the number of those that came before.
+/// To a contract they are the lines, with the version of their file and the number of those that came
+/// before.
 impl<'a> Model for Lines<'a> {
     ghost use Rattle.std.specs.Prelude.{◌+◌, ◌≤◌, length};
     ghost use Rattle.sheets.specs.Limits.{file_most};
-    ghost use Rattle.sheets.specs.Sheet.{Unruled};
+    ghost use Rattle.sheets.specs.Sheet.{Unruled, unruled};
     ghost use Rattle.sheets.specs.Text.{written_lines};
 
     ghost Value = { Unruled };
 
-    ghost view = { λ lines.
-        record { number = lines.number; lines = written_lines lines.rest.now } };
+    ghost view = { λ lines. unruled lines.version lines.number (written_lines lines.rest.now) };
 
     ghost invariant = { λ lines. lines.number + length lines.rest.now ≤ file_most };
 }
@@ -130,9 +152,10 @@ impl<'a> Lines<'a> {
     /// No lines.
     #[tactic(auto, unfolding(crate::specs::Text::written_lines))]
     pub fn none() -> Lines<'a>
-        ensures { result ≡ record { number = 0; lines = [] } }
+        ensures { result ≡ unruled One 0 [] }
     {
         Lines {
+            version: Version::One,
             rest: &[],
             number: 0,
         }
@@ -143,6 +166,7 @@ impl<'a> Lines<'a> {
         ensures { result ≡ self.now }
     {
         Lines {
+            version: self.version,
             rest: self.rest,
             number: self.number,
         }
@@ -153,10 +177,7 @@ impl<'a> Lines<'a> {
         ensures { TakesLine self.old result self.new }
     {
         let line = self.take_unread()?;
-        Some(NumberedLine {
-            number: line.number,
-            reading: read_line(line.text),
-        })
+        Some(line.read())
     }
 
     /// Takes the next line as it is written; `None` where there is none.
@@ -167,6 +188,7 @@ impl<'a> Lines<'a> {
         self.rest = piece.rest;
         self.number += 1;
         Some(UnreadLine {
+            version: self.version,
             number: self.number,
             text: piece.line,
         })
@@ -186,7 +208,7 @@ impl<'a> Iterator for Lines<'a> {
 }
 
 impl<'a> Default for Lines<'a> {
-    ghost is_default = { λ lines. lines ≡ record { number = 0; lines = [] } };
+    ghost is_default = { λ lines. lines ≡ unruled One 0 [] };
 
     fn default() -> Lines<'a> {
         Lines::none()

@@ -11,6 +11,7 @@ use Rattle.history.specs.declared.event.Event.TheVariants as event
 use Rattle.history.specs.declared.ruling.Ruling.TheVariants.{Obeyed}
 use Rattle.market.specs.Moves.{fallen}
 use Rattle.market.specs.Token.{moved_from, same_square}
+use Rattle.order_grammar.specs.declared.condition.Condition.{Condition}
 use Rattle.order_grammar.specs.declared.order.Order.{Order}
 use Rattle.order_grammar.specs.declared.order.Order.TheVariants as order
 use Rattle.order_grammar.specs.declared.order.ShareSource.{ShareSource}
@@ -101,41 +102,41 @@ has_sold false true = refl
 has_sold false false = refl
 
 -- by a line whose order is done
-order_tells : (seats : ℕ) (seat : Seat) (turn : InTurn) (number : ℕ) (done : Order) → refusal_of seats turn.events seat turn.deeds.bought done ≡ None →
-    LineTells stock_rules seat turn (after_ruling seats seat turn number (Obeyed done))
-order_tells seats seat turn number (order.Par company price) kept =
-    let line : Event = event.Ruled seat number (Obeyed (order.Par company price)) in
+order_tells : (seats : ℕ) (seat : Seat) (turn : InTurn) (number : ℕ) (condition : Option Condition) (done : Order) → refusal_of seats turn.events seat turn.deeds.bought done ≡ None →
+    LineTells stock_rules seat turn (after_ruling seats seat turn number (Obeyed condition done))
+order_tells seats seat turn number condition (order.Par company price) kept =
+    let line : Event = event.Ruled seat number (Obeyed condition (order.Par company price)) in
     let ruled : List Event = turn.events ++ line ∷ [] in
     record {
       acts = true;
       told = in_both seat false true turn.events ruled (after_start ruled seat company price) (one_more seat false turn.events line refl) (record { more = _; longer = refl; last = refl });
       acted = has_bought (is_some turn.deeds.bought || turn.deeds.sold);
     }
-order_tells seats seat turn number (order.BuyShare company from) kept =
-    let line : Event = event.Ruled seat number (Obeyed (order.BuyShare company from)) in
+order_tells seats seat turn number condition (order.BuyShare company from) kept =
+    let line : Event = event.Ruled seat number (Obeyed condition (order.BuyShare company from)) in
     let ruled : List Event = turn.events ++ line ∷ [] in
     record {
       acts = true;
       told = in_both seat false true turn.events ruled (after_purchase seats ruled seat company from) (one_more seat false turn.events line refl) (in_purchase seat seats ruled company from);
       acted = has_bought (is_some turn.deeds.bought || turn.deeds.sold);
     }
-order_tells seats seat turn number (order.Sell company tenths) kept =
-    let line : Event = event.Ruled seat number (Obeyed (order.Sell company tenths)) in
+order_tells seats seat turn number condition (order.Sell company tenths) kept =
+    let line : Event = event.Ruled seat number (Obeyed condition (order.Sell company tenths)) in
     let ruled : List Event = turn.events ++ line ∷ [] in
     record {
       acts = true;
       told = in_both seat true false turn.events ruled (after_sale seats ruled seat company tenths) (one_more seat true turn.events line refl) (in_sale seat seats ruled company tenths);
       acted = has_sold (is_some turn.deeds.bought) turn.deeds.sold;
     }
-order_tells seats seat turn number order.ExchangeMohawk kept =
-    let line : Event = event.Ruled seat number (Obeyed order.ExchangeMohawk) in
+order_tells seats seat turn number condition order.ExchangeMohawk kept =
+    let line : Event = event.Ruled seat number (Obeyed condition order.ExchangeMohawk) in
     let ruled : List Event = turn.events ++ line ∷ [] in
     record {
       acts = false;
       told = in_both seat false false turn.events ruled (after_exchange seats ruled seat) (one_more seat false turn.events line refl) (in_exchange seat seats ruled);
       acted = or_nothing (is_some turn.deeds.bought || turn.deeds.sold);
     }
-order_tells seats seat turn number other kept = absurd (cc)
+order_tells seats seat turn number condition other kept = absurd (cc)
 
 -- so each turn of a stock round tells who acted in it
 pub stock_turns_tell : TurnsTellWhoActed stock_rules
@@ -143,4 +144,4 @@ stock_turns_tell =
     turns_tell stock_rules refl
     (λ (seats : ℕ) (seat : Seat) (turn : InTurn) (line : Numbered).
     of_ruled (acted seats seat) (refusal_of seats turn.events seat turn.deeds.bought) seat turn line.number (LineTells stock_rules seat turn)
-    (nobody_ruled stock_rules seat turn line.number) (order_tells seats seat turn line.number) has_place_in_group line.reading)
+    (nobody_ruled stock_rules seat turn line.number) (order_tells seats seat turn line.number) has_place_in_group turn.events line)

@@ -1,5 +1,5 @@
 -- The standing lines of a stock sheet, those before its first group, are ruled at the round's start: no order
--- has a place there.
+-- has a place there, whatever its condition.
 use Rattle.std.specs.Prelude.{List, Result, Ok, Err}
 use Rattle.history.specs.declared.event.Event.{Event}
 use Rattle.history.specs.declared.ruling.Ruling.TheVariants.{Faulty}

@@ -1,10 +1,9 @@
 -- A seat's turn: the lines of its group are ruled in order, each on the list that the one before left. In a
 -- turn a seat buys once, but several certificates of a company whose square is brown, and sells as often as it
 -- likes, before and after. A seat that neither bought nor sold passes, also where it gave up MH.
-use Rattle.std.specs.Prelude.{ℕ, Bool, true, false, ◌||◌, List, Some, None, Result, is_some}
+use Rattle.std.specs.Prelude.{ℕ, Bool, true, false, ◌||◌, List, Some, None, is_some}
 use Rattle.history.specs.declared.event.Event.{Event}
 use Rattle.history.specs.declared.ruling.Ruling.{Ruling}
-use Rattle.order_grammar.specs.declared.fault.Fault.{Fault}
 use Rattle.order_grammar.specs.declared.order.Order.{Order}
 use Rattle.order_grammar.specs.declared.order.Order.TheVariants.{Par, BuyShare, Sell}
 use Rattle.sheets.specs.Part.{Numbered}
@@ -17,7 +16,7 @@ use Rattle.tables.specs.Turns.{Play}
 use Rattle.tables.specs.declared.seat.Seat.{Seat}
 use Rattle.turns.specs.RoundOfTurns.{RoundRules, in_turn, turns_of}
 use Rattle.turns.specs.RoundOfTurns as turns
-use Rattle.turns.specs.Ruling.{after_ruling as turn_ruled, has_place_in_group, ruling_of}
+use Rattle.turns.specs.Ruling.{after_ruling as turn_ruled, has_place_in_group, line_ruling}
 
 -- nothing yet
 abbrev pub no_deals : Deals
@@ -46,14 +45,14 @@ acted seats seat turn order = in_turn (after_act seats seat turn.events order) (
 abbrev pub after_ruling : ℕ → Seat → InTurn → ℕ → Ruling → InTurn
 after_ruling seats seat turn number ruling = turn_ruled (acted seats seat) seat turn number ruling
 
--- what becomes of a line of a group with this reading
-abbrev pub ruling_in : ℕ → Seat → InTurn → Result Order Fault → Ruling
-ruling_in seats seat turn reading =
-    ruling_of has_place_in_group (refusal_of seats turn.events seat turn.deeds.bought) reading
+-- what becomes of a line of a group
+abbrev pub ruling_in : ℕ → Seat → InTurn → Numbered → Ruling
+ruling_in seats seat turn line =
+    line_ruling has_place_in_group (refusal_of seats turn.events seat turn.deeds.bought) turn.events line
 
 -- in a turn, after a line of a group
 abbrev pub after_line : ℕ → Seat → InTurn → Numbered → InTurn
-after_line seats seat turn line = after_ruling seats seat turn line.number (ruling_in seats seat turn line.reading)
+after_line seats seat turn line = after_ruling seats seat turn line.number (ruling_in seats seat turn line)
 
 -- the rules of a stock round: a seat that bought or sold has acted, and the turns are over once all seats have
 -- passed in succession

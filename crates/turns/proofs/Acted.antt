@@ -120,7 +120,7 @@ module _ {Deeds : Type 0} (rules : RoundRules Deeds) (seats : ℕ) (seat : Seat)
 -- a ruling by which no order is done names nobody
 pub nobody_ruled : {Deeds : Type 0} (rules : RoundRules Deeds) (seat : Seat) (turn : InTurn Deeds) (number : ℕ) (ruling : Ruling) →
     obeyed_by ruling ≡ None → LineTells rules seat turn (in_turn (recorded seat number ruling turn.events) turn.deeds)
-nobody_ruled rules seat turn number (Obeyed order) none = absurd (cc)
+nobody_ruled rules seat turn number (Obeyed condition order) none = absurd (cc)
 nobody_ruled rules seat turn number other none =
     record { acts = false; told = one_more seat false turn.events (event.Ruled seat number other) refl; acted = or_nothing (rules.has_acted turn.deeds) }
 

@@ -1,32 +1,46 @@
--- One way for a line. What becomes of it is the first of three: its own fault; that its order has no place where the
--- line stands; the first rule that the order breaks. Else it is obeyed. That is recorded, and an order that is obeyed is
--- done. Each family of lines says for itself which orders have a place in them, by which rules these are judged, and
--- what an order brings.
-use Rattle.std.specs.Prelude.{◌≡◌, ℕ, Bool, not, List, [], ◌∷◌, ◌++◌, Option, Some, None, Result, Ok, Err}
+-- One way for a line. What becomes of it is the first of four: its own fault; that its order has no place where the
+-- line stands; that the condition of its order does not hold; the first rule that the order breaks. Else it is obeyed.
+-- That is recorded, and an order that is obeyed is done. Each family of lines says for itself which orders have a place
+-- in them, by which rules these are judged, and what an order brings.
+use Rattle.std.specs.Prelude.{◌≡◌, ℕ, Bool, IsTrue, not, if◌then◌else◌, List, [], ◌∷◌, ◌++◌, Option, Some, None, Result, Ok, Err}
+use Rattle.history.specs.Conditions.{is_met}
 use Rattle.history.specs.declared.event.Event.{Event}
 use Rattle.history.specs.declared.event.Event.TheVariants as event
 use Rattle.history.specs.declared.ruling.Refusal.{Refusal}
+use Rattle.history.specs.declared.ruling.Refusal.TheVariants as refusal
 use Rattle.history.specs.declared.ruling.Ruling.{Ruling}
 use Rattle.history.specs.declared.ruling.Ruling.TheVariants.{Obeyed, Refused, Faulty}
+use Rattle.order_grammar.specs.declared.condition.Condition.{Condition}
 use Rattle.order_grammar.specs.declared.fault.Fault.{Fault}
 use Rattle.order_grammar.specs.declared.order.Order.{Order}
+use Rattle.sheets.specs.Part.{Numbered}
 use Rattle.sheets.specs.Place.{is_of_file, placed}
 use Rattle.tables.specs.declared.seat.Seat.{Seat}
 use Rattle.turns.specs.RoundOfTurns.{InTurn, in_turn}
 
--- what becomes of an order that breaks this rule first, or none
-abbrev pub judged : Order → Option Refusal → Ruling
-judged order None = Obeyed order
-judged order (Some rule) = Refused rule order
+-- what becomes of an order that stands under this condition, if any, and breaks this rule first, or none
+abbrev pub judged : Option Condition → Order → Option Refusal → Ruling
+judged condition order None = Obeyed condition order
+judged condition order (Some rule) = Refused rule condition order
+
+-- the first rule that an order under this condition breaks, as the list is: that its condition holds comes before the
+-- rules of its family
+abbrev pub under : List Event → Option Condition → (Order → Option Refusal) → Order → Option Refusal
+under events condition judgement order = if is_met events condition then judgement order else Some refusal.Condition
 
 -- what becomes of an order that has a place, judged by these rules, or of a fault
-abbrev pub placed_ruling : (Order → Option Refusal) → Result Order Fault → Ruling
-placed_ruling judgement (Err fault) = Faulty fault
-placed_ruling judgement (Ok order) = judged order (judgement order)
+abbrev pub placed_ruling : (Order → Option Refusal) → Option Condition → Result Order Fault → Ruling
+placed_ruling judgement condition (Err fault) = Faulty fault
+placed_ruling judgement condition (Ok order) = judged condition order (judgement order)
 
--- what becomes of a line with this reading, where the orders that pass this test have a place
-abbrev pub ruling_of : (Order → Bool) → (Order → Option Refusal) → Result Order Fault → Ruling
-ruling_of has_place judgement reading = placed_ruling judgement (placed has_place reading)
+-- what becomes of a line with this condition and this reading, where the orders that pass this test have a place
+abbrev pub ruling_of : (Order → Bool) → (Order → Option Refusal) → Option Condition → Result Order Fault → Ruling
+ruling_of has_place judgement condition reading = placed_ruling judgement condition (placed has_place reading)
+
+-- what becomes of a line, as the list is, where the family judges by these rules
+abbrev pub line_ruling : (Order → Bool) → (Order → Option Refusal) → List Event → Numbered → Ruling
+line_ruling has_place judgement events line =
+    ruling_of has_place (under events line.condition judgement) line.condition line.reading
 
 -- with the ruling of the line of a seat's sheet with this number
 abbrev pub recorded : Seat → ℕ → Ruling → List Event → List Event
@@ -34,7 +48,7 @@ recorded seat number ruling events = events ++ event.Ruled seat number ruling �
 
 -- the order that is obeyed, and is to be done
 abbrev pub obeyed_by : Ruling → Option Order
-obeyed_by (Obeyed order) = Some order
+obeyed_by (Obeyed condition order) = Some order
 obeyed_by other = None
 
 -- after an order that is to be done, if there is one
@@ -42,11 +56,12 @@ abbrev pub done : {State : Type 0} → (State → Order → State) → State →
 done act state None = state
 done act state (Some order) = act state order
 
--- a line with this reading is obeyed, and this order is to be done
-pub record IsToDo (has_place : Order → Bool) (judgement : Order → Option Refusal) (reading : Result Order Fault) (order : Order) : Type 0 where
-  pub read : reading ≡ Ok order
+-- a line is obeyed, as the list is, and this order is to be done
+pub record IsToDo (has_place : Order → Bool) (judgement : Order → Option Refusal) (events : List Event) (line : Numbered) (order : Order) : Type 0 where
+  pub read : line.reading ≡ Ok order
+  pub met : IsTrue (is_met events line.condition)
   pub kept : judgement order ≡ None
-  pub obeyed : obeyed_by (ruling_of has_place judgement reading) ≡ Some order
+  pub obeyed : obeyed_by (line_ruling has_place judgement events line) ≡ Some order
 
 -- an order of a group of lines is one of play
 abbrev pub has_place_in_group : Order → Bool

@@ -17,7 +17,7 @@ IsSmallOrder other = Unit {0}
 
 -- so is that of an order that is obeyed
 abbrev pub IsSmallRuling : Ruling → Type 0
-IsSmallRuling (Obeyed order) = IsSmallOrder order
+IsSmallRuling (Obeyed condition order) = IsSmallOrder order
 IsSmallRuling other = Unit {0}
 
 -- and that of an order that a line is read as

@@ -6,7 +6,7 @@
 //! round's own: a type says it that has the trait `TurnRules`.
 //!
 //! Lines of every kind of round are ruled in one way, that of `ruling`: by their own fault, their
-//! place and their rules, and what becomes of them is recorded. A type that has the trait `Family`
+//! place, their condition and their rules, and what becomes of them is recorded. A type that has the trait `Family`
 //! says which orders have a place, and judges them.
 //!
 //! Reading order: `ruling` (what becomes of a line), `rules` (the trait of a round), `turn` (the

@@ -9,7 +9,7 @@ ghost use Rattle.order_grammar.specs.declared.order.Order.{Order as OrderOfPlay}
 ghost use Rattle.sheets.specs.Part.{line_read};
 ghost use Rattle.sheets.specs.Place.{placed as placed_reading};
 ghost use Rattle.tables.specs.declared.seat.Seat.{Seat as SeatNumber};
-ghost use Rattle.turns.specs.Ruling.{IsToDo, judged, obeyed_by, ruling_of};
+ghost use Rattle.turns.specs.Ruling.{IsToDo, judged, line_ruling, obeyed_by, under};
 
 use history::{Event, History, KeptRuling, Refusal};
 use order_grammar::{Fault, Order};
@@ -39,9 +39,9 @@ pub trait Family {
         ensures { result ≡ judgement self.now history.now seat order.now };
 }
 
-/// Rules a line of a seat's sheet by its own fault, its place and its rules, in this order, and
-/// records what becomes of it. Answers its order if that is obeyed and is to be done. An `Err`
-/// comes from want of memory alone.
+/// Rules a line of a seat's sheet by its own fault, its place, its condition and its rules, in this
+/// order, and records what becomes of it. Answers its order if that is obeyed and is to be done. An
+/// `Err` comes from want of memory alone.
 pub fn rule_line<'a, F: Family>(
     family: &F,
     history: &mut History,
@@ -52,18 +52,18 @@ pub fn rule_line<'a, F: Family>(
     requires sound { IsSound history.old }
     ensures ruling { OnOk result (history.new
         ≡ with_event history.old (event.Ruled seat line.now.number
-        (ruling_of F.place (F.judgement family.now history.old seat)
-        (line_read line.now).reading))) }
+        (line_ruling F.place (F.judgement family.now history.old seat)
+        history.old.events (line_read line.now)))) }
     ensures order { IfOk result (λ order. MatchOption order
-        (obeyed_by (ruling_of F.place (F.judgement family.now history.old seat)
-        (line_read line.now).reading) ≡ None)
+        (obeyed_by (line_ruling F.place (F.judgement family.now history.old seat)
+        history.old.events (line_read line.now)) ≡ None)
         (λ order. IsToDo F.place (F.judgement family.now history.old seat)
-        (line_read line.now).reading order.now)) }
+        history.old.events (line_read line.now) order.now)) }
     ensures sound { OnOk result (IsSound history.new) }
 {
     match placed(family, line) {
         Ok(order) => {
-            let obeyed = rule_order(family, history, seat, line.number, order)?;
+            let obeyed = rule_order(family, history, seat, line, order)?;
             Ok(if obeyed { Some(order) } else { None })
         }
         Err(fault) => {
@@ -88,50 +88,79 @@ fn placed<'a, F: Family>(family: &F, line: &'a NumberedLine) -> Result<&'a Order
     }
 }
 
-/// Rules an order that has a place in the line with this number, and records what becomes of it.
-/// Answers whether it is obeyed and is to be done. An `Err` comes from want of memory alone.
+/// Rules an order that has a place in a line by the line's condition and the rules of its family, and
+/// records what becomes of it. Answers whether it is obeyed and is to be done. An `Err` comes from
+/// want of memory alone.
 pub fn rule_order<F: Family>(
     family: &F,
     history: &mut History,
     seat: Seat,
-    line: u32,
+    line: &NumberedLine,
     order: &Order,
 ) -> Result<bool, AllocError>
     requires judge { F.may_judge history.old seat }
     requires sound { IsSound history.old }
     ensures ruling { OnOk result (history.new
-        ≡ with_event history.old (event.Ruled seat line
-        (judged order.now (F.judgement family.now history.old seat order.now)))) }
-    ensures obeyed { IfOk result (λ obeyed.
-        obeyed ≡ is_none (F.judgement family.now history.old seat order.now)) }
+        ≡ with_event history.old (event.Ruled seat line.now.number
+        (judged line.now.condition order.now
+        (under history.old.events line.now.condition
+        (F.judgement family.now history.old seat) order.now)))) }
+    ensures obeyed { IfOk result (λ obeyed. obeyed
+        ≡ is_none (under history.old.events line.now.condition
+        (F.judgement family.now history.old seat) order.now)) }
     ensures sound { OnOk result (IsSound history.new) }
 {
-    let broken = family.judge(history, seat, order);
+    let broken = judge_under(family, history, seat, line, order);
     record(history, seat, line, order, broken)
 }
 
-/// Records what becomes of the order of the line with this number, which breaks this rule first, or
-/// none. Answers whether it is obeyed. An `Err` comes from want of memory alone.
+/// The first rule that an order of a seat in a line breaks: that its condition holds comes before the
+/// rules of its family; `None` if it breaks none.
+fn judge_under<F: Family>(
+    family: &F,
+    history: &History,
+    seat: Seat,
+    line: &NumberedLine,
+    order: &Order,
+) -> Option<Refusal>
+    requires { F.may_judge history.now seat }
+    ensures { result ≡ under history.now.events line.now.condition
+        (F.judgement family.now history.now seat) order.now }
+{
+    if history.is_met(line.condition.as_ref()) {
+        family.judge(history, seat, order)
+    } else {
+        Some(Refusal::Condition)
+    }
+}
+
+/// Records what becomes of the order of a line under its condition, if it has one: it breaks this rule
+/// first, or none. Answers whether it is obeyed. An `Err` comes from want of memory alone.
 pub fn record(
     history: &mut History,
     seat: Seat,
-    line: u32,
+    line: &NumberedLine,
     order: &Order,
     broken: Option<Refusal>,
 ) -> Result<bool, AllocError>
     requires { IsSound history.old }
     ensures ruling { OnOk result (history.new
-        ≡ with_event history.old (event.Ruled seat line (judged order.now broken))) }
+        ≡ with_event history.old (event.Ruled seat line.now.number
+        (judged line.now.condition order.now broken))) }
     ensures obeyed { IfOk result (λ obeyed. obeyed ≡ is_none broken) }
     ensures sound { OnOk result (IsSound history.new) }
 {
-    let kept = history.keep(order)?;
+    let kept = history.keep(line.condition.as_ref(), order)?;
     let obeyed = broken.is_none();
     let ruling = match broken {
         Some(rule) => KeptRuling::refused(rule, kept),
         None => KeptRuling::obeyed(kept),
     };
-    history.tell(Event::Ruled { seat, line, ruling })?;
+    history.tell(Event::Ruled {
+        seat,
+        line: line.number,
+        ruling,
+    })?;
     Ok(obeyed)
 }
 

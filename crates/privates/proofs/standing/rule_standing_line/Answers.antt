@@ -7,5 +7,5 @@ use Rattle.privates.proofs.standing.rule_standing_line.Goals as goal
 pub returns-clause-underway : goal.returns-clause-underway
 returns-clause-underway c =
     ruling_underway c.args.history.now c.rule_line.new.history c.args.seat c.args.line.now.number _ c.in_ok-rule_line.ensures.ruling
-    (small_ruling has_place_before (standing_refusal c.args.history.now.events) (line_read c.args.line.now).reading c.requires.small)
+    (small_ruling has_place_before (standing_refusal c.args.history.now.events) c.args.history.now.events (line_read c.args.line.now) c.requires.small)
     c.in_ok-rule_line.ensures.sound c.requires.underway

@@ -1,0 +1,5 @@
+use Rattle.report.proofs.PlainReports.{plain}
+use Rattle.report.proofs.laws.plain_reports.Goals as goal
+
+pub returns : goal.returns
+returns c = plain

@@ -1,0 +1,5 @@
+use Rattle.rounds.proofs.Arrival.{same_game}
+use Rattle.rounds.proofs.laws.same_parts_same_game.Goals as goal
+
+pub returns : goal.returns
+returns c = same_game
