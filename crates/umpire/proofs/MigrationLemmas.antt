@@ -1,6 +1,6 @@
 -- What going over to version 2 leaves: what is written of what was read is what is written of the whole file.
 use Rattle.std.proofs.Common.{◌≡◌, ℕ, Bool, true, false, cond, List, [], ◌∷◌, length, ap, refl, sym, subst, ◌∙◌}
-use Rattle.std.specs.Prelude.{Option, Some, None, Result, Ok, Err, IfSome, IsOk, is_some, nat_lt, unwrap_or}
+use Rattle.std.specs.Prelude.{Option, Some, None, Result, Ok, Err, IfErr, IfSome, IsOk, OnErr, OnOk, is_some, nat_lt, unwrap_or}
 use Rattle.std.specs.Io.KnownBytes.{Appends}
 use Rattle.std.proofs.KnownBytes.{Keeps-refl}
 use Rattle.order_grammar.specs.Line.{reading_of}
@@ -85,7 +85,7 @@ migration_cut file text old new failed (Certificate round company) is of front =
 
 by_answer : (file : List ℕ) (content : Result Content FileFault) → IsOk content → answer_to file content ≡ migrated file
 by_answer file (Ok content) accepted = refl
-by_answer file (Err fault) accepted = absurd accepted
+by_answer file (Err fault) accepted = absurd (cc)
 
 -- an accepted file goes over to what is written of it
 pub accepted_goes : (file : List ℕ) → IsAccepted file → migration_of file ≡ migrated file
@@ -93,15 +93,15 @@ accepted_goes file accepted = by_answer file (content_of file) accepted
 
 -- an accepted file names its version
 header_named : (named : Option Version) (content : Result Content FileFault) → IsOk (cond (is_some named) content (Err Header)) → named ≡ Some (unwrap_or named One)
-header_named None content accepted = absurd accepted
+header_named None content accepted = absurd (cc)
 header_named (Some version) content accepted = refl
 
 lines_named : (lines : List (List ℕ)) → IsOk (lines_content lines) → named_version lines ≡ Some (version_in lines)
-lines_named [] accepted = absurd accepted
+lines_named [] accepted = absurd (cc)
 lines_named (line ∷ lines) accepted = header_named (header_version (reading_of line)) (players_content lines) accepted
 
 not_too_long : (long : Bool) (content : Result Content FileFault) → IsOk (cond long (Err TooLong) content) → IsOk content
-not_too_long true content accepted = absurd accepted
+not_too_long true content accepted = absurd (cc)
 not_too_long false content accepted = accepted
 
 pub accepted_names : (file : List ℕ) → IsAccepted file → named_version (written_lines file) ≡ Some (version_of file)
@@ -118,3 +118,22 @@ one_goes file accepted is = rw (accepted_names file accepted, ← is) refl
 pub two_stays : (file : List ℕ) → IsAccepted file → Two ≡ version_of file → migrated file ≡ file
 unfolding migrated
 two_stays file accepted is = rw (accepted_names file accepted, ← is) refl
+
+-- what was written of an accepted file
+pub migrated_by : (result : Result (Unit {0}) Fault) (file text : List ℕ) (old new : Option (List ℕ)) → IsAccepted file → migrated file ≡ text → OnOk result (Appends old new text) → OnOk result (IsMigrated (Some file) old new)
+migrated_by (Ok done) file text old new accepted is written =
+    record { file = file; whole = refl; accepted = accepted; written = rw is written }
+migrated_by (Err fault) file text old new accepted is written = tt
+
+pub cut_by : (result : Result (Unit {0}) Fault) (file text : List ℕ) (old new : Option (List ℕ)) (failed : Bool) → migration_of file ≡ text → IfErr result (IsWriteFault failed) → OnErr result (AppendsFront old new text) → IfErr result (StopsMigration (Some file) old new false failed)
+cut_by (Ok done) file text old new failed of is front = tt
+cut_by (Err fault) file text old new failed of is front = migration_cut file text old new failed fault is of front
+
+-- only a write failed
+pub write_failed : (result : Result (Unit {0}) Fault) (failed : Bool) → IfErr result (λ fault. fault ≡ Write) → OnErr result (failed ≡ true) → IfErr result (IsWriteFault failed)
+write_failed (Ok done) failed is known = tt
+write_failed (Err fault) failed is known = rw is known
+
+-- the line of a refused file
+pub refused_goes : (file : List ℕ) (fault : FileFault) → content_of file ≡ Err fault → migration_of file ≡ refusal_line fault
+refused_goes file fault refused = ap (answer_to file) refused
