@@ -13,3 +13,9 @@ mod MarksLines
 mod ReadAgain
 mod Writable
 mod AnsweredAgain
+mod GatherLemmas
+mod EndedLines
+mod MigratedLines
+mod LinesInTwo
+mod BodyLemmas
+mod MigrationLemmas

@@ -11,3 +11,6 @@ pub mod Certified
 pub mod Certs
 pub mod Verify
 pub mod ReadAgain
+pub mod Migrated
+pub mod Gathered
+pub mod Migration

@@ -6,15 +6,18 @@
 //! `output` (a text), `refusal` (of a file), `program` (the report, and `run`); `certificates`
 //! (those of a game, written), `group_text` (how a group is written), `parting` (an order file and the
 //! text of certificates behind it), `groups` (which are read from that text), `verification` (the game of a
-//! file, judged by them), `laws`.
+//! file, judged by them); `gathering` (a text that is written in long pieces), `migration` (a file that
+//! goes over to version 2); `laws`, `migration_laws`.
 #![tactic(auto)]
 
 mod certificates;
 mod fault;
+mod gathering;
 mod group_text;
 mod groups;
 mod input;
 mod laws;
+mod migration;
 mod output;
 mod parting;
 mod program;
@@ -29,6 +32,7 @@ pub use laws::{
     certificates_are_read_again, certifying_groups_can_be_written, joined_is_parted,
     written_certificates_are_accepted,
 };
+pub use migration::migrate;
 pub use parting::{CERTIFICATES_MOST, Parted, part};
 pub use program::run;
 pub use verification::verify;

@@ -1,6 +1,7 @@
 //! The umpire's program. Each of its words reads standard input and writes standard output: `report` an
 //! order file and its report, `certs` an order file and the certificates of its best runs, `verify` an
-//! order file with certificates behind it and its report, if these show that its best runs are the best.
+//! order file with certificates behind it and its report, if these show that its best runs are the best,
+//! `migrate` an order file and the file of version 2 that it goes over to.
 #![tactic(auto)]
 
 use clap::error::ErrorKind;
@@ -9,7 +10,7 @@ use std::alloc::{AllocError, Global};
 use std::process::ExitCode;
 use std::rt::Runtime;
 use std::{env, io};
-use umpire::{Fault, Watched, certs, run, status, verify, word};
+use umpire::{Fault, Watched, certs, migrate, run, status, verify, word};
 
 /// The status for a command line that names no program.
 const MISUSED: u8 = 1;
@@ -23,6 +24,8 @@ enum Task {
     Certs,
     /// Its report, by the certificates behind it.
     Verify,
+    /// The file of version 2 that it goes over to.
+    Migrate,
 }
 
 fn main(rt: HostRuntime) -> ExitCode {
@@ -61,17 +64,21 @@ fn parse(alloc: Global, words: &[String]) -> Result<Task, Error> {
     let verify = Command::new(alloc, "verify").about(
         "Writes its report, if the certificates behind it show that its best runs are the best",
     );
+    let migrate =
+        Command::new(alloc, "migrate").about("Writes the file of version 2 that it goes over to");
     let command = Command::new(alloc, "umpire")
         .about("Plays 1830 from written order sheets: the order file on standard input")
         .bin_name("umpire")?
         .subcommand_required(true)
         .subcommand(report)?
         .subcommand(certs)?
-        .subcommand(verify)?;
+        .subcommand(verify)?
+        .subcommand(migrate)?;
     let matches = command.try_get_matches_from(words)?;
     Ok(match matches.subcommand_name() {
         Some("certs") => Task::Certs,
         Some("verify") => Task::Verify,
+        Some("migrate") => Task::Migrate,
         _ => Task::Report,
     })
 }
@@ -93,6 +100,7 @@ fn perform(rt: &HostRuntime, task: Task) -> ExitCode {
         Task::Report => run(rt.alloc(), &mut reader, &mut writer),
         Task::Certs => certs(rt.alloc(), &mut reader, &mut writer),
         Task::Verify => verify(rt.alloc(), &mut reader, &mut writer),
+        Task::Migrate => migrate(rt.alloc(), &mut reader, &mut writer),
     };
     end(rt, &outcome)
 }

@@ -1,0 +1,19 @@
+use Rattle.std.proofs.lemmas.Result.{IfErr-weaker, err_from_is_err_and, on_ok_weaker}
+use Rattle.umpire.proofs.MigrationLemmas.{migrated_whole, migration_stops, migration_unread}
+use Rattle.umpire.proofs.migration.migrate.Goals as goal
+
+pub returns-in_err-file-clause-err : goal.returns-in_err-file-clause-err
+returns-in_err-file-clause-err g c =
+    let given = err_from_is_err_and c.from_residual.result c.from_residual.ensures.1 in
+    rw (given.1, given.2) (migration_unread _ _ _ _ _ c.in_err-file.ensures.err c.requires.writer)
+
+pub returns-clause-ok : goal.returns-clause-ok
+returns-clause-ok g c =
+    let known = rw c.as_slice.ensures.value at c.write_migration.ensures.ok in
+    on_ok_weaker c.write_migration.result (migrated_whole _ _ _ c.in_ok-file.file.items c.in_ok-file.ensures.file) known
+
+pub returns-clause-err : goal.returns-clause-err
+returns-clause-err g c =
+    let known = rw c.as_slice.ensures.value at c.write_migration.ensures.err in
+    IfErr-weaker c.write_migration.result _ _
+    (λ fault held. migration_stops _ _ _ c.in_ok-file.file.items _ _ fault c.in_ok-file.ensures.file c.in_ok-file.ensures.ok held) known

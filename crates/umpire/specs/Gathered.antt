@@ -1,0 +1,18 @@
+-- How far a file has gone over to version 2.
+use Rattle.std.specs.Prelude.{◌≡◌, ℕ, false, List, ◌∷◌, ◌++◌, Option}
+use Rattle.std.specs.Io.KnownBytes.{Appends}
+use Rattle.sheets.specs.Text.{is_blank, lines_of}
+use Rattle.umpire.specs.Migrated.{file_in_two}
+
+-- a text has come behind what was gathered to be written: some of both is written, and the rest is gathered
+pub record Gathers (old new : Option (List ℕ)) (before after text : List ℕ) : Type 0 where
+  pub done : List ℕ
+  pub whole : done ++ after ≡ before ++ text
+  pub appended : Appends old new done
+
+-- a file is some blank lines, which stay, and this, of which the first line is not blank
+pub record IsFromHeader (file rest : List ℕ) : Type 0 where
+  pub front : List ℕ
+  pub whole : file ≡ front ++ rest
+  pub stays : file_in_two file ≡ front ++ file_in_two rest
+  pub counts : (line : List ℕ) (lines : List (List ℕ)) → lines_of rest ≡ line ∷ lines → is_blank line ≡ false

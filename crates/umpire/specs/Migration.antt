@@ -1,0 +1,44 @@
+-- What going over to version 2 leaves, by what the reader gave and what the writer held.
+use Rattle.std.specs.Prelude.{◌≡◌, ℕ, Bool, true, false, List, Option, Result, Ok, Err}
+use Rattle.std.specs.Io.KnownBytes.{Appends, Keeps}
+use Rattle.report.specs.Report.{refusal_line}
+use Rattle.sheets.specs.File.{Content, IsAccepted, content_of}
+use Rattle.sheets.specs.declared.fault.FileFault.{FileFault}
+use Rattle.umpire.specs.Failure.{AppendsFront}
+use Rattle.umpire.specs.Migrated.{migrated}
+use Rattle.umpire.specs.Run.{IsFileOf, IsRefused}
+use Rattle.umpire.specs.declared.fault.Fault.{Fault}
+use Rattle.umpire.specs.declared.fault.Fault.TheVariants.{Read, Write, Memory, File, Certificate}
+
+-- what is written of a file, by what it says: what it goes over to, or the line that says why it is refused
+abbrev pub answer_to : List ℕ → Result Content FileFault → List ℕ
+answer_to file (Ok content) = migrated file
+answer_to file (Err fault) = refusal_line fault
+
+-- what is written of a file
+abbrev pub migration_of : List ℕ → List ℕ
+migration_of file = answer_to file (content_of file)
+
+-- the file is accepted, and what it goes over to follows what the writer held
+pub record IsMigrated (given old new : Option (List ℕ)) : Type 0 where
+  pub file : List ℕ
+  pub whole : IsFileOf given file
+  pub accepted : IsAccepted file
+  pub written : Appends old new (migrated file)
+
+-- a front of what is written of the file, or nothing, follows what the writer held
+pub record IsMigratedShort (given old new : Option (List ℕ)) : Type 0 where
+  pub file : List ℕ
+  pub whole : IsFileOf given file
+  pub front : AppendsFront old new (migration_of file)
+
+-- what a fault leaves, and which calls of the reader and the writer have failed
+abbrev pub StopsMigration : Option (List ℕ) → Option (List ℕ) → Option (List ℕ) → Bool → Bool → Fault → Type 0
+StopsMigration given old new read_failed write_failed Read = (read_failed ≡ true) × (write_failed ≡ false) × Keeps old new
+StopsMigration given old new read_failed write_failed Write =
+    (read_failed ≡ false) × (write_failed ≡ true) × IsMigratedShort given old new
+StopsMigration given old new read_failed write_failed Memory =
+    (read_failed ≡ false) × (write_failed ≡ false) × IsMigratedShort given old new
+StopsMigration given old new read_failed write_failed (File fault) =
+    (read_failed ≡ false) × (write_failed ≡ false) × IsRefused given old new fault
+StopsMigration given old new read_failed write_failed (Certificate round company) = ⊥

@@ -1,0 +1,203 @@
+ghost use Rattle.sheets.specs.File.{Fails, IsAccepted, content_of, version_of};
+ghost use Rattle.sheets.specs.Text.{is_blank};
+ghost use Rattle.std.specs.Io.KnownBytes.{Appends};
+ghost use Rattle.std.specs.Prelude.{◌≡◌, ◌≤◌, ◌++◌, false, drop, length, IfErr, MatchResult, OnErr, OnOk, Some};
+ghost use Rattle.umpire.specs.Failure.{AppendsFront, TakesWithin};
+ghost use Rattle.umpire.specs.Gathered.{Gathers, IsFromHeader};
+ghost use Rattle.umpire.specs.Migrated.{body_in_two, file_in_two, is_if_line};
+ghost use Rattle.umpire.specs.Migration.{IsMigrated, StopsMigration};
+ghost use Rattle.umpire.specs.Run.{IsWriteFault};
+ghost use Rattle.umpire.specs.Watched.{has_failed, inside};
+
+use crate::fault::Fault;
+use crate::gathering::{put, write_gathered};
+use crate::input::read_file;
+use crate::output::write_text;
+use crate::refusal::write_refusal;
+use crate::watched::Watched;
+use order_grammar::{
+    Fault as LineFault, LINE_MOST, Version, begins_with_word, has_word, read_line,
+};
+use sheets::{FileFault, collect, first_line};
+use std::alloc::Global;
+use std::io::{Read, Write};
+
+/// The header line of a file of version 2.
+const HEADER: &[u8] = b"GAME 1830 2";
+
+/// Reads an order file to its end, or to the first byte past the greatest size of a file, and
+/// writes what it goes over to, a file of version 2. What the writer then holds is what it held and,
+/// at
+///
+/// - `Ok`: the new file, whole;
+/// - `File`, where the file is refused: the one line that says so, whole;
+/// - `Read`, where a read failed: nothing more;
+/// - `Write`, where a write failed or took nothing: a front of the new file, or of that line;
+/// - `Memory`, where memory was refused: the same, or nothing more.
+pub fn migrate<R: Read, W: Write>(
+    alloc: Global,
+    reader: &mut Watched<R>,
+    writer: &mut Watched<W>,
+) -> Result<(), Fault>
+    requires reader { has_failed reader.old ≡ false }
+    requires writer { has_failed writer.old ≡ false }
+    ensures ok { OnOk result (IsMigrated (R.remaining (inside reader.old))
+        (W.contents (inside writer.old)) (W.contents (inside writer.new))) }
+    ensures unfailed { OnOk result
+        ((has_failed reader.new ≡ false) × (has_failed writer.new ≡ false)) }
+    ensures limit { TakesWithin (R.remaining (inside reader.old))
+        (R.remaining (inside reader.new)) }
+    ensures err { IfErr result (StopsMigration (R.remaining (inside reader.old))
+        (W.contents (inside writer.old)) (W.contents (inside writer.new))
+        (has_failed reader.new) (has_failed writer.new)) }
+{
+    let file = read_file(alloc, reader)?;
+    write_migration(alloc, file.as_slice(), writer)
+}
+
+/// Writes what a file goes over to, or the line that says why it is refused.
+fn write_migration<W: Write>(
+    alloc: Global,
+    file: &[u8],
+    writer: &mut Watched<W>,
+) -> Result<(), Fault>
+    requires { has_failed writer.old ≡ false }
+    ensures ok { OnOk result (IsMigrated (Some file.now)
+        (W.contents (inside writer.old)) (W.contents (inside writer.new))) }
+    ensures unfailed { OnOk result (has_failed writer.new ≡ false) }
+    ensures err { IfErr result (StopsMigration (Some file.now)
+        (W.contents (inside writer.old)) (W.contents (inside writer.new))
+        false (has_failed writer.new)) }
+{
+    match version_of(alloc, file) {
+        Ok(Version::One) => write_in_two(alloc, file, writer),
+        Ok(Version::Two) => write_text(writer, file),
+        Err(FileFault::Memory) => Err(Fault::Memory),
+        Err(fault) => {
+            write_refusal(alloc, fault, writer)?;
+            Err(Fault::File(fault))
+        }
+    }
+}
+
+/// The version of a file, or why it is refused.
+fn version_of(alloc: Global, file: &[u8]) -> Result<Version, FileFault>
+    ensures version { MatchResult result
+        (λ version. version ≡ version_of file.now)
+        (λ fault. Fails fault (content_of file.now)) }
+    ensures accepted { OnOk result (IsAccepted file.now) }
+{
+    let sheets = collect(alloc, file)?;
+    Ok(sheets.version())
+}
+
+/// Writes the file of version 2 that stands for a file of version 1.
+fn write_in_two<W: Write>(alloc: Global, file: &[u8], writer: &mut Watched<W>) -> Result<(), Fault>
+    requires { has_failed writer.old ≡ false }
+    ensures ok { OnOk result (Appends (W.contents (inside writer.old))
+        (W.contents (inside writer.new)) (file_in_two file.now)) }
+    ensures unfailed { OnOk result (has_failed writer.new ≡ false) }
+    ensures err { IfErr result (IsWriteFault (has_failed writer.new)) }
+    ensures front { OnErr result (AppendsFront (W.contents (inside writer.old))
+        (W.contents (inside writer.new)) (file_in_two file.now)) }
+{
+    let mut gathered = Vec::new(alloc);
+    put_in_two(&mut gathered, file, writer)?;
+    write_gathered(&mut gathered, writer)?;
+    Ok(())
+}
+
+/// Puts the file of version 2 that stands for a file of version 1 behind what is gathered.
+fn put_in_two<W: Write>(
+    gathered: &mut Vec<u8>,
+    file: &[u8],
+    writer: &mut Watched<W>,
+) -> Result<(), Fault>
+    requires { has_failed writer.old ≡ false }
+    ensures ok { OnOk result (Gathers (W.contents (inside writer.old))
+        (W.contents (inside writer.new)) gathered.old.items gathered.new.items
+        (file_in_two file.now)) }
+    ensures unfailed { OnOk result (has_failed writer.new ≡ false) }
+    ensures err { IfErr result (IsWriteFault (has_failed writer.new)) }
+    ensures front { OnErr result (AppendsFront (W.contents (inside writer.old))
+        (W.contents (inside writer.new)) (gathered.old.items ++ file_in_two file.now)) }
+{
+    let text = from_header(file);
+    put(gathered, &file[..file.len() - text.len()], writer)?;
+    match first_line(text) {
+        Some(header) => {
+            put(gathered, HEADER, writer)?;
+            put_body(gathered, behind(text, header.line), writer)?;
+            Ok(())
+        }
+        None => Ok(()),
+    }
+}
+
+/// A file from its first line on that is not blank.
+fn from_header(file: &[u8]) -> &[u8]
+    ensures { IsFromHeader file.now result.now }
+{
+    let mut rest = file;
+    while let Some(piece) = first_line(rest) {
+        if !is_blank(piece.line) {
+            return rest;
+        }
+        rest = piece.rest;
+    }
+    rest
+}
+
+/// Whether a line counts nowhere: it has no words and at most 1,024 bytes.
+#[tactic(auto, unfolding(sheets::specs::Text::is_blank))]
+fn is_blank(line: &[u8]) -> bool
+    ensures { result ≡ is_blank line.now }
+{
+    line.len() <= LINE_MOST && !has_word(line)
+}
+
+/// Puts what stands behind a header line behind what is gathered, each line as one of version 2.
+fn put_body<W: Write>(
+    gathered: &mut Vec<u8>,
+    text: &[u8],
+    writer: &mut Watched<W>,
+) -> Result<(), Fault>
+    requires { has_failed writer.old ≡ false }
+    ensures ok { OnOk result (Gathers (W.contents (inside writer.old))
+        (W.contents (inside writer.new)) gathered.old.items gathered.new.items
+        (body_in_two text.now)) }
+    ensures unfailed { OnOk result (has_failed writer.new ≡ false) }
+    ensures err { IfErr result (IsWriteFault (has_failed writer.new)) }
+    ensures front { OnErr result (AppendsFront (W.contents (inside writer.old))
+        (W.contents (inside writer.new)) (gathered.old.items ++ body_in_two text.now)) }
+{
+    // What is not put yet, of which the lines from `rest` on are ahead.
+    let mut kept = text;
+    let mut rest = text;
+    while let Some(piece) = first_line(rest) {
+        if is_if_line(piece.line) {
+            put(gathered, &kept[..kept.len() - rest.len()], writer)?;
+            put(gathered, b"X", writer)?;
+            kept = behind(rest, piece.line);
+        }
+        rest = piece.rest;
+    }
+    put(gathered, kept, writer)?;
+    Ok(())
+}
+
+/// What follows a line in a text that begins with it.
+fn behind<'a>(text: &'a [u8], line: &[u8]) -> &'a [u8]
+    requires { length line.now ≤ length text.now }
+    ensures { result.now ≡ drop (length line.now) text.now }
+{
+    &text[line.len()..]
+}
+
+/// Whether the first word of a line is IF, and it has no other fault in version 1 than that.
+#[tactic(auto, unfolding(crate::specs::Migrated::is_if_line))]
+fn is_if_line(line: &[u8]) -> bool
+    ensures { result ≡ is_if_line line.now }
+{
+    begins_with_word(line, b"IF") && matches!(read_line(line), Err(LineFault::UnknownWord))
+}
