@@ -68,7 +68,7 @@ fn reads_no_further_than_the_limit(rt: HostRuntime) {
     let mut writer = Watched::new(&mut sink);
     let result = run(rt.alloc(), &mut reader, &mut writer);
     assert_eq!(rt; result, Err(Fault::File(FileFault::TooLong)));
-    assert_eq!(rt; source.given, 4_194_305);
+    assert_eq!(rt; source.given, 67_108_865);
     assert_eq!(rt; sink.text.as_slice(), b"FILE REFUSED F3\n".as_slice());
 }
 
