@@ -32,7 +32,7 @@ use Rattle.operating.specs.Best.{BestRuled, trains_now, with_those_held}
 use Rattle.operating.specs.BestLaws.{BestEarnsNoLess, OrdersRun}
 use Rattle.operating.specs.InTurn.{InTurn, no_runs, told}
 use Rattle.operating.specs.Runs.{has_run, judged_run, position_now, run_ruled, steps_now}
-use Rattle.operating.specs.Turn.{LineLeads, LinesLead, ReadingLeads}
+use Rattle.operating.specs.Turn.{AskedLeads, LineLeads, LinesLead, ReadingLeads, is_held}
 use Rattle.operating.specs.declared.operator.Operator.{Operator}
 use Rattle.operating.specs.declared.runs.Ran.{Ran}
 use Rattle.operating.specs.declared.runs.Runs.{Runs}
@@ -183,9 +183,9 @@ module _ (by : Operator) (first : InTurn) where
       }
 
   -- after a ruling
-  after_ruling : (runs : List TrainRun) (now : InTurn) (number : ℕ) (ruling : Ruling) → HaveRun runs now → HaveRun runs (told by now number ruling)
-  after_ruling runs now number ruling have =
-      let its = event.Ruled by.president number ruling in
+  after_ruling : (runs : List TrainRun) (now : InTurn) (line : Numbered) (ruling : Ruling) → HaveRun runs now → HaveRun runs (told by now line ruling)
+  after_ruling runs now line ruling have =
+      let its = event.Ruled by.president line.number ruling in
       record {
         ground = ap position_of (same_ground now.game.events its refl refl refl) ∙ have.ground;
         held = λ kind. trains_at_before now.game.events its (stable_of (Some by.company)) kind refl ∙ have.held kind;
@@ -244,15 +244,15 @@ module _ (by : Operator) (first : InTurn) where
 
   -- after it
   after_obeyed :
-      (runs : List TrainRun) (now : InTurn) (number : ℕ) (its : Order) (kind : Kind) (run : List Place) (ran : Ran) →
-      judged_run now by.company kind run ≡ Ok ran → HaveRun runs now → HaveRun (with_run now kind run runs) (run_ruled by now number its (Ok ran))
-  after_obeyed runs now number its kind run ran judged have =
+      (runs : List TrainRun) (now : InTurn) (line : Numbered) (its : Order) (kind : Kind) (run : List Place) (ran : Ran) →
+      judged_run now by.company kind run ≡ Ok ran → HaveRun runs now → HaveRun (with_run now kind run runs) (run_ruled by now line its (Ok ran))
+  after_obeyed runs now line its kind run ran judged have =
       let steps : List Step = steps_now now.game.events run in
       let done : Runs = now.progress.runs in
-      let ruled : InTurn = told by now number (Obeyed its) in
-      let after : HaveRun runs ruled = after_ruling runs now number (Obeyed its) have in
+      let ruled : InTurn = told by now line (Obeyed line.condition its) in
+      let after : HaveRun runs ruled = after_ruling runs now line (Obeyed line.condition its) have in
       let earns : Event = event.Runs by.company (earned (position_now now.game.events) steps) in
-      subst (λ (what : Ran). HaveRun (with_run now kind run runs) (run_ruled by now number its (Ok what)))
+      subst (λ (what : Ran). HaveRun (with_run now kind run runs) (run_ruled by now line its (Ok what)))
       (sym (judged_ran now by.company kind run ran judged))
       (record {
         ground = ap position_of (same_ground ruled.game.events earns refl refl refl) ∙ after.ground;
@@ -268,22 +268,28 @@ module _ (by : Operator) (first : InTurn) where
 
   -- after a RUN, obeyed or refused
   after_judged :
-      (runs : List TrainRun) (now : InTurn) (number : ℕ) (its : Order) (kind : Kind) (run : List Place) (judged : Result Ran RunRule) →
-      judged_run now by.company kind run ≡ judged → HaveRun runs now → (more : List TrainRun) × HaveRun more (run_ruled by now number its judged)
-  after_judged runs now number its kind run (Err rule) is have = (runs, after_ruling runs now number (Refused (refusal.Run rule) its) have)
-  after_judged runs now number its kind run (Ok ran) is have =
-      (with_run now kind run runs, after_obeyed runs now number its kind run ran is have)
+      (runs : List TrainRun) (now : InTurn) (line : Numbered) (its : Order) (kind : Kind) (run : List Place) (judged : Result Ran RunRule) →
+      judged_run now by.company kind run ≡ judged → HaveRun runs now → (more : List TrainRun) × HaveRun more (run_ruled by now line its judged)
+  after_judged runs now line its kind run (Err rule) is have = (runs, after_ruling runs now line (Refused (refusal.Run rule) line.condition its) have)
+  after_judged runs now line its kind run (Ok ran) is have =
+      (with_run now kind run runs, after_obeyed runs now line its kind run ran is have)
+
+  -- after a RUN that is asked for its condition
+  after_asked :
+      (runs : List TrainRun) (now next : InTurn) (line : Numbered) (kind : Kind) (run : List Place) (held : Bool) →
+      AskedLeads by now line (order.Run kind run) held next → HaveRun runs now → (more : List TrainRun) × HaveRun more next
+  after_asked runs now next line kind run true leads have = (runs, subst (HaveRun runs) (sym leads) (after_ruling runs now line _ have))
+  after_asked runs now next line kind run false leads have =
+      let after = after_judged runs now line (order.Run kind run) kind run (judged_run now by.company kind run) refl have in
+      (after.0, subst (HaveRun after.0) (sym leads) after.1)
 
   -- after a line that orders a run
   after_line :
       (runs : List TrainRun) (now next : InTurn) (line : Numbered) → OrdersRun line → LineLeads by now line next → HaveRun runs now →
       (more : List TrainRun) × HaveRun more next
   after_line runs now next line (kind, run, reads) leads have =
-      let its : Order = order.Run kind run in
-      let is : next ≡ run_ruled by now line.number its (judged_run now by.company kind run) =
-      subst (λ (reading : Result Order Fault). ReadingLeads by now line.number reading next) reads leads in
-      let after = after_judged runs now line.number its kind run (judged_run now by.company kind run) refl have in
-      (after.0, subst (HaveRun after.0) (sym is) after.1)
+      after_asked runs now next line kind run (is_held now.game.events line.condition (order.Run kind run))
+      (subst (λ (reading : Result Order Fault). ReadingLeads by now line reading next) reads leads) have
 
   -- after such lines
   after_lines :
@@ -296,16 +302,16 @@ module _ (by : Operator) (first : InTurn) where
 
   -- they have earned no more than the best
   no_more_earned :
-      (lines : List Numbered) (written best : InTurn) (number : ℕ) → first.progress.runs ≡ no_runs →
+      (lines : List Numbered) (written best : InTurn) (line : Numbered) → first.progress.runs ≡ no_runs →
       AllByRecursion OrdersRun lines → LinesLead by first lines written →
-      BestRuled by first number None best → written.progress.runs.revenue ≤ best.progress.runs.revenue
-  no_more_earned lines written best number none orders writes leads =
+      BestRuled by first line None best → written.progress.runs.revenue ≤ best.progress.runs.revenue
+  no_more_earned lines written best line none orders writes leads =
       let after = after_lines [] first lines written orders writes (none_yet none) in
       let greatest : IsGreatest there by.company trains leads.0 = leads.1 in
       let is : best.progress.runs.revenue ≡ leads.0 = ap (λ (turn : InTurn). turn.progress.runs.revenue) leads.2 in
       omega (arith, is, after.1.sum, greatest.most after.0 after.1.set)
 
 pub best_earns_no_less : BestEarnsNoLess
-best_earns_no_less by game earlier lines turn written best number begins orders writes none leads =
-    no_more_earned by turn lines written best number (nothing_ran by game earlier turn begins none) orders writes
-    (subst (λ (rule : Option RunRule). BestRuled by turn number rule best) none leads)
+best_earns_no_less by game earlier lines turn written best line begins orders writes none leads =
+    no_more_earned by turn lines written best line (nothing_ran by game earlier turn begins none) orders writes
+    (subst (λ (rule : Option RunRule). BestRuled by turn line rule best) none leads)

@@ -1,5 +1,5 @@
 -- Each call of a course that leads on is answered, since one that is not breaks it off.
-use Rattle.std.proofs.Common.{◌≡◌, ℕ, zero, suc, List, [], ◌∷◌, ◌++◌, Some, None, Result, Ok, Err, refl, sym, subst, inl, inr}
+use Rattle.std.proofs.Common.{◌≡◌, ℕ, zero, suc, Bool, true, false, List, [], ◌∷◌, ◌++◌, Some, None, Result, Ok, Err, refl, sym, subst, inl, inr}
 use Rattle.std.specs.Prelude.{Option, pos}
 use Rattle.certificate.specs.declared.runner.RunnerFault.TheVariants.{Memory}
 use Rattle.history.specs.Shares.{president_of}
@@ -7,7 +7,8 @@ use Rattle.history.specs.declared.ruling.RunRule.{RunRule}
 use Rattle.operating.specs.Answered.{AreAnswered, IsAnswered}
 use Rattle.operating.specs.Best.{best_judgement}
 use Rattle.operating.specs.Calls.{Call, Course, Then, TimesThen, Unasked}
-use Rattle.operating.specs.TurnCalls.{Asks, BestCalls, BlockCalls, EndCalls, IsCredited, LineCalls, LinesCall, OrderCalls, ReadingCalls, TurnCalls, asked}
+use Rattle.operating.specs.TurnCalls.{AskedCalls, Asks, BestCalls, BlockCalls, EndCalls, IsCredited, LineCalls, LinesCall, OrderCalls, ReadingCalls, TurnCalls, asked}
+use Rattle.operating.specs.Turn.{is_held}
 use Rattle.operating.specs.declared.operator.Operator.{Operator}
 use Rattle.order_grammar.specs.declared.fault.Fault.{Fault}
 use Rattle.order_grammar.specs.declared.order.Order.{Order}
@@ -52,30 +53,36 @@ asks_answered company round events revenue calls is =
     subst AreAnswered (sym is.1) one
 
 -- so the calls of a RUN BEST are, by the rule that refuses it, if one does
-best_answered : (by : Operator) (round : Round) (number : ℕ) (rule : Option RunRule) → IsAnswered (BestCalls by round number rule)
-best_answered by round number (Some rule) turn to calls course = none_answered calls course.1
-best_answered by round number None turn to calls course =
-    then_answered (Asks by.company round) (Unasked Memory (IsCredited by turn number)) (asks_answered by.company round)
-    (unasked_answered Memory (IsCredited by turn number)) turn.game.events to calls course
+best_answered : (by : Operator) (round : Round) (line : Numbered) (rule : Option RunRule) → IsAnswered (BestCalls by round line rule)
+best_answered by round line (Some rule) turn to calls course = none_answered calls course.1
+best_answered by round line None turn to calls course =
+    then_answered (Asks by.company round) (Unasked Memory (IsCredited by turn line)) (asks_answered by.company round)
+    (unasked_answered Memory (IsCredited by turn line)) turn.game.events to calls course
 
 -- those of an order
-order_answered : (by : Operator) (round : Round) (number : ℕ) (order : Order) → IsAnswered (OrderCalls by round number order)
-order_answered by round number order turn to calls course =
+order_answered : (by : Operator) (round : Round) (line : Numbered) (order : Order) → IsAnswered (OrderCalls by round line order)
+order_answered by round line order turn to calls course =
     elim course [
-      | inl best ↦ best_answered by round number (best_judgement turn by.company) turn to calls best.1
+      | inl best ↦ best_answered by round line (best_judgement turn by.company) turn to calls best.1
       | inr other ↦ none_answered calls other.1.1
     ]
 
+-- those of an order that is asked for its condition
+asked_answered : (by : Operator) (round : Round) (line : Numbered) (its : Order) (held : Bool) → IsAnswered (AskedCalls by round line its held)
+asked_answered by round line its true turn to calls course = none_answered calls course.1
+asked_answered by round line its false turn to calls course = order_answered by round line its turn to calls course
+
 -- those of a line
-reading_answered : (by : Operator) (round : Round) (number : ℕ) (reading : Result Order Fault) → IsAnswered (ReadingCalls by round number reading)
-reading_answered by round number (Ok order) turn to calls course = order_answered by round number order turn to calls course
-reading_answered by round number (Err fault) turn to calls course = none_answered calls course.1
+reading_answered : (by : Operator) (round : Round) (line : Numbered) (reading : Result Order Fault) → IsAnswered (ReadingCalls by round line reading)
+reading_answered by round line (Ok its) turn to calls course =
+    asked_answered by round line its (is_held turn.game.events line.condition its) turn to calls course
+reading_answered by round line (Err fault) turn to calls course = none_answered calls course.1
 
 -- those of lines
 lines_answered : (by : Operator) (round : Round) (lines : List Numbered) → IsAnswered (LinesCall by round lines)
 lines_answered by round [] turn to calls course = none_answered calls course.1
 lines_answered by round (line ∷ lines) turn to calls course =
-    then_answered (LineCalls by round line) (LinesCall by round lines) (reading_answered by round line.number line.reading)
+    then_answered (LineCalls by round line) (LinesCall by round lines) (reading_answered by round line line.reading)
     (lines_answered by round lines) turn to calls course
 
 -- those of a block

@@ -14,10 +14,9 @@ use Rattle.history.specs.Tell.{breaks}
 use Rattle.history.specs.Trains.{so_many}
 use Rattle.history.specs.declared.event.Event.{Event}
 use Rattle.history.specs.declared.event.Event.TheVariants as event
-use Rattle.history.specs.declared.ruling.Refusal.TheVariants as refusal
+use Rattle.history.specs.declared.ruling.Refusal.{Refusal}
 use Rattle.history.specs.declared.ruling.Ruling.{Ruling}
 use Rattle.history.specs.declared.ruling.Ruling.TheVariants.{Obeyed, Refused}
-use Rattle.history.specs.declared.ruling.StockRule.{StockRule}
 use Rattle.market.specs.Moves.{fallen}
 use Rattle.market.specs.Token.{moved_from, same_square}
 use Rattle.operating.proofs.ForcedBuying.{IsPlain, cheapest_plain, forced_allowed}
@@ -149,27 +148,27 @@ gained_none by lines game none =
 
 module _ (by : Operator) (R : Game → Game → Type 0) (of : OfEvents by.company R) (sales : OfSales by R) where
   -- of a RAISE
-  of_raise_ruled : (due : Bool) (game : Game) (number : ℕ) (sale : Sale) (broken : Option StockRule) → raise_rule due by game sale ≡ broken →
-      R game (raise_ruled by game number sale broken)
-  of_raise_ruled due game number sale None none =
-      let obeyed : Ruling = Obeyed (order.Raise sale.company sale.tenths) in
-      let ruled : Game = with_ruling by game number obeyed in
-      of.on.both game ruled (with_sale by ruled sale) (of.others game (event.Ruled by.president number obeyed) tt refl refl refl)
-      (sales ruled sale (still_allowed by game number obeyed sale (raise_obeyed due by game sale none)))
-  of_raise_ruled due game number sale (Some rule) some =
-      of.others game (event.Ruled by.president number (Refused (refusal.Stock rule) (order.Raise sale.company sale.tenths))) tt refl refl refl
+  of_raise_ruled : (due : Bool) (game : Game) (line : Numbered) (sale : Sale) (broken : Option Refusal) → raise_rule due by game line.condition sale ≡ broken →
+      R game (raise_ruled by game line sale broken)
+  of_raise_ruled due game line sale None none =
+      let obeyed : Ruling = Obeyed line.condition (order.Raise sale.company sale.tenths) in
+      let ruled : Game = with_ruling by game line obeyed in
+      of.on.both game ruled (with_sale by ruled sale) (of.others game (event.Ruled by.president line.number obeyed) tt refl refl refl)
+      (sales ruled sale (still_allowed by game line obeyed sale (raise_obeyed due by game line.condition sale none)))
+  of_raise_ruled due game line sale (Some rule) some =
+      of.others game (event.Ruled by.president line.number (Refused rule line.condition (order.Raise sale.company sale.tenths))) tt refl refl refl
 
-  of_raise_line : (due : Bool) (game : Game) (number : ℕ) (reading : Result Order Fault) → R game (after_raise_line due by game number reading)
-  of_raise_line due game number (Ok (order.Raise company tenths)) =
+  of_raise_line : (due : Bool) (game : Game) (line : Numbered) (reading : Result Order Fault) → R game (after_raise_line due by game line reading)
+  of_raise_line due game line (Ok (order.Raise company tenths)) =
       let sale : Sale = record { company = company; tenths = tenths } in
-      of_raise_ruled due game number sale (raise_rule due by game sale) refl
-  of_raise_line due game number other = of.on.same game
+      of_raise_ruled due game line sale (raise_rule due by game line.condition sale) refl
+  of_raise_line due game line other = of.on.same game
 
   pub of_raises : (due : Bool) (lines : List Numbered) (game : Game) → R game (after_raises due by game lines)
   of_raises due [] game = of.on.same game
   of_raises due (line ∷ lines) game =
-      let next : Game = after_raise_line due by game line.number line.reading in
-      of.on.both game next (after_raises due by next lines) (of_raise_line due game line.number line.reading) (of_raises due lines next)
+      let next : Game = after_raise_line due by game line line.reading in
+      of.on.both game next (after_raises due by next lines) (of_raise_line due game line line.reading) (of_raises due lines next)
 
   -- of single tenths
   of_one_sold : (game : Game) (found : Option Company) → next_to_sell by game ≡ found → R game (with_one_sold by game found)

@@ -13,9 +13,8 @@ use Rattle.history.specs.Tell.{breaks, with_broken}
 use Rattle.history.specs.Trains.{stable_size, trains_held, trains_of_kinds}
 use Rattle.history.specs.declared.event.Event.{Event}
 use Rattle.history.specs.declared.event.Event.TheVariants as event
-use Rattle.history.specs.declared.ruling.Refusal.TheVariants as refusal
+use Rattle.history.specs.declared.ruling.Refusal.{Refusal}
 use Rattle.history.specs.declared.ruling.Ruling.TheVariants.{Obeyed, Refused}
-use Rattle.history.specs.declared.ruling.StockRule.{StockRule}
 use Rattle.market.specs.Moves.{fallen}
 use Rattle.market.specs.Token.{moved_from, same_square}
 use Rattle.operating.specs.Forced.{after_raise_line, after_raises, has_trains, next_to_sell, raise_rule, raise_ruled, sold_further, sold_singly, with_one_sold, falls_short}
@@ -75,24 +74,24 @@ module _ (owner : Option Company) where
       ∙ size_broken seats told
       ∙ size_before events (event.Sells company seat tenths (tenths * market_price_of events company)) owner refl
 
-  size_raise_ruled : (by : Operator) (game : Game) (number : ℕ) (sale : Sale) (broken : Option StockRule) → size (raise_ruled by game number sale broken).events ≡ size game.events
-  size_raise_ruled by game number sale None =
-      let ruled : Event = event.Ruled by.president number (Obeyed (order.Raise sale.company sale.tenths)) in
+  size_raise_ruled : (by : Operator) (game : Game) (line : Numbered) (sale : Sale) (broken : Option Refusal) → size (raise_ruled by game line sale broken).events ≡ size game.events
+  size_raise_ruled by game line sale None =
+      let ruled : Event = event.Ruled by.president line.number (Obeyed line.condition (order.Raise sale.company sale.tenths)) in
       size_sale game.seats (game.events ++ ruled ∷ []) by.president sale.company sale.tenths ∙ size_before game.events ruled owner refl
-  size_raise_ruled by game number sale (Some rule) =
-      size_before game.events (event.Ruled by.president number (Refused (refusal.Stock rule) (order.Raise sale.company sale.tenths))) owner refl
+  size_raise_ruled by game line sale (Some rule) =
+      size_before game.events (event.Ruled by.president line.number (Refused rule line.condition (order.Raise sale.company sale.tenths))) owner refl
 
-  size_raise_line : (due : Bool) (by : Operator) (game : Game) (number : ℕ) (reading : Result Order Fault) → size (after_raise_line due by game number reading).events ≡ size game.events
-  size_raise_line due by game number (Ok (order.Raise company tenths)) =
+  size_raise_line : (due : Bool) (by : Operator) (game : Game) (line : Numbered) (reading : Result Order Fault) → size (after_raise_line due by game line reading).events ≡ size game.events
+  size_raise_line due by game line (Ok (order.Raise company tenths)) =
       let sale : Sale = record { company = company; tenths = tenths } in
-      size_raise_ruled by game number sale (raise_rule due by game sale)
-  size_raise_line due by game number other = refl
+      size_raise_ruled by game line sale (raise_rule due by game line.condition sale)
+  size_raise_line due by game line other = refl
 
   -- nor do the RAISE lines of a block
   pub size_raises : (due : Bool) (by : Operator) (lines : List Numbered) (game : Game) → size (after_raises due by game lines).events ≡ size game.events
   size_raises due by [] game = refl
   size_raises due by (line ∷ lines) game =
-      size_raises due by lines (after_raise_line due by game line.number line.reading) ∙ size_raise_line due by game line.number line.reading
+      size_raises due by lines (after_raise_line due by game line line.reading) ∙ size_raise_line due by game line line.reading
 
   size_one_sold : (by : Operator) (game : Game) (found : Option Company) → size (with_one_sold by game found).events ≡ size game.events
   size_one_sold by game None = refl

@@ -1,22 +1,26 @@
 -- The steps of a forced purchase, from what each part of them does.
-use Rattle.std.proofs.Common.{◌≡◌, ℕ, zero, suc, Bool, true, false, ◌&&◌, if◌then◌else◌, List, [], ◌∷◌, ◌++◌, Option, Some, None, is_none, refl, sym, ap, subst, ◌∙◌}
+use Rattle.std.proofs.Common.{◌≡◌, ℕ, zero, suc, Bool, true, false, ◌&&◌, if◌then◌else◌, List, [], ◌∷◌, ◌++◌, Option, Some, None, option_map, is_none, refl, sym, ap, subst, ◌∙◌}
 use Rattle.certificate.proofs.Named.{found_passes}
 use Rattle.certs.proofs.SaleAllowed.{sale_allowed, same_judgement}
 use Rattle.certs.specs.Sale.{sale_judgement}
 use Rattle.certs.specs.SaleAct.{MaySell, after_sale}
 use Rattle.certs.specs.declared.deal.Sale.{Sale}
 use Rattle.history.proofs.EventAtEnd.{last_said_before, quiet_same}
+use Rattle.history.specs.Conditions.{is_met}
 use Rattle.history.specs.Event.{IsQuiet, round_of as round_begun}
 use Rattle.history.specs.LookBack.{Game, with_event}
 use Rattle.history.specs.declared.event.Event.{Event}
 use Rattle.history.specs.declared.event.Event.TheVariants as event
+use Rattle.history.specs.declared.ruling.Refusal.TheVariants as refusal
 use Rattle.history.specs.declared.ruling.Ruling.{Ruling}
 use Rattle.history.specs.declared.ruling.Ruling.TheVariants.{Obeyed}
+use Rattle.history.specs.declared.ruling.StockRule.{StockRule}
 use Rattle.history.specs.declared.ruling.StockRule.TheVariants.{NotOfStock}
-use Rattle.operating.specs.Forced.{after_forced, after_raise, after_raises, cheapest, concluded, falls_short, next_to_sell, one_tenth, raise_rule, raise_ruled, sale_rule, sold_further, sold_singly, with_aid, with_one_sold, with_ruling, with_sale}
+use Rattle.operating.specs.Forced.{after_forced, after_raise, after_raises, cheapest, concluded, falls_short, needed_rule, next_to_sell, one_tenth, raise_rule, raise_ruled, sale_rule, sold_further, sold_singly, with_aid, with_one_sold, with_ruling, with_sale}
 use Rattle.operating.specs.Phases.{after_train}
 use Rattle.operating.specs.declared.operator.Operator.{Operator}
 use Rattle.operating.specs.declared.purchase.Purchase.{Purchase}
+use Rattle.order_grammar.specs.declared.condition.Condition.{Condition}
 use Rattle.order_grammar.specs.declared.order.Order.TheVariants as order
 use Rattle.sheets.specs.Part.{Numbered}
 use Rattle.tables.specs.Roster.{companies}
@@ -29,25 +33,39 @@ made_of game seats events same_seats same_events =
     ap (λ (n : ℕ). let made : Game = record { seats = n; events = game.events } in made) same_seats
     ∙ ap (λ (list : List Event). let made : Game = record { seats = seats; events = list } in made) same_events
 
--- a RAISE that breaks no rule is a sale that breaks none
-pub raise_obeyed : (due : Bool) (by : Operator) (game : Game) (sale : Sale) → raise_rule due by game sale ≡ None → sale_judgement game.seats game.events by.president sale (Some by.company) ≡ None
+-- where no rule of stock refuses, none is broken
+none_refused : (broken : Option StockRule) → option_map refusal.Stock broken ≡ None → broken ≡ None
+none_refused None none = refl
+none_refused (Some rule) none = absurd cc
+
+-- a RAISE that is needed and breaks no rule is a sale that breaks none
+needed_obeyed : (by : Operator) (game : Game) (condition : Option Condition) (sale : Sale) → needed_rule by game condition sale ≡ None → sale_rule by game sale ≡ None
+needed_obeyed by game condition sale none =
+    elim (is_met game.events condition) as (λ (met : Bool). (if met then option_map refusal.Stock (sale_rule by game sale) else Some refusal.Condition) ≡ None → sale_rule by game sale ≡ None) [
+      | true ↦ none_refused (sale_rule by game sale)
+      | false ↦ λ wrong. absurd cc
+    ]
+    none
+
+-- so is one that breaks none, be it needed or not
+pub raise_obeyed : (due : Bool) (by : Operator) (game : Game) (condition : Option Condition) (sale : Sale) → raise_rule due by game condition sale ≡ None → sale_judgement game.seats game.events by.president sale (Some by.company) ≡ None
 unfolding raise_rule sale_rule
-raise_obeyed due by game sale none =
-    elim (due && falls_short by game) as (λ (b : Bool). (if b then sale_judgement game.seats game.events by.president sale (Some by.company) else Some NotOfStock) ≡ None → sale_judgement game.seats game.events by.president sale (Some by.company) ≡ None) [
-      | true ↦ λ is. is
+raise_obeyed due by game condition sale none =
+    elim (due && falls_short by game) as (λ (b : Bool). (if b then needed_rule by game condition sale else Some (refusal.Stock NotOfStock)) ≡ None → sale_judgement game.seats game.events by.president sale (Some by.company) ≡ None) [
+      | true ↦ needed_obeyed by game condition sale
       | false ↦ λ wrong. absurd cc
     ]
     none
 
 -- and sells what it says
-pub raised : (due : Bool) (by : Operator) (old told new : Game) (number : ℕ) (sale : Sale) → raise_rule due by old sale ≡ None → told ≡ with_ruling by old number (Obeyed (order.Raise sale.company sale.tenths)) → new.seats ≡ told.seats → new.events ≡ after_sale told.seats told.events by.president sale.company sale.tenths → new ≡ after_raise due by old number sale
-raised due by old told new number sale none is_told seats events =
+pub raised : (due : Bool) (by : Operator) (old told new : Game) (line : Numbered) (sale : Sale) → raise_rule due by old line.condition sale ≡ None → told ≡ with_ruling by old line (Obeyed line.condition (order.Raise sale.company sale.tenths)) → new.seats ≡ told.seats → new.events ≡ after_sale told.seats told.events by.president sale.company sale.tenths → new ≡ after_raise due by old line sale
+raised due by old told new line sale none is_told seats events =
     made_of new told.seats (after_sale told.seats told.events by.president sale.company sale.tenths) seats events
     ∙ ap (λ (game : Game). with_sale by game sale) is_told
-    ∙ ap (raise_ruled by old number sale) (sym none)
+    ∙ ap (raise_ruled by old line sale) (sym none)
 
 -- a test of nothing
-nothing : {A : Type 0} (found : Option A) → is_none found ≡ true → found ≡ None
+pub nothing : {A : Type 0} (found : Option A) → is_none found ≡ true → found ≡ None
 nothing None is = refl
 nothing (Some thing) is = absurd cc
 
@@ -60,11 +78,11 @@ may_sell_tenth by game company sale is found =
     (sale_allowed game.seats game.events by.president (one_tenth company) (Some by.company) (nothing (sale_judgement game.seats game.events by.president (one_tenth company) (Some by.company)) passes))
 
 -- a sale that breaks no rule breaks none after a ruling
-pub still_allowed : (by : Operator) (game : Game) (number : ℕ) (ruling : Ruling) (sale : Sale) →
-    sale_judgement game.seats game.events by.president sale (Some by.company) ≡ None → sale_rule by (with_ruling by game number ruling) sale ≡ None
+pub still_allowed : (by : Operator) (game : Game) (line : Numbered) (ruling : Ruling) (sale : Sale) →
+    sale_judgement game.seats game.events by.president sale (Some by.company) ≡ None → sale_rule by (with_ruling by game line ruling) sale ≡ None
 unfolding sale_rule
-still_allowed by game number ruling sale none =
-    let its : Event = event.Ruled by.president number ruling in
+still_allowed by game line ruling sale none =
+    let its : Event = event.Ruled by.president line.number ruling in
     let quiet : IsQuiet its = record { payment = refl; ownership = refl; bidding = refl; transfer = refl; par = refl; square = refl; office = refl; float = refl; sv_price = refl; train = refl; tile = refl; token = refl } in
     same_judgement game.seats game.events (game.events ++ its ∷ []) by.president sale (Some by.company) (quiet_same game.events its quiet)
     (last_said_before round_begun (game.events ++ its ∷ []) game.events its refl refl)

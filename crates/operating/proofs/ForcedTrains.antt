@@ -273,21 +273,21 @@ alike_same game = record { ground = refl; size = λ company. refl }
 alike_both : (a b c : Game) → Alike a b → Alike b c → Alike a c
 alike_both a b c one two = record { ground = two.ground ∙ one.ground; size = λ company. two.size company ∙ one.size company }
 
-alike_ruled : (by : Operator) (game : Game) (number : ℕ) (ruling : Ruling) → Alike game (with_ruling by game number ruling)
-alike_ruled by game number ruling =
-    let its : Event = event.Ruled by.president number ruling in
+alike_ruled : (by : Operator) (game : Game) (line : Numbered) (ruling : Ruling) → Alike game (with_ruling by game line ruling)
+alike_ruled by game line ruling =
+    let its : Event = event.Ruled by.president line.number ruling in
     record { ground = same_ground game.events its refl refl refl; size = λ company. size_before game.events its (Some company) refl }
 
-alike_line : (by : Operator) (game : Game) (number : ℕ) (reading : Result Order Fault) → Alike game (after_raise_line false by game number reading)
+alike_line : (by : Operator) (game : Game) (line : Numbered) (reading : Result Order Fault) → Alike game (after_raise_line false by game line reading)
 unfolding raise_rule
-alike_line by game number (Ok (order.Raise company tenths)) = alike_ruled by game number _
-alike_line by game number other = alike_same game
+alike_line by game line (Ok (order.Raise company tenths)) = alike_ruled by game line _
+alike_line by game line other = alike_same game
 
 alike_raises : (by : Operator) (lines : List Numbered) (game : Game) → Alike game (after_raises false by game lines)
 alike_raises by [] game = alike_same game
 alike_raises by (line ∷ lines) game =
-    let next : Game = after_raise_line false by game line.number line.reading in
-    alike_both game next (after_raises false by next lines) (alike_line by game line.number line.reading) (alike_raises by lines next)
+    let next : Game = after_raise_line false by game line line.reading in
+    alike_both game next (after_raises false by next lines) (alike_line by game line line.reading) (alike_raises by lines next)
 
 -- the company owns a train, or its president is bankrupt, or it could run none
 abbrev Served : Company → Game → Type 0

@@ -19,6 +19,7 @@ use Rattle.operating.specs.declared.progress.Progress.{Progress}
 use Rattle.order_grammar.specs.declared.fault.Fault.{Fault}
 use Rattle.order_grammar.specs.declared.order.Order.{Order}
 use Rattle.std.specs.Prelude.{Result, slice_get}
+use Rattle.sheets.specs.Part.{Numbered}
 use Rattle.tables.specs.declared.rolling_stock.Kind.{Kind}
 use Rattle.tables.specs.declared.roster.Company.{Company}
 
@@ -86,9 +87,9 @@ front_on laid old new adds front =
     })
 
 -- a line only adds events
-pub line_adds : (by : Operator) (turn : InTurn) (number : ℕ) (reading : Result Order Fault) (new : InTurn) → ReadingLeads by turn number reading new → OnlyAdds turn.game new.game
-line_adds by turn number reading new leads =
-    of_line by _ (of_steps by.company OnlyAdds (adds_by by.company)) turn number reading new leads
+pub line_adds : (by : Operator) (turn : InTurn) (line : Numbered) (reading : Result Order Fault) (new : InTurn) → ReadingLeads by turn line reading new → OnlyAdds turn.game new.game
+line_adds by turn line reading new leads =
+    of_line by _ (of_steps by.company OnlyAdds (adds_by by.company)) turn line reading new leads
 
 -- and so does what a company withholds by itself
 pub settled_adds : (company : Company) (ruled paid : Game) (progress last : Progress) → in_turn paid last ≡ settled company (in_turn ruled progress) → OnlyAdds ruled paid

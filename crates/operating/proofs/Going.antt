@@ -11,16 +11,17 @@ use Rattle.order_grammar.specs.declared.fault.Fault.{Fault}
 use Rattle.order_grammar.specs.declared.order.Order.{Order}
 use Rattle.order_grammar.specs.declared.order.Order.TheVariants as order
 use Rattle.order_grammar.specs.declared.order.TrainSource.{TrainSource}
+use Rattle.sheets.specs.Part.{Numbered}
 use Rattle.tables.specs.declared.rolling_stock.Kind.{Kind}
 
 -- after a line
 pub after_line :
-    (old new : CompanyTurn) (number : ℕ) (reading : Result Order Fault) → ReadingLeads old.by (state old) number reading (state new) →
+    (old new : CompanyTurn) (line : Numbered) (reading : Result Order Fault) → ReadingLeads old.by (state old) line reading (state new) →
     GoesOn old new → IsInOrder new
-after_line old new number reading leads on =
+after_line old new line reading leads on =
     record {
       sound = on.sound;
-      front = front_on new.board old.history new.history (line_adds old.by (state old) number reading (state new) leads) on.front;
+      front = front_on new.board old.history new.history (line_adds old.by (state old) line reading (state new) leads) on.front;
     }
 
 -- and after what the company withholds by itself
@@ -33,9 +34,9 @@ after_settling old new is on =
 
 -- a TRAIN line, where what the company withholds by itself leaves whose turn it is
 pub train_leads_on :
-    (by same : Operator) (turn paid : InTurn) (number : ℕ) (its : Order) (kind : Kind) (from : TrainSource) (new : InTurn) →
-    its ≡ order.BuyTrain kind from → same ≡ by → paid ≡ settled by.company turn → new ≡ after_buying same paid number kind from →
-    OrderLeads by turn number its new
-train_leads_on by same turn paid number its kind from new is is_by is_paid ruled =
-    train_leads by turn paid number its kind from new is is_paid
-    (subst (λ (b : Operator). new ≡ after_buying b paid number kind from) is_by ruled)
+    (by same : Operator) (turn paid : InTurn) (line : Numbered) (its : Order) (kind : Kind) (from : TrainSource) (new : InTurn) →
+    its ≡ order.BuyTrain kind from → same ≡ by → paid ≡ settled by.company turn → new ≡ after_buying same paid line kind from →
+    OrderLeads by turn line its new
+train_leads_on by same turn paid line its kind from new is is_by is_paid ruled =
+    train_leads by turn paid line its kind from new is is_paid
+    (subst (λ (b : Operator). new ≡ after_buying b paid line kind from) is_by ruled)

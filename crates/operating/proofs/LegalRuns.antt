@@ -1,6 +1,6 @@
 -- The marks of a turn are those of the borders that the walks of its obeyed runs cross: they are none at first, a run
 -- that is obeyed adds its own, and no other order touches them.
-use Rattle.std.proofs.Common.{◌≡◌, ℕ, Bool, false, List, [], ◌∷◌, ◌++◌, Option, Some, None, Result, Ok, Err, length, replicate, zero, suc, refl, sym, subst, ap}
+use Rattle.std.proofs.Common.{◌≡◌, ℕ, Bool, true, false, List, [], ◌∷◌, ◌++◌, Option, Some, None, Result, Ok, Err, length, replicate, zero, suc, refl, sym, subst, ap}
 use Rattle.certificate.proofs.Kept.{crossed_used}
 use Rattle.certificate.proofs.Sharing.{legal_by_marks}
 use Rattle.certificate.specs.Legal.{all_crossed, crossed}
@@ -11,9 +11,9 @@ use Rattle.operating.proofs.Judged.{judged_borders, judged_legal}
 use Rattle.operating.proofs.OtherOrders.{after_other}
 use Rattle.operating.specs.Best.{BestRuled, best_judgement}
 use Rattle.operating.specs.InTurn.{InTurn, no_runs}
-use Rattle.operating.specs.LegalRuns.{LinesRun, ObeyedRunsAreLegal, walk_if_ran, walk_obeyed}
+use Rattle.operating.specs.LegalRuns.{LinesRun, ObeyedRunsAreLegal, walk_asked, walk_if_ran, walk_obeyed, walk_ordered}
 use Rattle.operating.specs.Runs.{judged_run, run_ruled, steps_now}
-use Rattle.operating.specs.Turn.{OrderLeads, ReadingLeads, begun}
+use Rattle.operating.specs.Turn.{AskedLeads, OrderLeads, ReadingLeads, begun, is_held}
 use Rattle.operating.specs.declared.operator.Operator.{Operator}
 use Rattle.operating.specs.declared.runs.Ran.{Ran}
 use Rattle.operating.specs.declared.runs.Runs.{Runs}
@@ -30,10 +30,10 @@ marks_in turn = turn.progress.runs.borders
 
 -- the best of a company leaves them
 after_best :
-    (by : Operator) (turn : InTurn) (number : ℕ) (rule : Option RunRule) (new : InTurn) →
-    BestRuled by turn number rule new → marks_in new ≡ marks_in turn
-after_best by turn number (Some rule) new leads = ap marks_in leads
-after_best by turn number None new leads = ap marks_in leads.2
+    (by : Operator) (turn : InTurn) (line : Numbered) (rule : Option RunRule) (new : InTurn) →
+    BestRuled by turn line rule new → marks_in new ≡ marks_in turn
+after_best by turn line (Some rule) new leads = ap marks_in leads
+after_best by turn line None new leads = ap marks_in leads.2
 
 -- these walks cross the borders that are marked
 abbrev AreWalks : List (List Step) → InTurn → Type 0
@@ -41,11 +41,11 @@ AreWalks walks turn = MarksAre (all_crossed walks) (marks_in turn)
 
 -- a run that is obeyed marks its own
 after_run :
-    (by : Operator) (turn : InTurn) (number : ℕ) (its : Order) (kind : Kind) (run : List Place) (before : List (List Step)) (judged : Result Ran RunRule) →
+    (by : Operator) (turn : InTurn) (line : Numbered) (its : Order) (kind : Kind) (run : List Place) (before : List (List Step)) (judged : Result Ran RunRule) →
     judged_run turn by.company kind run ≡ judged → AreWalks before turn →
-    AreWalks (walk_if_ran (steps_now turn.game.events run) judged ++ before) (run_ruled by turn number its judged)
-after_run by turn number its kind run before (Err rule) is are = are
-after_run by turn number its kind run before (Ok ran) is are =
+    AreWalks (walk_if_ran (steps_now turn.game.events run) judged ++ before) (run_ruled by turn line its judged)
+after_run by turn line its kind run before (Err rule) is are = are
+after_run by turn line its kind run before (Ok ran) is are =
     subst (λ (marks : List Bool). MarksAre (crossed (steps_now turn.game.events run) ++ all_crossed before) marks)
     (sym (judged_borders turn by.company kind run ran is))
     (crossed_used (all_crossed before) (marks_in turn) (steps_now turn.game.events run) are)
@@ -56,22 +56,30 @@ left_as before turn new same are = subst (λ (marks : List Bool). MarksAre (all_
 
 -- after an order
 after_order :
-    (by : Operator) (turn : InTurn) (number : ℕ) (before : List (List Step)) (its : Order) (new : InTurn) → OrderLeads by turn number its new →
-    AreWalks before turn → AreWalks (walk_obeyed by.company turn (Ok its) ++ before) new
-after_order by turn number before (order.Run kind run) new leads are =
-    subst (λ (next : InTurn). AreWalks (walk_obeyed by.company turn (Ok (order.Run kind run)) ++ before) next) (sym leads)
-    (after_run by turn number (order.Run kind run) kind run before (judged_run turn by.company kind run) refl are)
-after_order by turn number before order.RunBest new leads are =
-    left_as before turn new (after_best by turn number (best_judgement turn by.company) new leads) are
-after_order by turn number before other new leads are =
-    left_as before turn new (ap (λ (done : Bool × Runs). done.1.borders) (after_other by turn number other new tt leads)) are
+    (by : Operator) (turn : InTurn) (line : Numbered) (before : List (List Step)) (its : Order) (new : InTurn) → OrderLeads by turn line its new →
+    AreWalks before turn → AreWalks (walk_ordered by.company turn its ++ before) new
+after_order by turn line before (order.Run kind run) new leads are =
+    subst (λ (next : InTurn). AreWalks (walk_ordered by.company turn (order.Run kind run) ++ before) next) (sym leads)
+    (after_run by turn line (order.Run kind run) kind run before (judged_run turn by.company kind run) refl are)
+after_order by turn line before order.RunBest new leads are =
+    left_as before turn new (after_best by turn line (best_judgement turn by.company) new leads) are
+after_order by turn line before other new leads are =
+    left_as before turn new (ap (λ (done : Bool × Runs). done.1.borders) (after_other by turn line other new tt leads)) are
+
+-- after an order that is asked for its condition
+after_asked :
+    (by : Operator) (turn : InTurn) (line : Numbered) (before : List (List Step)) (its : Order) (held : Bool) (new : InTurn) →
+    AskedLeads by turn line its held new → AreWalks before turn → AreWalks (walk_asked by.company turn its held ++ before) new
+after_asked by turn line before its true new leads are = left_as before turn new (ap marks_in leads) are
+after_asked by turn line before its false new leads are = after_order by turn line before its new leads are
 
 -- after a line
 after_line :
-    (by : Operator) (turn : InTurn) (number : ℕ) (before : List (List Step)) (reading : Result Order Fault) (new : InTurn) →
-    ReadingLeads by turn number reading new → AreWalks before turn → AreWalks (walk_obeyed by.company turn reading ++ before) new
-after_line by turn number before (Err fault) new leads are = left_as before turn new (ap marks_in leads) are
-after_line by turn number before (Ok its) new leads are = after_order by turn number before its new leads are
+    (by : Operator) (turn : InTurn) (line : Numbered) (before : List (List Step)) (reading : Result Order Fault) (new : InTurn) →
+    ReadingLeads by turn line reading new → AreWalks before turn → AreWalks (walk_obeyed by.company turn line reading ++ before) new
+after_line by turn line before (Err fault) new leads are = left_as before turn new (ap marks_in leads) are
+after_line by turn line before (Ok its) new leads are =
+    after_asked by turn line before its (is_held turn.game.events line.condition its) new leads are
 
 -- after some lines
 after_lines :
@@ -80,8 +88,8 @@ after_lines :
 after_lines by turn before [] new all are ran =
     subst (λ (walks : List (List Step)). AreWalks walks new) (sym ran.1) (left_as before turn new (ap marks_in ran.0) are)
 after_lines by turn before (line ∷ lines) new all are ran =
-    after_lines by ran.0 (walk_obeyed by.company turn line.reading ++ before) lines new all
-    (after_line by turn line.number before line.reading ran.0 ran.1 are) ran.2
+    after_lines by ran.0 (walk_obeyed by.company turn line line.reading ++ before) lines new all
+    (after_line by turn line before line.reading ran.0 ran.1 are) ran.2
 
 -- none is marked at first
 none_set : (count border : ℕ) → IsUsed (replicate count false) border → ⊥

@@ -14,7 +14,7 @@ use Rattle.operating.specs.Best.{BestRuled, best_judgement}
 use Rattle.operating.specs.Forced.{has_trains}
 use Rattle.operating.specs.InTurn.{InTurn, no_runs}
 use Rattle.operating.specs.Runs.{has_any_run, has_run, is_past_runs, judged_run, rule, run_ruled, with_ran}
-use Rattle.operating.specs.Turn.{LinesLead, OrderLeads, ReadingLeads, begun}
+use Rattle.operating.specs.Turn.{AskedLeads, LinesLead, OrderLeads, ReadingLeads, begun, is_held}
 use Rattle.operating.specs.declared.operator.Operator.{Operator}
 use Rattle.operating.specs.declared.runs.Ran.{Ran}
 use Rattle.operating.specs.declared.runs.Runs.{Runs}
@@ -95,37 +95,43 @@ with_best best runs revenue are = record { for_each = are.for_each; least = are.
 
 -- after a RUN
 after_run :
-    (by : Operator) (turn : InTurn) (number : ℕ) (its : Order) (judged : Result Ran RunRule) → IsKeptIn turn → IsKeptIn (run_ruled by turn number its judged)
-after_run by turn number its (Err rule) are = are
-after_run by turn number its (Ok ran) are = with_run turn.progress.best_run turn.progress.runs ran are
+    (by : Operator) (turn : InTurn) (line : Numbered) (its : Order) (judged : Result Ran RunRule) → IsKeptIn turn → IsKeptIn (run_ruled by turn line its judged)
+after_run by turn line its (Err rule) are = are
+after_run by turn line its (Ok ran) are = with_run turn.progress.best_run turn.progress.runs ran are
 
 -- after a RUN BEST
 after_best :
-    (by : Operator) (turn : InTurn) (number : ℕ) (rule : Option RunRule) (new : InTurn) → BestRuled by turn number rule new → IsKeptIn turn → IsKeptIn new
-after_best by turn number (Some rule) new leads are = subst IsKeptIn (sym leads) are
-after_best by turn number None new leads are =
+    (by : Operator) (turn : InTurn) (line : Numbered) (rule : Option RunRule) (new : InTurn) → BestRuled by turn line rule new → IsKeptIn turn → IsKeptIn new
+after_best by turn line (Some rule) new leads are = subst IsKeptIn (sym leads) are
+after_best by turn line None new leads are =
     subst IsKeptIn (sym leads.2) (with_best turn.progress.best_run turn.progress.runs leads.0 are)
 
 -- after an order
-after_order : (by : Operator) (turn : InTurn) (number : ℕ) (its : Order) (new : InTurn) → OrderLeads by turn number its new →
+after_order : (by : Operator) (turn : InTurn) (line : Numbered) (its : Order) (new : InTurn) → OrderLeads by turn line its new →
     IsKeptIn turn → IsKeptIn new
-after_order by turn number (order.Run kind run) new leads are =
-    subst IsKeptIn (sym leads) (after_run by turn number (order.Run kind run) (judged_run turn by.company kind run) are)
-after_order by turn number order.RunBest new leads are = after_best by turn number (best_judgement turn by.company) new leads are
-after_order by turn number other new leads are =
-    subst (λ (done : Bool × Runs). AreKept done.0 done.1) (sym (after_other by turn number other new tt leads)) are
+after_order by turn line (order.Run kind run) new leads are =
+    subst IsKeptIn (sym leads) (after_run by turn line (order.Run kind run) (judged_run turn by.company kind run) are)
+after_order by turn line order.RunBest new leads are = after_best by turn line (best_judgement turn by.company) new leads are
+after_order by turn line other new leads are =
+    subst (λ (done : Bool × Runs). AreKept done.0 done.1) (sym (after_other by turn line other new tt leads)) are
+
+-- after an order that is asked for its condition
+after_asked : (by : Operator) (turn : InTurn) (line : Numbered) (its : Order) (held : Bool) (new : InTurn) → AskedLeads by turn line its held new →
+    IsKeptIn turn → IsKeptIn new
+after_asked by turn line its true new leads are = subst IsKeptIn (sym leads) are
+after_asked by turn line its false new leads are = after_order by turn line its new leads are
 
 -- after a line
-after_line : (by : Operator) (turn : InTurn) (number : ℕ) (reading : Result Order Fault) (new : InTurn) → ReadingLeads by turn number reading new →
+after_line : (by : Operator) (turn : InTurn) (line : Numbered) (reading : Result Order Fault) (new : InTurn) → ReadingLeads by turn line reading new →
     IsKeptIn turn → IsKeptIn new
-after_line by turn number (Err fault) new leads are = subst IsKeptIn (sym leads) are
-after_line by turn number (Ok its) new leads are = after_order by turn number its new leads are
+after_line by turn line (Err fault) new leads are = subst IsKeptIn (sym leads) are
+after_line by turn line (Ok its) new leads are = after_asked by turn line its (is_held turn.game.events line.condition its) new leads are
 
 -- after some lines
 after_lines : (by : Operator) (turn : InTurn) (lines : List Numbered) (new : InTurn) → LinesLead by turn lines new → IsKeptIn turn → IsKeptIn new
 after_lines by turn [] new leads are = subst IsKeptIn (sym leads) are
 after_lines by turn (line ∷ lines) new leads are =
-    after_lines by leads.0 lines new leads.2 (after_line by turn line.number line.reading leads.0 leads.1 are)
+    after_lines by leads.0 lines new leads.2 (after_line by turn line line.reading leads.0 leads.1 are)
 
 -- at first no train has run
 pub none_counted : (kind : Kind) → has_run no_runs kind ≡ pos 0

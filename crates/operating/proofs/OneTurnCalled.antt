@@ -1,5 +1,5 @@
 -- A company's turn makes one list of calls, and a front of them where it is broken off.
-use Rattle.std.proofs.Common.{◌≡◌, ℕ, List, [], ◌∷◌, Option, Some, None, Result, Ok, Err, pos, refl, sym, ap, ◌∙◌, inl, inr}
+use Rattle.std.proofs.Common.{◌≡◌, ℕ, Bool, true, false, List, [], ◌∷◌, Option, Some, None, Result, Ok, Err, pos, refl, sym, ap, ◌∙◌, inl, inr}
 use Rattle.certificate.proofs.Greatest.{one_greatest}
 use Rattle.certificate.specs.declared.runner.RunnerFault.{RunnerFault}
 use Rattle.certificate.specs.declared.runner.RunnerFault.TheVariants.{Memory}
@@ -12,8 +12,8 @@ use Rattle.operating.specs.Best.{BestRuled, best_judgement, trains_now}
 use Rattle.operating.specs.Calls.{Call, Course, Unasked}
 use Rattle.operating.specs.InTurn.{InTurn, told}
 use Rattle.operating.specs.Runs.{position_now}
-use Rattle.operating.specs.Turn.{BlockEnds, OrderLeads, begun, settled}
-use Rattle.operating.specs.TurnCalls.{Asks, BegunCalls, BestCalls, BlockCalls, EndCalls, IsCredited, LineCalls, LinesCall, OneListOfTurnCalls, OrderCalls, ReadingCalls, RefusedTurnCallsAreAFront, TurnCalls, asked}
+use Rattle.operating.specs.Turn.{AskedLeads, BlockEnds, OrderLeads, begun, is_held, settled}
+use Rattle.operating.specs.TurnCalls.{AskedCalls, Asks, BegunCalls, BestCalls, BlockCalls, EndCalls, IsCredited, LineCalls, LinesCall, OneListOfTurnCalls, OrderCalls, ReadingCalls, RefusedTurnCallsAreAFront, TurnCalls, asked}
 use Rattle.operating.specs.declared.operator.Operator.{Operator}
 use Rattle.order_grammar.specs.declared.fault.Fault.{Fault}
 use Rattle.order_grammar.specs.declared.order.Order.{Order}
@@ -51,29 +51,29 @@ asks_once round company =
 
 module _ (all : AllLawful) (by : Operator) (round : Round) where
   -- an order to run the best
-  best_once : (number : ℕ) (turn : InTurn) (rule : Option RunRule) →
-      IsOne round by.company (λ (from : InTurn). BestCalls by round number rule turn)
-  best_once number turn (Some rule) =
-      let ruled = unasked_agrees Memory (TellsOf round by.company) (λ old new. BestRuled by old number (Some rule) new) (λ from a b first second. first ∙ sym second) in
+  best_once : (line : Numbered) (turn : InTurn) (rule : Option RunRule) →
+      IsOne round by.company (λ (from : InTurn). BestCalls by round line rule turn)
+  best_once line turn (Some rule) =
+      let ruled = unasked_agrees Memory (TellsOf round by.company) (λ old new. BestRuled by old line (Some rule) new) (λ from a b first second. first ∙ sym second) in
       record {
         once = λ from. ruled.once turn;
         front = λ from. ruled.front turn;
       }
-  best_once number turn None =
-      let credited = unasked_agrees Memory (TellsOf round by.company) (IsCredited by turn number) (λ from a b first second. first ∙ sym second) in
-      let both = then_agree Memory (TellsOf round by.company) (Asks by.company round) (Asks by.company round) (Unasked Memory (IsCredited by turn number)) (Unasked Memory (IsCredited by turn number)) (asks_once round by.company) credited in
+  best_once line turn None =
+      let credited = unasked_agrees Memory (TellsOf round by.company) (IsCredited by turn line) (λ from a b first second. first ∙ sym second) in
+      let both = then_agree Memory (TellsOf round by.company) (Asks by.company round) (Asks by.company round) (Unasked Memory (IsCredited by turn line)) (Unasked Memory (IsCredited by turn line)) (asks_once round by.company) credited in
       record {
         once = λ from. both.once turn.game.events;
         front = λ from. both.front turn.game.events;
       }
 
   -- an order
-  order_called_once : (number : ℕ) (its : Order) → IsOne round by.company (OrderCalls by round number its)
-  order_called_once number its =
-      let led = unasked_agrees Memory (TellsOf round by.company) (λ old new. OrderLeads by old number its new) (λ from a b first second. order_once all by from number its a b first second) in
+  order_called_once : (line : Numbered) (its : Order) → IsOne round by.company (OrderCalls by round line its)
+  order_called_once line its =
+      let led = unasked_agrees Memory (TellsOf round by.company) (λ old new. OrderLeads by old line its new) (λ from a b first second. order_once all by from line its a b first second) in
       record {
         once = λ from a b some others first second.
-            let best = best_once number from (best_judgement from by.company) in
+            let best = best_once line from (best_judgement from by.company) in
             elim first [
               | inl one ↦ elim second [
                 | inl other ↦ best.once from a b some others one.1 other.1
@@ -85,7 +85,7 @@ module _ (all : AllLawful) (by : Operator) (round : Round) where
               ]
             ];
         front = λ from fault to some whole first second.
-            let best = best_once number from (best_judgement from by.company) in
+            let best = best_once line from (best_judgement from by.company) in
             elim first [
               | inl one ↦ elim second [
                 | inl other ↦ best.front from fault to some whole one.1 other.1
@@ -98,17 +98,29 @@ module _ (all : AllLawful) (by : Operator) (round : Round) where
             ];
       }
 
+  -- an order that is asked for its condition
+  asked_once : (line : Numbered) (its : Order) (held : Bool) → IsOne round by.company (AskedCalls by round line its held)
+  asked_once line its true =
+      unasked_agrees Memory (TellsOf round by.company) (λ turn new. AskedLeads by turn line its true new) (λ from a b first second. first ∙ sym second)
+  asked_once line its false = order_called_once line its
+
   -- a line
-  reading_called_once : (number : ℕ) (reading : Result Order Fault) → IsOne round by.company (ReadingCalls by round number reading)
-  reading_called_once number (Ok its) = order_called_once number its
-  reading_called_once number (Err fault) =
-      unasked_agrees Memory (TellsOf round by.company) (λ turn new. new ≡ told by turn number (Faulty fault)) (λ from a b first second. first ∙ sym second)
+  reading_called_once : (line : Numbered) (reading : Result Order Fault) → IsOne round by.company (ReadingCalls by round line reading)
+  reading_called_once line (Ok its) =
+      record {
+        once = λ from.
+            let one = asked_once line its (is_held from.game.events line.condition its) in one.once from;
+        front = λ from.
+            let one = asked_once line its (is_held from.game.events line.condition its) in one.front from;
+      }
+  reading_called_once line (Err fault) =
+      unasked_agrees Memory (TellsOf round by.company) (λ turn new. new ≡ told by turn line (Faulty fault)) (λ from a b first second. first ∙ sym second)
 
   -- lines
   lines_called_once : (lines : List Numbered) → IsOne round by.company (LinesCall by round lines)
   lines_called_once [] = unasked_agrees Memory (TellsOf round by.company) (λ turn new. new ≡ turn) (λ from a b first second. first ∙ sym second)
   lines_called_once (line ∷ lines) =
-      then_agree Memory (TellsOf round by.company) (LineCalls by round line) (LineCalls by round line) (LinesCall by round lines) (LinesCall by round lines) (reading_called_once line.number line.reading) (lines_called_once lines)
+      then_agree Memory (TellsOf round by.company) (LineCalls by round line) (LineCalls by round line) (LinesCall by round lines) (LinesCall by round lines) (reading_called_once line line.reading) (lines_called_once lines)
 
 module _ (all : AllLawful) (file : List ℕ) (round : Round) (company : Company) where
   -- a block

@@ -22,6 +22,7 @@ use Rattle.operating.specs.declared.purchase.Purchase.{Purchase}
 use Rattle.operating.specs.declared.runs.Runs.{Runs}
 use Rattle.order_grammar.specs.declared.order.Order.{Order}
 use Rattle.order_grammar.specs.declared.order.Order.TheVariants as order
+use Rattle.sheets.specs.Part.{Numbered}
 use Rattle.tables.specs.declared.roster.Company.{Company}
 use Rattle.tables.specs.declared.roster.Private.{Private}
 
@@ -36,35 +37,35 @@ RunsNone order.RunBest = ⊥
 RunsNone other = Unit
 
 -- a LAY
-lay_refusal : (by : Operator) (turn : InTurn) (number : ℕ) (lay : Lay) (rule : Option LayRule) → did (lay_refused by turn number lay rule) ≡ did turn
-lay_refusal by turn number lay None = refl
-lay_refusal by turn number lay (Some rule) = refl
+lay_refusal : (by : Operator) (turn : InTurn) (line : Numbered) (lay : Lay) (rule : Option LayRule) → did (lay_refused by turn line lay rule) ≡ did turn
+lay_refusal by turn line lay None = refl
+lay_refusal by turn line lay (Some rule) = refl
 
 after_lay :
-    (by : Operator) (turn : InTurn) (number : ℕ) (lay : Lay) (answer : Result ℤ LayFault) →
-    did (lay_answered by turn number lay answer) ≡ did turn
-after_lay by turn number lay (Ok cost) = refl
-after_lay by turn number lay (Err fault) = lay_refusal by turn number lay (rule_of_lay fault)
+    (by : Operator) (turn : InTurn) (line : Numbered) (lay : Lay) (answer : Result ℤ LayFault) →
+    did (lay_answered by turn line lay answer) ≡ did turn
+after_lay by turn line lay (Ok cost) = refl
+after_lay by turn line lay (Err fault) = lay_refusal by turn line lay (rule_of_lay fault)
 
 -- a TOKEN
 token_refusal :
-    (by : Operator) (turn : InTurn) (number : ℕ) (place : Place) (rule : Option TokenRule) →
-    did (token_refused by turn number place rule) ≡ did turn
-token_refusal by turn number place None = refl
-token_refusal by turn number place (Some rule) = refl
+    (by : Operator) (turn : InTurn) (line : Numbered) (place : Place) (rule : Option TokenRule) →
+    did (token_refused by turn line place rule) ≡ did turn
+token_refusal by turn line place None = refl
+token_refusal by turn line place (Some rule) = refl
 
 after_token :
-    (by : Operator) (turn : InTurn) (number : ℕ) (place : Place) (answer : Result ℤ TokenFault) →
-    did (token_answered by turn number place answer) ≡ did turn
-after_token by turn number place (Ok cost) = refl
-after_token by turn number place (Err fault) = token_refusal by turn number place (rule_of_token fault)
+    (by : Operator) (turn : InTurn) (line : Numbered) (place : Place) (answer : Result ℤ TokenFault) →
+    did (token_answered by turn line place answer) ≡ did turn
+after_token by turn line place (Ok cost) = refl
+after_token by turn line place (Err fault) = token_refusal by turn line place (rule_of_token fault)
 
 -- PAY or WITHHOLD, and what a company withholds by itself
 after_pay :
-    (by : Operator) (turn : InTurn) (number : ℕ) (its : Order) (rule : Option PayRule) (after : Game → Game) →
-    did (pay_ruled by turn number its rule after) ≡ did turn
-after_pay by turn number its None after = refl
-after_pay by turn number its (Some rule) after = refl
+    (by : Operator) (turn : InTurn) (line : Numbered) (its : Order) (rule : Option PayRule) (after : Game → Game) →
+    did (pay_ruled by turn line its rule after) ≡ did turn
+after_pay by turn line its None after = refl
+after_pay by turn line its (Some rule) after = refl
 
 after_settling : (company : Company) (turn : InTurn) → did (settled company turn) ≡ did turn
 after_settling company turn =
@@ -76,36 +77,36 @@ after_settling company turn =
 
 -- a TRAIN
 after_train :
-    (by : Operator) (turn : InTurn) (number : ℕ) (its : Order) (purchase : Purchase) (rule : Option TrainRule) →
-    did (train_ruled by turn number its purchase rule) ≡ did turn
-after_train by turn number its purchase None = refl
-after_train by turn number its purchase (Some rule) = refl
+    (by : Operator) (turn : InTurn) (line : Numbered) (its : Order) (purchase : Purchase) (rule : Option TrainRule) →
+    did (train_ruled by turn line its purchase rule) ≡ did turn
+after_train by turn line its purchase None = refl
+after_train by turn line its purchase (Some rule) = refl
 
 -- the purchase of a private
 after_private :
-    (by : Operator) (turn : InTurn) (number : ℕ) (private : Private) (price : ℕ) (rule : Option PrivateRule) →
-    did (private_ruled by turn number private price rule) ≡ did turn
-after_private by turn number private price None = refl
-after_private by turn number private price (Some rule) = refl
+    (by : Operator) (turn : InTurn) (line : Numbered) (private : Private) (price : ℕ) (rule : Option PrivateRule) →
+    did (private_ruled by turn line private price rule) ≡ did turn
+after_private by turn line private price None = refl
+after_private by turn line private price (Some rule) = refl
 
 -- what an order leaves that runs no train
 pub after_other :
-    (by : Operator) (turn : InTurn) (number : ℕ) (its : Order) (new : InTurn) → RunsNone its → OrderLeads by turn number its new →
+    (by : Operator) (turn : InTurn) (line : Numbered) (its : Order) (new : InTurn) → RunsNone its → OrderLeads by turn line its new →
     did new ≡ did turn
-after_other by turn number (order.Run kind run) new none leads = absurd none
-after_other by turn number order.RunBest new none leads = absurd none
-after_other by turn number (order.Lay lay) new none leads = ap did leads.after ∙ after_lay by turn number lay leads.answer
-after_other by turn number (order.Token place) new none leads = ap did leads.after ∙ after_token by turn number place leads.answer
-after_other by turn number order.Pay new none leads =
-    ap did leads ∙ after_pay by turn number order.Pay (pay_judgement turn.progress) (λ game. paid_out game by.company turn.progress.runs.revenue)
-after_other by turn number order.Withhold new none leads =
-    ap did leads ∙ after_pay by turn number order.Withhold (withhold_judgement turn.progress) (λ game. withheld game by.company turn.progress.runs.revenue)
-after_other by turn number (order.BuyTrain kind from) new none leads =
+after_other by turn line (order.Run kind run) new none leads = absurd none
+after_other by turn line order.RunBest new none leads = absurd none
+after_other by turn line (order.Lay lay) new none leads = ap did leads.after ∙ after_lay by turn line lay leads.answer
+after_other by turn line (order.Token place) new none leads = ap did leads.after ∙ after_token by turn line place leads.answer
+after_other by turn line order.Pay new none leads =
+    ap did leads ∙ after_pay by turn line order.Pay (pay_judgement turn.progress) (λ game. paid_out game by.company turn.progress.runs.revenue)
+after_other by turn line order.Withhold new none leads =
+    ap did leads ∙ after_pay by turn line order.Withhold (withhold_judgement turn.progress) (λ game. withheld game by.company turn.progress.runs.revenue)
+after_other by turn line (order.BuyTrain kind from) new none leads =
     let paid = settled by.company turn in
     let purchase = purchase_of kind from in
     ap did leads
-    ∙ after_train by paid number (order.BuyTrain kind from) purchase (train_judgement paid.game by.company purchase)
+    ∙ after_train by paid line (order.BuyTrain kind from) purchase (train_judgement paid.game by.company purchase)
     ∙ after_settling by.company turn
-after_other by turn number (order.BuyOwnedPrivate private price) new none leads =
-    ap did leads ∙ after_private by turn number private price (private_judgement turn.game by.company private price)
-after_other by turn number other new none leads = ap did leads
+after_other by turn line (order.BuyOwnedPrivate private price) new none leads =
+    ap did leads ∙ after_private by turn line private price (private_judgement turn.game by.company private price)
+after_other by turn line other new none leads = ap did leads

@@ -22,7 +22,7 @@ use Rattle.operating.specs.Judgement.{asker_of}
 use Rattle.operating.specs.Runs.{position_now}
 use Rattle.operating.specs.Laws.{CompanyTurnEnds, OneCompanyTurn}
 use Rattle.operating.specs.Forced.{EndLeads, IsDue, after_forced, after_raises, has_trains}
-use Rattle.operating.specs.Turn.{BlockEnds, BlockLeads, IsCompanyTurn, LinesLead, OrderLeads, ReadingLeads, begun, lay_answered, settled}
+use Rattle.operating.specs.Turn.{AskedLeads, BlockEnds, BlockLeads, IsCompanyTurn, LinesLead, OrderLeads, ReadingLeads, begun, is_held, lay_answered, settled}
 use Rattle.operating.specs.Turn.{token_answered}
 use Rattle.operating.specs.declared.operator.Operator.{Operator}
 use Rattle.order_grammar.specs.declared.fault.Fault.{Fault}
@@ -93,52 +93,57 @@ module _ (all : AllLawful) where
       }
 
   -- so has the run of the best: there is a greatest revenue, and no second one
-  one_best : (by : Operator) (turn : InTurn) (number : ℕ) (rule : Option RunRule) → IsOne (BestRuled by turn number rule)
-  one_best by turn number (Some rule) = record { it = _; so = refl; only = λ new leads. leads }
-  one_best by turn number None =
+  one_best : (by : Operator) (turn : InTurn) (line : Numbered) (rule : Option RunRule) → IsOne (BestRuled by turn line rule)
+  one_best by turn line (Some rule) = record { it = _; so = refl; only = λ new leads. leads }
+  one_best by turn line None =
       let position : Position = position_now turn.game.events in
       let trains : List Kind = trains_now turn.game.events by.company in
       let greatest = greatest_there position by.company trains (all (ground_now turn.game.events)) in
       record {
-        it = best_earned by turn number greatest.0;
+        it = best_earned by turn line greatest.0;
         so = (greatest.0, greatest.1, refl);
         only = λ new leads. leads.2
-            ∙ ap (best_earned by turn number) (one_revenue position by.company trains leads.0 greatest.0 leads.1 greatest.1);
+            ∙ ap (best_earned by turn line) (one_revenue position by.company trains leads.0 greatest.0 leads.1 greatest.1);
       }
 
   -- an order leads to one turn
-  one_order : (by : Operator) (turn : InTurn) (number : ℕ) (its : Order) → IsOne (OrderLeads by turn number its)
-  one_order by turn number (order.Lay lay) =
+  one_order : (by : Operator) (turn : InTurn) (line : Numbered) (its : Order) → IsOne (OrderLeads by turn line its)
+  one_order by turn line (order.Lay lay) =
       let answer = one_lay_answer (ground_now turn.game.events) (asker_of turn.game by.company turn.progress) lay in
       record {
-        it = lay_answered by turn number lay answer.it;
+        it = lay_answered by turn line lay answer.it;
         so = record { answer = answer.it; answered = answer.so; after = refl };
-        only = λ new leads. leads.after ∙ ap (lay_answered by turn number lay) (answer.only leads.answer leads.answered);
+        only = λ new leads. leads.after ∙ ap (lay_answered by turn line lay) (answer.only leads.answer leads.answered);
       }
-  one_order by turn number (order.Token place) =
+  one_order by turn line (order.Token place) =
       let answer = one_token_answer (ground_now turn.game.events) (asker_of turn.game by.company turn.progress) place in
       record {
-        it = token_answered by turn number place answer.it;
+        it = token_answered by turn line place answer.it;
         so = record { answer = answer.it; answered = answer.so; after = refl };
-        only = λ new leads. leads.after ∙ ap (token_answered by turn number place) (answer.only leads.answer leads.answered);
+        only = λ new leads. leads.after ∙ ap (token_answered by turn line place) (answer.only leads.answer leads.answered);
       }
-  one_order by turn number order.RunBest = one_best by turn number (best_judgement turn by.company)
-  one_order by turn number other = record { it = _; so = refl; only = λ new leads. leads }
+  one_order by turn line order.RunBest = one_best by turn line (best_judgement turn by.company)
+  one_order by turn line other = record { it = _; so = refl; only = λ new leads. leads }
 
   -- two turns to which an order leads are the same
-  pub order_once : (by : Operator) (turn : InTurn) (number : ℕ) (its : Order) (a b : InTurn) → OrderLeads by turn number its a → OrderLeads by turn number its b → a ≡ b
-  order_once by turn number its a b first second = let one = one_order by turn number its in one.only a first ∙ sym (one.only b second)
+  pub order_once : (by : Operator) (turn : InTurn) (line : Numbered) (its : Order) (a b : InTurn) → OrderLeads by turn line its a → OrderLeads by turn line its b → a ≡ b
+  order_once by turn line its a b first second = let one = one_order by turn line its in one.only a first ∙ sym (one.only b second)
+
+  -- one that is asked for its condition does
+  one_asked : (by : Operator) (turn : InTurn) (line : Numbered) (its : Order) (held : Bool) → IsOne (AskedLeads by turn line its held)
+  one_asked by turn line its true = record { it = _; so = refl; only = λ new leads. leads }
+  one_asked by turn line its false = one_order by turn line its
 
   -- a line does
-  one_line : (by : Operator) (turn : InTurn) (number : ℕ) (reading : Result Order Fault) → IsOne (ReadingLeads by turn number reading)
-  one_line by turn number (Err fault) = record { it = _; so = refl; only = λ new leads. leads }
-  one_line by turn number (Ok its) = one_order by turn number its
+  one_line : (by : Operator) (turn : InTurn) (line : Numbered) (reading : Result Order Fault) → IsOne (ReadingLeads by turn line reading)
+  one_line by turn line (Err fault) = record { it = _; so = refl; only = λ new leads. leads }
+  one_line by turn line (Ok its) = one_asked by turn line its (is_held turn.game.events line.condition its)
 
   -- lines do
   one_way : (by : Operator) (turn : InTurn) (lines : List Numbered) → IsOne (LinesLead by turn lines)
   one_way by turn [] = record { it = turn; so = refl; only = λ new leads. leads }
   one_way by turn (line ∷ lines) =
-      let first = one_line by turn line.number line.reading in
+      let first = one_line by turn line line.reading in
       let rest = one_way by first.it lines in
       record {
         it = rest.it;

@@ -16,6 +16,7 @@ use Rattle.operating.specs.declared.progress.Progress.{Progress}
 use Rattle.order_grammar.specs.declared.order.Order.{Order}
 use Rattle.order_grammar.specs.declared.order.Order.TheVariants as order
 use Rattle.order_grammar.specs.declared.order.TrainSource.{TrainSource}
+use Rattle.sheets.specs.Part.{Numbered}
 use Rattle.tables.specs.declared.rolling_stock.Kind.{Kind}
 use Rattle.tables.specs.declared.roster.Company.{Company}
 use Rattle.tables.specs.declared.round.Round.{Round}
@@ -54,10 +55,10 @@ president_there old paid company (Some seat) sound floated is same =
     subst (λ (n : ℕ). seat.0 < n) (sym same) (president_seated old company seat sound floated (sym is))
 
 -- a TRAIN line, from what the company withholds by itself and what then becomes of the line
-pub train_leads : (by : Operator) (turn paid : InTurn) (number : ℕ) (its : Order) (kind : Kind) (from : TrainSource) (new : InTurn) → its ≡ order.BuyTrain kind from → paid ≡ settled by.company turn → new ≡ after_buying by paid number kind from → OrderLeads by turn number its new
-train_leads by turn paid number its kind from new is is_paid ruled =
-    subst (λ (o : Order). OrderLeads by turn number o new) (sym is)
-    (subst (λ (t : InTurn). new ≡ after_buying by t number kind from) is_paid ruled)
+pub train_leads : (by : Operator) (turn paid : InTurn) (line : Numbered) (its : Order) (kind : Kind) (from : TrainSource) (new : InTurn) → its ≡ order.BuyTrain kind from → paid ≡ settled by.company turn → new ≡ after_buying by paid line kind from → OrderLeads by turn line its new
+train_leads by turn paid line its kind from new is is_paid ruled =
+    subst (λ (o : Order). OrderLeads by turn line o new) (sym is)
+    (subst (λ (t : InTurn). new ≡ after_buying by t line kind from) is_paid ruled)
 
 -- a turn leaves the seats as they are
 pub seats_stay : (file : List ℕ) (round : Round) (company : Company) (old new : Game) → IsCompanyTurn file round company old new → new.seats ≡ old.seats

@@ -26,6 +26,7 @@ use Rattle.order_grammar.specs.declared.order.Offer.{Offer}
 use Rattle.order_grammar.specs.declared.order.Offer.TheVariants as offer
 use Rattle.order_grammar.specs.declared.order.Order.{Order}
 use Rattle.order_grammar.specs.declared.order.Order.TheVariants.{BuyOwnedPrivate}
+use Rattle.sheets.specs.Part.{Numbered}
 use Rattle.tables.proofs.Rules.{none_broken}
 use Rattle.tables.specs.Roster.{face_of, same_private}
 use Rattle.tables.specs.Rules.{first_broken}
@@ -65,13 +66,13 @@ may_sell game company private price none =
       pays = not_less (cash_of game.seats game.events (party_of_company company)) (pos price) kept.1.1.1.1.0;
     }
 
-module _ (events : List Event) (seat : Seat) (number : ℕ) (private : Private) (price : ℕ) where
-  -- a line PRIVATE
-  abbrev line : Event
-  line = Ruled seat number (Obeyed (BuyOwnedPrivate private price))
+module _ (events : List Event) (seat : Seat) (line : Numbered) (private : Private) (price : ℕ) where
+  -- the ruling of a line PRIVATE that is obeyed
+  abbrev obeyed : Event
+  obeyed = Ruled seat line.number (Obeyed line.condition (BuyOwnedPrivate private price))
 
   -- it offers nothing
-  offers_none : (giver : Seat) (sale : Offer) → in_round (λ its. said_by giver (offered_in sale) (obeyed_of its)) line ≡ None
+  offers_none : (giver : Seat) (sale : Offer) → in_round (λ its. said_by giver (offered_in sale) (obeyed_of its)) obeyed ≡ None
   offers_none giver sale =
       elim (seat.0 == giver.0) as (λ (b : Bool). option_map {T = Offer} Some (if b then None else None) ≡ None) [
         | true ↦ refl
@@ -80,32 +81,32 @@ module _ (events : List Event) (seat : Seat) (number : ℕ) (private : Private) 
 
   -- so the same consent
   same_given : (owner : Option Holder) (taker : Option Seat) (sale : Offer) →
-      is_given_by (events ++ line ∷ []) owner taker sale ≡ is_given_by events owner taker sale
+      is_given_by (events ++ obeyed ∷ []) owner taker sale ≡ is_given_by events owner taker sale
   same_given (Some (holder.Seat giver)) (Some taker) sale =
       ap (λ (said : Option (Option Offer)). giver.0 == taker.0 || is_some (option_flatten said))
-      (last_said_before (in_round (λ its. said_by giver (offered_in sale) (obeyed_of its))) (events ++ line ∷ []) events line refl (offers_none giver sale))
+      (last_said_before (in_round (λ its. said_by giver (offered_in sale) (obeyed_of its))) (events ++ obeyed ∷ []) events obeyed refl (offers_none giver sale))
   same_given (Some (holder.Seat giver)) None sale = refl
   same_given (Some (holder.Company owner)) taker sale = refl
   same_given None taker sale = refl
 
   -- the same owns it
-  same_owner : owner_of (events ++ line ∷ []) private ≡ owner_of events private
+  same_owner : owner_of (events ++ obeyed ∷ []) private ≡ owner_of events private
   same_owner =
-      ap option_flatten (last_said_before (λ its. owner_said private (ownership_of its)) (events ++ line ∷ []) events line refl refl)
+      ap option_flatten (last_said_before (λ its. owner_said private (ownership_of its)) (events ++ obeyed ∷ []) events obeyed refl refl)
 
   -- so the same is given
-  same_sale : (company : Company) → is_given (events ++ line ∷ []) company private price ≡ is_given events company private price
+  same_sale : (company : Company) → is_given (events ++ obeyed ∷ []) company private price ≡ is_given events company private price
   same_sale company =
       let sale : Offer = offer.Private private company price in
-      let after = events ++ line ∷ [] in
+      let after = events ++ obeyed ∷ [] in
       same_given (owner_of after private) (president_of after company) sale
       ∙ ap (λ (owner : Option Holder). is_given_by events owner (president_of after company) sale) same_owner
-      ∙ ap (λ (taker : Option Seat). is_given_by events (owner_of events private) taker sale) (president_of_before events line company refl)
+      ∙ ap (λ (taker : Option Seat). is_given_by events (owner_of events private) taker sale) (president_of_before events obeyed company refl)
 
   -- the phase is the same
-  same_phase : phase_of (events ++ line ∷ []) ≡ phase_of events
+  same_phase : phase_of (events ++ obeyed ∷ []) ≡ phase_of events
   same_phase =
-      ap (λ (said : Option Kind). unwrap_or said Two) (last_said_before phase_set (events ++ line ∷ []) events line refl refl)
+      ap (λ (said : Option Kind). unwrap_or said Two) (last_said_before phase_set (events ++ obeyed ∷ []) events obeyed refl refl)
 
 -- a table of the rules of the purchase of a private
 abbrev table_of : Bool → Bool → Bool → Bool → Bool → Option PrivateRule
@@ -115,29 +116,29 @@ table_of early wrong given never dear =
     ∷ record { code = NeverSold; broken = never } ∷ record { code = CashTooSmall; broken = dear } ∷ [])
 
 -- the rules say the same
-pub same_after_line : (game ruled : Game) (seat : Seat) (number : ℕ) (company : Company) (private : Private) (price : ℕ) →
-    ruled ≡ with_event game (Ruled seat number (Obeyed (BuyOwnedPrivate private price))) →
+pub same_after_line : (game ruled : Game) (seat : Seat) (line : Numbered) (company : Company) (private : Private) (price : ℕ) →
+    ruled ≡ with_event game (Ruled seat line.number (Obeyed line.condition (BuyOwnedPrivate private price))) →
     private_judgement ruled company private price ≡ private_judgement game company private price
-same_after_line game ruled seat number company private price is =
+same_after_line game ruled seat line company private price is =
     let events = game.events in
-    let line = Ruled seat number (Obeyed (BuyOwnedPrivate private price)) in
-    let after = with_event game line in
+    let obeyed = Ruled seat line.number (Obeyed line.condition (BuyOwnedPrivate private price)) in
+    let after = with_event game obeyed in
     let wrong = is_wrong_price private price in
     let never = same_private private BaltimoreOhio in
     let dear = λ (cash : ℤ). lt_z cash (pos price) in
     let early = λ (phase : Kind). nat_lt (place_of_kind phase) (place_of_kind Three) in
     let cash = λ (g : Game). cash_of g.seats g.events (party_of_company company) in
     ap (λ (g : Game). private_judgement g company private price) is
-    ∙ ap (λ (phase : Kind). table_of (early phase) wrong (is_given after.events company private price) never (dear (cash after))) (same_phase events seat number private price)
-    ∙ ap (λ (given : Bool). table_of (early (phase_of events)) wrong given never (dear (cash after))) (same_sale events seat number private price company)
-    ∙ ap (λ (has : ℤ). table_of (early (phase_of events)) wrong (is_given events company private price) never (dear has)) (cash_of_before game.seats events line (party_of_company company) refl)
+    ∙ ap (λ (phase : Kind). table_of (early phase) wrong (is_given after.events company private price) never (dear (cash after))) (same_phase events seat line private price)
+    ∙ ap (λ (given : Bool). table_of (early (phase_of events)) wrong given never (dear (cash after))) (same_sale events seat line private price company)
+    ∙ ap (λ (has : ℤ). table_of (early (phase_of events)) wrong (is_given events company private price) never (dear has)) (cash_of_before game.seats events obeyed (party_of_company company) refl)
 
 -- a PRIVATE that breaks no rule leads where its purchase does
-pub sold_steps : (by : Operator) (turn : InTurn) (number : ℕ) (private : Private) (price : ℕ) (its : Order) (ruled new : Game) →
+pub sold_steps : (by : Operator) (turn : InTurn) (line : Numbered) (private : Private) (price : ℕ) (its : Order) (ruled new : Game) →
     its ≡ BuyOwnedPrivate private price → private_judgement turn.game by.company private price ≡ None →
-    ruled ≡ with_event turn.game (Ruled by.president number (Obeyed its)) → new ≡ private_bought ruled by.company private price →
-    in_turn new turn.progress ≡ after_private by turn number private price
-sold_steps by turn number private price its ruled new is_its none is_ruled is_new =
+    ruled ≡ with_event turn.game (Ruled by.president line.number (Obeyed line.condition its)) → new ≡ private_bought ruled by.company private price →
+    in_turn new turn.progress ≡ after_private by turn line private price
+sold_steps by turn line private price its ruled new is_its none is_ruled is_new =
     ap (λ (game : Game). in_turn game turn.progress) (is_new ∙ ap (λ (game : Game). private_bought game by.company private price) is_ruled)
-    ∙ ap (λ (one : Order). in_turn (private_bought (told by turn number (Obeyed one)).game by.company private price) turn.progress) is_its
-    ∙ ap (private_ruled by turn number private price) (sym none)
+    ∙ ap (λ (one : Order). in_turn (private_bought (told by turn line (Obeyed line.condition one)).game by.company private price) turn.progress) is_its
+    ∙ ap (private_ruled by turn line private price) (sym none)

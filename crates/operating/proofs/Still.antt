@@ -31,6 +31,7 @@ use Rattle.order_grammar.specs.declared.order.Offer.TheVariants as offer
 use Rattle.order_grammar.specs.declared.order.Order.{Order}
 use Rattle.order_grammar.specs.declared.order.Order.TheVariants.{BuyTrain}
 use Rattle.order_grammar.specs.declared.order.TrainSource.{TrainSource}
+use Rattle.sheets.specs.Part.{Numbered}
 use Rattle.tables.specs.Roster.{same_company}
 use Rattle.tables.specs.Rules.{first_broken}
 use Rattle.tables.specs.Train.{kinds, limit_of, same_kind, trains_of as manifest_of}
@@ -39,22 +40,22 @@ use Rattle.tables.specs.declared.rolling_stock.Kind.TheVariants.{Two, Six, Diese
 use Rattle.tables.specs.declared.roster.Company.{Company}
 use Rattle.tables.specs.declared.seat.Seat.{Seat}
 
-module _ (events : List Event) (seat : Seat) (number : ℕ) (ruling : Ruling) where
+module _ (events : List Event) (seat : Seat) (line : Numbered) (ruling : Ruling) where
   -- the list with the ruling
   abbrev after : List Event
-  after = events ++ Ruled seat number ruling ∷ []
+  after = events ++ Ruled seat line.number ruling ∷ []
 
   -- as many trains of a kind are sold
   same_sold : (kind : Kind) → trains_sold after kind ≡ trains_sold events kind
   same_sold kind =
       let goes : Event → ℕ = λ (event : Event). cond (train_goes train_place.Bank kind (train_moved event)) 1 0 in
-      let sum : trains_sold after kind ≡ trains_sold events kind + 0 = sum_by-append goes events (Ruled seat number ruling ∷ []) in
+      let sum : trains_sold after kind ≡ trains_sold events kind + 0 = sum_by-append goes events (Ruled seat line.number ruling ∷ []) in
       omega (arith, sum)
 
   -- as many lie with a company, or the pool
   same_held : (owner : Option Company) (kind : Kind) → trains_held after owner kind ≡ trains_held events owner kind
   same_held owner kind =
-      balance_before 0 (λ event. one_if (train_comes (stable_of owner) kind (train_moved event))) (λ event. one_if (train_goes (stable_of owner) kind (train_moved event))) events (Ruled seat number ruling) refl refl
+      balance_before 0 (λ event. one_if (train_comes (stable_of owner) kind (train_moved event))) (λ event. one_if (train_goes (stable_of owner) kind (train_moved event))) events (Ruled seat line.number ruling) refl refl
 
   -- of all kinds together
   same_kinds : (owner : Option Company) (some : List Kind) → trains_of_kinds after owner some ≡ trains_of_kinds events owner some
@@ -66,7 +67,7 @@ module _ (events : List Event) (seat : Seat) (number : ℕ) (ruling : Ruling) wh
   -- the phase is the same
   phase_stays : phase_of after ≡ phase_of events
   phase_stays =
-      ap (λ (said : Option Kind). unwrap_or said Two) (last_said_before phase_set after events (Ruled seat number ruling) refl refl)
+      ap (λ (said : Option Kind). unwrap_or said Two) (last_said_before phase_set after events (Ruled seat line.number ruling) refl refl)
 
   -- the same kinds are left
   same_left : (kind : Kind) → is_left after kind ≡ is_left events kind
@@ -101,7 +102,7 @@ module _ (events : List Event) (seat : Seat) (number : ℕ) (ruling : Ruling) wh
 
   -- the same presides
   same_president : (company : Company) → president_of after company ≡ president_of events company
-  same_president company = president_of_before events (Ruled seat number ruling) company refl
+  same_president company = president_of_before events (Ruled seat line.number ruling) company refl
 
   -- the same may be traded in
   same_trade : (company : Company) (kind : Kind) (trade_in : Option Kind) → is_no_trade_in after company kind trade_in ≡ is_no_trade_in events company kind trade_in
@@ -109,13 +110,13 @@ module _ (events : List Event) (seat : Seat) (number : ℕ) (ruling : Ruling) wh
   same_trade company kind (Some trade_in) =
       ap (λ (held : ℤ). not (same_kind kind Diesel && (may_be_traded trade_in && lt_z (pos 0) held))) (same_held (Some company) trade_in)
 
-module _ (events : List Event) (seat : Seat) (number : ℕ) (kind : Kind) (from : TrainSource) where
-  -- a line TRAIN
-  abbrev line : Event
-  line = Ruled seat number (Obeyed (BuyTrain kind from))
+module _ (events : List Event) (seat : Seat) (line : Numbered) (kind : Kind) (from : TrainSource) where
+  -- the ruling of a line TRAIN that is obeyed
+  abbrev obeyed : Event
+  obeyed = Ruled seat line.number (Obeyed line.condition (BuyTrain kind from))
 
   -- it offers nothing
-  offers_none : (giver : Seat) (sale : Offer) → in_round (λ its. said_by giver (offered_in sale) (obeyed_of its)) line ≡ None
+  offers_none : (giver : Seat) (sale : Offer) → in_round (λ its. said_by giver (offered_in sale) (obeyed_of its)) obeyed ≡ None
   offers_none giver sale =
       elim (seat.0 == giver.0) as (λ (b : Bool). option_map {T = Offer} Some (if b then None else None) ≡ None) [
         | true ↦ refl
@@ -123,29 +124,29 @@ module _ (events : List Event) (seat : Seat) (number : ℕ) (kind : Kind) (from 
       ]
 
   -- so the same consent
-  same_consent : (giver taker : Seat) (sale : Offer) → has_consent (events ++ line ∷ []) giver taker sale ≡ has_consent events giver taker sale
+  same_consent : (giver taker : Seat) (sale : Offer) → has_consent (events ++ obeyed ∷ []) giver taker sale ≡ has_consent events giver taker sale
   same_consent giver taker sale =
       ap (λ (said : Option (Option Offer)). giver.0 == taker.0 || is_some (option_flatten said))
-      (last_said_before (in_round (λ its. said_by giver (offered_in sale) (obeyed_of its))) (events ++ line ∷ []) events line refl (offers_none giver sale))
+      (last_said_before (in_round (λ its. said_by giver (offered_in sale) (obeyed_of its))) (events ++ obeyed ∷ []) events obeyed refl (offers_none giver sale))
 
   same_agreement : (giver taker : Option Seat) (sale : Offer) →
-      presidents_agree (events ++ line ∷ []) giver taker sale ≡ presidents_agree events giver taker sale
+      presidents_agree (events ++ obeyed ∷ []) giver taker sale ≡ presidents_agree events giver taker sale
   same_agreement (Some giver) (Some taker) sale = same_consent giver taker sale
   same_agreement (Some giver) None sale = refl
   same_agreement None taker sale = refl
 
   -- and the same lacks it
   same_lack : (buyer : Company) (purchase : Purchase) (of : TrainSeller) →
-      is_not_given (events ++ line ∷ []) buyer purchase of ≡ is_not_given events buyer purchase of
+      is_not_given (events ++ obeyed ∷ []) buyer purchase of ≡ is_not_given events buyer purchase of
   same_lack buyer purchase seller.Bank = refl
   same_lack buyer purchase seller.BankPool = refl
   same_lack buyer purchase (seller.Company company) =
       let sale : Offer = offer.Train purchase.kind company buyer (cost_of purchase) in
-      let ruling : Ruling = Obeyed (BuyTrain kind from) in
+      let ruling : Ruling = Obeyed line.condition (BuyTrain kind from) in
       ap (λ (agree : Bool). cost_of purchase == 0 || not agree)
-      (same_agreement (president_of (events ++ line ∷ []) company) (president_of (events ++ line ∷ []) buyer) sale
-      ∙ ap (λ (giver : Option Seat). presidents_agree events giver (president_of (events ++ line ∷ []) buyer) sale) (same_president events seat number ruling company)
-      ∙ ap (λ (taker : Option Seat). presidents_agree events (president_of events company) taker sale) (same_president events seat number ruling buyer))
+      (same_agreement (president_of (events ++ obeyed ∷ []) company) (president_of (events ++ obeyed ∷ []) buyer) sale
+      ∙ ap (λ (giver : Option Seat). presidents_agree events giver (president_of (events ++ obeyed ∷ []) buyer) sale) (same_president events seat line ruling company)
+      ∙ ap (λ (taker : Option Seat). presidents_agree events (president_of events company) taker sale) (same_president events seat line ruling buyer))
 
 -- a table of the rules of a purchase
 abbrev table_of : Bool → Bool → Bool → Bool → Bool → Bool → Option TrainRule
@@ -155,13 +156,13 @@ table_of sale full dear lacks other trade =
     ∷ record { code = NoConsent; broken = lacks } ∷ record { code = NotSellers; broken = other } ∷ record { code = NoTradeIn; broken = trade } ∷ [])
 
 -- the rules say the same
-pub same_judgement : (game ruled : Game) (seat : Seat) (number : ℕ) (kind : Kind) (from : TrainSource) (company : Company) (purchase : Purchase) →
-    ruled ≡ with_event game (Ruled seat number (Obeyed (BuyTrain kind from))) →
+pub same_judgement : (game ruled : Game) (seat : Seat) (line : Numbered) (kind : Kind) (from : TrainSource) (company : Company) (purchase : Purchase) →
+    ruled ≡ with_event game (Ruled seat line.number (Obeyed line.condition (BuyTrain kind from))) →
     train_judgement ruled company purchase ≡ train_judgement game company purchase
-same_judgement game ruled seat number kind from company purchase is =
+same_judgement game ruled seat line kind from company purchase is =
     let events = game.events in
-    let ruling : Ruling = Obeyed (BuyTrain kind from) in
-    let after = with_event game (Ruled seat number ruling) in
+    let ruling : Ruling = Obeyed line.condition (BuyTrain kind from) in
+    let after = with_event game (Ruled seat line.number ruling) in
     let lacks = λ (now : List Event). lacks_consent now company purchase in
     let other = λ (now : List Event). is_not_sellers now company purchase.kind purchase.from in
     let trade = λ (now : List Event). is_no_trade_in now company purchase.kind purchase.trade_in in
@@ -169,19 +170,19 @@ same_judgement game ruled seat number kind from company purchase is =
     let full = is_full events company purchase.trade_in in
     let dear = is_too_dear game company purchase in
     ap (λ (g : Game). train_judgement g company purchase) is
-    ∙ ap (λ (b : Bool). table_of b (is_full after.events company purchase.trade_in) (is_too_dear after company purchase) (lacks after.events) (other after.events) (trade after.events)) (same_sale events seat number ruling purchase.from purchase.kind)
-    ∙ ap (λ (b : Bool). table_of sale b (is_too_dear after company purchase) (lacks after.events) (other after.events) (trade after.events)) (same_full events seat number ruling company purchase.trade_in)
-    ∙ ap (λ (cash : ℤ). table_of sale full (lt_z cash (pos (cost_of purchase))) (lacks after.events) (other after.events) (trade after.events)) (cash_of_before game.seats events (Ruled seat number ruling) (party_of_company company) refl)
-    ∙ ap (λ (b : Bool). table_of sale full dear b (other after.events) (trade after.events)) (same_lack events seat number kind from company purchase purchase.from)
-    ∙ ap (λ (b : Bool). table_of sale full dear (lacks events) b (trade after.events)) (same_seller events seat number ruling company purchase.kind purchase.from)
-    ∙ ap (λ (b : Bool). table_of sale full dear (lacks events) (other events) b) (same_trade events seat number ruling company purchase.kind purchase.trade_in)
+    ∙ ap (λ (b : Bool). table_of b (is_full after.events company purchase.trade_in) (is_too_dear after company purchase) (lacks after.events) (other after.events) (trade after.events)) (same_sale events seat line ruling purchase.from purchase.kind)
+    ∙ ap (λ (b : Bool). table_of sale b (is_too_dear after company purchase) (lacks after.events) (other after.events) (trade after.events)) (same_full events seat line ruling company purchase.trade_in)
+    ∙ ap (λ (cash : ℤ). table_of sale full (lt_z cash (pos (cost_of purchase))) (lacks after.events) (other after.events) (trade after.events)) (cash_of_before game.seats events (Ruled seat line.number ruling) (party_of_company company) refl)
+    ∙ ap (λ (b : Bool). table_of sale full dear b (other after.events) (trade after.events)) (same_lack events seat line kind from company purchase purchase.from)
+    ∙ ap (λ (b : Bool). table_of sale full dear (lacks events) b (trade after.events)) (same_seller events seat line ruling company purchase.kind purchase.from)
+    ∙ ap (λ (b : Bool). table_of sale full dear (lacks events) (other events) b) (same_trade events seat line ruling company purchase.kind purchase.trade_in)
 
 -- a TRAIN that breaks no rule leads where its purchase does
-pub bought_steps : (by : Operator) (turn : InTurn) (number : ℕ) (kind : Kind) (from : TrainSource) (purchase : Purchase) (its : Order) (ruled new : Game) → purchase ≡ purchase_of kind from → its ≡ BuyTrain kind from → train_judgement turn.game by.company purchase ≡ None → ruled ≡ with_event turn.game (Ruled by.president number (Obeyed its)) → new ≡ after_train ruled by.company purchase → in_turn new turn.progress ≡ after_buying by turn number kind from
-bought_steps by turn number kind from purchase its ruled new is_purchase is_its none is_ruled is_new =
+pub bought_steps : (by : Operator) (turn : InTurn) (line : Numbered) (kind : Kind) (from : TrainSource) (purchase : Purchase) (its : Order) (ruled new : Game) → purchase ≡ purchase_of kind from → its ≡ BuyTrain kind from → train_judgement turn.game by.company purchase ≡ None → ruled ≡ with_event turn.game (Ruled by.president line.number (Obeyed line.condition its)) → new ≡ after_train ruled by.company purchase → in_turn new turn.progress ≡ after_buying by turn line kind from
+bought_steps by turn line kind from purchase its ruled new is_purchase is_its none is_ruled is_new =
     let ordered : Purchase = purchase_of kind from in
     let allowed : train_judgement turn.game by.company ordered ≡ None = ap (train_judgement turn.game by.company) (sym is_purchase) ∙ none in
     ap (λ (game : Game). in_turn game turn.progress) (is_new ∙ ap (λ (game : Game). after_train game by.company purchase) is_ruled)
-    ∙ ap (λ (one : Order). in_turn (after_train (told by turn number (Obeyed one)).game by.company purchase) turn.progress) is_its
-    ∙ ap (λ (one : Purchase). train_ruled by turn number (BuyTrain kind from) one None) is_purchase
-    ∙ ap (train_ruled by turn number (BuyTrain kind from) ordered) (sym allowed)
+    ∙ ap (λ (one : Order). in_turn (after_train (told by turn line (Obeyed line.condition one)).game by.company purchase) turn.progress) is_its
+    ∙ ap (λ (one : Purchase). train_ruled by turn line (BuyTrain kind from) one None) is_purchase
+    ∙ ap (train_ruled by turn line (BuyTrain kind from) ordered) (sym allowed)

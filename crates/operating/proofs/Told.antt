@@ -1,10 +1,11 @@
 -- A line that was recorded, and whose order is to be done: it breaks no rule, and is told as obeyed.
-use Rattle.std.proofs.Common.{◌≡◌, ℕ, true, Option, Some, None, is_none, is_some, refl}
+use Rattle.std.proofs.Common.{◌≡◌, true, Option, Some, None, is_none, is_some, refl}
 use Rattle.history.specs.LookBack.{Game, with_event}
 use Rattle.history.specs.declared.event.Event.TheVariants as event
 use Rattle.history.specs.declared.ruling.Refusal.{Refusal}
 use Rattle.history.specs.declared.ruling.Ruling.TheVariants.{Obeyed}
 use Rattle.order_grammar.specs.declared.order.Order.{Order}
+use Rattle.sheets.specs.Part.{Numbered}
 use Rattle.tables.specs.declared.seat.Seat.{Seat}
 use Rattle.turns.specs.Ruling.{judged}
 
@@ -16,8 +17,8 @@ kept_all (Some rule) None none same = absurd (cc)
 kept_all (Some rule) (Some other) none same = absurd (cc)
 
 -- a list gained the ruling that the order is obeyed
-pub told_obeyed : (game told : Game) (seat : Seat) (line : ℕ) (order : Order) (refusal : Option Refusal) →
-    told ≡ with_event game (event.Ruled seat line (judged order refusal)) → is_none refusal ≡ true →
-    told ≡ with_event game (event.Ruled seat line (Obeyed order))
+pub told_obeyed : (game told : Game) (seat : Seat) (line : Numbered) (order : Order) (refusal : Option Refusal) →
+    told ≡ with_event game (event.Ruled seat line.number (judged line.condition order refusal)) → is_none refusal ≡ true →
+    told ≡ with_event game (event.Ruled seat line.number (Obeyed line.condition order))
 told_obeyed game told seat line order None is_told none = is_told
 told_obeyed game told seat line order (Some rule) is_told none = absurd (cc)

@@ -1,5 +1,5 @@
 -- The calls of a company's turn, line by line and part by part.
-use Rattle.std.proofs.Common.{◌≡◌, ℕ, List, [], ◌∷◌, ◌++◌, Option, Some, None, Result, Ok, Err, pos, refl, sym, subst, inl, inr}
+use Rattle.std.proofs.Common.{◌≡◌, ℕ, Bool, true, false, List, [], ◌∷◌, ◌++◌, Option, Some, None, Result, Ok, Err, pos, refl, sym, subst, inl, inr}
 use Rattle.std.proofs.lemmas.List.{append-nil}
 use Rattle.certificate.specs.declared.runner.RunnerFault.{RunnerFault}
 use Rattle.certificate.specs.declared.runner.RunnerFault.TheVariants.{Memory}
@@ -11,8 +11,8 @@ use Rattle.operating.specs.Act.{with_home}
 use Rattle.operating.specs.Best.{BestRuled, best_judgement}
 use Rattle.operating.specs.Calls.{Call, Earns, Makes, Unasked}
 use Rattle.operating.specs.InTurn.{InTurn, at_start, in_turn}
-use Rattle.operating.specs.Turn.{BlockEnds, BlockLeads, IsCompanyTurn, LinesLead, OrderLeads, ReadingLeads, begun, settled}
-use Rattle.operating.specs.TurnCalls.{BegunCalls, BestCalls, BlockCalls, EndCalls, LineCalls, LinesCall, OrderCalls, ReadingCalls, SomeTurnCalls, TurnCalls, asked}
+use Rattle.operating.specs.Turn.{AskedLeads, BlockEnds, BlockLeads, IsCompanyTurn, LinesLead, OrderLeads, ReadingLeads, begun, is_held, settled}
+use Rattle.operating.specs.TurnCalls.{AskedCalls, BegunCalls, BestCalls, BlockCalls, EndCalls, LineCalls, LinesCall, OrderCalls, ReadingCalls, SomeTurnCalls, TurnCalls, asked}
 use Rattle.operating.specs.declared.operator.Operator.{Operator}
 use Rattle.operating.specs.declared.progress.Progress.{Progress}
 use Rattle.order_grammar.specs.declared.fault.Fault.{Fault}
@@ -100,10 +100,10 @@ module _ {Runner : Type 0} (earns : Earns Runner) where
 
 -- an order to run the best that makes these calls leads on as it is ruled
 best_leads :
-    (by : Operator) (round : Round) (number : ℕ) (rule : Option RunRule) (turn new : InTurn) (calls : List Call) →
-    BestCalls by round number rule turn (Ok new) calls → BestRuled by turn number rule new
-best_leads by round number (Some rule) turn new calls course = course.0
-best_leads by round number None turn new calls course =
+    (by : Operator) (round : Round) (line : Numbered) (rule : Option RunRule) (turn new : InTurn) (calls : List Call) →
+    BestCalls by round line rule turn (Ok new) calls → BestRuled by turn line rule new
+best_leads by round line (Some rule) turn new calls course = course.0
+best_leads by round line None turn new calls course =
     elim course [
       | inl never ↦ absurd never
       | inr joins ↦ (joins.between, joins.leads.0, joins.goes_on.0)
@@ -111,22 +111,30 @@ best_leads by round number None turn new calls course =
 
 -- so does an order
 order_leads :
-    (by : Operator) (round : Round) (number : ℕ) (its : Order) (turn new : InTurn) (calls : List Call) →
-    OrderCalls by round number its turn (Ok new) calls → OrderLeads by turn number its new
-order_leads by round number its turn new calls course =
+    (by : Operator) (round : Round) (line : Numbered) (its : Order) (turn new : InTurn) (calls : List Call) →
+    OrderCalls by round line its turn (Ok new) calls → OrderLeads by turn line its new
+order_leads by round line its turn new calls course =
     elim course [
       | inl best ↦
-          subst (λ (o : Order). OrderLeads by turn number o new) (sym best.0)
-          (best_leads by round number (best_judgement turn by.company) turn new calls best.1)
+          subst (λ (o : Order). OrderLeads by turn line o new) (sym best.0)
+          (best_leads by round line (best_judgement turn by.company) turn new calls best.1)
       | inr other ↦ other.1.0
     ]
 
+-- so does one that is asked for its condition
+asked_leads :
+    (by : Operator) (round : Round) (line : Numbered) (its : Order) (held : Bool) (turn new : InTurn) (calls : List Call) →
+    AskedCalls by round line its held turn (Ok new) calls → AskedLeads by turn line its held new
+asked_leads by round line its true turn new calls course = course.0
+asked_leads by round line its false turn new calls course = order_leads by round line its turn new calls course
+
 -- so does a line
 reading_leads :
-    (by : Operator) (round : Round) (number : ℕ) (reading : Result Order Fault) (turn new : InTurn) (calls : List Call) →
-    ReadingCalls by round number reading turn (Ok new) calls → ReadingLeads by turn number reading new
-reading_leads by round number (Ok its) turn new calls course = order_leads by round number its turn new calls course
-reading_leads by round number (Err fault) turn new calls course = course.0
+    (by : Operator) (round : Round) (line : Numbered) (reading : Result Order Fault) (turn new : InTurn) (calls : List Call) →
+    ReadingCalls by round line reading turn (Ok new) calls → ReadingLeads by turn line reading new
+reading_leads by round line (Ok its) turn new calls course =
+    asked_leads by round line its (is_held turn.game.events line.condition its) turn new calls course
+reading_leads by round line (Err fault) turn new calls course = course.0
 
 -- so do lines
 lines_lead :
@@ -138,7 +146,7 @@ lines_lead by round (line ∷ lines) turn new calls course =
       | inl never ↦ absurd never
       | inr joins ↦ (
         joins.between,
-        reading_leads by round line.number line.reading turn joins.between joins.earlier joins.leads,
+        reading_leads by round line line.reading turn joins.between joins.earlier joins.leads,
         lines_lead by round lines joins.between new joins.later joins.goes_on,
       )
     ]
@@ -172,10 +180,10 @@ turn_leads file round company old new calls course =
 
 -- an order to run the best that leads on as it is ruled makes calls
 best_called :
-    (by : Operator) (round : Round) (number : ℕ) (rule : Option RunRule) (turn new : InTurn) →
-    BestRuled by turn number rule new → (calls : List Call) × BestCalls by round number rule turn (Ok new) calls
-best_called by round number (Some rule) turn new leads = ([], (leads, refl))
-best_called by round number None turn new leads = (
+    (by : Operator) (round : Round) (line : Numbered) (rule : Option RunRule) (turn new : InTurn) →
+    BestRuled by turn line rule new → (calls : List Call) × BestCalls by round line rule turn (Ok new) calls
+best_called by round line (Some rule) turn new leads = ([], (leads, refl))
+best_called by round line None turn new leads = (
   asked by.company round turn.game.events (Ok (pos leads.0)) ∷ [],
   inr (record {
     between = leads.0;
@@ -189,18 +197,26 @@ best_called by round number None turn new leads = (
 
 -- so does an order
 order_called :
-    (by : Operator) (round : Round) (number : ℕ) (its : Order) (turn new : InTurn) →
-    OrderLeads by turn number its new → (calls : List Call) × OrderCalls by round number its turn (Ok new) calls
-order_called by round number order.RunBest turn new leads =
-    let best = best_called by round number (best_judgement turn by.company) turn new leads in (best.0, inl (refl, best.1))
-order_called by round number other turn new leads = ([], inr ((λ (best : other ≡ order.RunBest). cc), (leads, refl)))
+    (by : Operator) (round : Round) (line : Numbered) (its : Order) (turn new : InTurn) →
+    OrderLeads by turn line its new → (calls : List Call) × OrderCalls by round line its turn (Ok new) calls
+order_called by round line order.RunBest turn new leads =
+    let best = best_called by round line (best_judgement turn by.company) turn new leads in (best.0, inl (refl, best.1))
+order_called by round line other turn new leads = ([], inr ((λ (best : other ≡ order.RunBest). cc), (leads, refl)))
+
+-- so does one that is asked for its condition
+asked_called :
+    (by : Operator) (round : Round) (line : Numbered) (its : Order) (held : Bool) (turn new : InTurn) →
+    AskedLeads by turn line its held new → (calls : List Call) × AskedCalls by round line its held turn (Ok new) calls
+asked_called by round line its true turn new leads = ([], (leads, refl))
+asked_called by round line its false turn new leads = order_called by round line its turn new leads
 
 -- so does a line
 reading_called :
-    (by : Operator) (round : Round) (number : ℕ) (reading : Result Order Fault) (turn new : InTurn) →
-    ReadingLeads by turn number reading new → (calls : List Call) × ReadingCalls by round number reading turn (Ok new) calls
-reading_called by round number (Ok its) turn new leads = order_called by round number its turn new leads
-reading_called by round number (Err fault) turn new leads = ([], (leads, refl))
+    (by : Operator) (round : Round) (line : Numbered) (reading : Result Order Fault) (turn new : InTurn) →
+    ReadingLeads by turn line reading new → (calls : List Call) × ReadingCalls by round line reading turn (Ok new) calls
+reading_called by round line (Ok its) turn new leads =
+    asked_called by round line its (is_held turn.game.events line.condition its) turn new leads
+reading_called by round line (Err fault) turn new leads = ([], (leads, refl))
 
 -- so do lines
 lines_called :
@@ -208,7 +224,7 @@ lines_called :
     LinesLead by turn lines new → (calls : List Call) × LinesCall by round lines turn (Ok new) calls
 lines_called by round [] turn new leads = ([], (leads, refl))
 lines_called by round (line ∷ lines) turn new leads =
-    let first = reading_called by round line.number line.reading turn leads.0 leads.1 in
+    let first = reading_called by round line line.reading turn leads.0 leads.1 in
     let rest = lines_called by round lines leads.0 new leads.2 in (
       first.0 ++ rest.0,
       inr (record { between = leads.0; earlier = first.0; later = rest.0; leads = first.1; goes_on = rest.1; all = refl }),

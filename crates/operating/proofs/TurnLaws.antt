@@ -22,6 +22,7 @@ use Rattle.operating.specs.Turn.{ReadingLeads, purchase_of}
 use Rattle.operating.specs.declared.operator.Operator.{Operator}
 use Rattle.order_grammar.specs.declared.fault.Fault.{Fault}
 use Rattle.order_grammar.specs.declared.order.Order.{Order}
+use Rattle.sheets.specs.Part.{Numbered}
 use Rattle.tables.specs.Train.{place_of_kind}
 use Rattle.tables.specs.declared.roster.Company.{Company}
 
@@ -63,10 +64,10 @@ pub only_adds : TurnOnlyAdds
 only_adds file round company old new turn = of_game_turn company OnlyAdds (adds_by company) more_adds file round old new turn
 
 -- a line leaves the seats as they are
-pub line_seats : (by : Operator) (turn : InTurn) (number : ℕ) (reading : Result Order Fault) (new : InTurn) →
-    ReadingLeads by turn number reading new → new.game.seats ≡ turn.game.seats
-line_seats by turn number reading new leads =
-    ap (λ (game : Game). game.seats) (of_line by _ (of_steps by.company OnlyAdds (adds_by by.company)) turn number reading new leads).added
+pub line_seats : (by : Operator) (turn : InTurn) (line : Numbered) (reading : Result Order Fault) (new : InTurn) →
+    ReadingLeads by turn line reading new → new.game.seats ≡ turn.game.seats
+line_seats by turn line reading new leads =
+    ap (λ (game : Game). game.seats) (of_line by _ (of_steps by.company OnlyAdds (adds_by by.company)) turn line reading new leads).added
 
 -- trains stand in a later game if they did before
 abbrev pub StillStand : Game → Game → Type 0

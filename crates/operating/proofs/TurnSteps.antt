@@ -42,7 +42,7 @@ use Rattle.operating.specs.Phases.{after_train}
 use Rattle.operating.specs.Privates.{private_judgement, private_ruled, sold_by}
 use Rattle.operating.specs.Runs.{judged_run, run_done, run_ruled}
 use Rattle.operating.specs.Trains.{train_judgement}
-use Rattle.operating.specs.Turn.{BlockLeads, IsCompanyTurn, LinesLead, OrderLeads, ReadingLeads, begun, lay_answered, lay_refused, purchase_of}
+use Rattle.operating.specs.Turn.{AskedLeads, BlockLeads, IsCompanyTurn, LinesLead, OrderLeads, ReadingLeads, begun, is_held, lay_answered, lay_refused, purchase_of}
 use Rattle.operating.specs.Turn.{settled, token_answered, token_refused, train_ruled}
 use Rattle.operating.specs.declared.operator.Operator.{Operator}
 use Rattle.operating.specs.declared.progress.Progress.{Progress}
@@ -93,81 +93,81 @@ module _ (company : Company) (R : InTurn → InTurn → Type 0) (steps : OfSteps
 
 module _ (by : Operator) (R : InTurn → InTurn → Type 0) (steps : OfSteps by.company R) where
   -- of a ruling
-  of_ruling : (turn : InTurn) (number : ℕ) (ruling : Ruling) → R turn (told by turn number ruling)
-  of_ruling turn number ruling = steps.more turn (event.Ruled by.president number ruling) tt refl refl refl
+  of_ruling : (turn : InTurn) (line : Numbered) (ruling : Ruling) → R turn (told by turn line ruling)
+  of_ruling turn line ruling = steps.more turn (event.Ruled by.president line.number ruling) tt refl refl refl
 
   -- of an obeyed line and what it brings
-  after_ruling : (turn : InTurn) (number : ℕ) (its : Order) (new : InTurn) → R (told by turn number (Obeyed its)) new → R turn new
-  after_ruling turn number its new brings =
-      steps.both turn (told by turn number (Obeyed its)) new (of_ruling turn number (Obeyed its)) brings
+  after_ruling : (turn : InTurn) (line : Numbered) (its : Order) (new : InTurn) → R (told by turn line (Obeyed line.condition its)) new → R turn new
+  after_ruling turn line its new brings =
+      steps.both turn (told by turn line (Obeyed line.condition its)) new (of_ruling turn line (Obeyed line.condition its)) brings
 
   -- of LAY
-  of_refused_lay : (turn : InTurn) (number : ℕ) (lay : Lay) (rule : Option LayRule) → R turn (lay_refused by turn number lay rule)
-  of_refused_lay turn number lay None = steps.same turn
-  of_refused_lay turn number lay (Some rule) = of_ruling turn number _
+  of_refused_lay : (turn : InTurn) (line : Numbered) (lay : Lay) (rule : Option LayRule) → R turn (lay_refused by turn line lay rule)
+  of_refused_lay turn line lay None = steps.same turn
+  of_refused_lay turn line lay (Some rule) = of_ruling turn line _
 
-  of_lay : (turn : InTurn) (number : ℕ) (lay : Lay) (answer : Result ℤ LayFault) →
-      IsLayAnswer (ground_now turn.game.events) (asker_of turn.game by.company turn.progress) lay answer → R turn (lay_answered by turn number lay answer)
-  of_lay turn number lay (Err fault) answered = of_refused_lay turn number lay (rule_of_lay fault)
-  of_lay turn number lay (Ok cost) answered =
+  of_lay : (turn : InTurn) (line : Numbered) (lay : Lay) (answer : Result ℤ LayFault) →
+      IsLayAnswer (ground_now turn.game.events) (asker_of turn.game by.company turn.progress) lay answer → R turn (lay_answered by turn line lay answer)
+  of_lay turn line lay (Err fault) answered = of_refused_lay turn line lay (rule_of_lay fault)
+  of_lay turn line lay (Ok cost) answered =
       let asker : Asker = asker_of turn.game by.company turn.progress in
-      let ruled = told by turn number (Obeyed (order.Lay lay)) in
-      let same = same_after_ruling turn.game ruled.game by.president number (Obeyed (order.Lay lay)) refl in
-      after_ruling turn number (order.Lay lay) (lay_answered by turn number lay (Ok cost))
+      let ruled = told by turn line (Obeyed line.condition (order.Lay lay)) in
+      let same = same_after_ruling turn.game ruled.game by.president line (Obeyed line.condition (order.Lay lay)) refl in
+      after_ruling turn line (order.Lay lay) (lay_answered by turn line lay (Ok cost))
       (steps.laid ruled (lays_of turn.game.events) asker lay (unsigned_abs cost)
       (subst (λ (g : Ground). first_broken (ground_rules g asker lay) ≡ None) (sym same)
       (lay_allowed (ground_now turn.game.events) asker lay cost answered).allowed))
 
   -- of TOKEN
-  of_refused_token : (turn : InTurn) (number : ℕ) (at : Place) (rule : Option TokenRule) → R turn (token_refused by turn number at rule)
-  of_refused_token turn number at None = steps.same turn
-  of_refused_token turn number at (Some rule) = of_ruling turn number _
+  of_refused_token : (turn : InTurn) (line : Numbered) (at : Place) (rule : Option TokenRule) → R turn (token_refused by turn line at rule)
+  of_refused_token turn line at None = steps.same turn
+  of_refused_token turn line at (Some rule) = of_ruling turn line _
 
-  of_token : (turn : InTurn) (number : ℕ) (at : Place) (answer : Result ℤ TokenFault) →
-      IsTokenAnswer (ground_now turn.game.events) (asker_of turn.game by.company turn.progress) at answer → R turn (token_answered by turn number at answer)
-  of_token turn number at (Err fault) answered = of_refused_token turn number at (rule_of_token fault)
-  of_token turn number at (Ok cost) answered =
+  of_token : (turn : InTurn) (line : Numbered) (at : Place) (answer : Result ℤ TokenFault) →
+      IsTokenAnswer (ground_now turn.game.events) (asker_of turn.game by.company turn.progress) at answer → R turn (token_answered by turn line at answer)
+  of_token turn line at (Err fault) answered = of_refused_token turn line at (rule_of_token fault)
+  of_token turn line at (Ok cost) answered =
       let asker : Asker = asker_of turn.game by.company turn.progress in
-      let ruled = told by turn number (Obeyed (order.Token at)) in
-      let same = same_after_ruling turn.game ruled.game by.president number (Obeyed (order.Token at)) refl in
-      after_ruling turn number (order.Token at) (token_answered by turn number at (Ok cost))
+      let ruled = told by turn line (Obeyed line.condition (order.Token at)) in
+      let same = same_after_ruling turn.game ruled.game by.president line (Obeyed line.condition (order.Token at)) refl in
+      after_ruling turn line (order.Token at) (token_answered by turn line at (Ok cost))
       (steps.placed ruled asker at (unsigned_abs cost) refl
       (subst (λ (g : Ground). first_broken (slot_rules g asker at) ≡ None) (sym same)
       (token_allowed (ground_now turn.game.events) asker at cost answered).allowed))
 
   -- of RUN
-  of_run : (turn : InTurn) (number : ℕ) (its : Order) (judged : Result Ran RunRule) → R turn (run_ruled by turn number its judged)
-  of_run turn number its (Err rule) = of_ruling turn number _
-  of_run turn number its (Ok ran) =
-      after_ruling turn number its (run_ruled by turn number its (Ok ran)) (steps.ran (told by turn number (Obeyed its)) (run_done turn.progress ran) ran.earned)
+  of_run : (turn : InTurn) (line : Numbered) (its : Order) (judged : Result Ran RunRule) → R turn (run_ruled by turn line its judged)
+  of_run turn line its (Err rule) = of_ruling turn line _
+  of_run turn line its (Ok ran) =
+      after_ruling turn line its (run_ruled by turn line its (Ok ran)) (steps.ran (told by turn line (Obeyed line.condition its)) (run_done turn.progress ran) ran.earned)
 
   -- of RUN BEST
-  of_best : (turn : InTurn) (number : ℕ) (rule : Option RunRule) (new : InTurn) → BestRuled by turn number rule new → R turn new
-  of_best turn number (Some rule) new leads = subst (R turn) (sym leads) (of_ruling turn number _)
-  of_best turn number None new leads =
+  of_best : (turn : InTurn) (line : Numbered) (rule : Option RunRule) (new : InTurn) → BestRuled by turn line rule new → R turn new
+  of_best turn line (Some rule) new leads = subst (R turn) (sym leads) (of_ruling turn line _)
+  of_best turn line None new leads =
       subst (R turn) (sym leads.2)
-      (after_ruling turn number order.RunBest (best_earned by turn number leads.0)
-      (steps.ran (told by turn number (Obeyed order.RunBest)) (best_done turn.progress leads.0) leads.0))
+      (after_ruling turn line order.RunBest (best_earned by turn line leads.0)
+      (steps.ran (told by turn line (Obeyed line.condition order.RunBest)) (best_done turn.progress leads.0) leads.0))
 
   -- of PAY or WITHHOLD
-  of_pay : (turn : InTurn) (number : ℕ) (its : Order) (rule : Option PayRule) (after : Game → Game) →
-      (rule ≡ None → R (told by turn number (Obeyed its)) (in_turn (after (told by turn number (Obeyed its)).game) (pay_done turn.progress))) →
-      R turn (pay_ruled by turn number its rule after)
-  of_pay turn number its (Some rule) after brings = of_ruling turn number _
-  of_pay turn number its None after brings =
-      after_ruling turn number its (pay_ruled by turn number its None after) (brings refl)
+  of_pay : (turn : InTurn) (line : Numbered) (its : Order) (rule : Option PayRule) (after : Game → Game) →
+      (rule ≡ None → R (told by turn line (Obeyed line.condition its)) (in_turn (after (told by turn line (Obeyed line.condition its)).game) (pay_done turn.progress))) →
+      R turn (pay_ruled by turn line its rule after)
+  of_pay turn line its (Some rule) after brings = of_ruling turn line _
+  of_pay turn line its None after brings =
+      after_ruling turn line its (pay_ruled by turn line its None after) (brings refl)
 
   -- of TRAIN
-  of_train : (turn : InTurn) (number : ℕ) (kind : Kind) (from : TrainSource) (rule : Option TrainRule) →
+  of_train : (turn : InTurn) (line : Numbered) (kind : Kind) (from : TrainSource) (rule : Option TrainRule) →
       train_judgement turn.game by.company (purchase_of kind from) ≡ rule →
-      R turn (train_ruled by turn number (order.BuyTrain kind from) (purchase_of kind from) rule)
-  of_train turn number kind from (Some rule) broken = of_ruling turn number _
-  of_train turn number kind from None none =
+      R turn (train_ruled by turn line (order.BuyTrain kind from) (purchase_of kind from) rule)
+  of_train turn line kind from (Some rule) broken = of_ruling turn line _
+  of_train turn line kind from None none =
       let its = order.BuyTrain kind from in
       let purchase = purchase_of kind from in
-      let ruled = told by turn number (Obeyed its) in
-      after_ruling turn number its (train_ruled by turn number its purchase None)
-      (steps.bought ruled kind from (same_judgement turn.game ruled.game by.president number kind from by.company purchase refl ∙ none))
+      let ruled = told by turn line (Obeyed line.condition its) in
+      after_ruling turn line its (train_ruled by turn line its purchase None)
+      (steps.bought ruled kind from (same_judgement turn.game ruled.game by.president line kind from by.company purchase refl ∙ none))
 
   -- of PRIVATE
   of_sale : (turn : InTurn) (private : Private) (price : ℕ) (owner : Option Holder) → owner_of turn.game.events private ≡ owner →
@@ -178,54 +178,59 @@ module _ (by : Operator) (R : InTurn → InTurn → Type 0) (steps : OfSteps by.
   of_sale turn private price (Some (holder.Company owner)) owns none = steps.same turn
   of_sale turn private price None owns none = steps.same turn
 
-  of_private : (turn : InTurn) (number : ℕ) (private : Private) (price : ℕ) (rule : Option PrivateRule) →
-      private_judgement turn.game by.company private price ≡ rule → R turn (private_ruled by turn number private price rule)
-  of_private turn number private price (Some rule) broken = of_ruling turn number _
-  of_private turn number private price None none =
-      let ruled = told by turn number (Obeyed (order.BuyOwnedPrivate private price)) in
-      after_ruling turn number (order.BuyOwnedPrivate private price) (private_ruled by turn number private price None)
+  of_private : (turn : InTurn) (line : Numbered) (private : Private) (price : ℕ) (rule : Option PrivateRule) →
+      private_judgement turn.game by.company private price ≡ rule → R turn (private_ruled by turn line private price rule)
+  of_private turn line private price (Some rule) broken = of_ruling turn line _
+  of_private turn line private price None none =
+      let ruled = told by turn line (Obeyed line.condition (order.BuyOwnedPrivate private price)) in
+      after_ruling turn line (order.BuyOwnedPrivate private price) (private_ruled by turn line private price None)
       (of_sale ruled private price (owner_of ruled.game.events private) refl
-      (same_after_line turn.game ruled.game by.president number by.company private price refl ∙ none))
+      (same_after_line turn.game ruled.game by.president line by.company private price refl ∙ none))
 
   -- of an order
-  of_order : (turn : InTurn) (number : ℕ) (its : Order) (new : InTurn) → OrderLeads by turn number its new → R turn new
-  of_order turn number (order.Lay lay) new leads =
-      subst (R turn) (sym leads.after) (of_lay turn number lay leads.answer leads.answered)
-  of_order turn number (order.Token at) new leads =
-      subst (R turn) (sym leads.after) (of_token turn number at leads.answer leads.answered)
-  of_order turn number (order.Run kind run) new leads =
-      subst (R turn) (sym leads) (of_run turn number (order.Run kind run) (judged_run turn by.company kind run))
-  of_order turn number order.RunBest new leads = of_best turn number (best_judgement turn by.company) new leads
-  of_order turn number order.Pay new leads =
+  of_order : (turn : InTurn) (line : Numbered) (its : Order) (new : InTurn) → OrderLeads by turn line its new → R turn new
+  of_order turn line (order.Lay lay) new leads =
+      subst (R turn) (sym leads.after) (of_lay turn line lay leads.answer leads.answered)
+  of_order turn line (order.Token at) new leads =
+      subst (R turn) (sym leads.after) (of_token turn line at leads.answer leads.answered)
+  of_order turn line (order.Run kind run) new leads =
+      subst (R turn) (sym leads) (of_run turn line (order.Run kind run) (judged_run turn by.company kind run))
+  of_order turn line order.RunBest new leads = of_best turn line (best_judgement turn by.company) new leads
+  of_order turn line order.Pay new leads =
       subst (R turn) (sym leads)
-      (of_pay turn number order.Pay (pay_judgement turn.progress) (λ game. paid_out game by.company turn.progress.runs.revenue)
-      (steps.paid (told by turn number (Obeyed order.Pay))))
-  of_order turn number order.Withhold new leads =
+      (of_pay turn line order.Pay (pay_judgement turn.progress) (λ game. paid_out game by.company turn.progress.runs.revenue)
+      (steps.paid (told by turn line (Obeyed line.condition order.Pay))))
+  of_order turn line order.Withhold new leads =
       subst (R turn) (sym leads)
-      (of_pay turn number order.Withhold (withhold_judgement turn.progress) (λ game. withheld game by.company turn.progress.runs.revenue)
-      (λ rules. steps.kept (told by turn number (Obeyed order.Withhold))))
-  of_order turn number (order.BuyTrain kind from) new leads =
+      (of_pay turn line order.Withhold (withhold_judgement turn.progress) (λ game. withheld game by.company turn.progress.runs.revenue)
+      (λ rules. steps.kept (told by turn line (Obeyed line.condition order.Withhold))))
+  of_order turn line (order.BuyTrain kind from) new leads =
       let paid = settled by.company turn in
       let purchase = purchase_of kind from in
       let rule = train_judgement paid.game by.company purchase in
       subst (R turn) (sym leads)
-      (steps.both turn paid (train_ruled by paid number (order.BuyTrain kind from) purchase rule) (of_settled by.company R steps turn)
-      (of_train paid number kind from rule refl))
-  of_order turn number (order.BuyOwnedPrivate private price) new leads =
-      subst (R turn) (sym leads) (of_private turn number private price (private_judgement turn.game by.company private price) refl)
-  of_order turn number (order.Raise company tenths) new leads = subst (R turn) (sym leads) (steps.same turn)
-  of_order turn number other new leads = subst (R turn) (sym leads) (of_ruling turn number _)
+      (steps.both turn paid (train_ruled by paid line (order.BuyTrain kind from) purchase rule) (of_settled by.company R steps turn)
+      (of_train paid line kind from rule refl))
+  of_order turn line (order.BuyOwnedPrivate private price) new leads =
+      subst (R turn) (sym leads) (of_private turn line private price (private_judgement turn.game by.company private price) refl)
+  of_order turn line (order.Raise company tenths) new leads = subst (R turn) (sym leads) (steps.same turn)
+  of_order turn line other new leads = subst (R turn) (sym leads) (of_ruling turn line _)
+
+  -- of an order that is asked for its condition
+  of_asked : (turn : InTurn) (line : Numbered) (its : Order) (held : Bool) (new : InTurn) → AskedLeads by turn line its held new → R turn new
+  of_asked turn line its true new leads = subst (R turn) (sym leads) (of_ruling turn line _)
+  of_asked turn line its false new leads = of_order turn line its new leads
 
   -- of a line
-  pub of_line : (turn : InTurn) (number : ℕ) (reading : Result Order Fault) (new : InTurn) → ReadingLeads by turn number reading new → R turn new
-  of_line turn number (Err fault) new leads = subst (R turn) (sym leads) (of_ruling turn number _)
-  of_line turn number (Ok its) new leads = of_order turn number its new leads
+  pub of_line : (turn : InTurn) (line : Numbered) (reading : Result Order Fault) (new : InTurn) → ReadingLeads by turn line reading new → R turn new
+  of_line turn line (Err fault) new leads = subst (R turn) (sym leads) (of_ruling turn line _)
+  of_line turn line (Ok its) new leads = of_asked turn line its (is_held turn.game.events line.condition its) new leads
 
   -- of lines
   of_lines : (turn : InTurn) (lines : List Numbered) (new : InTurn) → LinesLead by turn lines new → R turn new
   of_lines turn [] new leads = subst (R turn) (sym leads) (steps.same turn)
   of_lines turn (line ∷ lines) new leads =
-      steps.both turn leads.0 new (of_line turn line.number line.reading leads.0 leads.1) (of_lines leads.0 lines new leads.2)
+      steps.both turn leads.0 new (of_line turn line line.reading leads.0 leads.1) (of_lines leads.0 lines new leads.2)
 
 module _ (company : Company) (R : InTurn → InTurn → Type 0) (steps : OfSteps company R) where
   -- of a block

@@ -19,6 +19,7 @@ use Rattle.operating.specs.Runs.{has_any_run, is_past_runs, position_now, rule}
 use Rattle.operating.specs.declared.operator.Operator.{Operator}
 use Rattle.operating.specs.declared.progress.Progress.{Progress}
 use Rattle.order_grammar.specs.declared.order.Order.TheVariants as order
+use Rattle.sheets.specs.Part.{Numbered}
 use Rattle.tables.specs.Rules.{Rule, first_broken}
 use Rattle.tables.specs.Train.{kinds}
 use Rattle.tables.specs.declared.rolling_stock.Kind.{Kind}
@@ -51,17 +52,17 @@ abbrev pub best_done : Progress → ℕ → Progress
 best_done progress revenue =
     record progress { pointer = step.Run; best_run = true; runs = record progress.runs { revenue = revenue } }
 
--- after a RUN BEST with this number was obeyed, which earned so much
-abbrev pub best_earned : Operator → InTurn → ℕ → ℕ → InTurn
-best_earned by turn number revenue =
-    in_turn (with_event (told by turn number (Obeyed order.RunBest)).game (event.Runs by.company revenue)) (best_done turn.progress revenue)
+-- after a RUN BEST in this line was obeyed, which earned so much
+abbrev pub best_earned : Operator → InTurn → Numbered → ℕ → InTurn
+best_earned by turn line revenue =
+    in_turn (with_event (told by turn line (Obeyed line.condition order.RunBest)).game (event.Runs by.company revenue)) (best_done turn.progress revenue)
 
--- a RUN BEST with this number leads to new, where this rule refuses it, if one does
-abbrev pub BestRuled : Operator → InTurn → ℕ → Option RunRule → InTurn → Type 0
-BestRuled by turn number (Some rule) new = new ≡ told by turn number (Refused (refusal.Run rule) order.RunBest)
-BestRuled by turn number None new =
-    (revenue : ℕ) × IsGreatest (position_now turn.game.events) by.company (trains_now turn.game.events by.company) revenue × (new ≡ best_earned by turn number revenue)
+-- a RUN BEST in this line leads to new, where this rule refuses it, if one does
+abbrev pub BestRuled : Operator → InTurn → Numbered → Option RunRule → InTurn → Type 0
+BestRuled by turn line (Some rule) new = new ≡ told by turn line (Refused (refusal.Run rule) line.condition order.RunBest)
+BestRuled by turn line None new =
+    (revenue : ℕ) × IsGreatest (position_now turn.game.events) by.company (trains_now turn.game.events by.company) revenue × (new ≡ best_earned by turn line revenue)
 
--- a RUN BEST with this number leads to new
-abbrev pub BestLeads : Operator → InTurn → ℕ → InTurn → Type 0
-BestLeads by turn number new = BestRuled by turn number (best_judgement turn by.company) new
+-- a RUN BEST in this line leads to new
+abbrev pub BestLeads : Operator → InTurn → Numbered → InTurn → Type 0
+BestLeads by turn line new = BestRuled by turn line (best_judgement turn by.company) new

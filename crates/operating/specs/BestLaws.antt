@@ -20,8 +20,8 @@ OrdersRun line = (kind : Kind) × (run : List Place) × (line.reading ≡ Ok (or
 -- more than the second.
 abbrev pub BestEarnsNoLess : Type 0
 BestEarnsNoLess =
-    (by : Operator) (game : Game) (earlier lines : List Numbered) (turn written best : InTurn) (number : ℕ) →
+    (by : Operator) (game : Game) (earlier lines : List Numbered) (turn written best : InTurn) (line : Numbered) →
     LinesLead by (begun game by.company) earlier turn →
     AllByRecursion OrdersRun lines → LinesLead by turn lines written →
-    best_judgement turn by.company ≡ None → BestLeads by turn number best →
+    best_judgement turn by.company ≡ None → BestLeads by turn line best →
     written.progress.runs.revenue ≤ best.progress.runs.revenue

@@ -28,6 +28,7 @@ use Rattle.operating.specs.InTurn.{InTurn, in_turn, pay_done, ruled}
 use Rattle.operating.specs.declared.operator.Operator.{Operator}
 use Rattle.operating.specs.declared.progress.Progress.{Progress}
 use Rattle.order_grammar.specs.declared.order.Order.{Order}
+use Rattle.sheets.specs.Part.{Numbered}
 use Rattle.tables.specs.Rules.{Rule, first_broken}
 use Rattle.tables.specs.Seat.{all_seats}
 use Rattle.tables.specs.declared.roster.Company.{Company}
@@ -86,22 +87,22 @@ pay_judgement progress = first_broken (rule NothingToPay (is_past_pay progress |
 abbrev pub withhold_judgement : Progress → Option PayRule
 withhold_judgement progress = first_broken (rule NothingToPay (is_past_pay progress) ∷ [])
 
--- after the line with this number, where this rule refuses its order, if one does; else the game is as given
-abbrev pub pay_ruled : Operator → InTurn → ℕ → Order → Option PayRule → (Game → Game) → InTurn
-pay_ruled by turn number order broken act =
-    ruled by turn number order (option_map refusal.Pay broken)
+-- after this line, where this rule refuses its order, if one does; else the game is as given
+abbrev pub pay_ruled : Operator → InTurn → Numbered → Order → Option PayRule → (Game → Game) → InTurn
+pay_ruled by turn line order broken act =
+    ruled by turn line order (option_map refusal.Pay broken)
     (λ (after : InTurn). in_turn (act after.game) (pay_done after.progress))
 
--- after an order to pay in the line with this number
-abbrev pub after_pay : Operator → InTurn → ℕ → Order → InTurn
-after_pay by turn number order =
-    pay_ruled by turn number order (pay_judgement turn.progress)
+-- after an order to pay in this line
+abbrev pub after_pay : Operator → InTurn → Numbered → Order → InTurn
+after_pay by turn line order =
+    pay_ruled by turn line order (pay_judgement turn.progress)
     (λ game. paid_out game by.company turn.progress.runs.revenue)
 
 -- after an order to withhold
-abbrev pub after_withhold : Operator → InTurn → ℕ → Order → InTurn
-after_withhold by turn number order =
-    pay_ruled by turn number order (withhold_judgement turn.progress)
+abbrev pub after_withhold : Operator → InTurn → Numbered → Order → InTurn
+after_withhold by turn line order =
+    pay_ruled by turn line order (withhold_judgement turn.progress)
     (λ game. withheld game by.company turn.progress.runs.revenue)
 
 -- in a sound list the bank pays at most the revenue

@@ -1,10 +1,11 @@
 -- The purchase that a company must make. It is due at the end of its turn where it has no train and could run a
 -- 2-train. It buys the cheapest train that the bank or the pool sells, the bank's where both sell it. What the company
 -- lacks its president pays, by his cash less his standing bids. While he falls short he sells: the RAISE lines of the
--- block serve in order, each by the rules of a sale, of which none may move the presidency of the company; a line is
--- refused once he does not fall short, and where no purchase is due. Then he sells one tenth at a time, of the first
--- company in roster order of which he may. If he still falls short he is bankrupt, and nothing is bought.
-use Rattle.std.specs.Prelude.{◌≡◌, ◌⊎◌, ℕ, Bool, true, false, ◌&&◌, if◌then◌else◌, List, [], ◌∷◌, Option, Some, None, option_map, Result, Ok, is_none, find, ℤ, pos, ◌-ℤ◌}
+-- block serve in order, each by its condition and then by the rules of a sale, of which none may move the presidency
+-- of the company; a line is refused, whatever its condition, once he does not fall short, and where no purchase is
+-- due. Then he sells one tenth at a time, of the first company in roster order of which he may. If he still falls short
+-- he is bankrupt, and nothing is bought.
+use Rattle.std.specs.Prelude.{◌≡◌, ◌⊎◌, ℕ, Bool, true, false, ◌&&◌, ◌||◌, if◌then◌else◌, List, [], ◌∷◌, Option, Some, None, option_map, Result, Ok, is_none, find, codes, ℤ, pos, ◌-ℤ◌}
 use Rattle.std.specs.Int.Signed.{lt_z}
 use Rattle.board.specs.Ground.{position_of}
 use Rattle.certificate.specs.TwoTrain.{CanRun}
@@ -12,6 +13,7 @@ use Rattle.certs.specs.Sale.{sale_judgement}
 use Rattle.certs.specs.SaleAct.{after_sale}
 use Rattle.certs.specs.declared.deal.Sale.{Sale}
 use Rattle.history.specs.Bids.{free_cash_of}
+use Rattle.history.specs.Conditions.{is_met}
 use Rattle.history.specs.Event.{party_of_company}
 use Rattle.history.specs.LookBack.{Game, cash_of, with_event}
 use Rattle.history.specs.Trains.{so_many, stable_size, trains_held}
@@ -19,6 +21,7 @@ use Rattle.history.specs.declared.event.Event.{Event}
 use Rattle.history.specs.declared.event.Event.TheVariants as event
 use Rattle.history.specs.declared.event.TrainSeller.{TrainSeller}
 use Rattle.history.specs.declared.event.TrainSeller.TheVariants as seller
+use Rattle.history.specs.declared.ruling.Refusal.{Refusal}
 use Rattle.history.specs.declared.ruling.Refusal.TheVariants as refusal
 use Rattle.history.specs.declared.ruling.Ruling.{Ruling}
 use Rattle.history.specs.declared.ruling.StockRule.{StockRule}
@@ -28,6 +31,8 @@ use Rattle.operating.specs.Phases.{after_train}
 use Rattle.operating.specs.Trains.{cost_of, numbered_kinds, sells}
 use Rattle.operating.specs.declared.operator.Operator.{Operator}
 use Rattle.operating.specs.declared.purchase.Purchase.{Purchase}
+use Rattle.order_grammar.specs.Words.{first_of_words, same_word, words_of}
+use Rattle.order_grammar.specs.declared.condition.Condition.{Condition}
 use Rattle.order_grammar.specs.declared.fault.Fault.{Fault}
 use Rattle.order_grammar.specs.declared.order.Order.{Order}
 use Rattle.order_grammar.specs.declared.order.Order.TheVariants as order
@@ -85,35 +90,47 @@ abbrev pub with_sale : Operator → Game → Sale → Game
 with_sale by game sale =
     record { seats = game.seats; events = after_sale game.seats game.events by.president sale.company sale.tenths }
 
--- the first rule that a RAISE breaks, where a purchase is due, or is not
-unfoldable pub raise_rule : Bool → Operator → Game → Sale → Option StockRule
-raise_rule due by game sale = if due && falls_short by game then sale_rule by game sale else Some NotOfStock
+-- the first rule that a RAISE under this condition breaks, where it is needed: the condition is asked, and then the
+-- rules of a sale
+abbrev pub needed_rule : Operator → Game → Option Condition → Sale → Option Refusal
+needed_rule by game condition sale =
+    if is_met game.events condition then option_map refusal.Stock (sale_rule by game sale) else Some refusal.Condition
 
--- after the ruling of the line with this number
-abbrev pub with_ruling : Operator → Game → ℕ → Ruling → Game
-with_ruling by game number ruling = with_event game (event.Ruled by.president number ruling)
+-- the first rule that it breaks, where a purchase is due, or is not
+unfoldable pub raise_rule : Bool → Operator → Game → Option Condition → Sale → Option Refusal
+raise_rule due by game condition sale =
+    if due && falls_short by game then needed_rule by game condition sale else Some (refusal.Stock NotOfStock)
 
--- after a RAISE in the line with this number, where this rule refuses it, if one does
-abbrev pub raise_ruled : Operator → Game → ℕ → Sale → Option StockRule → Game
-raise_ruled by game number sale broken =
-    let ruling = judged (order.Raise sale.company sale.tenths) (option_map refusal.Stock broken) in
-    done (λ (after : Game) (its : Order). with_sale by after sale) (with_ruling by game number ruling) (obeyed_by ruling)
+-- after the ruling of this line
+abbrev pub with_ruling : Operator → Game → Numbered → Ruling → Game
+with_ruling by game line ruling = with_event game (event.Ruled by.president line.number ruling)
 
--- after a sale of a RAISE in the line with this number
-abbrev pub after_raise : Bool → Operator → Game → ℕ → Sale → Game
-after_raise due by game number sale = raise_ruled by game number sale (raise_rule due by game sale)
+-- after a RAISE in this line, where this rule refuses it, if one does
+abbrev pub raise_ruled : Operator → Game → Numbered → Sale → Option Refusal → Game
+raise_ruled by game line sale broken =
+    let ruling = judged line.condition (order.Raise sale.company sale.tenths) broken in
+    done (λ (after : Game) (its : Order). with_sale by after sale) (with_ruling by game line ruling) (obeyed_by ruling)
 
--- after a line of the block with this number and this reading: others than RAISE were ruled at their place
-abbrev pub after_raise_line : Bool → Operator → Game → ℕ → Result Order Fault → Game
-after_raise_line due by game number (Ok (order.Raise company tenths)) =
-    after_raise due by game number (record { company = company; tenths = tenths })
-after_raise_line due by game number other = game
+-- after a sale of a RAISE in this line
+abbrev pub after_raise : Bool → Operator → Game → Numbered → Sale → Game
+after_raise due by game line sale = raise_ruled by game line sale (raise_rule due by game line.condition sale)
+
+-- after this line of the block with this reading: others than RAISE were ruled at their place
+abbrev pub after_raise_line : Bool → Operator → Game → Numbered → Result Order Fault → Game
+after_raise_line due by game line (Ok (order.Raise company tenths)) =
+    after_raise due by game line (record { company = company; tenths = tenths })
+after_raise_line due by game line other = game
+
+-- the first word of a line is one with which a RAISE begins: that word, or IF
+abbrev pub may_spell_raise : List ℕ → Bool
+may_spell_raise text =
+    same_word (first_of_words (words_of text)) (codes "RAISE") || same_word (first_of_words (words_of text)) (codes "IF")
 
 -- after the RAISE lines of the block, in order
 abbrev pub after_raises : Bool → Operator → Game → List Numbered → Game
 after_raises due by game [] = game
 after_raises due by game (line ∷ lines) =
-    after_raises due by (after_raise_line due by game line.number line.reading) lines
+    after_raises due by (after_raise_line due by game line line.reading) lines
 
 -- one tenth of a company
 abbrev pub one_tenth : Company → Sale

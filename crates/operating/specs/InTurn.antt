@@ -14,6 +14,7 @@ use Rattle.operating.specs.declared.operator.Operator.{Operator}
 use Rattle.operating.specs.declared.progress.Progress.{Progress}
 use Rattle.operating.specs.declared.runs.Runs.{Runs}
 use Rattle.order_grammar.specs.declared.order.Order.{Order}
+use Rattle.sheets.specs.Part.{Numbered}
 use Rattle.turns.specs.Ruling.{done, judged, obeyed_by}
 
 -- no train has run, and no border is used
@@ -53,11 +54,11 @@ pub record InTurn : Type 0 where
 abbrev pub in_turn : Game → Progress → InTurn
 in_turn game progress = record { game = game; progress = progress }
 
--- after the ruling of the line with this number
-abbrev pub told : Operator → InTurn → ℕ → Ruling → InTurn
-told by turn number ruling = in_turn (with_event turn.game (event.Ruled by.president number ruling)) turn.progress
+-- after the ruling of this line
+abbrev pub told : Operator → InTurn → Numbered → Ruling → InTurn
+told by turn line ruling = in_turn (with_event turn.game (event.Ruled by.president line.number ruling)) turn.progress
 
--- after the line with this number, whose order breaks this rule first, or none: it is done then
-abbrev pub ruled : Operator → InTurn → ℕ → Order → Option Refusal → (InTurn → InTurn) → InTurn
-ruled by turn number order broken act =
-    done (λ (after : InTurn) (its : Order). act after) (told by turn number (judged order broken)) (obeyed_by (judged order broken))
+-- after this line, whose order breaks this rule first, or none: it is done then
+abbrev pub ruled : Operator → InTurn → Numbered → Order → Option Refusal → (InTurn → InTurn) → InTurn
+ruled by turn line order broken act =
+    done (λ (after : InTurn) (its : Order). act after) (told by turn line (judged line.condition order broken)) (obeyed_by (judged line.condition order broken))

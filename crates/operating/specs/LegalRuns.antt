@@ -1,13 +1,13 @@
 -- The runs of a company's turn share no border. Line by line the walks of the runs that are obeyed are set down, the
 -- latest in front; a run that is obeyed is legal where the borders are used that these walks cross.
-use Rattle.std.specs.Prelude.{◌≡◌, List, [], ◌∷◌, ◌++◌, Result, Ok, Err}
+use Rattle.std.specs.Prelude.{◌≡◌, Bool, true, false, List, [], ◌∷◌, ◌++◌, Result, Ok, Err}
 use Rattle.certificate.specs.Legal.{IsLegalRun, all_crossed}
 use Rattle.history.specs.LookBack.{Game}
 use Rattle.history.specs.declared.ruling.RunRule.{RunRule}
 use Rattle.map_tables.specs.declared.place.Place.{Place}
 use Rattle.operating.specs.InTurn.{InTurn}
 use Rattle.operating.specs.Runs.{judged_run, position_now, steps_now}
-use Rattle.operating.specs.Turn.{LineLeads, begun}
+use Rattle.operating.specs.Turn.{LineLeads, begun, is_held}
 use Rattle.operating.specs.declared.operator.Operator.{Operator}
 use Rattle.operating.specs.declared.runs.Ran.{Ran}
 use Rattle.order_grammar.specs.declared.fault.Fault.{Fault}
@@ -23,18 +23,28 @@ abbrev pub walk_if_ran : List Step → Result Ran RunRule → List (List Step)
 walk_if_ran steps (Ok ran) = steps ∷ []
 walk_if_ran steps (Err rule) = []
 
--- the walk of the run that a line orders, if it orders one and is obeyed
-abbrev pub walk_obeyed : Company → InTurn → Result Order Fault → List (List Step)
-walk_obeyed company turn (Ok (order.Run kind run)) =
+-- the walk of the run that is ordered, if one is and it breaks no rule
+abbrev pub walk_ordered : Company → InTurn → Order → List (List Step)
+walk_ordered company turn (order.Run kind run) =
     walk_if_ran (steps_now turn.game.events run) (judged_run turn company kind run)
-walk_obeyed company turn other = []
+walk_ordered company turn other = []
+
+-- there is none where the condition of the order holds it up
+abbrev pub walk_asked : Company → InTurn → Order → Bool → List (List Step)
+walk_asked company turn its true = []
+walk_asked company turn its false = walk_ordered company turn its
+
+-- the walk of the run that this line with this reading orders, if it orders one and is obeyed
+abbrev pub walk_obeyed : Company → InTurn → Numbered → Result Order Fault → List (List Step)
+walk_obeyed company turn line (Ok its) = walk_asked company turn its (is_held turn.game.events line.condition its)
+walk_obeyed company turn line (Err fault) = []
 
 -- lines of a block lead from a turn to new, one after another; to the walks before them those of their obeyed runs
 -- come, which makes all
 abbrev pub LinesRun : Operator → InTurn → List (List Step) → List Numbered → InTurn → List (List Step) → Type 0
 LinesRun by turn before [] new all = (new ≡ turn) × (all ≡ before)
 LinesRun by turn before (line ∷ lines) new all =
-    (next : InTurn) × LineLeads by turn line next × LinesRun by next (walk_obeyed by.company turn line.reading ++ before) lines new all
+    (next : InTurn) × LineLeads by turn line next × LinesRun by next (walk_obeyed by.company turn line line.reading ++ before) lines new all
 
 -- A run that is obeyed, once some lines of the company's turn have been ruled, is legal where the borders are used
 -- that the walks of the runs cross which were obeyed before it in the turn.

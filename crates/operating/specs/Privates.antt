@@ -20,6 +20,7 @@ use Rattle.operating.specs.declared.operator.Operator.{Operator}
 use Rattle.order_grammar.specs.declared.order.Offer.{Offer}
 use Rattle.order_grammar.specs.declared.order.Offer.TheVariants as offer
 use Rattle.order_grammar.specs.declared.order.Order.TheVariants as order
+use Rattle.sheets.specs.Part.{Numbered}
 use Rattle.tables.specs.Roster.{face_of, same_private}
 use Rattle.tables.specs.Rules.{Rule, first_broken}
 use Rattle.tables.specs.Train.{place_of_kind}
@@ -75,13 +76,13 @@ sold_by game company private price other = game
 abbrev pub private_bought : Game → Company → Private → ℕ → Game
 private_bought game company private price = sold_by game company private price (owner_of game.events private)
 
--- after a PRIVATE with this number, where this rule refuses it, if one does
-abbrev pub private_ruled : Operator → InTurn → ℕ → Private → ℕ → Option PrivateRule → InTurn
-private_ruled by turn number private price broken =
-    ruled by turn number (order.BuyOwnedPrivate private price) (option_map refusal.Private broken)
+-- after a PRIVATE in this line, where this rule refuses it, if one does
+abbrev pub private_ruled : Operator → InTurn → Numbered → Private → ℕ → Option PrivateRule → InTurn
+private_ruled by turn line private price broken =
+    ruled by turn line (order.BuyOwnedPrivate private price) (option_map refusal.Private broken)
     (λ (after : InTurn). in_turn (private_bought after.game by.company private price) after.progress)
 
--- after a PRIVATE with this number
-abbrev pub after_private : Operator → InTurn → ℕ → Private → ℕ → InTurn
-after_private by turn number private price =
-    private_ruled by turn number private price (private_judgement turn.game by.company private price)
+-- after a PRIVATE in this line
+abbrev pub after_private : Operator → InTurn → Numbered → Private → ℕ → InTurn
+after_private by turn line private price =
+    private_ruled by turn line private price (private_judgement turn.game by.company private price)

@@ -33,6 +33,7 @@ use Rattle.operating.specs.declared.runs.Runs.{Runs}
 use Rattle.order_grammar.specs.declared.order.Order.{Order}
 use Rattle.reach.specs.Position.{Position}
 use Rattle.reach.specs.declared.walk.Step.{Step}
+use Rattle.sheets.specs.Part.{Numbered}
 use Rattle.tables.specs.Rules.{Rule, first_broken}
 use Rattle.tables.specs.Train.{place_of_kind}
 use Rattle.tables.specs.declared.rolling_stock.Kind.{Kind}
@@ -139,12 +140,12 @@ pub record IsCounted (runs : Runs) (ran : Ran) : Type 0 where
   pub bounded : ran.earned + 160 * unused ran.borders ≤ 160 * unused runs.borders
   pub small : ran.earned ≤ 94640
 
--- after the order of the line with this number, by which a train has run or which broke a rule
-abbrev pub run_ruled : Operator → InTurn → ℕ → Order → Result Ran RunRule → InTurn
-run_ruled by turn number order (Err rule) = told by turn number (Refused (refusal.Run rule) order)
-run_ruled by turn number order (Ok ran) =
-    in_turn (with_event (told by turn number (Obeyed order)).game (event.Runs by.company ran.earned)) (run_done turn.progress ran)
+-- after the order of this line, by which a train has run or which broke a rule
+abbrev pub run_ruled : Operator → InTurn → Numbered → Order → Result Ran RunRule → InTurn
+run_ruled by turn line order (Err rule) = told by turn line (Refused (refusal.Run rule) line.condition order)
+run_ruled by turn line order (Ok ran) =
+    in_turn (with_event (told by turn line (Obeyed line.condition order)).game (event.Runs by.company ran.earned)) (run_done turn.progress ran)
 
--- after an order in the line with this number that a train of a kind runs
-abbrev pub after_run : Operator → InTurn → ℕ → Order → Kind → List Place → InTurn
-after_run by turn number order kind run = run_ruled by turn number order (judged_run turn by.company kind run)
+-- after an order in this line that a train of a kind runs
+abbrev pub after_run : Operator → InTurn → Numbered → Order → Kind → List Place → InTurn
+after_run by turn line order kind run = run_ruled by turn line order (judged_run turn by.company kind run)

@@ -1,5 +1,5 @@
 -- The standing lines of an operating round's sheets, those before the first head: they are ruled seat by seat,
--- in order. DISCARD is ruled by its rule. An OFFER of a train is refused to a seat that is not the seller's president,
+-- in order, each by its condition and then by its rule. DISCARD is ruled by its rule. An OFFER of a train is refused to a seat that is not the seller's president,
 -- and at price 0; an OFFER of a private to a seat that does not own it; no other OFFER is refused. No other order has
 -- a place there.
 use Rattle.std.specs.Prelude.{ℕ, Bool, true, false, List, Option, None, option_map, Result}
@@ -17,7 +17,7 @@ use Rattle.sheets.specs.Part.{Numbered}
 use Rattle.sheets.specs.Taken.{after_all_before}
 use Rattle.tables.specs.declared.round.Round.{Round}
 use Rattle.tables.specs.declared.seat.Seat.{Seat}
-use Rattle.turns.specs.Ruling.{recorded, ruling_of}
+use Rattle.turns.specs.Ruling.{line_ruling, recorded}
 
 -- the orders that may stand before the first head
 abbrev pub has_place_before : Order → Bool
@@ -32,13 +32,13 @@ standing_judgement events seat (order.Discard company kind) =
 standing_judgement events seat (order.Offer sale) = offer_judgement events seat sale
 standing_judgement events seat other = None
 
--- what becomes of a standing line of a seat with this reading
-abbrev pub standing_ruling : List Event → Seat → Result Order Fault → Ruling
-standing_ruling events seat reading = ruling_of has_place_before (standing_judgement events seat) reading
+-- what becomes of a standing line of a seat
+abbrev pub standing_ruling : List Event → Seat → Numbered → Ruling
+standing_ruling events seat line = line_ruling has_place_before (standing_judgement events seat) events line
 
 -- after a standing line of a seat
 abbrev pub after_standing_line : Seat → List Event → Numbered → List Event
-after_standing_line seat events line = recorded seat line.number (standing_ruling events seat line.reading) events
+after_standing_line seat events line = recorded seat line.number (standing_ruling events seat line) events
 
 -- after the standing lines of all sheets for a round, seat by seat
 abbrev pub after_standing : ℕ → List ℕ → Round → List Event → List Event

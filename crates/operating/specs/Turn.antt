@@ -1,21 +1,24 @@
 -- A company's turn. At its first one it places its home token. Then the block that its president's sheet has
--- for it is ruled, line by line, each on the list that the one before left: a line's own fault first, and then
--- an order without a place in a block. The steps of the turn are lay, token, run, pay and trains, and a pointer
--- goes over them: a lay needs the first step and is made once; a token needs one of the first two, and the
+-- for it is ruled, line by line, each on the list that the one before left: a line's own fault first, then an order
+-- without a place in a block, and then the condition of the line, which is asked of that list. Where it is not met
+-- the line is refused, and nothing else happens. The steps of the turn are lay, token, run, pay and trains, and a
+-- pointer goes over them: a lay needs the first step and is made once; a token needs one of the first two, and the
 -- turn is then past both; a run, or that of the best, needs one of the first three, and the turn is then past its
 -- token; to pay or to withhold needs one of the first four, and the turn is then past them. A company whose turn is
--- not past its pay withholds by itself before a TRAIN line is ruled, whatever becomes of that, and when the block
--- ends. It buys a private anywhere in the block, which leaves the pointer. The RAISE lines of the block are ruled
--- last, when the company buys the train that it must, or need not.
-use Rattle.std.specs.Prelude.{◌≡◌, ℕ, if◌then◌else◌, List, [], ◌∷◌, Option, Some, None, option_map, Result, Ok, Err, ℤ}
+-- not past its pay withholds by itself before a TRAIN line is ruled whose condition is met, whatever becomes of that,
+-- and when the block ends. It buys a private anywhere in the block, which leaves the pointer. The RAISE lines of the
+-- block are ruled last, when the company buys the train that it must, or need not.
+use Rattle.std.specs.Prelude.{◌≡◌, ℕ, Bool, true, false, not, ◌&&◌, if◌then◌else◌, List, [], ◌∷◌, Option, Some, None, option_map, Result, Ok, Err, ℤ}
 use Rattle.std.specs.Int.RustNames.{unsigned_abs}
 use Rattle.board.specs.LayRules.{IsLayAnswer}
 use Rattle.board.specs.TokenRules.{IsTokenAnswer}
 use Rattle.board.specs.declared.fault.LayFault.{LayFault}
 use Rattle.board.specs.declared.fault.TokenFault.{TokenFault}
+use Rattle.history.specs.Conditions.{is_met}
 use Rattle.history.specs.LookBack.{Game}
 use Rattle.history.specs.Operating.{lays_of}
 use Rattle.history.specs.Shares.{president_of}
+use Rattle.history.specs.declared.event.Event.{Event}
 use Rattle.history.specs.declared.event.TrainSeller.TheVariants as seller
 use Rattle.history.specs.declared.ruling.LayRule.{LayRule}
 use Rattle.history.specs.declared.ruling.Refusal.TheVariants as refusal
@@ -37,6 +40,7 @@ use Rattle.operating.specs.Runs.{after_run}
 use Rattle.operating.specs.Trains.{train_judgement}
 use Rattle.operating.specs.declared.operator.Operator.{Operator}
 use Rattle.operating.specs.declared.purchase.Purchase.{Purchase}
+use Rattle.order_grammar.specs.declared.condition.Condition.{Condition}
 use Rattle.order_grammar.specs.declared.fault.Fault.{Fault}
 use Rattle.order_grammar.specs.declared.fault.Fault.TheVariants.{OutOfPlace}
 use Rattle.order_grammar.specs.declared.order.Order.{Order}
@@ -50,39 +54,39 @@ use Rattle.tables.specs.declared.roster.Company.{Company}
 use Rattle.tables.specs.declared.round.Round.{Round}
 use Rattle.tables.specs.declared.seat.Seat.{Seat}
 
--- after a lay with this number was obeyed, or refused by this rule
-abbrev pub lay_refused : Operator → InTurn → ℕ → Lay → Option LayRule → InTurn
-lay_refused by turn number lay None = turn
-lay_refused by turn number lay (Some rule) = told by turn number (Refused (refusal.Lay rule) (order.Lay lay))
+-- after a lay in this line was obeyed, or refused by this rule
+abbrev pub lay_refused : Operator → InTurn → Numbered → Lay → Option LayRule → InTurn
+lay_refused by turn line lay None = turn
+lay_refused by turn line lay (Some rule) = told by turn line (Refused (refusal.Lay rule) line.condition (order.Lay lay))
 
-abbrev pub lay_answered : Operator → InTurn → ℕ → Lay → Result ℤ LayFault → InTurn
-lay_answered by turn number lay (Ok cost) =
+abbrev pub lay_answered : Operator → InTurn → Numbered → Lay → Result ℤ LayFault → InTurn
+lay_answered by turn line lay (Ok cost) =
     in_turn
-    (after_lay (told by turn number (Obeyed (order.Lay lay))).game by.company lay (unsigned_abs cost)) (lay_done (lays_of turn.game.events) (asker_of turn.game by.company turn.progress) lay turn.progress)
-lay_answered by turn number lay (Err fault) = lay_refused by turn number lay (rule_of_lay fault)
+    (after_lay (told by turn line (Obeyed line.condition (order.Lay lay))).game by.company lay (unsigned_abs cost)) (lay_done (lays_of turn.game.events) (asker_of turn.game by.company turn.progress) lay turn.progress)
+lay_answered by turn line lay (Err fault) = lay_refused by turn line lay (rule_of_lay fault)
 
--- after a token with this number was obeyed, or refused by this rule
-abbrev pub token_refused : Operator → InTurn → ℕ → Place → Option TokenRule → InTurn
-token_refused by turn number place None = turn
-token_refused by turn number place (Some rule) = told by turn number (Refused (refusal.Token rule) (order.Token place))
+-- after a token in this line was obeyed, or refused by this rule
+abbrev pub token_refused : Operator → InTurn → Numbered → Place → Option TokenRule → InTurn
+token_refused by turn line place None = turn
+token_refused by turn line place (Some rule) = told by turn line (Refused (refusal.Token rule) line.condition (order.Token place))
 
-abbrev pub token_answered : Operator → InTurn → ℕ → Place → Result ℤ TokenFault → InTurn
-token_answered by turn number place (Ok cost) =
+abbrev pub token_answered : Operator → InTurn → Numbered → Place → Result ℤ TokenFault → InTurn
+token_answered by turn line place (Ok cost) =
     in_turn
-    (after_token (told by turn number (Obeyed (order.Token place))).game by.company place (unsigned_abs cost)) (token_done turn.progress)
-token_answered by turn number place (Err fault) = token_refused by turn number place (rule_of_token fault)
+    (after_token (told by turn line (Obeyed line.condition (order.Token place))).game by.company place (unsigned_abs cost)) (token_done turn.progress)
+token_answered by turn line place (Err fault) = token_refused by turn line place (rule_of_token fault)
 
--- a LAY with this number leads to new: the rules of lays give an answer, by what lies
-pub record LayLeads (by : Operator) (turn : InTurn) (number : ℕ) (lay : Lay) (new : InTurn) : Type 0 where
+-- a LAY in this line leads to new: the rules of lays give an answer, by what lies
+pub record LayLeads (by : Operator) (turn : InTurn) (line : Numbered) (lay : Lay) (new : InTurn) : Type 0 where
   pub answer : Result ℤ LayFault
   pub answered : IsLayAnswer (ground_now turn.game.events) (asker_of turn.game by.company turn.progress) lay answer
-  pub after : new ≡ lay_answered by turn number lay answer
+  pub after : new ≡ lay_answered by turn line lay answer
 
--- a TOKEN with this number leads to new
-pub record TokenLeads (by : Operator) (turn : InTurn) (number : ℕ) (place : Place) (new : InTurn) : Type 0 where
+-- a TOKEN in this line leads to new
+pub record TokenLeads (by : Operator) (turn : InTurn) (line : Numbered) (place : Place) (new : InTurn) : Type 0 where
   pub answer : Result ℤ TokenFault
   pub answered : IsTokenAnswer (ground_now turn.game.events) (asker_of turn.game by.company turn.progress) place answer
-  pub after : new ≡ token_answered by turn number place answer
+  pub after : new ≡ token_answered by turn line place answer
 
 -- with what the company withholds by itself, where the turn is not past its pay
 abbrev pub settled : Company → InTurn → InTurn
@@ -97,38 +101,59 @@ purchase_of kind source.BankPool = record { kind = kind; from = seller.BankPool;
 purchase_of kind (source.Company company price) =
     record { kind = kind; from = seller.Company company; trade_in = None; asked = Some price }
 
--- after a TRAIN with this number that orders this purchase, where this rule refuses it, if one does
-abbrev pub train_ruled : Operator → InTurn → ℕ → Order → Purchase → Option TrainRule → InTurn
-train_ruled by turn number order purchase broken =
-    ruled by turn number order (option_map refusal.Train broken)
+-- after a TRAIN in this line that orders this purchase, where this rule refuses it, if one does
+abbrev pub train_ruled : Operator → InTurn → Numbered → Order → Purchase → Option TrainRule → InTurn
+train_ruled by turn line order purchase broken =
+    ruled by turn line order (option_map refusal.Train broken)
     (λ (after : InTurn). in_turn (after_train after.game by.company purchase) after.progress)
 
--- after a TRAIN with this number
-abbrev pub after_buying : Operator → InTurn → ℕ → Kind → TrainSource → InTurn
-after_buying by turn number kind from =
-    train_ruled by turn number (order.BuyTrain kind from) (purchase_of kind from) (train_judgement turn.game by.company (purchase_of kind from))
+-- after a TRAIN in this line
+abbrev pub after_buying : Operator → InTurn → Numbered → Kind → TrainSource → InTurn
+after_buying by turn line kind from =
+    train_ruled by turn line (order.BuyTrain kind from) (purchase_of kind from) (train_judgement turn.game by.company (purchase_of kind from))
 
--- an order of the block with this number leads to new; those that are not named here have no place in a block
-abbrev pub OrderLeads : Operator → InTurn → ℕ → Order → InTurn → Type 0
-OrderLeads by turn number (order.Lay lay) new = LayLeads by turn number lay new
-OrderLeads by turn number (order.Token place) new = TokenLeads by turn number place new
-OrderLeads by turn number (order.Run kind run) new = new ≡ after_run by turn number (order.Run kind run) kind run
-OrderLeads by turn number order.RunBest new = BestLeads by turn number new
-OrderLeads by turn number order.Pay new = new ≡ after_pay by turn number order.Pay
-OrderLeads by turn number order.Withhold new = new ≡ after_withhold by turn number order.Withhold
-OrderLeads by turn number (order.BuyTrain kind from) new = new ≡ after_buying by (settled by.company turn) number kind from
-OrderLeads by turn number (order.BuyOwnedPrivate private price) new = new ≡ after_private by turn number private price
-OrderLeads by turn number (order.Raise company tenths) new = new ≡ turn
-OrderLeads by turn number other new = new ≡ told by turn number (Faulty OutOfPlace)
+-- an order in this line of the block leads to new; those that are not named here have no place in a block
+abbrev pub OrderLeads : Operator → InTurn → Numbered → Order → InTurn → Type 0
+OrderLeads by turn line (order.Lay lay) new = LayLeads by turn line lay new
+OrderLeads by turn line (order.Token place) new = TokenLeads by turn line place new
+OrderLeads by turn line (order.Run kind run) new = new ≡ after_run by turn line (order.Run kind run) kind run
+OrderLeads by turn line order.RunBest new = BestLeads by turn line new
+OrderLeads by turn line order.Pay new = new ≡ after_pay by turn line order.Pay
+OrderLeads by turn line order.Withhold new = new ≡ after_withhold by turn line order.Withhold
+OrderLeads by turn line (order.BuyTrain kind from) new = new ≡ after_buying by (settled by.company turn) line kind from
+OrderLeads by turn line (order.BuyOwnedPrivate private price) new = new ≡ after_private by turn line private price
+OrderLeads by turn line (order.Raise company tenths) new = new ≡ turn
+OrderLeads by turn line other new = new ≡ told by turn line (Faulty OutOfPlace)
 
--- a line of the block with this number and this reading leads to new
-abbrev pub ReadingLeads : Operator → InTurn → ℕ → Result Order Fault → InTurn → Type 0
-ReadingLeads by turn number (Err fault) new = new ≡ told by turn number (Faulty fault)
-ReadingLeads by turn number (Ok order) new = OrderLeads by turn number order new
+-- the orders that are ruled where they stand in the block: a RAISE waits for the end, and others have no place
+abbrev pub is_ruled_there : Order → Bool
+is_ruled_there (order.Lay lay) = true
+is_ruled_there (order.Token place) = true
+is_ruled_there (order.Run kind run) = true
+is_ruled_there order.RunBest = true
+is_ruled_there order.Pay = true
+is_ruled_there order.Withhold = true
+is_ruled_there (order.BuyTrain kind from) = true
+is_ruled_there (order.BuyOwnedPrivate private price) = true
+is_ruled_there other = false
+
+-- an order that is to be ruled there stands under a condition that is not met by these events
+abbrev pub is_held : List Event → Option Condition → Order → Bool
+is_held events condition its = is_ruled_there its && not (is_met events condition)
+
+-- an order in this line of the block leads to new, where its condition holds it up, or does not
+abbrev pub AskedLeads : Operator → InTurn → Numbered → Order → Bool → InTurn → Type 0
+AskedLeads by turn line its true new = new ≡ told by turn line (Refused refusal.Condition line.condition its)
+AskedLeads by turn line its false new = OrderLeads by turn line its new
+
+-- this line of the block with this reading leads to new
+abbrev pub ReadingLeads : Operator → InTurn → Numbered → Result Order Fault → InTurn → Type 0
+ReadingLeads by turn line (Err fault) new = new ≡ told by turn line (Faulty fault)
+ReadingLeads by turn line (Ok its) new = AskedLeads by turn line its (is_held turn.game.events line.condition its) new
 
 -- a line of the block leads to new
 abbrev pub LineLeads : Operator → InTurn → Numbered → InTurn → Type 0
-LineLeads by turn line new = ReadingLeads by turn line.number line.reading new
+LineLeads by turn line new = ReadingLeads by turn line line.reading new
 
 -- lines of the block lead to new, one after another
 abbrev pub LinesLead : Operator → InTurn → List Numbered → InTurn → Type 0

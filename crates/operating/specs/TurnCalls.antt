@@ -1,7 +1,7 @@
 -- The calls that a company's turn makes of a runner: one for each RUN BEST that is obeyed, in order, for the position
--- that lies then and the trains that the company has then. A line that is refused, or orders something else, makes
--- none. Once a call is not answered the turn is broken off; so it is where memory is refused.
-use Rattle.std.specs.Prelude.{◌≡◌, ◌≢◌, ◌⊎◌, ℕ, ℤ, pos, List, [], ◌∷◌, Option, Some, None, Result, Ok, Err}
+-- that lies then and the trains that the company has then. A line that is refused, be it by its condition, or orders
+-- something else, makes none. Once a call is not answered the turn is broken off; so it is where memory is refused.
+use Rattle.std.specs.Prelude.{◌≡◌, ◌≢◌, ◌⊎◌, ℕ, ℤ, pos, Bool, true, false, List, [], ◌∷◌, Option, Some, None, Result, Ok, Err}
 use Rattle.certificate.specs.Set.{IsGreatest}
 use Rattle.certificate.specs.declared.runner.RunnerFault.{RunnerFault}
 use Rattle.certificate.specs.declared.runner.RunnerFault.TheVariants.{Memory}
@@ -14,7 +14,7 @@ use Rattle.operating.specs.Best.{BestRuled, best_earned, best_judgement, trains_
 use Rattle.operating.specs.Calls.{Call, Course, IsFront, Then, Unasked}
 use Rattle.operating.specs.InTurn.{InTurn, told}
 use Rattle.operating.specs.Runs.{position_now}
-use Rattle.operating.specs.Turn.{BlockEnds, IsCompanyTurn, OrderLeads, begun, settled}
+use Rattle.operating.specs.Turn.{AskedLeads, BlockEnds, IsCompanyTurn, OrderLeads, begun, is_held, settled}
 use Rattle.operating.specs.declared.operator.Operator.{Operator}
 use Rattle.order_grammar.specs.declared.fault.Fault.{Fault}
 use Rattle.order_grammar.specs.declared.order.Order.{Order}
@@ -45,31 +45,36 @@ Asks company round events (Ok revenue) calls =
 Asks company round events (Err fault) calls =
     (calls ≡ asked company round events (Err fault) ∷ []) ⊎ ((fault ≡ Memory) × (calls ≡ []))
 
--- a revenue is credited to a company that is ordered to run its best, in the line with this number
-abbrev pub IsCredited : Operator → InTurn → ℕ → ℕ → InTurn → Type 0
-IsCredited by turn number revenue new = new ≡ best_earned by turn number revenue
+-- a revenue is credited to a company that is ordered to run its best, in this line
+abbrev pub IsCredited : Operator → InTurn → Numbered → ℕ → InTurn → Type 0
+IsCredited by turn line revenue new = new ≡ best_earned by turn line revenue
 
--- the course of a RUN BEST with this number, where this rule refuses it, if one does
-abbrev pub BestCalls : Operator → Round → ℕ → Option RunRule → Course InTurn InTurn RunnerFault
-BestCalls by round number (Some rule) turn =
-    Unasked Memory (λ old new. BestRuled by old number (Some rule) new) turn
-BestCalls by round number None turn =
-    Then (Asks by.company round) (Unasked Memory (IsCredited by turn number)) turn.game.events
+-- the course of a RUN BEST in this line, where this rule refuses it, if one does
+abbrev pub BestCalls : Operator → Round → Numbered → Option RunRule → Course InTurn InTurn RunnerFault
+BestCalls by round line (Some rule) turn =
+    Unasked Memory (λ old new. BestRuled by old line (Some rule) new) turn
+BestCalls by round line None turn =
+    Then (Asks by.company round) (Unasked Memory (IsCredited by turn line)) turn.game.events
 
--- that of an order with this number
-abbrev pub OrderCalls : Operator → Round → ℕ → Order → Course InTurn InTurn RunnerFault
-OrderCalls by round number its turn outcome calls =
-    ((its ≡ order.RunBest) × BestCalls by round number (best_judgement turn by.company) turn outcome calls)
-    ⊎ ((its ≢ order.RunBest) × Unasked Memory (λ old new. OrderLeads by old number its new) turn outcome calls)
+-- that of an order in this line
+abbrev pub OrderCalls : Operator → Round → Numbered → Order → Course InTurn InTurn RunnerFault
+OrderCalls by round line its turn outcome calls =
+    ((its ≡ order.RunBest) × BestCalls by round line (best_judgement turn by.company) turn outcome calls)
+    ⊎ ((its ≢ order.RunBest) × Unasked Memory (λ old new. OrderLeads by old line its new) turn outcome calls)
 
--- that of a line with this number and this reading
-abbrev pub ReadingCalls : Operator → Round → ℕ → Result Order Fault → Course InTurn InTurn RunnerFault
-ReadingCalls by round number (Ok order) = OrderCalls by round number order
-ReadingCalls by round number (Err fault) = Unasked Memory (λ turn new. new ≡ told by turn number (Faulty fault))
+-- that of an order in this line, where its condition holds it up, or does not: the runner is not asked where it does
+abbrev pub AskedCalls : Operator → Round → Numbered → Order → Bool → Course InTurn InTurn RunnerFault
+AskedCalls by round line its true = Unasked Memory (λ old new. AskedLeads by old line its true new)
+AskedCalls by round line its false = OrderCalls by round line its
+
+-- that of this line with this reading
+abbrev pub ReadingCalls : Operator → Round → Numbered → Result Order Fault → Course InTurn InTurn RunnerFault
+ReadingCalls by round line (Ok its) turn = AskedCalls by round line its (is_held turn.game.events line.condition its) turn
+ReadingCalls by round line (Err fault) turn = Unasked Memory (λ old new. new ≡ told by old line (Faulty fault)) turn
 
 -- that of a line
 abbrev pub LineCalls : Operator → Round → Numbered → Course InTurn InTurn RunnerFault
-LineCalls by round line = ReadingCalls by round line.number line.reading
+LineCalls by round line = ReadingCalls by round line line.reading
 
 -- that of lines, one after another
 abbrev pub LinesCall : Operator → Round → List Numbered → Course InTurn InTurn RunnerFault

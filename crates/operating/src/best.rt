@@ -12,6 +12,7 @@ ghost use Rattle.operating.specs.InTurn.{in_turn, told};
 ghost use Rattle.operating.specs.Runs.{position_now};
 ghost use Rattle.operating.specs.TurnCalls.{Asks, BestCalls, led_to};
 ghost use Rattle.order_grammar.specs.declared.order.Order.TheVariants as order;
+ghost use Rattle.sheets.specs.Part.{line_read};
 
 use crate::company_turn::CompanyTurn;
 use crate::forced::has_trains;
@@ -22,6 +23,7 @@ use certificate::{Runner, RunnerFault, a_greatest_exists, one_greatest};
 use history::{History, Past, Refusal, RunRule, TrainCount, so_many};
 use order_grammar::Order;
 use reach::Network;
+use sheets::NumberedLine;
 use smallvec::SmallVec;
 use std::alloc::{AllocError, Global};
 use tables::{Amount, Company, Kind, Money};
@@ -34,19 +36,19 @@ const TRAINS_MOST: usize = 4;
 type CompanyTrains = SmallVec<Kind, TRAINS_MOST>;
 
 impl CompanyTurn {
-    /// Rules an order to run the best in a line with this number, and runs it if it is obeyed: the
-    /// company is credited the greatest revenue, which the runner tells. The errors are the
-    /// runner's, and want of memory.
+    /// Rules an order to run the best in this line, and runs it if it is obeyed: the company is
+    /// credited the greatest revenue, which the runner tells. The errors are the runner's, and want of
+    /// memory.
     pub(crate) fn rule_best<R: Runner>(
         &mut self,
-        line: u32,
+        line: &NumberedLine,
         runner: &mut R,
     ) -> Result<(), RunnerFault>
         requires { IsInOrder self.old }
-        ensures turn { OnOk result (BestLeads self.old.by (state self.old) line
+        ensures turn { OnOk result (BestLeads self.old.by (state self.old) (line_read line.now)
             (state self.new)) }
         ensures calls { let turn = state self.old in
-            Makes R.earns runner.old (BestCalls self.old.by self.old.round line
+            Makes R.earns runner.old (BestCalls self.old.by self.old.round (line_read line.now)
             (best_judgement turn self.old.by.company) turn (led_to (state self.new) result))
             runner.new }
         ensures order { OnOk result (GoesOn self.old self.new) }
@@ -61,11 +63,12 @@ impl CompanyTurn {
         Ok(())
     }
 
-    /// Tells that the order of a line with this number to run the best breaks a rule.
-    fn refuse_best(&mut self, line: u32, rule: RunRule) -> Result<(), AllocError>
+    /// Tells that the order of this line to run the best breaks a rule.
+    fn refuse_best(&mut self, line: &NumberedLine, rule: RunRule) -> Result<(), AllocError>
         requires { IsInOrder self.old }
-        ensures told { OnOk result (state self.new ≡ told self.old.by (state self.old) line
-            (Refused (refusal.Run rule) order.RunBest)) }
+        ensures told { OnOk result (state self.new ≡ told self.old.by (state self.old)
+            (line_read line.now)
+            (Refused (refusal.Run rule) (line_read line.now).condition order.RunBest)) }
         ensures order { OnOk result (GoesOn self.old self.new) }
     {
         let (seat, refusal) = (self.by.president, Refusal::Run(rule));
@@ -79,12 +82,12 @@ impl CompanyTurn {
         Ok(())
     }
 
-    /// Tells that the order of a line with this number to run the best is obeyed, and what it earns.
-    fn obey_best(&mut self, line: u32, revenue: Amount) -> Result<(), AllocError>
+    /// Tells that the order of this line to run the best is obeyed, and what it earns.
+    fn obey_best(&mut self, line: &NumberedLine, revenue: Amount) -> Result<(), AllocError>
         requires order { IsInOrder self.old }
         requires small { revenue ≤ 50000 }
         ensures told { OnOk result (state self.new
-            ≡ best_earned self.old.by (state self.old) line revenue) }
+            ≡ best_earned self.old.by (state self.old) (line_read line.now) revenue) }
         ensures order { OnOk result (GoesOn self.old self.new) }
     {
         let by = self.by;

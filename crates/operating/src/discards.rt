@@ -161,7 +161,7 @@ fn kind_ordered(event: &Event, seat: Seat, company: Company) -> Option<Kind>
             ruling,
             ..
         } if *by == seat => match ruling.ruling() {
-            Ruling::Obeyed(order) => discard_in(&order, company),
+            Ruling::Obeyed { order, .. } => discard_in(&order, company),
             _ => None,
         },
         _ => None,

@@ -1,9 +1,10 @@
 //! The purchase that a company must make at the end of its turn.
 ghost use Rattle.std.specs.Prelude.{◌≡◌, ◌≤◌, ◌<◌, ◌↔◌, IfOk, IsTrue, OnOk, false};
+ghost use Rattle.std.specs.Option.{option_copied};
 ghost use Rattle.history.specs.Sound.{IsSound};
 ghost use Rattle.history.specs.Trains.{so_many as as_many};
 ghost use Rattle.operating.specs.CompanyTurn.{IsInOrder};
-ghost use Rattle.operating.specs.Forced.{EndLeads, IsDue, after_forced, after_raise, after_raise_line, after_raises, cheapest as the_cheapest, concluded, falls_short as president_falls_short, first_on_sale as the_first_on_sale, first_to_sell as the_first_to_sell, has_trains as has_any_trains, lack_of, next_to_sell as the_next_to_sell, one_tenth, plain as plain_purchase, raise_rule as rule_of_raise, sale_rule as rule_of_sale, sold_further, sold_singly, with_aid, with_one_sold};
+ghost use Rattle.operating.specs.Forced.{EndLeads, IsDue, after_forced, after_raise, after_raise_line, after_raises, cheapest as the_cheapest, concluded, falls_short as president_falls_short, first_on_sale as the_first_on_sale, first_to_sell as the_first_to_sell, has_trains as has_any_trains, lack_of, may_spell_raise, needed_rule as rule_of_needed, next_to_sell as the_next_to_sell, one_tenth, plain as plain_purchase, raise_rule as rule_of_raise, sale_rule as rule_of_sale, sold_further, sold_singly, with_aid, with_one_sold};
 ghost use Rattle.operating.specs.Ground.{IsFront};
 ghost use Rattle.operating.specs.Trains.{IsSmallPurchase};
 ghost use Rattle.sheets.specs.Part.{line_read, line_unread};
@@ -17,7 +18,7 @@ use board::Board;
 use certificate::can_run;
 use certs::{Sale, may_sell, sell_block};
 use history::{Event, History, Party, Past, Refusal, StockRule, TrainSeller, so_many};
-use order_grammar::{Order, begins_with_word, read_where_spelt};
+use order_grammar::{Condition, Order, begins_with_word, read_in_version_where_spelt};
 use sheets::{NumberedLine, PartsLeft, UnreadLine};
 use std::alloc::{AllocError, Global};
 use tables::{Amount, Company, Kind, Money};
@@ -106,7 +107,7 @@ fn rule_raises(
     Ok(())
 }
 
-/// Rules a line of a block if it is a RAISE. One that begins with another word is not read.
+/// Rules a line of a block if it is a RAISE. It is read only where its first word may begin one.
 fn rule_if_raise(
     history: &mut History,
     by: Operator,
@@ -118,14 +119,21 @@ fn rule_if_raise(
     requires sound { IsSound history.old }
     ensures seats { OnOk result (history.new.seats ≡ history.old.seats) }
     ensures after { OnOk result (history.new ≡ after_raise_line due by history.old
-        (line_unread line.entry).number (line_unread line.entry).reading) }
+        (line_unread line.entry) (line_unread line.entry).reading) }
     ensures sound { OnOk result (IsSound history.new) }
 {
-    read_where_spelt();
-    if !begins_with_word(line.text, b"RAISE") {
+    read_in_version_where_spelt();
+    if !may_be_raise(line.text) {
         return Ok(());
     }
     rule_order_if_raise(history, by, &line.read(), due)
+}
+
+/// Whether the first word of a line is one with which a RAISE begins: that word, or IF.
+fn may_be_raise(line: &[u8]) -> bool
+    ensures { result ≡ may_spell_raise line.now }
+{
+    begins_with_word(line, b"RAISE") || begins_with_word(line, b"IF")
 }
 
 /// Rules a line that was read if it is a RAISE.
@@ -140,24 +148,24 @@ fn rule_order_if_raise(
     requires sound { IsSound history.old }
     ensures seats { OnOk result (history.new.seats ≡ history.old.seats) }
     ensures after { OnOk result (history.new ≡ after_raise_line due by history.old
-        (line_read line.now).number (line_read line.now).reading) }
+        (line_read line.now) (line_read line.now).reading) }
     ensures sound { OnOk result (IsSound history.new) }
 {
     match line.order() {
         Ok(Order::Raise { company, tenths }) => {
             let (company, tenths) = (*company, *tenths);
-            rule_raise(history, by, line.number, Sale { company, tenths }, due)?;
+            rule_raise(history, by, line, Sale { company, tenths }, due)?;
             Ok(())
         }
         _ => Ok(()),
     }
 }
 
-/// Rules a RAISE in the line with this number, and sells if it is obeyed.
+/// Rules a RAISE in this line, and sells if it is obeyed.
 fn rule_raise(
     history: &mut History,
     by: Operator,
-    line: u32,
+    line: &NumberedLine,
     sale: Sale,
     due: bool,
 ) -> Result<(), AllocError>
@@ -165,11 +173,12 @@ fn rule_raise(
     requires at_table { by.president.0 < history.old.seats }
     requires sound { IsSound history.old }
     ensures seats { OnOk result (history.new.seats ≡ history.old.seats) }
-    ensures after { OnOk result (history.new ≡ after_raise due by history.old line sale) }
+    ensures after { OnOk result (history.new
+        ≡ after_raise due by history.old (line_read line.now) sale) }
     ensures sound { OnOk result (IsSound history.new) }
 {
     let (company, tenths) = (sale.company, sale.tenths);
-    let broken = raise_rule(history, by, sale, due).map(Refusal::Stock);
+    let broken = raise_rule(history, by, line.condition.as_ref(), sale, due);
     if record(
         history,
         by.president,
@@ -182,15 +191,40 @@ fn rule_raise(
     Ok(())
 }
 
-/// The first rule that a RAISE breaks, where a purchase is due, or is not.
+/// The first rule that a RAISE under this condition breaks, where a purchase is due, or is not. One
+/// that is not needed is refused whatever its condition.
 #[tactic(auto, unfolding(crate::specs::Forced::raise_rule))]
-fn raise_rule(history: &History, by: Operator, sale: Sale, due: bool) -> Option<StockRule>
-    ensures { result ≡ rule_of_raise due by history.now sale }
+fn raise_rule(
+    history: &History,
+    by: Operator,
+    condition: Option<&Condition>,
+    sale: Sale,
+    due: bool,
+) -> Option<Refusal>
+    ensures { result
+        ≡ rule_of_raise due by history.now (option_copied condition.entry) sale }
 {
     if due && falls_short(history, by) {
-        sale_rule(history, by, sale)
+        needed_rule(history, by, condition, sale)
     } else {
-        Some(StockRule::NotOfStock)
+        Some(Refusal::Stock(StockRule::NotOfStock))
+    }
+}
+
+/// The first rule that a RAISE under this condition breaks, where it is needed.
+fn needed_rule(
+    history: &History,
+    by: Operator,
+    condition: Option<&Condition>,
+    sale: Sale,
+) -> Option<Refusal>
+    ensures { result
+        ≡ rule_of_needed by history.now (option_copied condition.entry) sale }
+{
+    if history.is_met(condition) {
+        sale_rule(history, by, sale).map(Refusal::Stock)
+    } else {
+        Some(Refusal::Condition)
     }
 }
 

@@ -2,6 +2,7 @@ ghost use Rattle.std.specs.Prelude.{◌≡◌, IfOk, IsErr, OnOk, Some};
 ghost use Rattle.operating.specs.CompanyTurn.{GoesOn, IsInOrder, state};
 ghost use Rattle.operating.specs.Judgement.{rule_of_lay};
 ghost use Rattle.operating.specs.Turn.{LayLeads};
+ghost use Rattle.sheets.specs.Part.{line_read};
 
 use crate::asker::asker;
 use crate::company_turn::CompanyTurn;
@@ -11,15 +12,16 @@ use board::LayFault;
 use history::{Event, LayRule, Refusal};
 use map_tables::Lay;
 use order_grammar::Order;
+use sheets::NumberedLine;
 use std::alloc::AllocError;
 use turns::record;
 
 impl CompanyTurn {
-    /// Rules a LAY of a line with this number, and lays the tile if it is obeyed.
-    pub(crate) fn rule_lay(&mut self, line: u32, lay: Lay) -> Result<(), AllocError>
+    /// Rules a LAY of this line, and lays the tile if it is obeyed.
+    pub(crate) fn rule_lay(&mut self, line: &NumberedLine, lay: Lay) -> Result<(), AllocError>
         requires { IsInOrder self.old }
-        ensures turn { OnOk result (LayLeads self.old.by (state self.old) line lay
-            (state self.new)) }
+        ensures turn { OnOk result (LayLeads self.old.by (state self.old) (line_read line.now)
+            lay (state self.new)) }
         ensures order { OnOk result (GoesOn self.old self.new) }
     {
         catch_up(&mut self.board, &self.history)?;

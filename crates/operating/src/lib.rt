@@ -2,9 +2,10 @@
 //!
 //! At its first turn a company places its home token. Then the block is ruled that its president
 //! has for it: it may lay a tile, place a token, run its trains, by orders of their own or at their
-//! best, pay out or withhold what they earned, and buy trains and privates. The steps of the turn
-//! stand in order, and a pointer goes over them; an order for a step that is past is refused. A
-//! company that has neither paid nor withheld does so by itself before it buys trains, and at the
+//! best, pay out or withhold what they earned, and buy trains and privates. A line may stand under
+//! a condition, which is asked as the line is taken up, before all that it brings. The steps of the
+//! turn stand in order, and a pointer goes over them; an order for a step that is past is refused.
+//! A company that has neither paid nor withheld does so by itself before it buys trains, and at the
 //! end; its token on the chart then moves left. Last, a company without a train that could run one
 //! must buy one, for which its president may have to pay and to sell what he holds; if he cannot
 //! pay, he is bankrupt.

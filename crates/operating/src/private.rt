@@ -7,26 +7,28 @@ ghost use Rattle.operating.specs.Privates.{after_private, private_bought, privat
 ghost use Rattle.operating.specs.Privates.{is_given as is_sale_given, is_given_by as is_sale_given_by};
 ghost use Rattle.operating.specs.Privates.{is_too_dear as too_dear, is_too_early as too_early};
 ghost use Rattle.operating.specs.Privates.{is_wrong_price as wrong_price};
+ghost use Rattle.sheets.specs.Part.{line_read};
 
 use crate::company_turn::CompanyTurn;
 use history::{Event, History, Holder, Party, Past, PrivateRule, Refusal};
 use order_grammar::{Offer, Order};
+use sheets::NumberedLine;
 use std::alloc::AllocError;
 use tables::{Amount, Company, Kind, Money, Private, Seat, face};
 use turns::record;
 
 impl CompanyTurn {
-    /// Rules a PRIVATE of a line with this number, and buys the private if it is obeyed. The turn has
-    /// come as far as before.
+    /// Rules a PRIVATE of this line, and buys the private if it is obeyed. The turn has come as far as
+    /// before.
     pub(crate) fn rule_private(
         &mut self,
-        line: u32,
+        line: &NumberedLine,
         private: Private,
         price: Amount,
     ) -> Result<(), AllocError>
         requires { IsInOrder self.old }
         ensures turn { OnOk result (state self.new
-            ≡ after_private self.old.by (state self.old) line private price) }
+            ≡ after_private self.old.by (state self.old) (line_read line.now) private price) }
         ensures order { OnOk result (GoesOn self.old self.new) }
     {
         let by = self.by;

@@ -2,6 +2,7 @@ ghost use Rattle.std.specs.Prelude.{◌≡◌, IfOk, IsErr, OnOk, Some};
 ghost use Rattle.operating.specs.CompanyTurn.{GoesOn, IsInOrder, state};
 ghost use Rattle.operating.specs.Judgement.{rule_of_token};
 ghost use Rattle.operating.specs.Turn.{TokenLeads};
+ghost use Rattle.sheets.specs.Part.{line_read};
 
 use crate::asker::asker;
 use crate::company_turn::CompanyTurn;
@@ -11,15 +12,16 @@ use board::TokenFault;
 use history::{Event, Refusal, TokenRule};
 use map_tables::Place;
 use order_grammar::Order;
+use sheets::NumberedLine;
 use std::alloc::AllocError;
 use turns::record;
 
 impl CompanyTurn {
-    /// Rules a TOKEN of a line with this number, and places the token if it is obeyed.
-    pub(crate) fn rule_token(&mut self, line: u32, place: Place) -> Result<(), AllocError>
+    /// Rules a TOKEN of this line, and places the token if it is obeyed.
+    pub(crate) fn rule_token(&mut self, line: &NumberedLine, place: Place) -> Result<(), AllocError>
         requires { IsInOrder self.old }
-        ensures turn { OnOk result (TokenLeads self.old.by (state self.old) line place
-            (state self.new)) }
+        ensures turn { OnOk result (TokenLeads self.old.by (state self.old) (line_read line.now)
+            place (state self.new)) }
         ensures order { OnOk result (GoesOn self.old self.new) }
     {
         catch_up(&mut self.board, &self.history)?;

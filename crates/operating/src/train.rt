@@ -2,6 +2,7 @@ ghost use Rattle.std.specs.Prelude.{◌≡◌, OnOk};
 ghost use Rattle.operating.specs.CompanyTurn.{GoesOn, IsInOrder, state};
 ghost use Rattle.operating.specs.Trains.{IsSmallPurchase};
 ghost use Rattle.order_grammar.specs.declared.order.Order.TheVariants.{BuyTrain};
+ghost use Rattle.sheets.specs.Part.{line_read};
 ghost use Rattle.turns.specs.Small.{IsSmallOrder};
 ghost use Rattle.operating.specs.Turn.{after_buying, purchase_of as the_purchase_of};
 
@@ -10,23 +11,23 @@ use crate::phases::buy_train;
 use crate::purchase::{Purchase, judge_purchase};
 use history::{Refusal, TrainSeller};
 use order_grammar::{Order, TrainSource};
+use sheets::NumberedLine;
 use std::alloc::AllocError;
 use tables::Kind;
 use turns::record;
 
 impl CompanyTurn {
-    /// Rules a TRAIN of a line with this number, in a turn that is past its pay, and buys the train
-    /// if it is obeyed.
+    /// Rules a TRAIN of this line, in a turn that is past its pay, and buys the train if it is obeyed.
     pub(crate) fn rule_train(
         &mut self,
-        line: u32,
+        line: &NumberedLine,
         kind: Kind,
         from: TrainSource,
     ) -> Result<(), AllocError>
         requires small { IsSmallOrder (BuyTrain kind from) }
         requires order { IsInOrder self.old }
         ensures turn { OnOk result (state self.new
-            ≡ after_buying self.old.by (state self.old) line kind from) }
+            ≡ after_buying self.old.by (state self.old) (line_read line.now) kind from) }
         ensures order { OnOk result (GoesOn self.old self.new) }
         ensures board { OnOk result (self.new.board ≡ self.old.board) }
     {

@@ -1,21 +1,23 @@
 ghost use Rattle.std.specs.Prelude.{◌≡◌, ◌≢◌, ◌≤◌, IfErr, OnOk, true};
+ghost use Rattle.std.specs.Option.{option_copied};
 ghost use Rattle.certificate.specs.declared.runner.RunnerFault.TheVariants.{Refused};
 ghost use Rattle.history.specs.declared.ruling.Ruling.TheVariants.{Faulty};
 ghost use Rattle.operating.specs.Calls.{Makes};
 ghost use Rattle.operating.specs.CompanyTurn.{GoesOn, IsInOrder, state};
 ghost use Rattle.operating.specs.InTurn.{told};
-ghost use Rattle.operating.specs.Turn.{LineLeads, LinesLead, OrderLeads};
-ghost use Rattle.operating.specs.TurnCalls.{LineCalls, LinesCall, OrderCalls, led_to};
+ghost use Rattle.operating.specs.Turn.{AskedLeads, LineLeads, LinesLead, OrderLeads, is_held as is_order_held, is_ruled_there as is_order_ruled_there};
+ghost use Rattle.operating.specs.TurnCalls.{AskedCalls, LineCalls, LinesCall, OrderCalls, led_to};
 ghost use Rattle.order_grammar.specs.declared.order.Order.TheVariants.{RunBest};
 ghost use Rattle.sheets.specs.Part.{line_read};
 ghost use Rattle.turns.specs.Small.{AreSmall, IsSmallOrder, IsSmallReading};
 
 use crate::company_turn::CompanyTurn;
 use certificate::{Runner, RunnerFault};
-use order_grammar::{Fault, Order};
+use history::{History, Refusal};
+use order_grammar::{Condition, Fault, Order};
 use sheets::{NumberedLine, PartsLeft};
 use std::alloc::AllocError;
-use turns::record_fault;
+use turns::{record, record_fault};
 
 impl CompanyTurn {
     /// Rules the lines of the company's orders.
@@ -58,36 +60,77 @@ impl CompanyTurn {
         ensures refuses { IfErr result (λ fault. fault ≡ Refused → R.may_refuse ≡ true) }
     {
         match line.order() {
-            Ok(order) => self.rule_order(line.number, order, runner),
-            Err(fault) => Ok(self.rule_faulty(line.number, fault)?),
+            Ok(order) => self.rule_asked(line, order, runner),
+            Err(fault) => Ok(self.rule_faulty(line, fault)?),
         }
     }
 
-    /// Rules a line with this number that has a fault of its own.
-    fn rule_faulty(&mut self, line: u32, fault: Fault) -> Result<(), AllocError>
-        requires { IsInOrder self.old }
-        ensures turn { OnOk result (state self.new
-            ≡ told self.old.by (state self.old) line (Faulty fault)) }
-        ensures order { OnOk result (GoesOn self.old self.new) }
-    {
-        record_fault(&mut self.history, self.by.president, line, fault)
-    }
-
-    /// Rules an order in a line with this number, and does it if it is obeyed. The runner is asked
-    /// for the best runs alone.
-    fn rule_order<R: Runner>(
+    /// Rules an order in this line. One that is to be ruled where it stands is first asked for its
+    /// condition: where that is not met it is refused, and nothing else happens.
+    fn rule_asked<R: Runner>(
         &mut self,
-        line: u32,
+        line: &NumberedLine,
         order: &Order,
         runner: &mut R,
     ) -> Result<(), RunnerFault>
         requires few { self.old.history.seats ≤ 6 }
         requires small { IsSmallOrder order.now }
         requires order { IsInOrder self.old }
-        ensures turn { OnOk result (OrderLeads self.old.by (state self.old) line order.now
+        ensures turn { OnOk result (AskedLeads self.old.by (state self.old) (line_read line.now)
+            order.now
+            (is_order_held self.old.history.events (line_read line.now).condition order.now)
             (state self.new)) }
-        ensures calls { Makes R.earns runner.old (OrderCalls self.old.by self.old.round line
-            order.now (state self.old) (led_to (state self.new) result)) runner.new }
+        ensures calls { Makes R.earns runner.old (AskedCalls self.old.by self.old.round
+            (line_read line.now) order.now
+            (is_order_held self.old.history.events (line_read line.now).condition order.now)
+            (state self.old) (led_to (state self.new) result)) runner.new }
+        ensures order { OnOk result (GoesOn self.old self.new) }
+        ensures refuses { IfErr result (λ fault. fault ≡ Refused → R.may_refuse ≡ true) }
+    {
+        if is_held(&self.history, line.condition.as_ref(), order) {
+            return Ok(self.refuse_held(line, order)?);
+        }
+        self.rule_order(line, order, runner)
+    }
+
+    /// Records that the order in this line is refused because its condition is not met.
+    fn refuse_held(&mut self, line: &NumberedLine, order: &Order) -> Result<(), AllocError>
+        requires { IsInOrder self.old }
+        ensures turn { OnOk result (AskedLeads self.old.by (state self.old) (line_read line.now)
+            order.now true (state self.new)) }
+        ensures order { OnOk result (GoesOn self.old self.new) }
+    {
+        let refusal = Some(Refusal::Condition);
+        record(&mut self.history, self.by.president, line, order, refusal)?;
+        Ok(())
+    }
+
+    /// Rules this line, which has a fault of its own.
+    fn rule_faulty(&mut self, line: &NumberedLine, fault: Fault) -> Result<(), AllocError>
+        requires { IsInOrder self.old }
+        ensures turn { OnOk result (state self.new
+            ≡ told self.old.by (state self.old) (line_read line.now) (Faulty fault)) }
+        ensures order { OnOk result (GoesOn self.old self.new) }
+    {
+        record_fault(&mut self.history, self.by.president, line.number, fault)
+    }
+
+    /// Rules an order in this line, which its condition does not hold up, and does it if it is obeyed.
+    /// The runner is asked for the best runs alone.
+    fn rule_order<R: Runner>(
+        &mut self,
+        line: &NumberedLine,
+        order: &Order,
+        runner: &mut R,
+    ) -> Result<(), RunnerFault>
+        requires few { self.old.history.seats ≤ 6 }
+        requires small { IsSmallOrder order.now }
+        requires order { IsInOrder self.old }
+        ensures turn { OnOk result (OrderLeads self.old.by (state self.old) (line_read line.now)
+            order.now (state self.new)) }
+        ensures calls { Makes R.earns runner.old (OrderCalls self.old.by self.old.round
+            (line_read line.now) order.now (state self.old) (led_to (state self.new) result))
+            runner.new }
         ensures order { OnOk result (GoesOn self.old self.new) }
         ensures refuses { IfErr result (λ fault. fault ≡ Refused → R.may_refuse ≡ true) }
     {
@@ -99,13 +142,13 @@ impl CompanyTurn {
 
     /// Rules an order other than RUN BEST. A RAISE is ruled at the end of the turn. An order that is
     /// not named here has no place.
-    fn rule_other(&mut self, line: u32, order: &Order) -> Result<(), AllocError>
+    fn rule_other(&mut self, line: &NumberedLine, order: &Order) -> Result<(), AllocError>
         requires few { self.old.history.seats ≤ 6 }
         requires small { IsSmallOrder order.now }
         requires order { IsInOrder self.old }
         requires other { order.now ≢ RunBest }
-        ensures turn { OnOk result (OrderLeads self.old.by (state self.old) line order.now
-            (state self.new)) }
+        ensures turn { OnOk result (OrderLeads self.old.by (state self.old) (line_read line.now)
+            order.now (state self.new)) }
         ensures order { OnOk result (GoesOn self.old self.new) }
     {
         match order {
@@ -126,4 +169,31 @@ impl CompanyTurn {
             _ => self.rule_faulty(line, Fault::OutOfPlace),
         }
     }
+}
+
+/// Whether an order that is to be ruled where it stands in a block has a condition that is not met. A
+/// RAISE is asked for its condition at the end of the turn, and an order without a place never.
+fn is_held(history: &History, condition: Option<&Condition>, order: &Order) -> bool
+    ensures { result
+        ≡ is_order_held history.now.events (option_copied condition.entry) order.now }
+{
+    is_ruled_there(order) && !history.is_met(condition)
+}
+
+/// Whether an order is ruled where it stands in a block: a RAISE waits for the end of the turn, and
+/// others have no place.
+fn is_ruled_there(order: &Order) -> bool
+    ensures { result ≡ is_order_ruled_there order.now }
+{
+    matches!(
+        order,
+        Order::Lay(_)
+            | Order::Token(_)
+            | Order::Run { .. }
+            | Order::RunBest
+            | Order::Pay
+            | Order::Withhold
+            | Order::BuyTrain { .. }
+            | Order::BuyOwnedPrivate { .. }
+    )
 }

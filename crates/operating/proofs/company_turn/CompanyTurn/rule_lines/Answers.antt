@@ -25,7 +25,7 @@ loop-line-preserved g c =
     let on = c.in_ok-rule_line.ensures.order in
     let leads : LineLeads begun.by (state old) line (state new) = subst (λ (by : Operator). LineLeads by (state old) line (state new)) before.by c.in_ok-rule_line.ensures.turn in
     record {
-      seats = line_seats begun.by (state old) line.number line.reading (state new) leads ∙ before.seats;
+      seats = line_seats begun.by (state old) line line.reading (state new) leads ∙ before.seats;
       by = on.by ∙ before.by;
       turn = λ end rest. before.turn end (subst (λ (lines : List Numbered). LinesLead begun.by (state old) lines end) (sym are) (state new, leads, rest));
       calls = λ outcome after made. before.calls outcome after
@@ -34,7 +34,7 @@ loop-line-preserved g c =
           (subst (λ (by : Operator). Makes g.R.Runner.earns c.loop-line.runner (LineCalls by old.round line (state old) (Ok (state new))) c.rule_line.new.runner) before.by c.in_ok-rule_line.ensures.calls)) made);
       round = on.round ∙ before.round;
       small = (subst AreSmall are before.small).1;
-      order = after_line old new line.number line.reading c.in_ok-rule_line.ensures.turn on;
+      order = after_line old new line line.reading c.in_ok-rule_line.ensures.turn on;
     }
 
 pub rule_line-requires-clause-small : goal.rule_line-requires-clause-small
