@@ -18,6 +18,7 @@ mod groups;
 mod input;
 mod laws;
 mod migration;
+mod migration_laws;
 mod output;
 mod parting;
 mod program;
@@ -30,6 +31,9 @@ pub use fault::{Fault, status, word};
 pub use groups::read_groups;
 pub use laws::{certificates_are_read_again, joined_is_parted, written_certificates_are_accepted};
 pub use migration::migrate;
+pub use migration_laws::{
+    file_goes_over_once, file_grows_no_longer, file_is_refused_alike, file_says_the_same,
+};
 pub use parting::{CERTIFICATES_MOST, Parted, part};
 pub use program::run;
 pub use verification::verify;
