@@ -19,3 +19,6 @@ mod MigratedLines
 mod LinesInTwo
 mod BodyLemmas
 mod MigrationLemmas
+mod HeaderLemmas
+mod SheetsInTwo
+mod GoneOver

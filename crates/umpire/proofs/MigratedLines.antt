@@ -85,7 +85,7 @@ first_of_text line end lines clear (inr (inl is)) =
 first_of_text line end lines clear (inr (inr (none, nothing, some))) =
     rw (none, nothing, append-nil line, append-nil line) (cut_last [] line clear ∙ is_last line some)
 
-plain : List EndedLine → List (List ℕ)
+unfoldable pub plain : List EndedLine → List (List ℕ)
 plain lines = map (λ (ended : EndedLine). ended.line) lines
 
 lines_of_ended : (lines : List EndedLine) → AreEnded lines → lines_of (text_of_ended lines) ≡ plain lines
@@ -95,7 +95,7 @@ lines_of_ended (ended ∷ lines) are =
     first_of_text ended.line ended.end lines are.0.clear are.0.ends ∙ ap (λ ls. ended.line ∷ ls) (lines_of_ended lines are.1)
 
 -- the lines of a text, without their ends
-plain_lines : (begun text : List ℕ) → plain (ended_lines_from begun text) ≡ lines_from begun text
+pub plain_lines : (begun text : List ℕ) → plain (ended_lines_from begun text) ≡ lines_from begun text
 unfolding plain
 plain_lines [] [] = refl
 plain_lines (a ∷ begun) [] = refl

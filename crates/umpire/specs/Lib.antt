@@ -14,3 +14,4 @@ pub mod ReadAgain
 pub mod Migrated
 pub mod Gathered
 pub mod Migration
+pub mod MigrationLaws

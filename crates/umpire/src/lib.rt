@@ -18,6 +18,7 @@ mod groups;
 mod input;
 mod laws;
 mod migration;
+mod migration_laws;
 mod output;
 mod parting;
 mod program;
@@ -33,6 +34,9 @@ pub use laws::{
     written_certificates_are_accepted,
 };
 pub use migration::migrate;
+pub use migration_laws::{
+    file_goes_over_once, file_grows_no_longer, file_is_refused_alike, file_says_the_same,
+};
 pub use parting::{CERTIFICATES_MOST, Parted, part};
 pub use program::run;
 pub use verification::verify;

@@ -1,0 +1,35 @@
+-- Laws of going over to version 2.
+use Rattle.std.specs.Prelude.{◌≡◌, ◌↔◌, ℕ, ◌≤◌, List, length, Err}
+use Rattle.order_grammar.specs.declared.condition.Version.TheVariants.{Two}
+use Rattle.sheets.specs.File.{IsAccepted, content_of, players_of, unread_of, version_of}
+use Rattle.sheets.specs.Laws.{SameParts}
+use Rattle.sheets.specs.Limits.{file_most}
+use Rattle.sheets.specs.declared.fault.FileFault.{FileFault}
+use Rattle.umpire.specs.Migrated.{migrated}
+
+-- what a file goes over to stays as it is from then on
+abbrev pub GoesOverOnce : Type 0
+GoesOverOnce = (file : List ℕ) → migrated (migrated file) ≡ migrated file
+
+-- it has no more bytes than the file
+abbrev pub GrowsNoLonger : Type 0
+GrowsNoLonger = (file : List ℕ) → length (migrated file) ≤ length file
+
+-- a file of no more bytes than a file may have is refused by a fault exactly where what it goes over to is refused by that
+abbrev pub RefusedAlike : Type 0
+RefusedAlike =
+    (file : List ℕ) (fault : FileFault) → length file ≤ file_most →
+    (content_of (migrated file) ≡ Err fault) ↔ (content_of file ≡ Err fault)
+
+-- what a file goes over to is a file of version 2 that says the same: its players, its unread lines and the parts of its
+-- sheets
+pub record SaysTheSame (file : List ℕ) : Type 0 where
+  pub accepted : IsAccepted (migrated file)
+  pub version : version_of (migrated file) ≡ Two
+  pub players : players_of (migrated file) ≡ players_of file
+  pub unread : unread_of (migrated file) ≡ unread_of file
+  pub parts : SameParts (migrated file) file
+
+-- a file that is not refused does so
+abbrev pub AcceptedSaysTheSame : Type 0
+AcceptedSaysTheSame = (file : List ℕ) → IsAccepted file → SaysTheSame file

@@ -1,0 +1,25 @@
+//! Laws of going over to version 2, each the contract of a function that does nothing.
+ghost use Rattle.umpire.specs.MigrationLaws.{AcceptedSaysTheSame, GoesOverOnce, GrowsNoLonger, RefusedAlike};
+
+/// A file that has gone over to version 2 stays as it is where it goes over again.
+pub fn file_goes_over_once()
+    ensures { GoesOverOnce }
+{}
+
+/// What a file goes over to has no more bytes than the file: the header line has at least eleven, and
+/// `X` is no longer than any line that begins with IF.
+pub fn file_grows_no_longer()
+    ensures { GrowsNoLonger }
+{}
+
+/// A file of at most `FILE_MOST` bytes is refused by a fault exactly where what it goes over to is. (A
+/// longer one is refused, and what it goes over to may be short enough.)
+pub fn file_is_refused_alike()
+    ensures { RefusedAlike }
+{}
+
+/// A file that is not refused goes over to a file of version 2 with the same players, the same unread
+/// lines, and sheets of the same parts.
+pub fn file_says_the_same()
+    ensures { AcceptedSaysTheSame }
+{}
