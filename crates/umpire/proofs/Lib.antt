@@ -21,3 +21,4 @@ mod MigrationLemmas
 mod HeaderLemmas
 mod SheetsInTwo
 mod GoneOver
+mod PrintableLemmas
