@@ -22,3 +22,4 @@ mod MigrationLemmas
 mod HeaderLemmas
 mod SheetsInTwo
 mod GoneOver
+mod PrintableLemmas

@@ -91,7 +91,7 @@ sheet_goes players (line ∷ lines) post =
     rw (sheet_goes players lines post, here) (either_goes (sheet_in players lines post) (lines_begun post (block lines) (begins players line)))
 
 -- a line is read in version 2 as the line that it stands for in version 1
-if_unknown : (words : List (List ℕ)) → same_word (first_of_words words) (codes "IF") ≡ true → words_reading order_forms words ≡ Err UnknownWord
+pub if_unknown : (words : List (List ℕ)) → same_word (first_of_words words) (codes "IF") ≡ true → words_reading order_forms words ≡ Err UnknownWord
 if_unknown [] e = absurd (cc)
 if_unknown (first ∷ rest) e = rw (same_word-is first (codes "IF") e) refl
 

@@ -1,6 +1,9 @@
 -- How far a file has gone over to version 2.
-use Rattle.std.specs.Prelude.{◌≡◌, ℕ, false, List, ◌∷◌, ◌++◌, Option}
+use Rattle.std.specs.Prelude.{◌≡◌, ℕ, Bool, false, ◌&&◌, nat_le, List, ◌∷◌, ◌++◌, length, Option}
+use Rattle.std.specs.List.{list_all}
 use Rattle.std.specs.Io.KnownBytes.{Appends}
+use Rattle.order_grammar.specs.Limits.{line_most}
+use Rattle.order_grammar.specs.Words.{before_comment, is_printable}
 use Rattle.sheets.specs.Text.{is_blank, lines_of}
 use Rattle.umpire.specs.Migrated.{file_in_two}
 
@@ -16,3 +19,8 @@ pub record IsFromHeader (file rest : List ℕ) : Type 0 where
   pub whole : file ≡ front ++ rest
   pub stays : file_in_two file ≡ front ++ file_in_two rest
   pub counts : (line : List ℕ) (lines : List (List ℕ)) → lines_of rest ≡ line ∷ lines → is_blank line ≡ false
+
+-- a line is not too long, and its bytes before the comment are printable: it has no fault that comes before those of its
+-- words
+abbrev pub is_clean : List ℕ → Bool
+is_clean line = nat_le (length line) line_most && list_all is_printable (before_comment line)

@@ -1,9 +1,11 @@
+ghost use Rattle.order_grammar.specs.Words.{before_comment, is_printable};
 ghost use Rattle.sheets.specs.File.{Fails, IsAccepted, content_of, version_of};
 ghost use Rattle.sheets.specs.Text.{is_blank};
 ghost use Rattle.std.specs.Io.KnownBytes.{Appends};
+ghost use Rattle.std.specs.List.{list_all};
 ghost use Rattle.std.specs.Prelude.{◌≡◌, ◌≤◌, ◌++◌, false, drop, length, IfErr, MatchResult, OnErr, OnOk, Some};
 ghost use Rattle.umpire.specs.Failure.{AppendsFront, TakesWithin};
-ghost use Rattle.umpire.specs.Gathered.{Gathers, IsFromHeader};
+ghost use Rattle.umpire.specs.Gathered.{Gathers, IsFromHeader, is_clean};
 ghost use Rattle.umpire.specs.Migrated.{body_in_two, file_in_two, is_if_line};
 ghost use Rattle.umpire.specs.Migration.{IsMigrated, StopsMigration};
 ghost use Rattle.umpire.specs.Run.{IsWriteFault};
@@ -194,10 +196,40 @@ fn behind<'a>(text: &'a [u8], line: &[u8]) -> &'a [u8]
     &text[line.len()..]
 }
 
-/// Whether the first word of a line is IF, and it has no other fault in version 1 than that.
-#[tactic(auto, unfolding(crate::specs::Migrated::is_if_line))]
+/// Whether the first word of a line is IF, and it has no other fault in version 1 than that: it is not
+/// too long, and its bytes before the comment are printable.
+#[tactic(auto, using(crate::proofs::PrintableLemmas::if_by_bytes))]
 fn is_if_line(line: &[u8]) -> bool
     ensures { result ≡ is_if_line line.now }
 {
-    begins_with_word(line, b"IF") && matches!(read_line(line), Err(LineFault::UnknownWord))
+    begins_with_word(line, b"IF") && is_clean(line)
+}
+
+/// Whether a line has neither of the faults that come before those of its words.
+fn is_clean(line: &[u8]) -> bool
+    ensures { result ≡ is_clean line.now }
+{
+    line.len() <= LINE_MOST && is_printable_line(line)
+}
+
+/// Whether each byte of a line before its comment is printable.
+fn is_printable_line(line: &[u8]) -> bool
+    ensures { result ≡ list_all is_printable (before_comment line.now) }
+{
+    for byte in line {
+        if *byte == b'#' {
+            return true;
+        }
+        if !is_printable(*byte) {
+            return false;
+        }
+    }
+    true
+}
+
+/// Whether a byte may stand before a comment.
+fn is_printable(byte: u8) -> bool
+    ensures { result ≡ is_printable byte }
+{
+    (0x20..=0x7E).contains(&byte)
 }
