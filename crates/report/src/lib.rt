@@ -3,7 +3,8 @@
 //! in no sheet, and why play stopped, with what each player is worth where the game is over.
 //!
 //! `refusal_text` and `report` write it, `header_text`, `next_text` and `end_text` (or `unread_text`
-//! and `outcome_text`, which are its two halves) write it part by part as the game is played, and `round_text` writes one round of it: byte for byte the text that
+//! and `outcome_text`, its two halves) write it part by part as the game is played, and `round_text`
+//! writes one round of it: byte for byte the text that
 //! `specs/Report` and `specs/Parts` define, or the error that memory is refused. Each file has a
 //! report and no second.
 //!
