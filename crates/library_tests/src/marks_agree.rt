@@ -2,7 +2,7 @@
 
 use crate::best_agrees::{BOARDS, lays_of, tokens_of};
 use crate::boards::{PRR, first, laid};
-use crate::choice_tree::{Node, Tree, bound, children, root, tree_of};
+use crate::choice_tree::tree_marks;
 use crate::four_stops::FourStops;
 use best_run::best;
 use board::Board;
@@ -20,33 +20,6 @@ const LISTS: [&[Kind]; 5] = [
     &[Kind::Two, Kind::Three],
     &[Kind::Two, Kind::Two],
 ];
-
-/// The most steps and trains of a way down a tree.
-const DEEPEST: usize = 1_000;
-
-/// Adds the marks of a node: 0 where its bound is at most the revenue, and else 1 and those of its children.
-fn add_marks<N: Network>(
-    alloc: Global,
-    network: &N,
-    tree: &Tree,
-    revenue: Amount,
-    node: &Node,
-    deepest: usize,
-    marks: &mut Vec<bool>,
-) -> Result<(), AllocError> {
-    if deepest == 0 {
-        return Ok(());
-    }
-    if bound(alloc, network, tree, node)? <= revenue {
-        marks.push(false)?;
-        return Ok(());
-    }
-    marks.push(true)?;
-    for child in &children(alloc, network, tree, node)? {
-        add_marks(alloc, network, tree, revenue, child, deepest - 1, marks)?;
-    }
-    Ok(())
-}
 
 /// Some bits, one after the other.
 fn listed(alloc: Global, bits: &Bits) -> Result<Vec<bool>, AllocError> {
@@ -70,17 +43,7 @@ fn marks_agree<N: Network>(
     revenue: Amount,
 ) -> Result<bool, AllocError> {
     let bits = write_marks(alloc, network, company, trains, revenue)?;
-    let tree = tree_of(alloc, network, company, trains)?;
-    let mut marks = Vec::new(alloc);
-    add_marks(
-        alloc,
-        network,
-        &tree,
-        revenue,
-        &root(alloc),
-        DEEPEST,
-        &mut marks,
-    )?;
+    let marks = tree_marks(alloc, network, company, trains, revenue)?;
     let written = listed(alloc, &bits)?;
     Ok(written.as_slice() == marks.as_slice())
 }

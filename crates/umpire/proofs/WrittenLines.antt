@@ -6,7 +6,7 @@ use Rattle.std.specs.Fmt.{decimal}
 use Rattle.std.specs.List.{AllByRecursion, flat_map, list_all}
 use Rattle.std.proofs.lemmas.Bool.{and_from, and_parts, leb-true}
 use Rattle.std.proofs.lemmas.Bool.Decides.{nat_tests}
-use Rattle.std.proofs.lemmas.Fmt.{decimal_by_steps}
+use Rattle.std.proofs.lemmas.Fmt.{decimal_by_steps, decimal_digit}
 use Rattle.std.proofs.lemmas.List.{append-nil, length-append, length-take-le, take_all}
 use Rattle.std.proofs.lemmas.List.Concat.{flat_map-cons}
 use Rattle.std.proofs.lemmas.List.Folds.{list_all-append}
@@ -155,8 +155,8 @@ printable_spaced (word ∷ words) all =
 -- how long these are
 short_stop : (stop : Option StopNumber) → length (stop_text stop) ≤ 2
 short_stop None = omega arith
-short_stop (Some First) = omega arith
-short_stop (Some Second) = omega arith
+short_stop (Some First) = omega (arith, ap length (decimal_digit 0 (omega arith)))
+short_stop (Some Second) = omega (arith, ap length (decimal_digit 1 (omega arith)))
 
 short_place : (place : Place) → length (text_of_place place) ≤ 5
 short_place place =
