@@ -22,3 +22,4 @@ mod HeaderLemmas
 mod SheetsInTwo
 mod GoneOver
 mod PrintableLemmas
+mod MigrationExamples

@@ -149,6 +149,10 @@ lines_go : (sheet : Option (List (List ℕ))) → unwrap_or (gone sheet) [] ≡ 
 lines_go None = refl
 lines_go (Some lines) = refl
 
+still_posted : (sheet : Option (List (List ℕ))) → is_some (gone sheet) ≡ is_some sheet
+still_posted None = refl
+still_posted (Some lines) = refl
+
 -- what the file says, with the lines behind the players gone over
 abbrev pub with_body : Result Content FileFault → Result Content FileFault
 with_body (Ok content) = Ok (record { players = content.players; body = map line_in_two content.body })
@@ -217,6 +221,9 @@ module _ (file : List ℕ) (named : named_version (written_lines file) ≡ Some 
   unfolding sheet_of
   sheet_goes_over seat round =
       rw (players_alike, body_goes_over) (sheet_goes (players_of file) (body_of file) (post_at seat round))
+
+  pub posted_alike : (seat : ℕ) (round : Round) → is_some (sheet_of (file_in_two file) seat round) ≡ is_some (sheet_of file seat round)
+  posted_alike seat round = ap is_some (sheet_goes_over seat round) ∙ still_posted (sheet_of file seat round)
 
   pub all_unread_alike : unread_of (file_in_two file) ≡ unread_of file
   unfolding unread_of

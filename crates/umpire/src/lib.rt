@@ -33,6 +33,7 @@ pub use laws::{certificates_are_read_again, joined_is_parted, written_certificat
 pub use migration::migrate;
 pub use migration_laws::{
     file_goes_over_once, file_grows_no_longer, file_is_refused_alike, file_says_the_same,
+    migration_changes_no_report,
 };
 pub use parting::{CERTIFICATES_MOST, Parted, part};
 pub use program::run;
