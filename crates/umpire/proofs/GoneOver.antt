@@ -1,5 +1,5 @@
 -- The laws of going over to version 2.
-use Rattle.std.proofs.Common.{◌≡◌, ℕ, ◌≤◌, Bool, true, false, cond, List, [], ◌++◌, Option, Some, None, Result, Ok, Err, length, refl, sym, ap, subst, ◌∙◌, arith, inl, inr}
+use Rattle.std.proofs.Common.{◌≡◌, ℕ, ◌≤◌, cond, List, ◌++◌, Option, Some, None, Result, Ok, Err, length, refl, sym, subst, arith, inl, inr}
 use Rattle.std.specs.Prelude.{◌↔◌, nat_lt, is_some, IsOk}
 use Rattle.std.proofs.lemmas.Bool.{cases_Bool, ltb-false}
 use Rattle.order_grammar.specs.declared.condition.Version.{Version}
@@ -15,7 +15,7 @@ use Rattle.sheets.specs.declared.fault.FileFault.{FileFault}
 use Rattle.sheets.specs.declared.fault.FileFault.TheVariants.{TooLong}
 use Rattle.umpire.specs.Migrated.{file_in_two, migrated, migrated_from, named_version}
 use Rattle.tables.specs.declared.round.Round.{Round}
-use Rattle.umpire.specs.MigrationLaws.{AcceptedSaysTheSame, GoesOverOnce, GrowsNoLonger, IsReportOfBoth, MigrationChangesNoReport, RefusedAlike, SaysTheSame}
+use Rattle.umpire.specs.MigrationLaws.{AcceptedSaysTheSame, GoesOverOnce, GrowsNoLonger, MigrationChangesNoReport, RefusedAlike, SaysTheSame}
 use Rattle.umpire.proofs.HeaderLemmas.{file_fits}
 use Rattle.umpire.proofs.MigrationLemmas.{accepted_names}
 use Rattle.umpire.proofs.SheetsInTwo.{all_unread_alike, content_goes, goes_to_two, parts_alike, players_alike, posted_alike, version_named, with_body}

@@ -1,11 +1,11 @@
 -- A file that has gone over to version 2 has the same players, unread lines and parts of sheets.
-use Rattle.std.proofs.Common.{◌≡◌, ℕ, ◌+◌, ◌≤◌, inl, inr, Bool, true, false, cond, List, [], ◌∷◌, ◌++◌, Option, Some, None, Result, Ok, Err, codes, length, take, refl, sym, ap, subst, ◌∙◌, arith, map}
+use Rattle.std.proofs.Common.{◌≡◌, ℕ, ◌+◌, ◌≤◌, inl, inr, Bool, true, false, cond, List, [], ◌∷◌, Option, Some, None, Result, Ok, Err, codes, length, take, refl, sym, ap, ◌∙◌, arith, map}
 use Rattle.std.specs.Prelude.{not, ◌&&◌, nat_lt, is_some, option_map, unwrap_or}
 use Rattle.std.specs.List.{list_all, prefix_len}
 use Rattle.std.specs.Option.{option_or}
 use Rattle.std.proofs.lemmas.Bool.{cases_Bool}
 use Rattle.std.proofs.lemmas.List.{take-map}
-use Rattle.order_grammar.specs.Condition.{Ordered, unconditional}
+use Rattle.order_grammar.specs.Condition.{unconditional}
 use Rattle.order_grammar.specs.Form.{order_forms, words_reading}
 use Rattle.order_grammar.specs.Limits.{line_most}
 use Rattle.order_grammar.specs.Line.{reading_of}
@@ -18,13 +18,13 @@ use Rattle.order_grammar.specs.declared.fault.Fault.TheVariants.{UnknownWord}
 use Rattle.order_grammar.specs.declared.order.Order.{Order}
 use Rattle.order_grammar.proofs.KeywordLemmas.{same_word-is}
 use Rattle.order_grammar.proofs.VersionLemmas.{one_is_as_it_was, same_without_if}
-use Rattle.sheets.specs.File.{Content, begins, block, body_content, body_in, body_of, content_of, good_lines, header_version, is_sheet_line, lines_begun, lines_content, players_content, players_in, players_named, players_of, post_at, post_begun, same_post, sheet_in, sheet_of, unread_fault, unread_in, unread_of, version_in, version_of}
+use Rattle.sheets.specs.File.{Content, begins, block, body_content, body_in, body_of, content_of, good_lines, header_version, is_sheet_line, lines_begun, lines_content, players_content, players_in, players_named, players_of, post_at, same_post, sheet_in, sheet_of, unread_fault, unread_in, unread_of, version_in, version_of}
 use Rattle.sheets.specs.Laws.{SameParts}
 use Rattle.sheets.specs.Limits.{file_most, sheets_most}
-use Rattle.sheets.specs.Part.{Parts, numbered, opens_part, parts_after, parts_for, with_line}
+use Rattle.sheets.specs.Part.{opens_part, parts_after}
 use Rattle.sheets.specs.Text.{written_lines}
 use Rattle.sheets.specs.declared.fault.FileFault.{FileFault}
-use Rattle.sheets.specs.declared.fault.FileFault.TheVariants.{Header, TooManySheets}
+use Rattle.sheets.specs.declared.fault.FileFault.TheVariants.{TooManySheets}
 use Rattle.sheets.specs.declared.post.Post.{Post}
 use Rattle.sheets.proofs.ContentLemmas.{short_enough}
 use Rattle.tables.specs.declared.round.Round.{Round}
