@@ -6,9 +6,9 @@ use Rattle.std.proofs.Math.Seq.{drop-append_seam, take-append_seam}
 use Rattle.sheets.specs.Text.{is_blank, lines_of}
 use Rattle.umpire.specs.Failure.{AppendsFront}
 use Rattle.umpire.specs.Gathered.{Gathers, IsFromHeader}
-use Rattle.umpire.specs.Migrated.{body_in_two, file_in_two, header_of_two, is_if_line, line_in_two}
+use Rattle.umpire.specs.Migrated.{body_in_two, file_in_two, header_of_two, is_if_line}
 use Rattle.umpire.proofs.EndedLines.{FirstEnded, body_by_line, file_by_blank, file_by_header, line_goes, line_stays, no_body_in_two, nothing_in_two}
-use Rattle.umpire.proofs.GatherLemmas.{front_behind, front_so_far, gathers_both, gathers_none}
+use Rattle.umpire.proofs.GatherLemmas.{front_behind, gathers_both, gathers_none}
 
 -- the front of a text, by what is left of it
 front_of : (front rest : List ℕ) → take (length (front ++ rest) - length rest) (front ++ rest) ≡ front

@@ -1,9 +1,9 @@
 -- The first line of a text with its end, and what stands for it in version 2.
 use Rattle.std.proofs.Common.{◌≡◌, ℕ, ◌<◌, ◌⊎◌, inl, inr, Bool, true, false, cond, List, [], ◌∷◌, ◌++◌, length, refl, sym, ap, ◌∙◌, append_assoc, arith, eqb, map}
 use Rattle.std.proofs.lemmas.Bool.{cases_Bool, eqb-true}
-use Rattle.std.proofs.lemmas.List.{append-nil, length-append}
+use Rattle.std.proofs.lemmas.List.{length-append}
 use Rattle.sheets.specs.Text.{is_blank, lines_from, lines_of, rest_of, without_return}
-use Rattle.umpire.specs.Migrated.{EndedLine, body_in_two, ended_by_newline, ended_in_two, ended_lines, ended_lines_from, ended_text, file_in_two, header_of_two, is_if_line, line_in_two, lines_in_two, return_of, text_of_ended}
+use Rattle.umpire.specs.Migrated.{body_in_two, ended_in_two, ended_lines, ended_lines_from, file_in_two, header_of_two, is_if_line, line_in_two, lines_in_two, return_of, text_of_ended}
 
 -- the bytes before an LF are the line and the CR behind it
 one_byte : (byte : ℕ) (is : Bool) → eqb byte 13 ≡ is → cond is [] (byte ∷ []) ++ cond is (13 ∷ []) [] ≡ byte ∷ []

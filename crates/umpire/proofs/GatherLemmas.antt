@@ -1,12 +1,12 @@
 -- Text that is gathered before it is written.
-use Rattle.std.proofs.Common.{◌≡◌, ℕ, List, [], ◌∷◌, ◌++◌, length, take, ap, refl, sym, ◌∙◌, append_assoc}
+use Rattle.std.proofs.Common.{◌≡◌, ℕ, List, [], ◌++◌, ap, refl, sym, ◌∙◌, append_assoc}
 use Rattle.std.specs.Prelude.{Option}
 use Rattle.std.specs.Io.KnownBytes.{Appends}
 use Rattle.std.proofs.KnownBytes.{Appends-nil, Appends-trans}
 use Rattle.std.proofs.lemmas.List.{append-nil}
 use Rattle.umpire.specs.Failure.{AppendsFront}
 use Rattle.umpire.specs.Gathered.{Gathers}
-use Rattle.umpire.proofs.Parts.{LeavesRest, front_of_part, none_of, whole_front}
+use Rattle.umpire.proofs.Parts.{LeavesRest, front_of_part, none_of}
 
 -- nothing has come
 pub gathers_none : (old : Option (List ℕ)) (before : List ℕ) → Gathers old old before before []

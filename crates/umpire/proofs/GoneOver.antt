@@ -1,20 +1,24 @@
 -- The laws of going over to version 2.
-use Rattle.std.proofs.Common.{◌≡◌, ℕ, ◌≤◌, Bool, true, false, cond, List, [], Option, Some, None, Result, Ok, Err, length, refl, sym, ap, subst, ◌∙◌, arith, inl, inr}
-use Rattle.std.specs.Prelude.{◌↔◌, nat_lt, IsOk}
+use Rattle.std.proofs.Common.{◌≡◌, ℕ, ◌≤◌, cond, List, ◌++◌, Option, Some, None, Result, Ok, Err, length, refl, sym, subst, arith, inl, inr}
+use Rattle.std.specs.Prelude.{◌↔◌, nat_lt, is_some, IsOk}
 use Rattle.std.proofs.lemmas.Bool.{cases_Bool, ltb-false}
 use Rattle.order_grammar.specs.declared.condition.Version.{Version}
 use Rattle.order_grammar.specs.declared.condition.Version.TheVariants.{One, Two}
-use Rattle.sheets.specs.File.{Content, IsAccepted, content_of, lines_content, players_of, unread_of, version_of}
+use Rattle.report.specs.Laws.{DiffersInVersion, SamePartsSameReport}
+use Rattle.report.specs.Report.{IsReport, game_line}
+use Rattle.rounds.specs.ReadAlike.{AreReadAlike}
+use Rattle.sheets.specs.File.{Content, IsAccepted, content_of, lines_content, players_of, sheet_of, unread_of, version_of}
 use Rattle.sheets.specs.Laws.{SameParts}
 use Rattle.sheets.specs.Limits.{file_most}
 use Rattle.sheets.specs.Text.{written_lines}
 use Rattle.sheets.specs.declared.fault.FileFault.{FileFault}
 use Rattle.sheets.specs.declared.fault.FileFault.TheVariants.{TooLong}
 use Rattle.umpire.specs.Migrated.{file_in_two, migrated, migrated_from, named_version}
-use Rattle.umpire.specs.MigrationLaws.{AcceptedSaysTheSame, GoesOverOnce, GrowsNoLonger, RefusedAlike, SaysTheSame}
+use Rattle.tables.specs.declared.round.Round.{Round}
+use Rattle.umpire.specs.MigrationLaws.{AcceptedSaysTheSame, GoesOverOnce, GrowsNoLonger, MigrationChangesNoReport, RefusedAlike, SaysTheSame}
 use Rattle.umpire.proofs.HeaderLemmas.{file_fits}
 use Rattle.umpire.proofs.MigrationLemmas.{accepted_names}
-use Rattle.umpire.proofs.SheetsInTwo.{all_unread_alike, content_goes, goes_to_two, parts_alike, players_alike, version_named, with_body}
+use Rattle.umpire.proofs.SheetsInTwo.{all_unread_alike, content_goes, goes_to_two, parts_alike, players_alike, posted_alike, version_named, with_body}
 
 -- what a file goes over to, by the version that it names
 goes : (file : List ℕ) (named : Option Version) → named_version (written_lines file) ≡ named → migrated file ≡ migrated_from named file
@@ -78,6 +82,7 @@ record SaysItAgain (file new : List ℕ) : Type 0 where
   version : version_of new ≡ Two
   players : players_of new ≡ players_of file
   unread : unread_of new ≡ unread_of file
+  posted : (seat : ℕ) (round : Round) → is_some (sheet_of new seat round) ≡ is_some (sheet_of file seat round)
   parts : SameParts new file
 
 says_from : (file : List ℕ) (version : Version) → IsAccepted file → named_version (written_lines file) ≡ Some version → SaysItAgain file (migrated_from (Some version) file)
@@ -88,6 +93,7 @@ says_from file One accepted e =
       version = version_named (file_in_two file) Two (goes_to_two file e);
       players = players_alike file e short;
       unread = all_unread_alike file e short;
+      posted = posted_alike file e short;
       parts = parts_alike file e short;
     }
 says_from file Two accepted e =
@@ -96,6 +102,7 @@ says_from file Two accepted e =
       version = version_named file Two e;
       players = refl;
       unread = refl;
+      posted = λ seat round. refl;
       parts = λ round seat. refl;
     }
 
@@ -109,5 +116,25 @@ says_the_same file accepted =
       version = again.version;
       players = again.players;
       unread = again.unread;
+      posted = again.posted;
       parts = again.parts;
+    }
+
+-- so its report is that of the file
+read_alike : (file : List ℕ) → SaysTheSame file → AreReadAlike file (migrated file)
+read_alike file says =
+    record {
+      players = sym says.players;
+      sheets = λ round. record { posted = λ seat. sym (says.posted seat round); parts = λ seat. sym (says.parts round seat) };
+    }
+
+pub changes_no_report : SamePartsSameReport → MigrationChangesNoReport
+changes_no_report same_report file accepted text report =
+    let says = says_the_same file accepted in
+    let differs : DiffersInVersion file (migrated file) text =
+    same_report file (migrated file) accepted says.accepted (read_alike file says) (sym says.unread) text report in
+    record {
+      rest = differs.rest;
+      is = differs.is;
+      report = subst (λ (version : Version). IsReport (migrated file) (game_line version ++ differs.rest)) says.version differs.report;
     }

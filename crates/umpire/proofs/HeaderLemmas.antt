@@ -20,7 +20,7 @@ use Rattle.order_grammar.proofs.PartLemmas.{rows_of_orders}
 use Rattle.order_grammar.proofs.SpellsLemmas.{read_spells}
 use Rattle.sheets.specs.File.{header_version, version_numbered}
 use Rattle.sheets.specs.Text.{is_blank, without_return, written, written_lines}
-use Rattle.umpire.specs.Migrated.{EndedLine, ended_by_newline, ended_in_two, ended_lines, ended_lines_from, ended_text, file_in_two, header_of_two, is_if_line, line_in_two, lines_in_two, named_version, return_of, text_of_ended}
+use Rattle.umpire.specs.Migrated.{EndedLine, ended_in_two, ended_lines, ended_lines_from, file_in_two, header_of_two, is_if_line, line_in_two, lines_in_two, named_version, return_of, text_of_ended}
 use Rattle.umpire.proofs.EndedLines.{both_parts}
 use Rattle.umpire.proofs.MigratedLines.{plain, plain_lines}
 

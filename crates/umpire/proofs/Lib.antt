@@ -23,3 +23,4 @@ mod HeaderLemmas
 mod SheetsInTwo
 mod GoneOver
 mod PrintableLemmas
+mod MigrationExamples

@@ -1,11 +1,11 @@
 -- The lines of a file that has gone over to version 2.
-use Rattle.std.proofs.Common.{◌≡◌, ℕ, ◌<◌, ◌≤◌, ◌+◌, ◌⊎◌, inl, inr, Bool, true, false, cond, List, [], ◌∷◌, ◌++◌, length, refl, sym, ap, ◌∙◌, append_assoc, arith, eqb, map}
-use Rattle.std.specs.Prelude.{not, codes}
+use Rattle.std.proofs.Common.{◌≡◌, ℕ, ◌<◌, ◌⊎◌, inl, inr, true, false, cond, List, [], ◌∷◌, ◌++◌, length, refl, sym, ap, ◌∙◌, append_assoc, arith, eqb, map}
+use Rattle.std.specs.Prelude.{codes}
 use Rattle.std.specs.List.{AllByRecursion}
-use Rattle.std.proofs.lemmas.Bool.{cases_Bool, eqb-true}
-use Rattle.std.proofs.lemmas.List.{append-nil, length-append}
-use Rattle.sheets.specs.Text.{is_blank, last_line, lines_from, lines_of, without_return, written, written_lines}
-use Rattle.umpire.specs.Migrated.{EndedLine, ended_by_newline, ended_in_two, ended_lines, ended_lines_from, ended_text, file_in_two, header_of_two, is_if_line, line_in_two, lines_in_two, return_of, text_of_ended}
+use Rattle.std.proofs.lemmas.Bool.{cases_Bool}
+use Rattle.std.proofs.lemmas.List.{append-nil}
+use Rattle.sheets.specs.Text.{is_blank, last_line, lines_from, lines_of, without_return}
+use Rattle.umpire.specs.Migrated.{EndedLine, ended_by_newline, ended_in_two, ended_lines, ended_lines_from, file_in_two, header_of_two, is_if_line, line_in_two, lines_in_two, return_of, text_of_ended}
 use Rattle.sheets.proofs.TextLemmas.{without_return-last}
 use Rattle.umpire.proofs.EndedLines.{IsReturn, both_parts, return_is}
 

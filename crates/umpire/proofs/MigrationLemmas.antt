@@ -15,7 +15,7 @@ use Rattle.sheets.specs.declared.fault.FileFault.TheVariants.{Header, TooLong}
 use Rattle.umpire.specs.Failure.{AppendsFront}
 use Rattle.umpire.specs.Migrated.{file_in_two, migrated, named_version}
 use Rattle.umpire.specs.Migration.{IsMigrated, IsMigratedShort, StopsMigration, answer_to, migration_of}
-use Rattle.umpire.specs.Run.{IsFileOf, IsReadFault, IsRefused, IsWriteFault, as_read}
+use Rattle.umpire.specs.Run.{IsReadFault, IsWriteFault, as_read}
 use Rattle.umpire.specs.declared.fault.Fault.{Fault}
 use Rattle.umpire.specs.declared.fault.Fault.TheVariants.{Read, Write, Memory, File, Certificate}
 use Rattle.umpire.proofs.Files.{Says, refused, says}

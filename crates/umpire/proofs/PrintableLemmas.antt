@@ -1,13 +1,11 @@
 -- Which lines that begin with IF have no other fault in version 1.
-use Rattle.std.proofs.Common.{◌≡◌, ℕ, ◌+◌, ◌<◌, ◌≤◌, Bool, true, false, cond, inl, inr, List, [], ◌∷◌, Err, codes, length, get_or, drop, refl, sym, ap, ◌∙◌, arith, eqb, add-one}
+use Rattle.std.proofs.Common.{◌≡◌, ℕ, true, false, inl, inr, List, codes, length, refl, ap}
 use Rattle.std.specs.Prelude.{◌&&◌, nat_le, nat_lt}
 use Rattle.std.specs.List.{list_all}
 use Rattle.std.proofs.lemmas.Bool.{cases_Bool, le-leb, lt-leb, ltb-false, ltb-true}
-use Rattle.std.proofs.Math.Seq.{drop-cons}
 use Rattle.order_grammar.specs.Limits.{line_most}
 use Rattle.order_grammar.specs.Line.{reading_of}
 use Rattle.order_grammar.specs.Words.{before_comment, first_of_words, is_printable, same_word, words_of}
-use Rattle.order_grammar.specs.declared.fault.Fault.TheVariants.{UnknownWord}
 use Rattle.umpire.specs.Gathered.{is_clean}
 use Rattle.umpire.specs.Migrated.{is_if_line, is_unknown}
 use Rattle.umpire.proofs.SheetsInTwo.{if_unknown}

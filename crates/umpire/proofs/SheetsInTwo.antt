@@ -1,11 +1,11 @@
 -- A file that has gone over to version 2 has the same players, unread lines and parts of sheets.
-use Rattle.std.proofs.Common.{◌≡◌, ℕ, ◌+◌, ◌≤◌, inl, inr, Bool, true, false, cond, List, [], ◌∷◌, ◌++◌, Option, Some, None, Result, Ok, Err, codes, length, take, refl, sym, ap, subst, ◌∙◌, arith, map}
+use Rattle.std.proofs.Common.{◌≡◌, ℕ, ◌+◌, ◌≤◌, inl, inr, Bool, true, false, cond, List, [], ◌∷◌, Option, Some, None, Result, Ok, Err, codes, length, take, refl, sym, ap, ◌∙◌, arith, map}
 use Rattle.std.specs.Prelude.{not, ◌&&◌, nat_lt, is_some, option_map, unwrap_or}
 use Rattle.std.specs.List.{list_all, prefix_len}
 use Rattle.std.specs.Option.{option_or}
 use Rattle.std.proofs.lemmas.Bool.{cases_Bool}
 use Rattle.std.proofs.lemmas.List.{take-map}
-use Rattle.order_grammar.specs.Condition.{Ordered, unconditional}
+use Rattle.order_grammar.specs.Condition.{unconditional}
 use Rattle.order_grammar.specs.Form.{order_forms, words_reading}
 use Rattle.order_grammar.specs.Limits.{line_most}
 use Rattle.order_grammar.specs.Line.{reading_of}
@@ -18,13 +18,13 @@ use Rattle.order_grammar.specs.declared.fault.Fault.TheVariants.{UnknownWord}
 use Rattle.order_grammar.specs.declared.order.Order.{Order}
 use Rattle.order_grammar.proofs.KeywordLemmas.{same_word-is}
 use Rattle.order_grammar.proofs.VersionLemmas.{one_is_as_it_was, same_without_if}
-use Rattle.sheets.specs.File.{Content, begins, block, body_content, body_in, body_of, content_of, good_lines, header_version, is_sheet_line, lines_begun, lines_content, players_content, players_in, players_named, players_of, post_at, post_begun, same_post, sheet_in, sheet_of, unread_fault, unread_in, unread_of, version_in, version_of}
+use Rattle.sheets.specs.File.{Content, begins, block, body_content, body_in, body_of, content_of, good_lines, header_version, is_sheet_line, lines_begun, lines_content, players_content, players_in, players_named, players_of, post_at, same_post, sheet_in, sheet_of, unread_fault, unread_in, unread_of, version_in, version_of}
 use Rattle.sheets.specs.Laws.{SameParts}
 use Rattle.sheets.specs.Limits.{file_most, sheets_most}
-use Rattle.sheets.specs.Part.{Parts, numbered, opens_part, parts_after, parts_for, with_line}
+use Rattle.sheets.specs.Part.{opens_part, parts_after}
 use Rattle.sheets.specs.Text.{written_lines}
 use Rattle.sheets.specs.declared.fault.FileFault.{FileFault}
-use Rattle.sheets.specs.declared.fault.FileFault.TheVariants.{Header, TooManySheets}
+use Rattle.sheets.specs.declared.fault.FileFault.TheVariants.{TooManySheets}
 use Rattle.sheets.specs.declared.post.Post.{Post}
 use Rattle.sheets.proofs.ContentLemmas.{short_enough}
 use Rattle.tables.specs.declared.round.Round.{Round}
@@ -149,6 +149,10 @@ lines_go : (sheet : Option (List (List ℕ))) → unwrap_or (gone sheet) [] ≡ 
 lines_go None = refl
 lines_go (Some lines) = refl
 
+still_posted : (sheet : Option (List (List ℕ))) → is_some (gone sheet) ≡ is_some sheet
+still_posted None = refl
+still_posted (Some lines) = refl
+
 -- what the file says, with the lines behind the players gone over
 abbrev pub with_body : Result Content FileFault → Result Content FileFault
 with_body (Ok content) = Ok (record { players = content.players; body = map line_in_two content.body })
@@ -217,6 +221,9 @@ module _ (file : List ℕ) (named : named_version (written_lines file) ≡ Some 
   unfolding sheet_of
   sheet_goes_over seat round =
       rw (players_alike, body_goes_over) (sheet_goes (players_of file) (body_of file) (post_at seat round))
+
+  pub posted_alike : (seat : ℕ) (round : Round) → is_some (sheet_of (file_in_two file) seat round) ≡ is_some (sheet_of file seat round)
+  posted_alike seat round = ap is_some (sheet_goes_over seat round) ∙ still_posted (sheet_of file seat round)
 
   pub all_unread_alike : unread_of (file_in_two file) ≡ unread_of file
   unfolding unread_of

@@ -36,6 +36,7 @@ pub use laws::{
 pub use migration::migrate;
 pub use migration_laws::{
     file_goes_over_once, file_grows_no_longer, file_is_refused_alike, file_says_the_same,
+    migration_changes_no_report,
 };
 pub use parting::{CERTIFICATES_MOST, Parted, part};
 pub use program::run;

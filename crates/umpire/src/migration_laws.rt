@@ -1,5 +1,7 @@
 //! Laws of going over to version 2, each the contract of a function that does nothing.
-ghost use Rattle.umpire.specs.MigrationLaws.{AcceptedSaysTheSame, GoesOverOnce, GrowsNoLonger, RefusedAlike};
+ghost use Rattle.umpire.specs.MigrationLaws.{AcceptedSaysTheSame, GoesOverOnce, GrowsNoLonger, MigrationChangesNoReport, RefusedAlike};
+
+use report::same_parts_same_report;
 
 /// A file that has gone over to version 2 stays as it is where it goes over again.
 pub fn file_goes_over_once()
@@ -19,7 +21,15 @@ pub fn file_is_refused_alike()
 {}
 
 /// A file that is not refused goes over to a file of version 2 with the same players, the same unread
-/// lines, and sheets of the same parts.
+/// lines, the same sheets and their parts.
 pub fn file_says_the_same()
     ensures { AcceptedSaysTheSame }
 {}
+
+/// The report of what a file goes over to is the report of the file, but for the version in its first
+/// line.
+pub fn migration_changes_no_report()
+    ensures { MigrationChangesNoReport }
+{
+    same_parts_same_report()
+}

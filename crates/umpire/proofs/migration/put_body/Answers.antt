@@ -1,4 +1,4 @@
-use Rattle.std.proofs.Common.{List, ℕ, refl, sym, ◌∙◌}
+use Rattle.std.proofs.Common.{sym, ◌∙◌}
 use Rattle.umpire.proofs.BodyLemmas.{front_by_rest, front_of_rest, front_of_stretch, front_of_x, line_within, putting_all, putting_line, putting_none, putting_x}
 use Rattle.umpire.proofs.EndedLines.{first_ended}
 use Rattle.umpire.proofs.Parts.{on_err}
