@@ -1,13 +1,19 @@
 -- The call that an order to run the best makes of a runner.
-use Rattle.std.proofs.Common.{◌≡◌, ℕ, ℤ, pos, List, [], ◌∷◌, Result, Ok, Err, refl, sym, subst, inl}
+use Rattle.std.proofs.Common.{◌≡◌, ℕ, ℤ, pos, List, [], ◌∷◌, Option, Some, None, Result, Ok, Err, refl, sym, subst, ◌∙◌, inl}
 use Rattle.certificate.specs.Set.{IsGreatest}
 use Rattle.certificate.specs.declared.runner.RunnerFault.{RunnerFault}
+use Rattle.certificate.specs.declared.runner.RunnerFault.TheVariants.{Memory}
 use Rattle.history.specs.declared.event.Event.{Event}
-use Rattle.operating.specs.Best.{trains_now}
-use Rattle.operating.specs.Calls.{Earns, Makes}
+use Rattle.history.specs.declared.ruling.RunRule.{RunRule}
+use Rattle.operating.proofs.Calls.{broken_off, joined}
+use Rattle.operating.specs.Best.{best_judgement, trains_now}
+use Rattle.operating.specs.Calls.{Earns, Makes, Unasked}
+use Rattle.operating.specs.InTurn.{InTurn}
 use Rattle.operating.specs.Runs.{position_now}
-use Rattle.operating.specs.TurnCalls.{Asks, asked}
+use Rattle.operating.specs.TurnCalls.{Asks, BestCalls, IsCredited, asked}
+use Rattle.operating.specs.declared.operator.Operator.{Operator}
 use Rattle.reach.specs.Position.{Position}
+use Rattle.sheets.specs.Part.{Numbered}
 use Rattle.tables.specs.declared.rolling_stock.Kind.{Kind}
 use Rattle.tables.specs.declared.roster.Company.{Company}
 use Rattle.tables.specs.declared.round.Round.{Round}
@@ -56,3 +62,39 @@ module _ {Runner : Type 0} (earns : Earns Runner) where
           refl,
         ),
       )
+
+  -- a RUN BEST that breaks a rule asks for nothing, also where memory is refused
+  pub broken_unasked :
+      (by : Operator) (round : Round) (line : Numbered) (turn : InTurn) (found : Option RunRule) (rule : RunRule)
+      (outcome : Result InTurn RunnerFault) (runner : Runner) →
+      found ≡ best_judgement turn by.company → found ≡ Some rule → outcome ≡ Err Memory →
+      Makes earns runner (BestCalls by round line (best_judgement turn by.company) turn outcome) runner
+  broken_unasked by round line turn found rule outcome runner judged broken is =
+      subst (λ (met : Result InTurn RunnerFault). Makes earns runner (BestCalls by round line (best_judgement turn by.company) turn met) runner) (sym is)
+      (subst (λ (its : Option RunRule). Makes earns runner (BestCalls by round line its turn (Err Memory)) runner) (sym broken ∙ judged)
+      ([], (refl, refl), refl))
+
+  -- one that breaks none, where the runner does not answer
+  pub best_unanswered :
+      (by : Operator) (round : Round) (line : Numbered) (turn : InTurn) (found : Option RunRule) (fault : RunnerFault)
+      (outcome : Result InTurn RunnerFault) (before after : Runner) →
+      found ≡ best_judgement turn by.company → found ≡ None → outcome ≡ Err fault →
+      Makes earns before (Asks by.company round turn.game.events (Err fault)) after →
+      Makes earns before (BestCalls by round line (best_judgement turn by.company) turn outcome) after
+  best_unanswered by round line turn found fault outcome before after judged none is asked_it =
+      subst (λ (met : Result InTurn RunnerFault). Makes earns before (BestCalls by round line (best_judgement turn by.company) turn met) after) (sym is)
+      (subst (λ (its : Option RunRule). Makes earns before (BestCalls by round line its turn (Err fault)) after) (sym none ∙ judged)
+      (broken_off earns (Asks by.company round) (Unasked Memory (IsCredited by turn line)) turn.game.events fault before after asked_it))
+
+  -- and one where it tells a revenue, and memory is refused after that
+  pub best_untold :
+      (by : Operator) (round : Round) (line : Numbered) (turn : InTurn) (found : Option RunRule) (revenue : ℕ)
+      (outcome : Result InTurn RunnerFault) (before after : Runner) →
+      found ≡ best_judgement turn by.company → found ≡ None → outcome ≡ Err Memory →
+      Makes earns before (Asks by.company round turn.game.events (Ok revenue)) after →
+      Makes earns before (BestCalls by round line (best_judgement turn by.company) turn outcome) after
+  best_untold by round line turn found revenue outcome before after judged none is asked_it =
+      subst (λ (met : Result InTurn RunnerFault). Makes earns before (BestCalls by round line (best_judgement turn by.company) turn met) after) (sym is)
+      (subst (λ (its : Option RunRule). Makes earns before (BestCalls by round line its turn (Err Memory)) after) (sym none ∙ judged)
+      (joined earns (Asks by.company round) (Unasked Memory (IsCredited by turn line)) turn.game.events revenue (Err Memory) before after after asked_it
+      ([], (refl, refl), refl)))

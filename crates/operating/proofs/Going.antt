@@ -1,5 +1,5 @@
 -- A company's turn stays in order as it goes on.
-use Rattle.std.proofs.Common.{◌≡◌, ℕ, Result, subst}
+use Rattle.std.proofs.Common.{◌≡◌, Result, subst}
 use Rattle.operating.proofs.Fronts.{front_on, line_adds, settled_adds}
 use Rattle.operating.specs.CompanyTurn.{GoesOn, IsInOrder, state}
 use Rattle.operating.proofs.Played.{train_leads}

@@ -1,6 +1,6 @@
 -- Laws of a company's turn: it only adds events and begins no round, trains stand as they did, phases go on, and no
 -- tile is lost.
-use Rattle.std.proofs.Common.{◌≡◌, ℕ, ◌≤◌, ◌||◌, Bool, false, List, [], ◌∷◌, ◌++◌, Result, is_some, refl, sym, ap, ◌∙◌, arith}
+use Rattle.std.proofs.Common.{◌≡◌, ◌≤◌, ◌||◌, Bool, false, List, [], ◌∷◌, ◌++◌, Result, is_some, refl, sym, ap, ◌∙◌, arith}
 use Rattle.std.proofs.lemmas.List.{append_assoc, append-nil}
 use Rattle.std.proofs.lemmas.List.Folds.{list_any-append}
 use Rattle.history.specs.Event.{round_of}

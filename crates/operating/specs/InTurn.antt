@@ -1,6 +1,6 @@
 -- In a company's turn: the game so far, how far the turn has come, and what its trains have done. The steps of the
 -- turn are lay, token, run, pay and trains, and a pointer goes over them.
-use Rattle.std.specs.Prelude.{ℕ, Bool, false, not, ◌||◌, nat_lt, List, Option, replicate, pos}
+use Rattle.std.specs.Prelude.{Bool, false, not, ◌||◌, nat_lt, List, Option, replicate, pos}
 use Rattle.board.specs.Powers.{is_cs_lay, is_dh_lay}
 use Rattle.board.specs.Turn.{place_of_step}
 use Rattle.board.specs.declared.asker.Asker.{Asker}

@@ -2,7 +2,7 @@
 -- in the turn, as all have once the best has been run, and a run that breaks no rule of runs, by what lies and by the
 -- borders that the runs before it have used. It then earns what its stops are worth; the train has run, its borders
 -- are used, and the turn is past its token. What all runs earn is the revenue of the turn.
-use Rattle.std.specs.Prelude.{◌≡◌, ℕ, ◌+◌, ◌-◌, ◌*◌, ◌≤◌, ◌^◌, Bool, ◌||◌, nat_lt, List, [], ◌∷◌, length, Option, Some, None, option_map, Result, Ok, Err, ℤ, pos, ◌+ℤ◌, ◌≤ℤ◌, slice_index_or, slice_set}
+use Rattle.std.specs.Prelude.{◌≡◌, ◌+◌, ◌-◌, ◌*◌, ◌≤◌, ◌^◌, Bool, ◌||◌, nat_lt, List, [], ◌∷◌, length, Option, Some, None, option_map, Result, Ok, Err, ℤ, pos, ◌+ℤ◌, ◌≤ℤ◌, slice_index_or, slice_set}
 use Rattle.std.specs.List.{list_any}
 use Rattle.std.specs.Option.{option_or}
 use lib.Signed.{le_z, lt_z}

@@ -2,7 +2,7 @@
 -- in order, each by its condition and then by its rule. DISCARD is ruled by its rule. An OFFER of a train is refused to a seat that is not the seller's president,
 -- and at price 0; an OFFER of a private to a seat that does not own it; no other OFFER is refused. No other order has
 -- a place there.
-use Rattle.std.specs.Prelude.{ℕ, Bool, true, false, List, Option, None, option_map, Result}
+use Rattle.std.specs.Prelude.{ℕ, Bool, true, false, List, Option, None, option_map}
 use Rattle.std.specs.List.{range_with_len}
 use Rattle.history.specs.declared.event.Event.{Event}
 use Rattle.history.specs.declared.ruling.Refusal.{Refusal}
@@ -10,7 +10,6 @@ use Rattle.history.specs.declared.ruling.Refusal.TheVariants as refusal
 use Rattle.history.specs.declared.ruling.Ruling.{Ruling}
 use Rattle.operating.specs.Discards.{discard_judgement}
 use Rattle.operating.specs.Offers.{offer_judgement}
-use Rattle.order_grammar.specs.declared.fault.Fault.{Fault}
 use Rattle.order_grammar.specs.declared.order.Order.{Order}
 use Rattle.order_grammar.specs.declared.order.Order.TheVariants as order
 use Rattle.sheets.specs.Part.{Numbered}
