@@ -17,9 +17,7 @@ use crate::input::read_file;
 use crate::output::write_text;
 use crate::refusal::write_refusal;
 use crate::watched::Watched;
-use order_grammar::{
-    Fault as LineFault, LINE_MOST, Version, begins_with_word, has_word, read_line,
-};
+use order_grammar::{LINE_MOST, Version, begins_with_word, has_word};
 use sheets::{FileFault, collect, first_line};
 use std::alloc::Global;
 use std::io::{Read, Write};
