@@ -1,6 +1,7 @@
 -- The standing lines of an opening sheet, those before its first group, are ruled at the round's start,
--- seat by seat, and the condition of one is asked then. A LIMIT says how far the seat goes in an auction of a private, which must be unsold. A PAR
--- says the par value that the seat sets for BO if it buys BOP: it must name BO and a par value.
+-- seat by seat, and the condition of one is asked then. A LIMIT says how far the seat goes in an auction
+-- of a private, which must be unsold. A PAR says the par value that the seat sets for BO if it buys BOP:
+-- it must name BO and a par value.
 use Rattle.std.specs.Prelude.{ℕ, Bool, true, false, ◌&&◌, if◌then◌else◌, List, Option, Some, None, option_map}
 use Rattle.history.specs.LookBack.{is_sold}
 use Rattle.history.specs.declared.event.Event.{Event}

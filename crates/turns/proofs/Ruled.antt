@@ -1,5 +1,5 @@
 -- What the ruling of a line says of its order.
-use Rattle.std.proofs.Common.{◌≡◌, ℕ, Bool, true, false, if◌then◌else◌, Option, Some, None, option_map, IsTrue, List, Result, Ok, Err, refl, subst}
+use Rattle.std.proofs.Common.{◌≡◌, ℕ, Bool, true, false, if◌then◌else◌, Option, Some, None, option_map, List, Result, Ok, Err, refl, subst}
 use Rattle.history.specs.Conditions.{is_met}
 use Rattle.history.specs.declared.event.Event.{Event}
 use Rattle.history.specs.declared.ruling.Refusal.{Refusal}
