@@ -38,7 +38,7 @@ module _ (others : OthersKeepClosed) (sales : SalesKeepClosed) where
         stays = opening_parts.same;
         further = opening_parts.both;
         standing = λ seat events line. others events
-            (event.Ruled seat line.number (standing_ruling events line.reading)) refl;
+            (event.Ruled seat line.number (standing_ruling events line)) refl;
         line = λ seats seat turn line. of_line Any KeepsClosed opening_parts seats seat turn line tt;
         passes = λ events seat. others events (event.Passes seat) refl;
         closed = of_close Any KeepsClosed opening_parts;

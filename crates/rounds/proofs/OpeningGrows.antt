@@ -107,7 +107,7 @@ opening_grows =
     (record {
       stays = stays;
       further = further;
-      standing = λ seat events line. told events (event.Ruled seat line.number (standing_ruling events line.reading)) refl;
+      standing = λ seat events line. told events (event.Ruled seat line.number (standing_ruling events line)) refl;
       line = line_grows;
       passes = λ events seat. told events (event.Passes seat) refl;
       closed = close_grows;

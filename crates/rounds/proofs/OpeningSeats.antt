@@ -154,7 +154,7 @@ opening_seated file round old new played some seated =
       stays = λ events seated. seated;
       further = λ a b c one two seated. two (one seated);
       standing = λ seat events line. others_seated seats events
-          (event.Ruled seat line.number (standing_ruling events line.reading)) refl;
+          (event.Ruled seat line.number (standing_ruling events line)) refl;
       line = λ any seat turn line. tested_line seats seat turn line (nat_lt seat.0 seats)
           (λ under. is_under seat.0 seats under);
       passes = λ events seat. others_seated seats events (event.Passes seat) refl;
