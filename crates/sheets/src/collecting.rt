@@ -1,9 +1,9 @@
-ghost use Rattle.std.specs.Prelude.{◌≡◌, false, ℕ, ◌+◌, ◌<◌, ◌≤◌, List, [], ◌∷◌, ◌++◌, length, IfOk, Ok, OnOk, IfErr, MatchOption, MatchResult};
+ghost use Rattle.std.specs.Prelude.{is_some, ◌≡◌, false, ℕ, ◌+◌, ◌<◌, ◌≤◌, List, [], ◌∷◌, ◌++◌, length, IfOk, Ok, OnOk, IfErr, MatchOption, MatchResult};
 ghost use Rattle.std.specs.HashMap.{get};
 ghost use Rattle.order_grammar.specs.Line.{order_of, reading_of};
 ghost use Rattle.order_grammar.specs.Version.{ordered_of};
 ghost use Rattle.sheets.specs.Collecting.{HasBegun, Reaches, StopsAt, StopsBy, closed};
-ghost use Rattle.sheets.specs.File.{is_sheet_line, post_begun, fault_of_reading, same_post, sheet_in, unread_fault, unread_in, good_lines};
+ghost use Rattle.sheets.specs.File.{begins, is_sheet_line, post_begun, fault_of_reading, same_post, sheet_in, unread_fault, unread_in, good_lines};
 ghost use Rattle.sheets.specs.Limits.{file_most, sheets_most};
 ghost use Rattle.sheets.specs.Text.{IsFirstLine, written_lines};
 ghost use Rattle.sheets.specs.declared.post.Post.{Post};
@@ -147,6 +147,45 @@ impl<'a> Collection<'a> {
         }
         Ok(())
     }
+}
+
+/// Looks whether the lines after the players line have more good SHEET lines than a file may have.
+pub(crate) fn examine_body(players: &Players, body: &[u8]) -> Result<(), FileFault>
+    requires few { length players.now ≤ 6 }
+    ensures good { OnOk result (good_lines players.now (written_lines body.now) ≤ sheets_most) }
+    ensures err { IfErr result (StopsBy (good_lines players.now (written_lines body.now))) }
+{
+    let mut good = 0;
+    let mut rest = body;
+    while let Some(piece) = first_written(rest) {
+        if begins_sheet(players, piece.line) {
+            if good >= SHEETS_MOST {
+                return Err(FileFault::TooManySheets);
+            }
+            good += 1;
+        }
+        rest = piece.rest;
+    }
+    Ok(())
+}
+
+/// Whether a line begins a sheet.
+#[tactic(auto, unfolding(crate::specs::File::begins))]
+fn begins_sheet(players: &Players, line: &[u8]) -> bool
+    requires { length players.now ≤ 6 }
+    ensures { result ≡ is_some (begins players.now line.now) }
+{
+    is_sheet_line(line) && is_of_player(players, line)
+}
+
+/// Whether a line is the SHEET line of a player. (Apart from its caller, which would else clear the room
+/// for a line that is read with each line that is not.)
+#[inline(never)]
+fn is_of_player(players: &Players, line: &[u8]) -> bool
+    requires { length players.now ≤ 6 }
+    ensures { result ≡ is_some (post_begun players.now (reading_of line.now)) }
+{
+    post_begun(players, &read_line(line)).is_some()
 }
 
 /// Whether the first word of a line is SHEET.

@@ -5,7 +5,7 @@ ghost use Rattle.sheets.specs.File.{Fails, IsAccepted, body_content, content_of,
 ghost use Rattle.sheets.specs.Part.{parts_for};
 ghost use Rattle.sheets.specs.Text.{written_lines};
 
-use crate::collecting::collect_body;
+use crate::collecting::{collect_body, examine_body};
 use crate::fault::FileFault;
 use crate::parts::PartsLeft;
 use crate::players::{Players, players_named};
@@ -140,6 +140,23 @@ pub fn collect(alloc: Global, file: &[u8]) -> Result<Sheets<'_>, FileFault>
         sheets: collection.sheets,
         unread: collection.unread,
     })
+}
+
+/// The version of an order file, or why it is refused, as `collect` refuses it. No sheet is kept:
+/// memory is taken for the names of the players alone.
+pub fn examine(alloc: Global, file: &[u8]) -> Result<Version, FileFault>
+    ensures version { MatchResult result
+        (λ version. version ≡ version_of file.now)
+        (λ fault. Fails fault (content_of file.now)) }
+    ensures accepted { OnOk result (IsAccepted file.now) }
+{
+    if file.len() > FILE_MOST {
+        return Err(FileFault::TooLong);
+    }
+    let (version, after_header) = read_header(file)?;
+    let (players, body) = read_players(alloc, after_header)?;
+    examine_body(&players, body)?;
+    Ok(version)
 }
 
 /// The version that the header line names, and what follows that line.

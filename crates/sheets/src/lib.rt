@@ -9,7 +9,7 @@
 //!
 //! Reading order: `fault`, `text` (the lines of a text), `sheet`, `parts` (a sheet as the rounds
 //! take it up), `place` (orders that have none), `players`, `post` and `open_sheet` (whose sheet it
-//! is, and where it began), `collecting` (line after line), `file` (`collect`), `laws`. In
+//! is, and where it began), `collecting` (line after line), `file` (`collect`, `examine`), `laws`. In
 //! `specs/`, `File` says what a file says, `Reading` what is read of a line, `Part` what the parts of a sheet are, `Block` which of
 //! them is a company's, `Place` what becomes of an order without a place, `Limits` the limits of a
 //! file, and `Collecting` how far a file was collected.
@@ -29,7 +29,7 @@ mod text;
 
 pub use collecting::SHEETS_MOST;
 pub use fault::FileFault;
-pub use file::{FILE_MOST, Sheets, collect};
+pub use file::{FILE_MOST, Sheets, collect, examine};
 pub use laws::{
     arrival_changes_no_parts, arrival_changes_nothing, last_sheet_counts, long_file_is_refused,
     sheets_are_numbered, sheets_have_few_groups, three_to_six_play, version_one_is_plain,

@@ -1,9 +1,8 @@
 ghost use Rattle.order_grammar.specs.Words.{before_comment, is_printable};
-ghost use Rattle.sheets.specs.File.{Fails, IsAccepted, content_of, version_of};
 ghost use Rattle.sheets.specs.Text.{is_blank};
 ghost use Rattle.std.specs.Io.KnownBytes.{Appends};
 ghost use Rattle.std.specs.List.{list_all};
-ghost use Rattle.std.specs.Prelude.{◌≡◌, ◌≤◌, ◌++◌, false, drop, length, IfErr, MatchResult, OnErr, OnOk, Some};
+ghost use Rattle.std.specs.Prelude.{◌≡◌, ◌≤◌, ◌++◌, false, drop, length, IfErr, OnErr, OnOk, Some};
 ghost use Rattle.umpire.specs.Failure.{AppendsFront, TakesWithin};
 ghost use Rattle.umpire.specs.Gathered.{Gathers, IsFromHeader, is_clean};
 ghost use Rattle.umpire.specs.Migrated.{body_in_two, file_in_two, is_if_line};
@@ -18,7 +17,7 @@ use crate::output::write_text;
 use crate::refusal::write_refusal;
 use crate::watched::Watched;
 use order_grammar::{LINE_MOST, Version, begins_with_word, has_word};
-use sheets::{FileFault, collect, first_line};
+use sheets::{FileFault, examine, first_line};
 use std::alloc::Global;
 use std::io::{Read, Write};
 
@@ -69,7 +68,7 @@ fn write_migration<W: Write>(
         (W.contents (inside writer.old)) (W.contents (inside writer.new))
         false (has_failed writer.new)) }
 {
-    match version_of(alloc, file) {
+    match examine(alloc, file) {
         Ok(Version::One) => write_in_two(alloc, file, writer),
         Ok(Version::Two) => write_text(writer, file),
         Err(FileFault::Memory) => Err(Fault::Memory),
@@ -78,17 +77,6 @@ fn write_migration<W: Write>(
             Err(Fault::File(fault))
         }
     }
-}
-
-/// The version of a file, or why it is refused.
-fn version_of(alloc: Global, file: &[u8]) -> Result<Version, FileFault>
-    ensures version { MatchResult result
-        (λ version. version ≡ version_of file.now)
-        (λ fault. Fails fault (content_of file.now)) }
-    ensures accepted { OnOk result (IsAccepted file.now) }
-{
-    let sheets = collect(alloc, file)?;
-    Ok(sheets.version())
 }
 
 /// Writes the file of version 2 that stands for a file of version 1.
