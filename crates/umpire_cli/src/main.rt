@@ -64,8 +64,9 @@ fn parse(alloc: Global, words: &[String]) -> Result<Task, Error> {
     let verify = Command::new(alloc, "verify").about(
         "Writes its report, if the certificates behind it show that its best runs are the best",
     );
-    let migrate =
-        Command::new(alloc, "migrate").about("Writes the file of version 2 that it goes over to");
+    let migrate = Command::new(alloc, "migrate").about(
+        "Writes the file of version 2 that it goes over to",
+    );
     let command = Command::new(alloc, "umpire")
         .about("Plays 1830 from written order sheets: the order file on standard input")
         .bin_name("umpire")?
