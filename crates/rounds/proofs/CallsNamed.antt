@@ -9,7 +9,8 @@ use Rattle.history.specs.declared.event.Event.{Event}
 use Rattle.history.specs.declared.ruling.RunRule.{RunRule}
 use Rattle.operating.specs.Best.{best_judgement}
 use Rattle.operating.specs.Calls.{Call, Course, Then, TimesThen, Unasked}
-use Rattle.operating.specs.TurnCalls.{Asks, BestCalls, BlockCalls, EndCalls, IsCredited, LineCalls, LinesCall, OrderCalls, ReadingCalls, TurnCalls, asked}
+use Rattle.operating.specs.Turn.{is_held}
+use Rattle.operating.specs.TurnCalls.{AskedCalls, Asks, BestCalls, BlockCalls, EndCalls, IsCredited, LineCalls, LinesCall, OrderCalls, ReadingCalls, TurnCalls, asked}
 use Rattle.order_grammar.specs.declared.fault.Fault.{Fault}
 use Rattle.order_grammar.specs.declared.order.Order.{Order}
 use Rattle.privates.specs.Turn.{all_sold}
@@ -77,27 +78,33 @@ asks_for company round events revenue calls is =
     let one : AllByRecursion (IsFor round) (call ∷ []) = (refl, tt) in
     subst (AllByRecursion (IsFor round)) (sym is.1) one
 
-best_for : (by : _) (round : Round) (number : ℕ) (rule : Option RunRule) → AreFor round (BestCalls by round number rule)
-best_for by round number (Some rule) turn to calls course = of_none (IsFor round) calls course.1
-best_for by round number None turn to calls course =
-    of_then (IsFor round) (Asks by.company round) (Unasked runner.Memory (IsCredited by turn number)) (asks_for by.company round)
-    (of_unasked (IsFor round) runner.Memory (IsCredited by turn number)) turn.game.events to calls course
+best_for : (by : _) (round : Round) (line : Numbered) (rule : Option RunRule) → AreFor round (BestCalls by round line rule)
+best_for by round line (Some rule) turn to calls course = of_none (IsFor round) calls course.1
+best_for by round line None turn to calls course =
+    of_then (IsFor round) (Asks by.company round) (Unasked runner.Memory (IsCredited by turn line)) (asks_for by.company round)
+    (of_unasked (IsFor round) runner.Memory (IsCredited by turn line)) turn.game.events to calls course
 
-order_for : (by : _) (round : Round) (number : ℕ) (order : Order) → AreFor round (OrderCalls by round number order)
-order_for by round number order turn to calls course =
+order_for : (by : _) (round : Round) (line : Numbered) (order : Order) → AreFor round (OrderCalls by round line order)
+order_for by round line order turn to calls course =
     elim course [
-      | inl best ↦ best_for by round number (best_judgement turn by.company) turn to calls best.1
+      | inl best ↦ best_for by round line (best_judgement turn by.company) turn to calls best.1
       | inr other ↦ of_none (IsFor round) calls other.1.1
     ]
 
-reading_for : (by : _) (round : Round) (number : ℕ) (reading : Result Order Fault) → AreFor round (ReadingCalls by round number reading)
-reading_for by round number (Ok order) turn to calls course = order_for by round number order turn to calls course
-reading_for by round number (Err fault) turn to calls course = of_none (IsFor round) calls course.1
+-- where a condition holds an order up the runner is not asked
+asked_for : (by : _) (round : Round) (line : Numbered) (order : Order) (held : Bool) → AreFor round (AskedCalls by round line order held)
+asked_for by round line order true turn to calls course = of_none (IsFor round) calls course.1
+asked_for by round line order false turn to calls course = order_for by round line order turn to calls course
+
+reading_for : (by : _) (round : Round) (line : Numbered) (reading : Result Order Fault) → AreFor round (ReadingCalls by round line reading)
+reading_for by round line (Ok order) turn to calls course =
+    asked_for by round line order (is_held turn.game.events line.condition order) turn to calls course
+reading_for by round line (Err fault) turn to calls course = of_none (IsFor round) calls course.1
 
 lines_for : (by : _) (round : Round) (lines : List Numbered) → AreFor round (LinesCall by round lines)
 lines_for by round [] turn to calls course = of_none (IsFor round) calls course.1
 lines_for by round (line ∷ lines) turn to calls course =
-    of_then (IsFor round) (LineCalls by round line) (LinesCall by round lines) (reading_for by round line.number line.reading)
+    of_then (IsFor round) (LineCalls by round line) (LinesCall by round lines) (reading_for by round line line.reading)
     (lines_for by round lines) turn to calls course
 
 block_for_round : (file : List ℕ) (round : Round) (company : Company) (president : Option Seat) → AreFor round (BlockCalls file round company president)
