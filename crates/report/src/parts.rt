@@ -1,9 +1,7 @@
-ghost use Rattle.report.specs.Column.{Adds};
-ghost use Rattle.report.specs.Parts.{end_text_of, end_told, next_text_of};
-ghost use Rattle.report.specs.Report.{header, unread_lines};
-ghost use Rattle.rounds.specs.Steps.{HasEnded, game_so_far};
-ghost use Rattle.sheets.specs.File.{unread_of};
-ghost use Rattle.std.specs.Prelude.{◌≡◌, ◌-◌, ◌≤◌, IfOk, OnOk, drop, length, take};
+ghost use Rattle.report.specs.Parts.{end_text_of, next_text_of};
+ghost use Rattle.report.specs.Report.{header};
+ghost use Rattle.rounds.specs.Steps.{HasEnded};
+ghost use Rattle.std.specs.Prelude.{◌≡◌, IfOk};
 
 use crate::text::{push_end, push_header, push_last_round, push_unread};
 use rounds::Play;
@@ -38,49 +36,9 @@ pub fn end_text(alloc: Global, play: &Play) -> Result<Vec<u8>, AllocError>
     ensures { IfOk result (λ text. text.items ≡ end_text_of play.now) }
 {
     let mut out = Vec::new(alloc);
-    push_unread(&mut out, 0, play.sheets().unread())?;
-    push_outcome(&mut out, play)?;
-    Ok(out)
-}
-
-/// The lines of a report for the unread lines of a file from one place on up to another: part of
-/// what follows the rounds, so that not all of it need be held at a time. An error where memory is
-/// refused.
-pub fn unread_text(
-    alloc: Global,
-    sheets: &Sheets,
-    begun: usize,
-    end: usize,
-) -> Result<Vec<u8>, AllocError>
-    requires ordered { begun ≤ end }
-    requires within { end ≤ length (unread_of sheets.now) }
-    ensures { IfOk result (λ text. text.items
-        ≡ unread_lines begun (take (end - begun) (drop begun (unread_of sheets.now)))) }
-{
-    let mut out = Vec::new(alloc);
-    push_unread(&mut out, begun, &sheets.unread()[begun..end])?;
-    Ok(out)
-}
-
-/// What follows the unread lines, once a step has answered that play has stopped: why it did. An
-/// error where memory is refused.
-pub fn outcome_text(alloc: Global, play: &Play) -> Result<Vec<u8>, AllocError>
-    requires { HasEnded play.now }
-    ensures { IfOk result (λ text. text.items
-        ≡ end_told play.now.file (game_so_far play.now) play.now.outcome) }
-{
-    let mut out = Vec::new(alloc);
-    push_outcome(&mut out, play)?;
-    Ok(out)
-}
-
-/// Adds why play stopped, where that is known.
-fn push_outcome(out: &mut Vec<u8>, play: &Play) -> Result<(), AllocError>
-    ensures { OnOk result (Adds out.old out.new
-        (end_told play.now.file (game_so_far play.now) play.now.outcome)) }
-{
+    push_unread(&mut out, play.sheets().unread())?;
     if let (Some(history), Some(end)) = (play.history(), play.outcome()) {
-        push_end(out, play.sheets(), history, end)?;
+        push_end(&mut out, play.sheets(), history, end)?;
     }
-    Ok(())
+    Ok(out)
 }

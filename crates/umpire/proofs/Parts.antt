@@ -67,17 +67,6 @@ pub whole_front : (old new : Option (List ℕ)) (text : List ℕ) → Appends ol
 whole_front old new text written =
     front_of_text old new text [] (record { done = text; whole = append-nil text; appended = written })
 
--- a front of the first of two parts is a front of both
-pub front_of_first_part : (old new : Option (List ℕ)) (part rest : List ℕ) → AppendsFront old new part → AppendsFront old new (part ++ rest)
-front_of_first_part old new part rest front = front_of_first old new (part ++ rest) part rest refl front
-
--- so is the first with a front of the second
-pub front_of_second_part : (old mid new : Option (List ℕ)) (part rest : List ℕ) → Appends old mid part → AppendsFront mid new rest →
-    AppendsFront old new (part ++ rest)
-front_of_second_part old mid new part rest written front =
-    let left : LeavesRest old mid (part ++ rest) rest = record { done = part; whole = refl; appended = written } in
-    front_of_part old mid new (part ++ rest) rest rest [] left (sym (append-nil rest)) front
-
 -- before the first round no text is told
 pub tells_none : (file : List ℕ) (play : Underway) (old : Option (List ℕ)) → play ≡ started file → TellsRounds file play old old
 tells_none file play old is = record { steps = zero; text = []; told = (is, refl); written = Appends-nil old }

@@ -1,7 +1,7 @@
 ghost use Rattle.report.specs.Parts.{end_text_of};
-ghost use Rattle.report.specs.Report.{header, unread_lines};
+ghost use Rattle.report.specs.Report.{header};
 ghost use Rattle.rounds.specs.Steps.{ComesNearer, HasEnded, IsUnbroken, StepLeads, started};
-ghost use Rattle.sheets.specs.File.{IsAccepted, unread_of};
+ghost use Rattle.sheets.specs.File.{IsAccepted};
 ghost use Rattle.std.specs.Io.KnownBytes.{Appends};
 ghost use Rattle.std.specs.Prelude.{◌≡◌, false, IfErr, IfOk, Ok, OnErr, OnOk};
 ghost use Rattle.umpire.specs.Failure.{AppendsFront, TakesWithin};
@@ -14,10 +14,7 @@ use crate::input::read_file;
 use crate::output::write_text;
 use crate::watched::Watched;
 use best_run::Search;
-use report::{
-    header_text, next_text, outcome_text, parts_are_the_report, refusal_text, some_report,
-    unread_text,
-};
+use report::{end_text, header_text, next_text, parts_are_the_report, refusal_text, some_report};
 use rounds::{Play, Step};
 use sheets::{FileFault, Sheets, collect};
 use std::alloc::{AllocError, Global};
@@ -158,9 +155,6 @@ fn step(play: &mut Play, search: &mut Search) -> Result<Step, AllocError>
     }
 }
 
-/// So many unread lines are told at a time, so that little of a long report is held at once.
-const UNREAD_AT_ONCE: usize = 4_096;
-
 /// Writes what follows the rounds.
 fn write_end<W: Write>(alloc: Global, play: &Play, writer: &mut Watched<W>) -> Result<(), Fault>
     requires unfailed { has_failed writer.old ≡ false }
@@ -172,33 +166,7 @@ fn write_end<W: Write>(alloc: Global, play: &Play, writer: &mut Watched<W>) -> R
     ensures front { OnErr result (AppendsFront (W.contents (inside writer.old))
         (W.contents (inside writer.new)) (end_text_of play.now)) }
 {
-    write_unread(alloc, play.sheets(), writer)?;
-    let text = outcome_text(alloc, play)?;
+    let text = end_text(alloc, play)?;
     write_text(writer, text.as_slice())?;
-    Ok(())
-}
-
-/// Writes the lines for the unread lines, a few at a time.
-fn write_unread<W: Write>(
-    alloc: Global,
-    sheets: &Sheets,
-    writer: &mut Watched<W>,
-) -> Result<(), Fault>
-    requires { has_failed writer.old ≡ false }
-    ensures ok { OnOk result (Appends (W.contents (inside writer.old))
-        (W.contents (inside writer.new)) (unread_lines 0 (unread_of sheets.now))) }
-    ensures unfailed { OnOk result (has_failed writer.new ≡ false) }
-    ensures err { IfErr result (IsWriteFault (has_failed writer.new)) }
-    ensures front { OnErr result (AppendsFront (W.contents (inside writer.old))
-        (W.contents (inside writer.new)) (unread_lines 0 (unread_of sheets.now))) }
-{
-    let all = sheets.unread().len();
-    let mut told = 0;
-    while told < all {
-        let end = all.min(told.saturating_add(UNREAD_AT_ONCE));
-        let text = unread_text(alloc, sheets, told, end)?;
-        write_text(writer, text.as_slice())?;
-        told = end;
-    }
     Ok(())
 }
