@@ -59,7 +59,7 @@ within_limit input within =
     rw t refl
 
 -- an input over both limits and the LF is refused
-input_too_long : (input : List ℕ) → 71303169 < length input → content_of_input input ≡ Err TooLong
+input_too_long : (input : List ℕ) → 134217729 < length input → content_of_input input ≡ Err TooLong
 input_too_long input many =
     elim (either (length (certificates_of input)) certificates_most) [
       | inl within ↦ within_limit input within ∙ too_long (order_file_of input) (omega (arith, make_up input))
@@ -73,12 +73,12 @@ pub record SaysInput (given : Option (List ℕ)) (input : List ℕ) : Type 0 whe
   pub content : content_of_input whole ≡ content_of_input input
   pub taken : IsOk (content_of_input input) → whole ≡ input
 
-says_input_by : (bytes input : List ℕ) → input ≡ take 71303170 bytes → (length bytes ≤ 71303169) ⊎ (71303169 < length bytes) → SaysInput (Some bytes) input
+says_input_by : (bytes input : List ℕ) → input ≡ take 134217730 bytes → (length bytes ≤ 134217729) ⊎ (134217729 < length bytes) → SaysInput (Some bytes) input
 says_input_by bytes input read (inl few) =
-    let same : bytes ≡ input = sym (read ∙ take_all 71303170 bytes (omega arith)) in
+    let same : bytes ≡ input = sym (read ∙ take_all 134217730 bytes (omega arith)) in
     record { whole = bytes; is_whole = refl; content = ap content_of_input same; taken = λ taken. same }
 says_input_by bytes input read (inr many) =
-    let full : length input ≡ 71303170 = rw read (length-take-le 71303170 bytes (omega arith)) in
+    let full : length input ≡ 134217730 = rw read (length-take-le 134217730 bytes (omega arith)) in
     let refused : content_of_input input ≡ Err TooLong = input_too_long input (omega arith) in
     record {
       whole = bytes;
@@ -87,9 +87,9 @@ says_input_by bytes input read (inr many) =
       taken = λ taken. absurd (let wrong : IsOk {T = Content} (Err TooLong) = subst (λ (content : Result Content FileFault). IsOk content) refused taken in cc);
     }
 
-pub says_input : (given : Option (List ℕ)) (input : List ℕ) → IfSome given (λ bytes. input ≡ take 71303170 bytes) → SaysInput given input
+pub says_input : (given : Option (List ℕ)) (input : List ℕ) → IfSome given (λ bytes. input ≡ take 134217730 bytes) → SaysInput given input
 says_input None input read = record { whole = input; is_whole = tt; content = refl; taken = λ taken. refl }
-says_input (Some bytes) input read = says_input_by bytes input read (either (length bytes) 71303169)
+says_input (Some bytes) input read = says_input_by bytes input read (either (length bytes) 134217729)
 
 -- what was read is answered as the whole input is
 answers_whole :
@@ -103,7 +103,7 @@ answers_whole input whole text outcome (Err fault) is same taken answers =
     (subst (λ (r : Result Content FileFault). AnswersContent input r outcome text) is answers)
 
 pub answered :
-    (given old new : Option (List ℕ)) (input text : List ℕ) (outcome : Result (Unit {0}) Fault) → IfSome given (λ bytes. input ≡ take 71303170 bytes) →
+    (given old new : Option (List ℕ)) (input text : List ℕ) (outcome : Result (Unit {0}) Fault) → IfSome given (λ bytes. input ≡ take 134217730 bytes) →
     AnswersInput input outcome text → Appends old new text → IsAnswered given outcome old new
 answered given old new input text outcome read answers written =
     let says : SaysInput given input = says_input given input read in
@@ -132,7 +132,7 @@ not_so input (Err fault) (Certificate round company) text answers = absurd (cc)
 -- a fault that is an answer, once it is written
 pub stops_answered :
     (given old new : Option (List ℕ)) (input text : List ℕ) (read_failed write_failed : Bool) (fault : Fault) →
-    IfSome given (λ bytes. input ≡ take 71303170 bytes) → AnswersInput input (Err fault) text → Appends old new text → read_failed ≡ false →
+    IfSome given (λ bytes. input ≡ take 134217730 bytes) → AnswersInput input (Err fault) text → Appends old new text → read_failed ≡ false →
     write_failed ≡ false → StopsVerify given old new read_failed write_failed fault
 stops_answered given old new input text rf wf Read read answers written r w = absurd ((not_so input (content_of_input input) Read text answers).0 refl)
 stops_answered given old new input text rf wf Write read answers written r w = absurd ((not_so input (content_of_input input) Write text answers).1 refl)
@@ -144,14 +144,14 @@ stops_answered given old new input text rf wf (Certificate round company) read a
 
 -- an outcome, once the answer is written
 pub ok_verdict :
-    (given old new : Option (List ℕ)) (input text : List ℕ) (outcome : Result (Unit {0}) Fault) → IfSome given (λ bytes. input ≡ take 71303170 bytes) →
+    (given old new : Option (List ℕ)) (input text : List ℕ) (outcome : Result (Unit {0}) Fault) → IfSome given (λ bytes. input ≡ take 134217730 bytes) →
     AnswersInput input outcome text → Appends old new text → OnOk outcome (IsAnswered given (Ok tt) old new)
 ok_verdict given old new input text (Ok done) read answers written = answered given old new input text (Ok tt) read answers written
 ok_verdict given old new input text (Err fault) read answers written = tt
 
 pub err_verdict :
     (given old new : Option (List ℕ)) (input text : List ℕ) (read_failed write_failed : Bool) (outcome : Result (Unit {0}) Fault) →
-    IfSome given (λ bytes. input ≡ take 71303170 bytes) → AnswersInput input outcome text → Appends old new text → read_failed ≡ false →
+    IfSome given (λ bytes. input ≡ take 134217730 bytes) → AnswersInput input outcome text → Appends old new text → read_failed ≡ false →
     write_failed ≡ false → IfErr outcome (λ fault. StopsVerify given old new read_failed write_failed fault)
 err_verdict given old new input text rf wf (Ok done) read answers written r w = tt
 err_verdict given old new input text rf wf (Err fault) read answers written r w = stops_answered given old new input text rf wf fault read answers written r w

@@ -54,7 +54,7 @@ pub fn verify<R: Read, W: Write>(
         (W.contents (inside writer.old)) (W.contents (inside writer.new))) }
     ensures unfailed { OnOk result
         ((has_failed reader.new ≡ false) × (has_failed writer.new ≡ false)) }
-    ensures limit { TakesAtMost 71303170 (R.remaining (inside reader.old))
+    ensures limit { TakesAtMost 134217730 (R.remaining (inside reader.old))
         (R.remaining (inside reader.new)) }
     ensures err { IfErr result (StopsVerify (R.remaining (inside reader.old))
         (W.contents (inside writer.old)) (W.contents (inside writer.new))
