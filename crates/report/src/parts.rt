@@ -2,7 +2,7 @@ ghost use Rattle.report.specs.Column.{Adds};
 ghost use Rattle.report.specs.Parts.{end_text_of, next_text_of, outcome_text_of};
 ghost use Rattle.report.specs.Report.{header, unread_lines};
 ghost use Rattle.rounds.specs.Steps.{HasEnded};
-ghost use Rattle.std.specs.Prelude.{◌≡◌, ◌≤◌, IfOk, OnOk, length};
+ghost use Rattle.std.specs.Prelude.{◌≡◌, ◌+◌, ◌≤◌, IfOk, OnOk, length};
 
 use crate::text::{push_end, push_header, push_last_round, push_unread};
 use order_grammar::Fault;

@@ -1,5 +1,5 @@
 -- The lines for unread lines, written a part at a time.
-use Rattle.std.proofs.Common.{◌≡◌, ℕ, ◌+◌, List, [], ◌∷◌, ◌++◌, length, take, drop, ap, append_assoc, arith, refl, sym, take-append-drop, ◌∙◌}
+use Rattle.std.proofs.Common.{◌≡◌, ℕ, ◌+◌, List, [], ◌∷◌, ◌++◌, length, take, drop, ap, append_assoc, arith, sym, take-append-drop, ◌∙◌}
 use Rattle.std.specs.Prelude.{Option, codes, decimal}
 use Rattle.std.specs.Io.KnownBytes.{Appends}
 use Rattle.std.proofs.lemmas.List.{append-nil}
@@ -32,9 +32,9 @@ unread_parted before most faults part later is_part is_later =
     ap (λ all. unread_lines before all) whole ∙ lines_parted before part later
 
 -- all are written, where none is left
-pub all_told : (old new : Option (List ℕ)) (text : List ℕ) (before : ℕ) (rest : List Fault) → rest ≡ [] →
+pub all_unread_told : (old new : Option (List ℕ)) (text : List ℕ) (before : ℕ) (rest : List Fault) → rest ≡ [] →
     LeavesRest old new text (unread_lines before rest) → Appends old new text
-all_told old new text before rest none left =
+all_unread_told old new text before rest none left =
     let nothing : unread_lines before rest ≡ [] = ap (λ faults. unread_lines before faults) none in
     let whole : left.done ≡ text = sym (append-nil left.done) ∙ ap (λ more. left.done ++ more) (sym nothing) ∙ left.whole in
     rw (← whole) left.appended
