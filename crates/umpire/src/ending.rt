@@ -15,8 +15,8 @@ use rounds::Play;
 use std::alloc::Global;
 use std::io::Write;
 
-/// How many unread lines are told at a time. Each takes some twenty bytes of a report and may be
-/// one of two bytes of a file, so that the text of all of them is never held at once.
+/// How many unread lines are told at a time. One takes some twenty bytes of a report and may be two
+/// bytes of a file: so the text of all of them may be ten times the file, and is never held at once.
 const UNREAD_AT_ONCE: usize = 4_096;
 
 /// Writes what follows the rounds: the unread lines, and why play stopped.
@@ -40,7 +40,7 @@ pub(crate) fn write_end<W: Write>(
     Ok(())
 }
 
-/// Writes the lines for unread lines, a part of them at a time.
+/// Writes the lines for all unread lines, a part of them at a time.
 fn write_unread<W: Write>(
     alloc: Global,
     unread: &[order_grammar::Fault],
