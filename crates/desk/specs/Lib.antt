@@ -1,0 +1,2 @@
+-- What the desk finds.
+pub mod Fault

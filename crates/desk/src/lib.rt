@@ -1,0 +1,20 @@
+//! The umpire's desk: what to look at before a round is played, and after. Each call takes the
+//! allocator and the bytes of an order file, and gives text; no call reads or writes a stream.
+//!
+//! `round` is a round's part of the report, with the rules that refused lines broke, where they are asked
+//! for; `runs` is what the trains of each company ran in a round, stop by stop. The facts come from
+//! the libraries below, whose contracts say what they are; how they are laid out is tested by the
+//! games of `games/desk/`.
+//!
+//! Reading order: `fault`, `text` (names, numbers and columns), `asked` (the round that is asked for),
+//! `round_part` (`round`).
+#![tactic(auto)]
+
+mod asked;
+mod fault;
+mod round_part;
+mod text;
+
+pub use asked::read_round;
+pub use fault::DeskFault;
+pub use round_part::round;

@@ -1,0 +1,67 @@
+//! The command line.
+
+use clap::{Arg, ArgAction, ArgMatches, Command, Error};
+use desk::read_round;
+use std::alloc::{AllocError, Global};
+use tables::Round;
+
+/// What the program can be asked for.
+#[derive(Clone, Copy, Debug, PartialEq, Eq)]
+pub(crate) enum Task {
+    /// The part of the report of a round, of the last where none is named; with the rules that refused
+    /// lines broke, where they are asked for.
+    Round { round: Option<Round>, why: bool },
+}
+
+/// What the command line asks for; `None` where the word for a round names none. An error is what to
+/// print: what is wrong, the help or the version.
+pub(crate) fn task_of(alloc: Global, words: &[String]) -> Result<Option<Task>, Error> {
+    let command = Command::new(alloc, "desk")
+        .about(
+            "Tells of a game of 1830 what stands around its report: the order file on standard input",
+        )
+        .version("1")
+        .bin_name("desk")?
+        .subcommand_required(true)
+        .subcommand(round_command(alloc)?)?;
+    let matches = command.try_get_matches_from(words)?;
+    Ok(named_task(&matches))
+}
+
+/// The task of the word that was given.
+fn named_task(matches: &ArgMatches) -> Option<Task> {
+    let (word, given) = matches.subcommand()?;
+    match word {
+        "round" => Some(Task::Round {
+            round: round_of(given)?,
+            why: given.get_flag("why"),
+        }),
+        _ => None,
+    }
+}
+
+/// The round that a command line names, if it names one; `None` where its word names no round.
+fn round_of(given: &ArgMatches) -> Option<Option<Round>> {
+    match given.get_str("ROUND") {
+        Some(word) => Some(Some(read_round(word.as_bytes())?)),
+        None => Some(None),
+    }
+}
+
+/// The word `round`.
+fn round_command<'a>(alloc: Global) -> Result<Command<'a>, AllocError> {
+    let why = Arg::new(alloc, "why")
+        .long("why")
+        .action(ArgAction::SetTrue)
+        .help("Put under each refused line the rule that it broke");
+    Command::new(alloc, "round")
+        .about("Writes a round's part of the report")
+        .after_help("Example: desk round OR2.1 --why < our-game.orders")
+        .arg(round_argument(alloc))?
+        .arg(why)
+}
+
+/// The round that a word is about.
+fn round_argument<'a>(alloc: Global) -> Arg<'a> {
+    Arg::new(alloc, "ROUND").help("The round, as OR2.1; the last one if none is named")
+}
