@@ -7,14 +7,17 @@
 //! games of `games/desk/`.
 //!
 //! Reading order: `fault`, `text` (names, numbers and columns), `asked` (the round that is asked for),
-//! `round_part` (`round`).
+//! `round_part` (`round`), `ground` (what lay on the map), `ran` (`runs`).
 #![tactic(auto)]
 
 mod asked;
 mod fault;
+mod ground;
+mod ran;
 mod round_part;
 mod text;
 
 pub use asked::read_round;
 pub use fault::DeskFault;
+pub use ran::runs;
 pub use round_part::round;

@@ -11,6 +11,8 @@ pub(crate) enum Task {
     /// The part of the report of a round, of the last where none is named; with the rules that refused
     /// lines broke, where they are asked for.
     Round { round: Option<Round>, why: bool },
+    /// What the trains of each company ran in a round, in the last with runs where none is named.
+    Runs { round: Option<Round> },
 }
 
 /// What the command line asks for; `None` where the word for a round names none. An error is what to
@@ -23,7 +25,8 @@ pub(crate) fn task_of(alloc: Global, words: &[String]) -> Result<Option<Task>, E
         .version("1")
         .bin_name("desk")?
         .subcommand_required(true)
-        .subcommand(round_command(alloc)?)?;
+        .subcommand(round_command(alloc)?)?
+        .subcommand(runs_command(alloc)?)?;
     let matches = command.try_get_matches_from(words)?;
     Ok(named_task(&matches))
 }
@@ -35,6 +38,9 @@ fn named_task(matches: &ArgMatches) -> Option<Task> {
         "round" => Some(Task::Round {
             round: round_of(given)?,
             why: given.get_flag("why"),
+        }),
+        "runs" => Some(Task::Runs {
+            round: round_of(given)?,
         }),
         _ => None,
     }
@@ -59,6 +65,14 @@ fn round_command<'a>(alloc: Global) -> Result<Command<'a>, AllocError> {
         .after_help("Example: desk round OR2.1 --why < our-game.orders")
         .arg(round_argument(alloc))?
         .arg(why)
+}
+
+/// The word `runs`.
+fn runs_command<'a>(alloc: Global) -> Result<Command<'a>, AllocError> {
+    Command::new(alloc, "runs")
+        .about("Writes what the trains of each company ran in a round, stop by stop")
+        .after_help("Example: desk runs OR2.1 < our-game.orders")
+        .arg(round_argument(alloc))
 }
 
 /// The round that a word is about.
