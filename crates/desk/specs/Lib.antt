@@ -1,2 +1,3 @@
 -- What the desk finds.
 pub mod Fault
+pub mod RoundPart
