@@ -1,2 +1,5 @@
 -- What the desk finds.
 pub mod Fault
+pub mod FileLines
+pub mod SheetLines
+pub mod Heads

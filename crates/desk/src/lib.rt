@@ -11,10 +11,27 @@
 #![tactic(auto)]
 
 mod asked;
+mod check_coming;
+mod check_early;
+mod check_found;
+mod check_late;
+mod check_lines;
+mod check_mail;
+mod check_names;
+mod check_pass;
+mod check_refused;
+mod check_sheets;
+mod check_text;
+mod checking;
+mod explain_table;
+mod explaining;
 mod fault;
 mod round_part;
 mod text;
 
 pub use asked::read_round;
+pub use checking::{Findings, check};
+pub use explain_table::{Entry, entries};
+pub use explaining::{entry_text, explain};
 pub use fault::DeskFault;
 pub use round_part::round;

@@ -1,0 +1,126 @@
+//! One pass over the lines of a file: its SHEET lines, and what stands outside of sheets or looks like mail.
+ghost use Rattle.std.specs.Prelude.{◌≡◌, ◌≤◌, Ok, length};
+ghost use Rattle.sheets.specs.File.{fault_of_reading, unread_fault, version_of};
+ghost use Rattle.sheets.specs.Limits.{file_most};
+
+use crate::check_found::{Found, Matter};
+use crate::check_lines::{FileLine, FileLines, is_blank};
+use crate::check_mail::is_mail;
+use crate::check_names::likeness;
+use crate::check_sheets::{Beginning, Heads, beginning};
+use crate::text::name;
+use order_grammar::{Fault, Order, read_line_in};
+use sheets::Sheets;
+use std::alloc::{AllocError, Global};
+use tables::Seat;
+
+/// How many lines that are not blank stand before the first sheet may begin: the header and the players.
+const PREAMBLE: usize = 2;
+
+/// What a pass over a file has come to.
+#[derive(Drop)]
+pub(crate) struct Pass<'a> {
+    /// The good SHEET lines.
+    pub(crate) heads: Heads<'a>,
+    /// What was found.
+    pub(crate) found: Found<'a>,
+    /// How many lines of the preamble have come.
+    preamble: usize,
+    /// The number of the line that begins the sheet that is open; `None` where none is.
+    open: Option<usize>,
+}
+
+/// Passes over the file of some sheets.
+pub(crate) fn pass_over<'a>(
+    alloc: Global,
+    sheets: &Sheets,
+    file: &'a [u8],
+) -> Result<Pass<'a>, AllocError>
+    requires { length file.now ≤ file_most }
+{
+    let mut pass = Pass {
+        heads: Heads::none(alloc),
+        found: Found::nothing(alloc),
+        preamble: 0,
+        open: None,
+    };
+    for line in FileLines::of(file) {
+        pass.take(sheets, line)?;
+    }
+    Ok(pass)
+}
+
+impl<'a> Pass<'a> {
+    /// Takes the next line.
+    fn take(&mut self, sheets: &Sheets, line: FileLine<'a>) -> Result<(), AllocError> {
+        match beginning(sheets, line.text) {
+            Beginning::Sheet(sent) => {
+                self.open = Some(line.number);
+                self.heads.take(sheets, line, sent)
+            }
+            Beginning::Closing => {
+                self.open = None;
+                self.take_loose(sheets, &line)
+            }
+            Beginning::Other => self.take_other(sheets, &line),
+        }
+    }
+
+    /// Takes a line that is no SHEET line.
+    fn take_other(&mut self, sheets: &Sheets, line: &FileLine<'a>) -> Result<(), AllocError> {
+        match self.open {
+            None => self.take_loose(sheets, line),
+            Some(sheet) if is_mail(line.text) => self.found.tell_line(line, Matter::Mail(sheet)),
+            Some(_) => Ok(()),
+        }
+    }
+
+    /// Takes a line where no sheet is open.
+    fn take_loose(&mut self, sheets: &Sheets, line: &FileLine<'a>) -> Result<(), AllocError> {
+        if is_blank(line.text) {
+            return Ok(());
+        }
+        if self.preamble >= PREAMBLE {
+            let fault = unread_fault(sheets, line.text);
+            return self.found.tell_line(line, Matter::Unread(fault));
+        }
+        self.preamble += 1;
+        if self.preamble == PREAMBLE {
+            self.look_at_names(sheets, line)?;
+        }
+        Ok(())
+    }
+
+    /// Looks at the names of the players, which stand on this line.
+    fn look_at_names(&mut self, sheets: &Sheets, line: &FileLine<'a>) -> Result<(), AllocError> {
+        for number in 0..sheets.seats() {
+            let seat = Seat::at(number);
+            if let Some(likeness) = likeness(name(sheets, seat)) {
+                self.found.tell(line, Matter::Name { seat, likeness })?;
+            }
+        }
+        Ok(())
+    }
+}
+
+/// The code of a line that is in no sheet.
+#[tactic(auto, unfolding(sheets::specs::File::unread_fault))]
+fn unread_fault(sheets: &Sheets, line: &[u8]) -> Fault
+    ensures { result ≡ unread_fault (version_of sheets.now) line.now }
+{
+    match &read_line_in(sheets.version(), line) {
+        Err(fault) => *fault,
+        Ok(line) => fault_of_order(&line.order),
+    }
+}
+
+/// The code of a line with this order that is in no sheet: it is a sheet of nobody who plays, or out
+/// of place.
+fn fault_of_order(order: &Order) -> Fault
+    ensures { result ≡ fault_of_reading (Ok order.now) }
+{
+    match order {
+        Order::Sheet { .. } => Fault::UnknownPlayer,
+        _ => Fault::OutOfPlace,
+    }
+}

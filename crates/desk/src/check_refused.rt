@@ -1,0 +1,194 @@
+//! Why a file is refused: which line it is, and what is wrong with it.
+
+use crate::check_lines::{FileLine, FileLines, is_blank};
+use crate::check_mail::is_mail;
+use order_grammar::{Fault, LINE_MOST, NAME_MOST, Name, Order, begins_with_word, read_line};
+use sheets::FileFault;
+use tables::{PLAYERS_LEAST, PLAYERS_MOST};
+
+/// What some editors write before the first line of a text.
+const BYTE_ORDER_MARK: &[u8] = b"\xEF\xBB\xBF";
+
+/// The words of the game that is played.
+const GAME: u32 = 1830;
+
+/// Why a file is refused.
+#[derive(Clone, Copy, Debug, PartialEq, Eq)]
+pub(crate) enum Cause<'a> {
+    /// The file as a whole is too large.
+    TooLarge,
+    /// It has too many good SHEET lines.
+    TooManySheets,
+    /// It has no line that is not blank.
+    Empty,
+    /// A byte order mark stands before the first line.
+    ByteOrderMark,
+    /// The text is UTF-16.
+    Wide,
+    /// The line is a mail's.
+    Mail,
+    /// The line has too many bytes.
+    TooLong,
+    /// A byte before its comment is no printable ASCII.
+    StrayByte,
+    /// It is no GAME line.
+    NoHeader,
+    /// It is of another game.
+    OtherGame,
+    /// It names another version.
+    OtherVersion,
+    /// What follows GAME is wrong otherwise.
+    WrongHeader,
+    /// No line follows the header.
+    NoPlayers,
+    /// The line after the header is no PLAYERS line.
+    OtherLine,
+    /// Too few players, or too many.
+    Number(usize),
+    /// This name is too long.
+    LongName(&'a [u8]),
+    /// This name begins with another byte than a letter.
+    NoLetterFirst(&'a [u8]),
+    /// This name has another byte than a letter or a digit.
+    OtherLetter(&'a [u8]),
+    /// This name stands twice.
+    NameTwice(&'a [u8]),
+    /// What follows PLAYERS is wrong otherwise.
+    WrongPlayers,
+}
+
+/// A cause, with the line that it is about, if it is about one.
+#[derive(Clone, Copy, Debug)]
+pub(crate) struct Refusal<'a> {
+    pub(crate) line: Option<FileLine<'a>>,
+    pub(crate) cause: Cause<'a>,
+}
+
+/// Why a file is refused by this fault.
+pub(crate) fn refusal_of<'a>(file: &'a [u8], fault: FileFault) -> Refusal<'a> {
+    match fault {
+        FileFault::TooLong | FileFault::Memory => whole(Cause::TooLarge),
+        FileFault::TooManySheets => whole(Cause::TooManySheets),
+        FileFault::Header => match written_line(file, 0) {
+            Some(line) => of_line(line, cause_of_header(file, line.text)),
+            None => whole(Cause::Empty),
+        },
+        FileFault::Players => match written_line(file, 1) {
+            Some(line) => of_line(line, cause_of_players(line.text)),
+            None => whole(Cause::NoPlayers),
+        },
+    }
+}
+
+/// A cause that is about no line.
+fn whole<'a>(cause: Cause<'a>) -> Refusal<'a> {
+    Refusal { line: None, cause }
+}
+
+/// A cause that is about a line.
+fn of_line<'a>(line: FileLine<'a>, cause: Cause<'a>) -> Refusal<'a> {
+    Refusal {
+        line: Some(line),
+        cause,
+    }
+}
+
+/// The line of a file behind so many that are not blank.
+fn written_line(file: &[u8], before: usize) -> Option<FileLine<'_>> {
+    FileLines::of(file)
+        .filter(|line| !is_blank(line.text))
+        .nth(before)
+}
+
+/// What is wrong with the first line of a file that is not blank.
+fn cause_of_header<'a>(file: &'a [u8], line: &'a [u8]) -> Cause<'a> {
+    if line.starts_with(BYTE_ORDER_MARK) {
+        return Cause::ByteOrderMark;
+    }
+    if is_wide(file) {
+        return Cause::Wide;
+    }
+    if is_mail(line) {
+        return Cause::Mail;
+    }
+    match read_line(line) {
+        Ok(read) => cause_of_order(&read.order),
+        Err(Fault::TooLong) => Cause::TooLong,
+        Err(Fault::StrayByte) => Cause::StrayByte,
+        Err(_) if begins_with_word(line, b"GAME") => Cause::WrongHeader,
+        Err(_) => Cause::NoHeader,
+    }
+}
+
+/// What is wrong with a header line that has this order.
+fn cause_of_order<'a>(order: &Order) -> Cause<'a> {
+    match order {
+        Order::Game { game: GAME, .. } => Cause::OtherVersion,
+        Order::Game { .. } => Cause::OtherGame,
+        _ => Cause::NoHeader,
+    }
+}
+
+/// Whether a text is UTF-16: it begins with its mark, or has a zero byte in front.
+fn is_wide(file: &[u8]) -> bool {
+    match file {
+        [0xFF, 0xFE, ..] | [0xFE, 0xFF, ..] | [0, _, ..] | [_, 0, ..] => true,
+        _ => false,
+    }
+}
+
+/// What is wrong with the line after the header.
+fn cause_of_players<'a>(line: &'a [u8]) -> Cause<'a> {
+    if is_mail(line) {
+        return Cause::Mail;
+    }
+    if line.len() > LINE_MOST {
+        return Cause::TooLong;
+    }
+    if !begins_with_word(line, b"PLAYERS") {
+        return Cause::OtherLine;
+    }
+    if let Err(Fault::StrayByte) = read_line(line) {
+        return Cause::StrayByte;
+    }
+    cause_of_names(line)
+}
+
+/// What is wrong with the names of a PLAYERS line.
+fn cause_of_names<'a>(line: &'a [u8]) -> Cause<'a> {
+    let count = names(line).count();
+    if count < PLAYERS_LEAST || count > PLAYERS_MOST {
+        return Cause::Number(count);
+    }
+    for (place, name) in names(line).enumerate() {
+        if let Some(cause) = cause_of_name(name) {
+            return cause;
+        }
+        let spelt = Name::from_word(name);
+        if names(line).take(place).any(|earlier| Name::from_word(earlier) == spelt) {
+            return Cause::NameTwice(name);
+        }
+    }
+    Cause::WrongPlayers
+}
+
+/// What is wrong with a name; `None` where it is one.
+fn cause_of_name<'a>(name: &'a [u8]) -> Option<Cause<'a>> {
+    let first = name.first()?;
+    if !name.iter().all(|byte| byte.is_ascii_alphanumeric()) {
+        return Some(Cause::OtherLetter(name));
+    }
+    if !first.is_ascii_alphabetic() {
+        return Some(Cause::NoLetterFirst(name));
+    }
+    if name.len() > NAME_MOST {
+        return Some(Cause::LongName(name));
+    }
+    None
+}
+
+/// The words of a line after the first.
+fn names<'a>(line: &'a [u8]) -> impl Iterator<Item = &'a [u8]> {
+    let text = line.split(|byte| *byte == b'#').next().unwrap_or(line);
+    text.split(|byte| *byte == b' ').filter(|word| !word.is_empty()).skip(1)
+}
