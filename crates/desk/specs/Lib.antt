@@ -3,3 +3,4 @@ pub mod Fault
 pub mod FileLines
 pub mod SheetLines
 pub mod Heads
+pub mod SetNumber

@@ -1,39 +1,18 @@
 //! Which rounds can still come in a game.
 ghost use Rattle.std.specs.Prelude.{◌≡◌};
 
-use history::{Event, Walk};
+use crate::set_number::number_in_set;
 use rounds::{End, Game};
-use tables::{OPERATING_MOST, Round, rounds_in_set};
+use tables::{OPERATING_MOST, Round};
 
 /// Whether a round that was not played can still come in a game, whatever sheets are sent.
 pub(crate) fn can_come(game: &Game, round: Round) -> bool {
     match game.outcome() {
         End::Awaiting(awaited) => {
-            let in_set = rounds_of_set(game, awaited);
+            let in_set = number_in_set(game.history(), game.outcome());
             may_follow(awaited, in_set, game.history().broken(), round)
         }
         End::Bank | End::Bankrupt => false,
-    }
-}
-
-/// How many operating rounds the set has of which a round is awaited. That is fixed by the phase in which its
-/// stock round comes; so where an opening is awaited, it is that of this phase.
-fn rounds_of_set(game: &Game, awaited: Round) -> u8 {
-    let history = game.history();
-    let events = history.events();
-    let mut walk = Walk::along(events);
-    walk.go(start_of_set(events, awaited));
-    rounds_in_set(walk.past(history.seats()).phase())
-}
-
-/// How many events came before the stock round of the set of a round; all, where it has not begun.
-fn start_of_set(events: &[Event], awaited: Round) -> usize {
-    match awaited {
-        Round::Operating { set, .. } => events
-            .iter()
-            .position(|event| event.round() == Some(Round::Stock(set)))
-            .unwrap_or(events.len()),
-        Round::Opening(_) | Round::Stock(_) => events.len(),
     }
 }
 

@@ -1,8 +1,15 @@
 //! Lines that look like mail.
 
 /// The words with which the lines of a mail's head begin, and those of what it quotes.
-const HEADS: [&[u8]; 8] = [
-    b"From:", b"To:", b"Cc:", b"Date:", b"Sent:", b"Subject:", b"Message-ID:", b">",
+const HEADS: [&str; 8] = [
+    "From:",
+    "To:",
+    "Cc:",
+    "Date:",
+    "Sent:",
+    "Subject:",
+    "Message-ID:",
+    ">",
 ];
 
 /// Whether a line looks like one of a mail: of its head, `From: Ann`; quoted, `> TURN`; or the one that
@@ -10,7 +17,7 @@ const HEADS: [&[u8]; 8] = [
 pub(crate) fn is_mail(line: &[u8]) -> bool {
     match line.first() {
         Some(first) if is_begun_so(*first) => {
-            HEADS.iter().any(|head| line.starts_with(head)) || is_attribution(line)
+            HEADS.iter().any(|head| line.starts_with(head.as_bytes())) || is_attribution(line)
         }
         _ => false,
     }

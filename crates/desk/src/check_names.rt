@@ -15,7 +15,8 @@ pub(crate) enum Likeness {
 
 /// The words of at most eight letters with which a report's lines begin, and those that stand in the place
 /// of a name.
-const WORDS: [&[u8]; 40] = [
+const WORDS: [&str; 0] = [
+]; 40] = [
     b"AID", b"AWAITING", b"BANK", b"BANKRUPT", b"BIDS", b"BOUGHT", b"BROKEN", b"CLOSED", b"COMPANY",
     b"DIVIDEND", b"END", b"FILE", b"FLOATS", b"FORCED", b"GAME", b"GIVEN", b"HOME", b"IPO", b"LAID",
     b"LEFT", b"MOVES", b"PAR", b"PHASE", b"PLAYER", b"PLAYERS", b"POOL", b"PRICE", b"PRIVATE",
@@ -25,19 +26,28 @@ const WORDS: [&[u8]; 40] = [
 
 /// What a name is besides; `None` where it is a name alone.
 pub(crate) fn likeness(name: &[u8]) -> Option<Likeness> {
-    if Company::ALL.iter().any(|company| company.code().as_bytes() == name) {
-        return Some(Likeness::Company);
+    if is_company(name) {
+        Some(Likeness::Company)
+    } else if is_private(name) {
+        Some(Likeness::Private)
+    } else if is_word_of_reports(name) {
+        Some(Likeness::Word)
+    } else {
+        None
     }
-    if Private::ALL.iter().any(|private| private.code().as_bytes() == name) {
-        return Some(Likeness::Private);
-    }
-    if is_word_of_reports(name) {
-        return Some(Likeness::Word);
-    }
-    None
+}
+
+/// Whether a name is the code of a company.
+fn is_company(name: &[u8]) -> bool {
+    Company::ALL.iter().any(|company| company.code().as_bytes() == name)
+}
+
+/// Whether a name is the code of a private.
+fn is_private(name: &[u8]) -> bool {
+    Private::ALL.iter().any(|private| private.code().as_bytes() == name)
 }
 
 /// Whether lines of a report begin with this word, or have it in the place of a name.
 fn is_word_of_reports(name: &[u8]) -> bool {
-    WORDS.iter().any(|word| *word == name)
+    WORDS.iter().any(|word| word.as_bytes() == name)
 }

@@ -8,7 +8,7 @@ use crate::check_lines::{FileLine, FileLines, is_blank};
 use crate::check_mail::is_mail;
 use crate::check_names::likeness;
 use crate::check_sheets::{Beginning, Heads, beginning};
-use crate::text::name;
+use report::name;
 use order_grammar::{Fault, Order, read_line_in};
 use sheets::Sheets;
 use std::alloc::{AllocError, Global};
@@ -19,23 +19,23 @@ const PREAMBLE: usize = 2;
 
 /// What a pass over a file has come to.
 #[derive(Drop)]
-pub(crate) struct Pass<'a> {
+struct Pass<'a> {
     /// The good SHEET lines.
-    pub(crate) heads: Heads<'a>,
+    heads: Heads<'a>,
     /// What was found.
-    pub(crate) found: Found<'a>,
+    found: Found<'a>,
     /// How many lines of the preamble have come.
     preamble: usize,
     /// The number of the line that begins the sheet that is open; `None` where none is.
     open: Option<usize>,
 }
 
-/// Passes over the file of some sheets.
+/// Passes over the file of some sheets: its good SHEET lines, and what was found on the way.
 pub(crate) fn pass_over<'a>(
     alloc: Global,
     sheets: &Sheets,
     file: &'a [u8],
-) -> Result<Pass<'a>, AllocError>
+) -> Result<(Heads<'a>, Found<'a>), AllocError>
     requires { length file.now ≤ file_most }
 {
     let mut pass = Pass {
@@ -47,7 +47,7 @@ pub(crate) fn pass_over<'a>(
     for line in FileLines::of(file) {
         pass.take(sheets, line)?;
     }
-    Ok(pass)
+    Ok((pass.heads, pass.found))
 }
 
 impl<'a> Pass<'a> {

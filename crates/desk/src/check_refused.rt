@@ -2,14 +2,15 @@
 
 use crate::check_lines::{FileLine, FileLines, is_blank};
 use crate::check_mail::is_mail;
-use order_grammar::{Fault, LINE_MOST, NAME_MOST, Name, Order, begins_with_word, read_line};
-use sheets::FileFault;
+use order_grammar::{Fault, NAME_MOST, Order, begins_with_word, read_line};
+use sheets::{FILE_MOST, FileFault};
+use std::alloc::{AllocError, Global};
 use tables::{PLAYERS_LEAST, PLAYERS_MOST};
 
 /// What some editors write before the first line of a text.
 const BYTE_ORDER_MARK: &[u8] = b"\xEF\xBB\xBF";
 
-/// The words of the game that is played.
+/// The game that is played, as its header line names it.
 const GAME: u32 = 1830;
 
 /// Why a file is refused.
@@ -65,8 +66,12 @@ pub(crate) struct Refusal<'a> {
 }
 
 /// Why a file is refused by this fault.
-pub(crate) fn refusal_of<'a>(file: &'a [u8], fault: FileFault) -> Refusal<'a> {
-    match fault {
+pub(crate) fn refusal_of<'a>(
+    alloc: Global,
+    file: &'a [u8],
+    fault: FileFault,
+) -> Result<Refusal<'a>, AllocError> {
+    Ok(match fault {
         FileFault::TooLong | FileFault::Memory => whole(Cause::TooLarge),
         FileFault::TooManySheets => whole(Cause::TooManySheets),
         FileFault::Header => match written_line(file, 0) {
@@ -74,10 +79,10 @@ pub(crate) fn refusal_of<'a>(file: &'a [u8], fault: FileFault) -> Refusal<'a> {
             None => whole(Cause::Empty),
         },
         FileFault::Players => match written_line(file, 1) {
-            Some(line) => of_line(line, cause_of_players(line.text)),
+            Some(line) => of_line(line, cause_of_players(alloc, line.text)?),
             None => whole(Cause::NoPlayers),
         },
-    }
+    })
 }
 
 /// A cause that is about no line.
@@ -95,6 +100,9 @@ fn of_line<'a>(line: FileLine<'a>, cause: Cause<'a>) -> Refusal<'a> {
 
 /// The line of a file behind so many that are not blank.
 fn written_line(file: &[u8], before: usize) -> Option<FileLine<'_>> {
+    if file.len() > FILE_MOST {
+        return None;
+    }
     FileLines::of(file)
         .filter(|line| !is_blank(line.text))
         .nth(before)
@@ -131,42 +139,38 @@ fn cause_of_order<'a>(order: &Order) -> Cause<'a> {
 
 /// Whether a text is UTF-16: it begins with its mark, or has a zero byte in front.
 fn is_wide(file: &[u8]) -> bool {
-    match file {
-        [0xFF, 0xFE, ..] | [0xFE, 0xFF, ..] | [0, _, ..] | [_, 0, ..] => true,
-        _ => false,
-    }
+    file.starts_with(b"\xFF\xFE") || file.starts_with(b"\xFE\xFF") || file.iter().take(2).any(|byte| *byte == 0)
 }
 
 /// What is wrong with the line after the header.
-fn cause_of_players<'a>(line: &'a [u8]) -> Cause<'a> {
+fn cause_of_players<'a>(alloc: Global, line: &'a [u8]) -> Result<Cause<'a>, AllocError> {
     if is_mail(line) {
-        return Cause::Mail;
-    }
-    if line.len() > LINE_MOST {
-        return Cause::TooLong;
+        return Ok(Cause::Mail);
     }
     if !begins_with_word(line, b"PLAYERS") {
-        return Cause::OtherLine;
+        return Ok(Cause::OtherLine);
     }
-    if let Err(Fault::StrayByte) = read_line(line) {
-        return Cause::StrayByte;
+    match read_line(line) {
+        Err(Fault::TooLong) => Ok(Cause::TooLong),
+        Err(Fault::StrayByte) => Ok(Cause::StrayByte),
+        _ => {
+            let names = names_of(alloc, line)?;
+            Ok(cause_of_names(names.as_slice()))
+        }
     }
-    cause_of_names(line)
 }
 
 /// What is wrong with the names of a PLAYERS line.
-fn cause_of_names<'a>(line: &'a [u8]) -> Cause<'a> {
-    let count = names(line).count();
-    if count < PLAYERS_LEAST || count > PLAYERS_MOST {
-        return Cause::Number(count);
+fn cause_of_names<'a>(names: &[&'a [u8]]) -> Cause<'a> {
+    if names.len() < PLAYERS_LEAST || names.len() > PLAYERS_MOST {
+        return Cause::Number(names.len());
     }
-    for (place, name) in names(line).enumerate() {
-        if let Some(cause) = cause_of_name(name) {
+    for (place, name) in names.iter().enumerate() {
+        if let Some(cause) = cause_of_name(*name) {
             return cause;
         }
-        let spelt = Name::from_word(name);
-        if names(line).take(place).any(|earlier| Name::from_word(earlier) == spelt) {
-            return Cause::NameTwice(name);
+        if names.iter().take(place).any(|earlier| earlier.eq_ignore_ascii_case(*name)) {
+            return Cause::NameTwice(*name);
         }
     }
     Cause::WrongPlayers
@@ -188,7 +192,10 @@ fn cause_of_name<'a>(name: &'a [u8]) -> Option<Cause<'a>> {
 }
 
 /// The words of a line after the first.
-fn names<'a>(line: &'a [u8]) -> impl Iterator<Item = &'a [u8]> {
+fn names_of<'a>(alloc: Global, line: &'a [u8]) -> Result<Vec<&'a [u8]>, AllocError> {
     let text = line.split(|byte| *byte == b'#').next().unwrap_or(line);
-    text.split(|byte| *byte == b' ').filter(|word| !word.is_empty()).skip(1)
+    text.split(|byte| *byte == b' ')
+        .filter(|word| !word.is_empty())
+        .skip(1)
+        .collect(alloc)
 }

@@ -5,7 +5,8 @@ use crate::check_found::{Finding, Found, Lateness, Matter, Standing};
 use crate::check_names::Likeness;
 use crate::check_refused::{Cause, Refusal};
 use crate::explaining::explain;
-use crate::text::{push_cut, push_name, push_words};
+use crate::text::{push_cut, push_words};
+use report::push_name;
 use order_grammar::{Fault, print_number, print_round};
 use rounds::End;
 use sheets::{FileFault, Sheets};
@@ -30,7 +31,7 @@ pub(crate) fn found_text(
     }
     if found.untold > 0 {
         push_words(&mut out, "and of ")?;
-        print_number(&mut out, found.untold as u64)?;
+        print_number(&mut out, found.untold)?;
         push_words(&mut out, " lines more: unread, like mail, or with a fault\n")?;
     }
     Ok(out)
@@ -45,7 +46,7 @@ fn push_finding(out: &mut Vec<u8>, sheets: &Sheets, finding: &Finding) -> Result
 
 /// Adds the number of a line and its text.
 fn push_line(out: &mut Vec<u8>, number: usize, text: &[u8]) -> Result<(), AllocError> {
-    print_number(out, number as u64)?;
+    print_number(out, number)?;
     push_words(out, PARTED)?;
     push_cut(out, text, COLUMNS)?;
     push_words(out, PARTED)
@@ -60,7 +61,7 @@ fn push_matter(out: &mut Vec<u8>, sheets: &Sheets, matter: &Matter) -> Result<()
         }
         Matter::Mail(sheet) => {
             push_words(out, "it looks like mail, and counts as a line of the sheet of line ")?;
-            print_number(out, *sheet as u64)
+            print_number(out, *sheet)
         }
         Matter::Replaces {
             line,
@@ -111,7 +112,7 @@ fn push_replaced(
     lateness: &Lateness,
 ) -> Result<(), AllocError> {
     push_words(out, "it replaces the sheet of line ")?;
-    print_number(out, line as u64)?;
+    print_number(out, line)?;
     match lateness {
         Lateness::Open => push_words(out, ", and not every player had one for that round"),
         Lateness::NotReached => {
@@ -181,7 +182,7 @@ pub(crate) fn refusal_text(
 fn push_cause(out: &mut Vec<u8>, cause: Cause) -> Result<(), AllocError> {
     match cause {
         Cause::Number(count) => {
-            print_number(out, count as u64)?;
+            print_number(out, count)?;
             push_words(out, " players are named, and 3 to 6 play")
         }
         Cause::LongName(name) => push_of_name(out, name, " has over 8 letters and digits"),

@@ -1,8 +1,10 @@
 //! What a report does not tell of a file, before it hurts.
+ghost use Rattle.std.specs.Prelude.{◌≤◌, length};
+ghost use Rattle.sheets.specs.Limits.{file_most};
 
 use crate::check_early::find_unplayed;
 use crate::check_late::{Rounds, find_replaced};
-use crate::check_pass::{Pass, pass_over};
+use crate::check_pass::pass_over;
 use crate::check_refused::refusal_of;
 use crate::check_text::{found_text, refusal_text};
 use crate::fault::DeskFault;
@@ -43,15 +45,17 @@ pub fn check(alloc: Global, file: &[u8]) -> Result<Findings, DeskFault> {
 /// What there is to tell of a file that is refused.
 fn refused(alloc: Global, file: &[u8], fault: FileFault) -> Result<Findings, AllocError> {
     Ok(Findings {
-        text: refusal_text(alloc, fault, &refusal_of(file, fault))?,
+        text: refusal_text(alloc, fault, &refusal_of(alloc, file, fault)?)?,
         refused: Some(fault),
     })
 }
 
 /// What there is to tell of the file of some sheets.
-fn look_through(alloc: Global, file: &[u8], sheets: &Sheets) -> Result<Vec<u8>, AllocError> {
+fn look_through(alloc: Global, file: &[u8], sheets: &Sheets) -> Result<Vec<u8>, AllocError>
+    requires { length file.now ≤ file_most }
+{
     let game = play(alloc, sheets)?;
-    let Pass { heads, mut found, .. } = pass_over(alloc, sheets, file)?;
+    let (heads, mut found) = pass_over(alloc, sheets, file)?;
     let rounds = Rounds::of(alloc, &heads, &game)?;
     find_replaced(alloc, file, &heads, &game, &rounds, &mut found)?;
     find_unplayed(&heads, &game, &rounds, &mut found)?;

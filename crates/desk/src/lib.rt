@@ -7,7 +7,7 @@
 //! games of `games/desk/`.
 //!
 //! Reading order: `fault`, `text` (names, numbers and columns), `asked` (the round that is asked for),
-//! `round_part` (`round`).
+//! `round_part` (`round`), `ground` (what lay on the map), `ran` (`runs`).
 #![tactic(auto)]
 
 mod asked;
@@ -26,7 +26,10 @@ mod checking;
 mod explain_table;
 mod explaining;
 mod fault;
+mod ground;
+mod ran;
 mod round_part;
+mod set_number;
 mod text;
 
 pub use asked::read_round;
@@ -34,4 +37,5 @@ pub use checking::{Findings, check};
 pub use explain_table::{Entry, entries};
 pub use explaining::{entry_text, explain};
 pub use fault::DeskFault;
+pub use ran::runs;
 pub use round_part::round;

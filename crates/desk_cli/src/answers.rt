@@ -2,7 +2,7 @@
 
 use crate::streams::StreamFault;
 use crate::task::Task;
-use desk::{DeskFault, Entry, check, entry_text, round};
+use desk::{DeskFault, Entry, check, entry_text, round, runs};
 use report::refusal_text;
 use sheets::FileFault;
 use std::alloc::Global;
@@ -36,6 +36,7 @@ pub(crate) fn answer_to(alloc: Global, file: &[u8], task: Task) -> Result<Answer
         Task::Round { round: asked, why } => round(alloc, file, asked, why),
         Task::Check => return checked(alloc, file),
         Task::Explain(entry) => return explained(alloc, entry),
+        Task::Runs { round: asked } => runs(alloc, file, asked),
     };
     match told {
         Ok(text) => Ok(written(text)),

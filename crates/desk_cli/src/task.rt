@@ -15,6 +15,8 @@ pub(crate) enum Task {
     Check,
     /// What a code means; of no code where there is none like it.
     Explain(Option<&'static Entry>),
+    /// What the trains of each company ran in a round, in the last with runs where none is named.
+    Runs { round: Option<Round> },
 }
 
 impl Task {
@@ -36,7 +38,8 @@ pub(crate) fn task_of(alloc: Global, words: &[String]) -> Result<Option<Task>, E
         .subcommand_required(true)
         .subcommand(round_command(alloc)?)?
         .subcommand(check_command(alloc)?)?
-        .subcommand(explain_command(alloc)?)?;
+        .subcommand(explain_command(alloc)?)?
+        .subcommand(runs_command(alloc)?)?;
     let matches = command.try_get_matches_from(words)?;
     Ok(named_task(&matches))
 }
@@ -50,7 +53,10 @@ fn named_task(matches: &ArgMatches) -> Option<Task> {
             why: given.get_flag("why"),
         }),
         "check" => Some(Task::Check),
-        "explain" => Some(Task::Explain(given.get_str("CODE").and_then(explain))),
+        "explain" => Some(Task::Explain(entry_of(given))),
+        "runs" => Some(Task::Runs {
+            round: round_of(given)?,
+        }),
         _ => None,
     }
 }
@@ -61,6 +67,12 @@ fn round_of(given: &ArgMatches) -> Option<Option<Round>> {
         Some(word) => Some(Some(read_round(word.as_bytes())?)),
         None => Some(None),
     }
+}
+
+/// What the table has of the code that a command line names.
+fn entry_of(given: &ArgMatches) -> Option<&'static Entry> {
+    let code = given.get_str("CODE")?;
+    explain(code)
 }
 
 /// The word `round`.
@@ -74,6 +86,14 @@ fn round_command<'a>(alloc: Global) -> Result<Command<'a>, AllocError> {
         .after_help("Example: desk round OR2.1 --why < our-game.orders")
         .arg(round_argument(alloc))?
         .arg(why)
+}
+
+/// The word `runs`.
+fn runs_command<'a>(alloc: Global) -> Result<Command<'a>, AllocError> {
+    Command::new(alloc, "runs")
+        .about("Writes what the trains of each company ran in a round, stop by stop")
+        .after_help("Example: desk runs OR2.1 < our-game.orders")
+        .arg(round_argument(alloc))
 }
 
 /// The round that a word is about.
