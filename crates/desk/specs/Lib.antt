@@ -4,3 +4,6 @@ pub mod FileLines
 pub mod SheetLines
 pub mod Heads
 pub mod SetNumber
+pub mod RoundsPlayed
+pub mod Unplayed
+pub mod Coming

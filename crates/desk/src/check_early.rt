@@ -1,11 +1,13 @@
 //! Sheets for rounds that are not played yet: whether the round can come, and the faults of their lines.
-ghost use Rattle.std.specs.Prelude.{◌≡◌};
+ghost use Rattle.std.specs.Prelude.{◌≡◌, Ok};
+ghost use Rattle.desk.specs.Unplayed.{has_place, has_place_before, has_place_behind, has_place_in_block, look_of};
+ghost use Rattle.sheets.specs.Part.{line_unread, opens_part};
 
+use crate::check_coming::can_come;
 use crate::check_found::{Found, Matter};
 use crate::check_late::Rounds;
 use crate::check_lines::{FileLines, is_blank};
 use crate::check_mail::is_mail;
-use crate::check_coming::can_come;
 use crate::check_sheets::{Head, Heads};
 use order_grammar::{Fault, Order, Version, begins_with_word};
 use rounds::{End, Game};
@@ -29,7 +31,9 @@ pub(crate) fn find_unplayed<'a>(
             found.tell(&head.line, Matter::Never(end))?;
             continue;
         }
-        if let End::Awaiting(awaited) = end && awaited != head.sent.round {
+        if let End::Awaiting(awaited) = end
+            && awaited != head.sent.round
+        {
             found.tell(&head.line, Matter::Early(awaited))?;
         }
         find_faults(head, game.sheets().version(), found)?;
@@ -81,7 +85,9 @@ enum Look {
 }
 
 /// What a line of a sheet for a round is, before the first head or behind it.
-fn look_at(line: UnreadLine, round: Round, is_open: bool) -> Look {
+fn look_at(line: UnreadLine, round: Round, is_open: bool) -> Look
+    ensures { result ≡ look_of round is_open (line_unread line.entry).reading }
+{
     match line.read().order() {
         Err(fault) => Look::Bad(fault),
         Ok(order) if is_head(round, order) => Look::Head,
@@ -91,7 +97,9 @@ fn look_at(line: UnreadLine, round: Round, is_open: bool) -> Look {
 }
 
 /// Whether an order begins a group of a sheet for a round, or a block of it.
-fn is_head(round: Round, order: &Order) -> bool {
+fn is_head(round: Round, order: &Order) -> bool
+    ensures { result ≡ opens_part round (Ok order.now) }
+{
     match round {
         Round::Opening(_) | Round::Stock(_) => matches!(order, Order::Turn),
         Round::Operating { .. } => matches!(order, Order::Company(_)),
@@ -99,16 +107,20 @@ fn is_head(round: Round, order: &Order) -> bool {
 }
 
 /// Whether an order has a place in a sheet for a round, in a group or a block or before the first.
-fn has_place(round: Round, order: &Order, is_open: bool) -> bool {
+fn has_place(round: Round, order: &Order, is_open: bool) -> bool
+    ensures { result ≡ has_place round is_open order.now }
+{
     if is_open {
-        has_place_behind_head(round, order)
+        has_place_behind(round, order)
     } else {
-        has_place_before_heads(round, order)
+        has_place_before(round, order)
     }
 }
 
 /// Whether an order has a place before the first head of a sheet for a round.
-fn has_place_before_heads(round: Round, order: &Order) -> bool {
+fn has_place_before(round: Round, order: &Order) -> bool
+    ensures { result ≡ has_place_before round order.now }
+{
     match round {
         Round::Opening(_) => matches!(order, Order::Limit { .. } | Order::Par { .. }),
         Round::Stock(_) => false,
@@ -117,7 +129,9 @@ fn has_place_before_heads(round: Round, order: &Order) -> bool {
 }
 
 /// Whether an order has a place in a group or a block of a sheet for a round.
-fn has_place_behind_head(round: Round, order: &Order) -> bool {
+fn has_place_behind(round: Round, order: &Order) -> bool
+    ensures { result ≡ has_place_behind round order.now }
+{
     match round {
         Round::Opening(_) | Round::Stock(_) => !is_of_file(order),
         Round::Operating { .. } => has_place_in_block(order),
@@ -125,7 +139,9 @@ fn has_place_behind_head(round: Round, order: &Order) -> bool {
 }
 
 /// Whether an order has a place in a block.
-fn has_place_in_block(order: &Order) -> bool {
+fn has_place_in_block(order: &Order) -> bool
+    ensures { result ≡ has_place_in_block order.now }
+{
     matches!(
         order,
         Order::Lay(_)

@@ -1,5 +1,7 @@
 //! Sheets that replace others: whether the round was played, and how the game has changed since.
-ghost use Rattle.std.specs.Prelude.{◌≡◌};
+ghost use Rattle.std.specs.Prelude.{◌≡◌, ◌-◌, IfOk, length, take};
+ghost use Rattle.desk.specs.RoundsPlayed.{AreRoundsOf, is_kept};
+ghost use Rattle.history.specs.LookBack.{round_of};
 
 use crate::check_found::{Found, Lateness, Matter, Standing};
 use crate::check_lines::FileLine;
@@ -19,7 +21,9 @@ pub(crate) struct Rounds {
 
 impl Rounds {
     /// The rounds of the game of the file with these SHEET lines.
-    pub(crate) fn of(alloc: Global, heads: &Heads, game: &Game) -> Result<Rounds, AllocError> {
+    pub(crate) fn of(alloc: Global, heads: &Heads, game: &Game) -> Result<Rounds, AllocError>
+        ensures { IfOk result (λ rounds. AreRoundsOf rounds game.now.game.events) }
+    {
         let mut lines = HashMap::new(alloc);
         let mut by = 0;
         for event in game.history().events() {
@@ -32,7 +36,9 @@ impl Rounds {
     }
 
     /// Whether a round was played.
-    pub(crate) fn has(&self, round: Round) -> bool {
+    pub(crate) fn has(&self, round: Round) -> bool
+        ensures { result ≡ is_kept self.now round }
+    {
         self.lines.contains_key(&round)
     }
 
@@ -46,11 +52,25 @@ impl Rounds {
 }
 
 /// How far a game has come.
-pub(crate) fn standing_of(game: &Game) -> Standing {
+fn standing_of(game: &Game) -> Standing
+    ensures last { result.last ≡ round_of game.now.game.events }
+    ensures end { result.end ≡ game.now.end }
+{
     Standing {
         last: game.history().round(),
         end: game.outcome(),
     }
+}
+
+/// The game of what stands before a line that replaced a sheet for a played round.
+#[derive(Drop)]
+struct Turn {
+    /// The number of the line.
+    line: usize,
+    /// The rounds that were played.
+    rounds: Rounds,
+    /// How far it had come.
+    standing: Standing,
 }
 
 /// Finds the sheets that replace others.
@@ -62,41 +82,54 @@ pub(crate) fn find_replaced<'a>(
     rounds: &Rounds,
     found: &mut Found<'a>,
 ) -> Result<(), AllocError> {
-    let turning = turning_line(heads, rounds);
+    let turn = match turning_head(heads, rounds) {
+        Some(head) => turn_at(alloc, file, heads, head)?,
+        None => None,
+    };
     for head in &heads.heads {
         if let Some(line) = head.replaces {
-            let mut lateness = lateness_of(head, heads, rounds);
-            if turning == Some(head.line.number) {
-                lateness = turn(alloc, file, head, game)?;
-            }
-            found.tell(
-                &head.line,
-                Matter::Replaces {
-                    line,
-                    round: head.sent.round,
-                    lateness,
-                },
-            )?;
+            let matter = Matter::Replaces {
+                line,
+                round: head.sent.round,
+                lateness: lateness_of(head, heads, rounds, turn.as_ref()),
+                turn: turned(head, turn.as_ref(), game),
+            };
+            found.tell(&head.line, matter)?;
         }
     }
     Ok(())
 }
 
 /// What was there of a round when a line replaced a sheet for it.
-fn lateness_of(head: &Head, heads: &Heads, rounds: &Rounds) -> Lateness {
-    if rounds.has_before(head.sent.round, &head.line) {
+fn lateness_of(head: &Head, heads: &Heads, rounds: &Rounds, turn: Option<&Turn>) -> Lateness {
+    let round = head.sent.round;
+    if rounds.has_before(round, &head.line) {
         return Lateness::Played;
     }
-    match heads.complete_by(head.sent.round) {
+    if let Some(turn) = turn
+        && turn.rounds.has_before(round, &head.line)
+    {
+        return Lateness::Played;
+    }
+    match heads.complete_by(round) {
         Some(by) if by < head.line.number => Lateness::NotReached,
         _ => Lateness::Open,
     }
 }
 
-/// The number of the line before which the game is looked at: of the lines that replaced sheets for played
-/// rounds the first after the last line by which all players had a sheet for a round; where there is none,
-/// the first of the last such lines.
-fn turning_line(heads: &Heads, rounds: &Rounds) -> Option<usize> {
+/// How far the game had come before a line and how far it comes now, where the game before that line was
+/// played.
+fn turned(head: &Head, turn: Option<&Turn>, game: &Game) -> Option<(Standing, Standing)> {
+    match turn {
+        Some(turn) if turn.line == head.line.number => Some((turn.standing, standing_of(game))),
+        _ => None,
+    }
+}
+
+/// The line before which the game is looked at: of the lines that replaced sheets for played rounds the
+/// first after the last line by which all players had a sheet for a round; where there is none after that,
+/// the first of those that follow one another without such a line, the last time.
+fn turning_head<'a, 'b>(heads: &'b Heads<'a>, rounds: &Rounds) -> Option<&'b Head<'a>> {
     let mut turning = None;
     let mut is_fresh = true;
     for head in &heads.heads {
@@ -106,7 +139,7 @@ fn turning_line(heads: &Heads, rounds: &Rounds) -> Option<usize> {
         }
         if head.replaces.is_some() && rounds.has_before(round, &head.line) {
             if is_fresh {
-                turning = Some(head.line.number);
+                turning = Some(head);
             }
             is_fresh = false;
         }
@@ -114,24 +147,32 @@ fn turning_line(heads: &Heads, rounds: &Rounds) -> Option<usize> {
     turning
 }
 
-/// How far the game of what stands before a line had come, and how far that of the whole file comes.
-fn turn(alloc: Global, file: &[u8], head: &Head, game: &Game) -> Result<Lateness, AllocError> {
+/// The game of what stands before a line; `None` where that is refused, which no front of a file is from
+/// its PLAYERS line on, if the file is not.
+fn turn_at(
+    alloc: Global,
+    file: &[u8],
+    heads: &Heads,
+    head: &Head,
+) -> Result<Option<Turn>, AllocError> {
     match collect(alloc, before(file, &head.line)) {
         Ok(sheets) => {
-            let old = play(alloc, &sheets)?;
-            Ok(Lateness::Turned {
-                before: standing_of(&old),
-                now: standing_of(game),
-            })
+            let game = play(alloc, &sheets)?;
+            Ok(Some(Turn {
+                line: head.line.number,
+                rounds: Rounds::of(alloc, heads, &game)?,
+                standing: standing_of(&game),
+            }))
         }
         Err(FileFault::Memory) => Err(AllocError),
-        // (a front of a file that is not refused is not refused either, where a sheet begins behind it)
-        Err(_) => Ok(Lateness::Played),
+        Err(_) => Ok(None),
     }
 }
 
 /// What stands in a file before a line of it.
-fn before<'a>(file: &'a [u8], line: &FileLine) -> &'a [u8] {
+fn before<'a>(file: &'a [u8], line: &FileLine) -> &'a [u8]
+    ensures { result.now ≡ take (length file.now - length line.now.from.now) file.now }
+{
     let length = file.len().saturating_sub(line.from.len());
     &file[..length]
 }

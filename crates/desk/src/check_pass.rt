@@ -1,15 +1,18 @@
 //! One pass over the lines of a file: its SHEET lines, and what stands outside of sheets or looks like mail.
-ghost use Rattle.std.specs.Prelude.{◌≡◌, ◌≤◌, Ok, length};
-ghost use Rattle.sheets.specs.File.{fault_of_reading, unread_fault, version_of};
+ghost use Rattle.std.specs.Prelude.{◌≡◌, ◌≤◌, ◌++◌, IfOk, Ok, OnOk, length};
+ghost use Rattle.desk.specs.Heads.{AreKept, came};
+ghost use Rattle.desk.specs.SheetLines.{head_here, heads_in};
+ghost use Rattle.sheets.specs.File.{begins, fault_of_reading, players_of, unread_fault, version_of};
 ghost use Rattle.sheets.specs.Limits.{file_most};
+ghost use Rattle.sheets.specs.Text.{lines_of};
 
 use crate::check_found::{Found, Matter};
 use crate::check_lines::{FileLine, FileLines, is_blank};
 use crate::check_mail::is_mail;
-use crate::check_names::likeness;
-use crate::check_sheets::{Beginning, Heads, beginning};
-use report::name;
+use crate::check_names::likeness_of;
+use crate::check_sheets::{Beginning, Heads, begun_by};
 use order_grammar::{Fault, Order, read_line_in};
+use report::name;
 use sheets::Sheets;
 use std::alloc::{AllocError, Global};
 use tables::Seat;
@@ -37,6 +40,9 @@ pub(crate) fn pass_over<'a>(
     file: &'a [u8],
 ) -> Result<(Heads<'a>, Found<'a>), AllocError>
     requires { length file.now ≤ file_most }
+    ensures heads { IfOk result (λ passed. came passed.0
+        ≡ heads_in (players_of sheets.now) 0 (lines_of file.now)) }
+    ensures kept { IfOk result (λ passed. AreKept passed.0) }
 {
     let mut pass = Pass {
         heads: Heads::none(alloc),
@@ -52,8 +58,13 @@ pub(crate) fn pass_over<'a>(
 
 impl<'a> Pass<'a> {
     /// Takes the next line.
-    fn take(&mut self, sheets: &Sheets, line: FileLine<'a>) -> Result<(), AllocError> {
-        match beginning(sheets, line.text) {
+    fn take(&mut self, sheets: &Sheets, line: FileLine<'a>) -> Result<(), AllocError>
+        requires { AreKept self.old.heads }
+        ensures heads { OnOk result (came self.new.heads ≡ came self.old.heads
+            ++ head_here line.entry.number (begins (players_of sheets.now) line.entry.text.now)) }
+        ensures kept { OnOk result (AreKept self.new.heads) }
+    {
+        match begun_by(sheets, line.text) {
             Beginning::Sheet(sent) => {
                 self.open = Some(line.number);
                 self.heads.take(sheets, line, sent)
@@ -67,7 +78,9 @@ impl<'a> Pass<'a> {
     }
 
     /// Takes a line that is no SHEET line.
-    fn take_other(&mut self, sheets: &Sheets, line: &FileLine<'a>) -> Result<(), AllocError> {
+    fn take_other(&mut self, sheets: &Sheets, line: &FileLine<'a>) -> Result<(), AllocError>
+        ensures { self.new.heads ≡ self.old.heads }
+    {
         match self.open {
             None => self.take_loose(sheets, line),
             Some(sheet) if is_mail(line.text) => self.found.tell_line(line, Matter::Mail(sheet)),
@@ -76,7 +89,9 @@ impl<'a> Pass<'a> {
     }
 
     /// Takes a line where no sheet is open.
-    fn take_loose(&mut self, sheets: &Sheets, line: &FileLine<'a>) -> Result<(), AllocError> {
+    fn take_loose(&mut self, sheets: &Sheets, line: &FileLine<'a>) -> Result<(), AllocError>
+        ensures { self.new.heads ≡ self.old.heads }
+    {
         if is_blank(line.text) {
             return Ok(());
         }
@@ -92,10 +107,12 @@ impl<'a> Pass<'a> {
     }
 
     /// Looks at the names of the players, which stand on this line.
-    fn look_at_names(&mut self, sheets: &Sheets, line: &FileLine<'a>) -> Result<(), AllocError> {
+    fn look_at_names(&mut self, sheets: &Sheets, line: &FileLine<'a>) -> Result<(), AllocError>
+        ensures { self.new.heads ≡ self.old.heads }
+    {
         for number in 0..sheets.seats() {
             let seat = Seat::at(number);
-            if let Some(likeness) = likeness(name(sheets, seat)) {
+            if let Some(likeness) = likeness_of(name(sheets, seat)) {
                 self.found.tell(line, Matter::Name { seat, likeness })?;
             }
         }

@@ -139,7 +139,9 @@ fn cause_of_order<'a>(order: &Order) -> Cause<'a> {
 
 /// Whether a text is UTF-16: it begins with its mark, or has a zero byte in front.
 fn is_wide(file: &[u8]) -> bool {
-    file.starts_with(b"\xFF\xFE") || file.starts_with(b"\xFE\xFF") || file.iter().take(2).any(|byte| *byte == 0)
+    file.starts_with(b"\xFF\xFE")
+        || file.starts_with(b"\xFE\xFF")
+        || file.iter().take(2).any(|byte| *byte == 0)
 }
 
 /// What is wrong with the line after the header.
@@ -169,7 +171,11 @@ fn cause_of_names<'a>(names: &[&'a [u8]]) -> Cause<'a> {
         if let Some(cause) = cause_of_name(*name) {
             return cause;
         }
-        if names.iter().take(place).any(|earlier| earlier.eq_ignore_ascii_case(*name)) {
+        if names
+            .iter()
+            .take(place)
+            .any(|earlier| earlier.eq_ignore_ascii_case(*name))
+        {
             return Cause::NameTwice(*name);
         }
     }

@@ -121,7 +121,7 @@ pub(crate) enum Beginning {
 
 /// What a line begins.
 #[tactic(auto, unfolding(sheets::specs::File::begins, sheets::specs::File::is_sheet_line))]
-pub(crate) fn beginning(sheets: &Sheets, line: &[u8]) -> Beginning
+pub(crate) fn begun_by(sheets: &Sheets, line: &[u8]) -> Beginning
     ensures { Begins (players_of sheets.now) line.now result }
 {
     if !begins_with_word(line, b"SHEET") {

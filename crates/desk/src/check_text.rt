@@ -6,8 +6,8 @@ use crate::check_names::Likeness;
 use crate::check_refused::{Cause, Refusal};
 use crate::explaining::explain;
 use crate::text::{push_cut, push_words};
-use report::push_name;
 use order_grammar::{Fault, print_number, print_round};
+use report::push_name;
 use rounds::End;
 use sheets::{FileFault, Sheets};
 use std::alloc::{AllocError, Global};
@@ -32,7 +32,10 @@ pub(crate) fn found_text(
     if found.untold > 0 {
         push_words(&mut out, "and of ")?;
         print_number(&mut out, found.untold)?;
-        push_words(&mut out, " lines more: unread, like mail, or with a fault\n")?;
+        push_words(
+            &mut out,
+            " lines more: unread, like mail, or with a fault\n",
+        )?;
     }
     Ok(out)
 }
@@ -60,14 +63,21 @@ fn push_matter(out: &mut Vec<u8>, sheets: &Sheets, matter: &Matter) -> Result<()
             push_rule(out, *fault)
         }
         Matter::Mail(sheet) => {
-            push_words(out, "it looks like mail, and counts as a line of the sheet of line ")?;
+            push_words(
+                out,
+                "it looks like mail, and counts as a line of the sheet of line ",
+            )?;
             print_number(out, *sheet)
         }
         Matter::Replaces {
             line,
             round,
             lateness,
-        } => push_replaced(out, *line, *round, lateness),
+            turn,
+        } => {
+            push_replaced(out, *line, *round, *lateness)?;
+            push_turn(out, turn)
+        }
         Matter::Early(awaited) => {
             push_words(out, "it came early: ")?;
             push_awaited(out, *awaited)
@@ -109,7 +119,7 @@ fn push_replaced(
     out: &mut Vec<u8>,
     line: usize,
     round: Round,
-    lateness: &Lateness,
+    lateness: Lateness,
 ) -> Result<(), AllocError> {
     push_words(out, "it replaces the sheet of line ")?;
     print_number(out, line)?;
@@ -125,15 +135,18 @@ fn push_replaced(
             print_round(out, &round)?;
             push_words(out, " WAS PLAYED")
         }
-        Lateness::Turned { before, now } => {
-            push_words(out, ". ")?;
-            print_round(out, &round)?;
-            push_words(out, " WAS PLAYED. Before this line: ")?;
-            push_standing(out, before)?;
-            push_words(out, ". Now: ")?;
-            push_standing(out, now)
-        }
     }
+}
+
+/// Adds how far a game had come before a line, and how far it comes now, where that was looked at.
+fn push_turn(out: &mut Vec<u8>, turn: &Option<(Standing, Standing)>) -> Result<(), AllocError> {
+    let Some((before, now)) = turn else {
+        return Ok(());
+    };
+    push_words(out, ". Before this line: ")?;
+    push_standing(out, before)?;
+    push_words(out, ". Now: ")?;
+    push_standing(out, now)
 }
 
 /// Adds how far a game has come.
@@ -188,7 +201,11 @@ fn push_cause(out: &mut Vec<u8>, cause: Cause) -> Result<(), AllocError> {
         Cause::LongName(name) => push_of_name(out, name, " has over 8 letters and digits"),
         Cause::NoLetterFirst(name) => push_of_name(out, name, " does not begin with a letter"),
         Cause::OtherLetter(name) => {
-            push_of_name(out, name, " has another byte than the letters A to Z and digits")
+            push_of_name(
+                out,
+                name,
+                " has another byte than the letters A to Z and digits",
+            )
         }
         Cause::NameTwice(name) => push_of_name(out, name, " stands twice"),
         other => push_words(out, words_of_cause(other)),

@@ -103,14 +103,20 @@ fn round_argument<'a>(alloc: Global) -> Arg<'a> {
 
 /// The word `check`.
 fn check_command<'a>(alloc: Global) -> Result<Command<'a>, AllocError> {
-    Ok(Command::new(alloc, "check")
-        .about("Writes what a report does not tell: sheets that come late or early, mail, bad lines")
-        .after_help("Example: desk check < our-game.orders"))
+    Ok(
+        Command::new(alloc, "check")
+            .about(
+                "Writes what a report does not tell: sheets that come late or early, mail, bad lines",
+            )
+            .after_help("Example: desk check < our-game.orders"),
+    )
 }
 
 /// The word `explain`.
 fn explain_command<'a>(alloc: Global) -> Result<Command<'a>, AllocError> {
-    let code = Arg::new(alloc, "CODE").help("The code, as G3").required(true);
+    let code = Arg::new(alloc, "CODE")
+        .help("The code, as G3")
+        .required(true);
     Command::new(alloc, "explain")
         .about("Writes what a code means, and what to do about it")
         .after_help("Example: desk explain G3")
