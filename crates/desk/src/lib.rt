@@ -12,15 +12,33 @@
 #![tactic(auto)]
 
 mod asked;
+mod check_coming;
+mod check_early;
+mod check_found;
+mod check_late;
+mod check_lines;
+mod check_mail;
+mod check_names;
+mod check_pass;
+mod check_refused;
+mod check_sheets;
+mod check_text;
+mod checking;
+mod explain_table;
+mod explaining;
 mod fault;
 mod ground;
 mod ran;
 mod round_part;
 mod sought;
+mod set_number;
 mod text;
 mod why;
 
 pub use asked::read_round;
+pub use checking::{Findings, check};
+pub use explain_table::{Entry, entries};
+pub use explaining::{entry_text, explain};
 pub use fault::DeskFault;
 pub use ran::runs;
 pub use round_part::{round, round_with_rules};

@@ -2,7 +2,7 @@
 
 use crate::streams::StreamFault;
 use crate::task::Task;
-use desk::{DeskFault, round, round_with_rules, runs};
+use desk::{DeskFault, Entry, check, entry_text, round, round_with_rules, runs};
 use report::refusal_text;
 use sheets::FileFault;
 use std::alloc::Global;
@@ -15,6 +15,9 @@ pub(crate) const MISUSED: u8 = 1;
 
 /// The status for a refused file.
 const REFUSED: u8 = 2;
+
+/// The status where there is something to tell of a file.
+const TOLD: u8 = 3;
 
 /// What the program answers.
 #[derive(Drop)]
@@ -38,6 +41,8 @@ pub(crate) fn answer_to(alloc: Global, file: &[u8], task: Task) -> Result<Answer
             round: asked,
             why: true,
         } => round_with_rules(alloc, file, asked),
+        Task::Check => return checked(alloc, file),
+        Task::Explain(entry) => return explained(alloc, entry),
         Task::Runs { round: asked } => runs(alloc, file, asked),
     };
     match told {
@@ -78,5 +83,40 @@ fn not_played(alloc: Global) -> Answer {
         text: Vec::new(alloc),
         note: "the round is not played",
         status: MISUSED,
+    }
+}
+
+/// The answer of `check`: its findings.
+fn checked(alloc: Global, file: &[u8]) -> Result<Answer, StreamFault> {
+    let Ok(findings) = check(alloc, file) else {
+        return Err(StreamFault::Memory);
+    };
+    let status = if findings.refused.is_some() {
+        REFUSED
+    } else if findings.text.is_empty() {
+        WRITTEN
+    } else {
+        TOLD
+    };
+    Ok(Answer {
+        text: findings.text,
+        note: "",
+        status,
+    })
+}
+
+/// The answer of `explain`: what a code means.
+fn explained(alloc: Global, entry: Option<&Entry>) -> Result<Answer, StreamFault> {
+    match entry {
+        Some(entry) => Ok(Answer {
+            text: entry_text(alloc, entry)?,
+            note: "",
+            status: WRITTEN,
+        }),
+        None => Ok(Answer {
+            text: Vec::new(alloc),
+            note: "there is no such code",
+            status: MISUSED,
+        }),
     }
 }

@@ -60,7 +60,11 @@ fn no_task(rt: &HostRuntime, error: &Error) -> ExitCode {
 
 /// Reads standard input and writes what is asked for; the status.
 fn perform(rt: &HostRuntime, task: Task) -> Result<u8, StreamFault> {
-    let file = read_file(rt.alloc(), rt.reader())?;
+    let file = if task.needs_file() {
+        read_file(rt.alloc(), rt.reader())?
+    } else {
+        Vec::new(rt.alloc())
+    };
     let answer = answer_to(rt.alloc(), file.as_slice(), task)?;
     write_text(io::writer(rt), answer.text.as_slice())?;
     if !answer.note.is_empty() {

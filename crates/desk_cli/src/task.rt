@@ -1,18 +1,29 @@
 //! The command line.
 
 use clap::{Arg, ArgAction, ArgMatches, Command, Error};
-use desk::read_round;
+use desk::{Entry, explain, read_round};
 use std::alloc::{AllocError, Global};
 use tables::Round;
 
 /// What the program can be asked for.
-#[derive(Clone, Copy, Debug, PartialEq, Eq)]
+#[derive(Clone, Copy, Debug)]
 pub(crate) enum Task {
     /// The part of the report of a round, of the last where none is named; with the rules that refused
     /// lines broke, where they are asked for.
     Round { round: Option<Round>, why: bool },
+    /// What a report does not tell of the file.
+    Check,
+    /// What a code means; of no code where there is none like it.
+    Explain(Option<&'static Entry>),
     /// What the trains of each company ran in a round, in the last with runs where none is named.
     Runs { round: Option<Round> },
+}
+
+impl Task {
+    /// Whether an order file is to be read for it.
+    pub(crate) fn needs_file(&self) -> bool {
+        !matches!(self, Task::Explain(_))
+    }
 }
 
 /// What the command line asks for; `None` where the word for a round names none. An error is what to
@@ -26,6 +37,8 @@ pub(crate) fn task_of(alloc: Global, words: &[String]) -> Result<Option<Task>, E
         .bin_name("desk")?
         .subcommand_required(true)
         .subcommand(round_command(alloc)?)?
+        .subcommand(check_command(alloc)?)?
+        .subcommand(explain_command(alloc)?)?
         .subcommand(runs_command(alloc)?)?;
     let matches = command.try_get_matches_from(words)?;
     Ok(named_task(&matches))
@@ -39,6 +52,8 @@ fn named_task(matches: &ArgMatches) -> Option<Task> {
             round: round_of(given)?,
             why: given.get_flag("why"),
         }),
+        "check" => Some(Task::Check),
+        "explain" => Some(Task::Explain(entry_of(given))),
         "runs" => Some(Task::Runs {
             round: round_of(given)?,
         }),
@@ -52,6 +67,12 @@ fn round_of(given: &ArgMatches) -> Option<Option<Round>> {
         Some(word) => Some(Some(read_round(word.as_bytes())?)),
         None => Some(None),
     }
+}
+
+/// What the table has of the code that a command line names.
+fn entry_of(given: &ArgMatches) -> Option<&'static Entry> {
+    let code = given.get_str("CODE")?;
+    explain(code)
 }
 
 /// The word `round`.
@@ -78,4 +99,26 @@ fn runs_command<'a>(alloc: Global) -> Result<Command<'a>, AllocError> {
 /// The round that a word is about.
 fn round_argument<'a>(alloc: Global) -> Arg<'a> {
     Arg::new(alloc, "ROUND").help("The round, as OR2.1; the last one if none is named")
+}
+
+/// The word `check`.
+fn check_command<'a>(alloc: Global) -> Result<Command<'a>, AllocError> {
+    Ok(
+        Command::new(alloc, "check")
+            .about(
+                "Writes what a report does not tell: sheets that come late or early, mail, bad lines",
+            )
+            .after_help("Example: desk check < our-game.orders"),
+    )
+}
+
+/// The word `explain`.
+fn explain_command<'a>(alloc: Global) -> Result<Command<'a>, AllocError> {
+    let code = Arg::new(alloc, "CODE")
+        .help("The code, as G3")
+        .required(true);
+    Command::new(alloc, "explain")
+        .about("Writes what a code means, and what to do about it")
+        .after_help("Example: desk explain G3")
+        .arg(code)
 }

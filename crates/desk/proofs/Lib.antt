@@ -1,0 +1,4 @@
+-- What the proofs of the desk share.
+pub mod HeadLemmas
+pub mod NameLemmas
+pub mod SentLemmas
