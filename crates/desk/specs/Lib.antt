@@ -1,2 +1,7 @@
 -- What the desk finds.
+pub mod Earnings
 pub mod Fault
+pub mod Purse
+pub mod SetNumber
+pub mod Stack
+pub mod StockLeft

@@ -2,7 +2,7 @@
 
 use crate::streams::StreamFault;
 use crate::task::Task;
-use desk::{DeskFault, round};
+use desk::{DeskFault, round, state};
 use report::refusal_text;
 use sheets::FileFault;
 use std::alloc::Global;
@@ -31,6 +31,7 @@ pub(crate) struct Answer {
 pub(crate) fn answer_to(alloc: Global, file: &[u8], task: Task) -> Result<Answer, StreamFault> {
     let told = match task {
         Task::Round { round: asked, why } => round(alloc, file, asked, why),
+        Task::State => state(alloc, file),
     };
     match told {
         Ok(text) => Ok(written(text)),

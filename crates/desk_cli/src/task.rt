@@ -11,6 +11,8 @@ pub(crate) enum Task {
     /// The part of the report of a round, of the last where none is named; with the rules that refused
     /// lines broke, where they are asked for.
     Round { round: Option<Round>, why: bool },
+    /// How the game stands.
+    State,
 }
 
 /// What the command line asks for; `None` where the word for a round names none. An error is what to
@@ -23,7 +25,8 @@ pub(crate) fn task_of(alloc: Global, words: &[String]) -> Result<Option<Task>, E
         .version("1")
         .bin_name("desk")?
         .subcommand_required(true)
-        .subcommand(round_command(alloc)?)?;
+        .subcommand(round_command(alloc)?)?
+        .subcommand(state_command(alloc))?;
     let matches = command.try_get_matches_from(words)?;
     Ok(named_task(&matches))
 }
@@ -36,6 +39,7 @@ fn named_task(matches: &ArgMatches) -> Option<Task> {
             round: round_of(given)?,
             why: given.get_flag("why"),
         }),
+        "state" => Some(Task::State),
         _ => None,
     }
 }
@@ -59,6 +63,13 @@ fn round_command<'a>(alloc: Global) -> Result<Command<'a>, AllocError> {
         .after_help("Example: desk round OR2.1 --why < our-game.orders")
         .arg(round_argument(alloc))?
         .arg(why)
+}
+
+/// The word `state`.
+fn state_command<'a>(alloc: Global) -> Command<'a> {
+    Command::new(alloc, "state")
+        .about("Writes how the game stands: who owes a sheet, players, companies, chart and map")
+        .after_help("Example: desk state < our-game.orders")
 }
 
 /// The round that a word is about.
