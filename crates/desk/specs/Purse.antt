@@ -1,7 +1,7 @@
 -- What a player has: cash, the cash that no standing bid ties, how many certificates count, and what all is worth.
 use Rattle.std.specs.Prelude.{ℕ, List}
 use Rattle.certs.specs.Counted.{counted_of}
-use Rattle.desk.specs.declared.worth.Purse.{Purse}
+use Rattle.desk.specs.declared.purse.Purse.{Purse}
 use Rattle.history.specs.Bids.{free_cash_of}
 use Rattle.history.specs.Event.{party_at}
 use Rattle.history.specs.LookBack.{cash_of}

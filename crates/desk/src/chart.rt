@@ -2,9 +2,8 @@
 
 use crate::page::Page;
 use crate::stack::company_at;
-use crate::text::push_right;
 use history::{History, Past};
-use order_grammar::print_number;
+use report::push_right;
 use std::alloc::AllocError;
 use tables::{Company, Zone, price, square, zone};
 

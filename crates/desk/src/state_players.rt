@@ -1,9 +1,9 @@
 //! What each player has.
 
 use crate::page::Page;
-use crate::text::{push_name, push_right};
-use crate::worth::purse_of;
+use crate::purse::purse_of;
 use history::{History, Holder};
+use report::{push_name, push_right};
 use rounds::Game;
 use std::alloc::AllocError;
 use tables::{Private, Seat};

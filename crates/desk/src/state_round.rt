@@ -4,8 +4,8 @@ ghost use Rattle.sheets.specs.File.{sheet_of};
 
 use crate::page::Page;
 use crate::set_number::number_in_set;
-use crate::text::push_name;
 use order_grammar::{print_number, print_round};
+use report::push_name;
 use rounds::{End, Game};
 use sheets::Sheets;
 use std::alloc::AllocError;

@@ -2,10 +2,11 @@
 
 use crate::page::Page;
 use crate::stock_left::{tile_on, tiles_left, trains_left};
-use crate::text::{push_hex, push_right};
+use crate::text::push_hex;
 use history::History;
 use map_tables::{Colour, Hex, Lay, TileNo, tile};
 use order_grammar::print_number;
+use report::push_right;
 use std::alloc::AllocError;
 use tables::{Kind, train};
 

@@ -2,7 +2,7 @@
 
 use crate::streams::StreamFault;
 use crate::task::Task;
-use desk::{DeskFault, round, state};
+use desk::{DeskFault, round, runs, state};
 use report::refusal_text;
 use sheets::FileFault;
 use std::alloc::Global;
@@ -32,6 +32,7 @@ pub(crate) fn answer_to(alloc: Global, file: &[u8], task: Task) -> Result<Answer
     let told = match task {
         Task::Round { round: asked, why } => round(alloc, file, asked, why),
         Task::State => state(alloc, file),
+        Task::Runs { round: asked } => runs(alloc, file, asked),
     };
     match told {
         Ok(text) => Ok(written(text)),

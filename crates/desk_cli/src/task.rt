@@ -13,6 +13,8 @@ pub(crate) enum Task {
     Round { round: Option<Round>, why: bool },
     /// How the game stands.
     State,
+    /// What the trains of each company ran in a round, in the last with runs where none is named.
+    Runs { round: Option<Round> },
 }
 
 /// What the command line asks for; `None` where the word for a round names none. An error is what to
@@ -26,6 +28,7 @@ pub(crate) fn task_of(alloc: Global, words: &[String]) -> Result<Option<Task>, E
         .bin_name("desk")?
         .subcommand_required(true)
         .subcommand(round_command(alloc)?)?
+        .subcommand(runs_command(alloc)?)?
         .subcommand(state_command(alloc))?;
     let matches = command.try_get_matches_from(words)?;
     Ok(named_task(&matches))
@@ -40,6 +43,9 @@ fn named_task(matches: &ArgMatches) -> Option<Task> {
             why: given.get_flag("why"),
         }),
         "state" => Some(Task::State),
+        "runs" => Some(Task::Runs {
+            round: round_of(given)?,
+        }),
         _ => None,
     }
 }
@@ -63,6 +69,14 @@ fn round_command<'a>(alloc: Global) -> Result<Command<'a>, AllocError> {
         .after_help("Example: desk round OR2.1 --why < our-game.orders")
         .arg(round_argument(alloc))?
         .arg(why)
+}
+
+/// The word `runs`.
+fn runs_command<'a>(alloc: Global) -> Result<Command<'a>, AllocError> {
+    Command::new(alloc, "runs")
+        .about("Writes what the trains of each company ran in a round, stop by stop")
+        .after_help("Example: desk runs OR2.1 < our-game.orders")
+        .arg(round_argument(alloc))
 }
 
 /// The word `state`.

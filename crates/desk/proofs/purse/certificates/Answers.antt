@@ -1,6 +1,6 @@
 use Rattle.std.proofs.Common.{◌≡◌, ◌∙◌, rules}
 use Rattle.certs.specs.Counted.{counted_of}
-use Rattle.desk.proofs.worth.certificates.Goals as goal
+use Rattle.desk.proofs.purse.certificates.Goals as goal
 
 pub returns : goal.returns
 returns c =
