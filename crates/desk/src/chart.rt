@@ -10,8 +10,8 @@ use tables::{Company, Zone, price, square, zone};
 /// How many rows the chart has.
 const ROWS: u8 = 11;
 
-/// How many columns the longest row has.
-const COLUMNS: u8 = 19;
+/// The column behind the last of the longest row; the first is 1.
+const COLUMNS_END: u8 = 20;
 
 /// The width of a square.
 const SQUARE: usize = 4;
@@ -38,7 +38,7 @@ pub(crate) fn push_chart(page: &mut Page, history: &History) -> Result<(), Alloc
     page.heading("STOCK MARKET")?;
     page.line("y yellow, o orange, b brown zone. Below a price its tokens, the earliest first.")?;
     push_letters(page)?;
-    for column in 1..=COLUMNS {
+    for column in 1..COLUMNS_END {
         page.to(column_of(column))?;
         push_right(&mut page.text, column, 3)?;
     }
@@ -74,7 +74,7 @@ fn push_prices(page: &mut Page, row: u8) -> Result<(), AllocError>
     requires { row < 11 }
 {
     page.text.push(b'A' + row)?;
-    for column in 1..=COLUMNS {
+    for column in 1..COLUMNS_END {
         if let Some(square) = square(row, column) {
             page.to(column_of(column))?;
             push_right(&mut page.text, price(square), 3)?;
@@ -99,7 +99,7 @@ fn mark(zone: Zone) -> &'static str {
 fn push_tokens(page: &mut Page, past: &Past, row: u8, above: usize) -> Result<(), AllocError>
     requires { above < 9 }
 {
-    for column in 1..=COLUMNS {
+    for column in 1..COLUMNS_END {
         if let Some(square) = square(row, column) {
             for place in above..above + SHOWN {
                 if let Some(company) = company_at(past, square, place) {

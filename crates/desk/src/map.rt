@@ -14,8 +14,8 @@ use tables::Company;
 /// The letter of the row that lies behind the last of the map.
 const ROWS_END: u8 = b'L';
 
-/// How many columns the map has.
-const COLUMNS: u8 = 24;
+/// The column behind the last of the map; the first is 1.
+const COLUMNS_END: u8 = 25;
 
 /// The width of a column, of which a hex takes two.
 const COLUMN: usize = 3;
@@ -26,7 +26,7 @@ pub(crate) fn push_map(page: &mut Page, history: &History) -> Result<(), AllocEr
     page.line("57/2 is a tile and its rotation, 59/2s one with its stops swapped. Without a")?;
     page.line("tile: .. plain; town, towns, city, B, NY, OO as printed; grey and red take none.")?;
     page.line("Below are the tokens of a city, - a free slot, / between two cities.")?;
-    for column in 1..=COLUMNS {
+    for column in 1..COLUMNS_END {
         page.to(column_of(column))?;
         print_number(&mut page.text, column)?;
     }
@@ -41,12 +41,12 @@ pub(crate) fn push_map(page: &mut Page, history: &History) -> Result<(), AllocEr
 
 /// The column at which a hex begins, by its column on the map.
 fn column_of(column: u8) -> usize {
-    COLUMN * usize::from(column) - 1
+    (COLUMN * usize::from(column)).saturating_sub(1)
 }
 
 /// Adds what lies on the hexes of a row.
 fn push_tiles(page: &mut Page, history: &History, row: u8) -> Result<(), AllocError> {
-    for column in 1..=COLUMNS {
+    for column in 1..COLUMNS_END {
         if let Some(hex) = Hex::at(row, column) {
             page.to(column_of(column))?;
             match tile_on(history.lays(), hex) {
@@ -86,7 +86,7 @@ fn print_of(hex: Hex) -> &'static str {
 
 /// Adds the tokens in the cities of a row; no line where the row has no city.
 fn push_tokens(page: &mut Page, history: &History, row: u8) -> Result<(), AllocError> {
-    for column in 1..=COLUMNS {
+    for column in 1..COLUMNS_END {
         if let Some(hex) = Hex::at(row, column) {
             let slots = slots_on(history.lays(), hex);
             if 0 < slots {

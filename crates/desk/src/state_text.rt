@@ -2,7 +2,8 @@
 //!
 //! Its facts come from the readers of the game's list, or from `set_number`, `worth`, `earnings`, `stack`
 //! and `stock_left`, whose contracts say what they are. The rest is layout.
-ghost use Rattle.std.specs.Prelude.{OnOk};
+ghost use Rattle.std.specs.Prelude.{IfErr, OnOk};
+ghost use Rattle.desk.specs.Refusal.{HasNone};
 ghost use Rattle.sheets.specs.File.{IsAccepted};
 
 use crate::chart::push_chart;
@@ -11,7 +12,7 @@ use crate::map::push_map;
 use crate::page::Page;
 use crate::stack::all_in_order;
 use crate::state_companies::push_companies;
-use crate::state_players::push_players;
+use crate::state_players::{push_owners, push_players};
 use crate::state_round::{push_awaited, push_matters};
 use crate::state_stock::{push_laid, push_tiles_left, push_trains};
 use rounds::{Game, play};
@@ -24,6 +25,7 @@ use std::alloc::{AllocError, Global};
 /// of companies where all names are long, may be wider.
 pub fn state(alloc: Global, file: &[u8]) -> Result<Vec<u8>, DeskFault>
     ensures accepted { OnOk result (IsAccepted file.now) }
+    ensures refused { IfErr result (λ fault. HasNone fault file.now) }
 {
     let sheets = collect(alloc, file)?;
     let game = play(alloc, &sheets)?;
@@ -39,6 +41,7 @@ fn push_state(page: &mut Page, alloc: Global, game: &Game) -> Result<(), AllocEr
     push_awaited(page, game)?;
     push_matters(page, game)?;
     push_players(page, game)?;
+    push_owners(page, game)?;
     push_companies(page, game, order.as_slice())?;
     push_trains(page, history)?;
     push_laid(page, history)?;
