@@ -1,12 +1,12 @@
 //! What a company earned in the last round in which it operated.
-ghost use Rattle.std.specs.Prelude.{◌≡◌, ◌+◌, ◌^◌, ◌≤◌};
+ghost use Rattle.std.specs.Prelude.{◌≡◌, ◌+◌, ◌^◌, ◌≤◌, if◌then◌else◌};
 ghost use Rattle.desk.specs.Earnings.{earned_by, earnings_of, earnings_then, with_round, with_sum};
 
 use history::Event;
 use tables::{Amount, Company, Round};
 
 /// What a company earned, in the last of the rounds so far in which it operated.
-#[derive(Clone, Copy, Debug)]
+#[derive(Clone, Copy)]
 pub(crate) struct Earnings {
     /// That round; `None` where it has operated in none.
     pub round: Option<Round>,

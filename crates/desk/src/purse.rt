@@ -9,7 +9,7 @@ use report::player_worth;
 use tables::{Money, Seat};
 
 /// What a player has.
-#[derive(Clone, Copy, Debug)]
+#[derive(Clone, Copy)]
 pub(crate) struct Purse {
     /// In dollars.
     pub cash: Money,

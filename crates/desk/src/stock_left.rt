@@ -3,6 +3,7 @@ ghost use Rattle.std.specs.Prelude.{◌≡◌};
 ghost use Rattle.board.specs.LayRules.{is_tile, lying_of};
 ghost use Rattle.desk.specs.StockLeft.{tiles_left, tokens_left, trains_left};
 ghost use Rattle.history.specs.Operating.{tokens_of};
+ghost use Rattle.map_tables.specs.Hex.{same_hex};
 ghost use Rattle.map_tables.specs.Lying.{has_token, names, same_stop, tile_on};
 ghost use Rattle.std.specs.List.{count_by};
 
@@ -66,10 +67,19 @@ fn has_tile(lays: &[Lay], hex: Hex, number: TileNo) -> bool
 pub(crate) fn tile_on(lays: &[Lay], hex: Hex) -> Option<Lay>
     ensures { result ≡ tile_on lays.now hex }
 {
-    lays.iter()
-        .rev()
-        .find(|lay| lay.hex.index() == hex.index())
-        .copied()
+    for lay in lays.iter().rev() {
+        if same_hex(lay.hex, hex) {
+            return Some(*lay);
+        }
+    }
+    None
+}
+
+/// Whether two hexes are one.
+fn same_hex(a: Hex, b: Hex) -> bool
+    ensures { result ≡ same_hex a b }
+{
+    a.index() == b.index()
 }
 
 /// Whether a company has a token at a stop, among those that were placed.
@@ -84,14 +94,14 @@ fn names(stop: Stop, place: Place) -> bool
     ensures { result ≡ names stop place }
 {
     match place.stop() {
-        Some(part) => is_stop(joined_stop(part), stop),
+        Some(part) => same_stop(joined_stop(part), stop),
         None => false,
     }
 }
 
 /// Whether two stops are one.
-fn is_stop(a: Stop, b: Stop) -> bool
+fn same_stop(a: Stop, b: Stop) -> bool
     ensures { result ≡ same_stop a b }
 {
-    a.hex.index() == b.hex.index() && a.number.index() == b.number.index()
+    same_hex(a.hex, b.hex) && a.number.index() == b.number.index()
 }
