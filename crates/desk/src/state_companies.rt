@@ -148,7 +148,7 @@ fn push_share_heading(page: &mut Page, game: &Game) -> Result<(), AllocError> {
     for seat in 0..game.sheets().seats() {
         let seat = Seat::at(seat);
         page.to(player_column(seat))?;
-        page.put("  ")?;
+        page.put(" ")?;
         push_name(&mut page.text, game.sheets(), seat)?;
     }
     page.end_line()

@@ -19,10 +19,11 @@ use rounds::{Game, play};
 use sheets::collect;
 use std::alloc::{AllocError, Global};
 
-/// The state of the game of an order file, after the last round that its sheets play: who owes a sheet or
-/// how the game ended, the round's limits, players, companies, trains, tiles, the stock market and the
-/// map. Lines have at most 80 columns; only that of a company with more than three privates, and the shares
-/// of companies where all names are long, may be wider.
+/// How the game of an order file stands after the last round that its sheets play: who owes a sheet, or how
+/// the game ended; the phase, priority, the number of operating rounds of the set and the limit of
+/// certificates; players, privates, companies in operating order, trains and tiles; the stock market and the
+/// map. Lines have at most 80 columns, but for those of a private with many bids and of a company with
+/// over three privates. `File` where the file is refused, and `Memory` where memory is.
 pub fn state(alloc: Global, file: &[u8]) -> Result<Vec<u8>, DeskFault>
     ensures accepted { OnOk result (IsAccepted file.now) }
     ensures refused { IfErr result (λ fault. HasNone fault file.now) }
