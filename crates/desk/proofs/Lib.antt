@@ -2,3 +2,4 @@
 pub mod HeadLemmas
 pub mod NameLemmas
 pub mod SentLemmas
+pub mod Refusals

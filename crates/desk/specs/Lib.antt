@@ -1,4 +1,5 @@
 -- What the desk finds.
+pub mod Earnings
 pub mod Fault
 pub mod RoundPart
 pub mod FileLines
@@ -8,3 +9,7 @@ pub mod SetNumber
 pub mod RoundsPlayed
 pub mod Unplayed
 pub mod Coming
+pub mod Purse
+pub mod Refusal
+pub mod Stack
+pub mod StockLeft

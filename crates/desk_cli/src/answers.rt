@@ -2,7 +2,7 @@
 
 use crate::streams::StreamFault;
 use crate::task::Task;
-use desk::{DeskFault, Entry, check, entry_text, round, round_with_rules, runs};
+use desk::{DeskFault, Entry, check, entry_text, round, round_with_rules, runs, state};
 use report::refusal_text;
 use sheets::FileFault;
 use std::alloc::Global;
@@ -43,6 +43,7 @@ pub(crate) fn answer_to(alloc: Global, file: &[u8], task: Task) -> Result<Answer
         } => round_with_rules(alloc, file, asked),
         Task::Check => return checked(alloc, file),
         Task::Explain(entry) => return explained(alloc, entry),
+        Task::State => state(alloc, file),
         Task::Runs { round: asked } => runs(alloc, file, asked),
     };
     match told {
