@@ -1,4 +1,5 @@
 -- What the proofs of the desk share.
 pub mod HeadLemmas
 pub mod NameLemmas
+pub mod RoundLemmas
 pub mod SentLemmas
