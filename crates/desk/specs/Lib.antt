@@ -1,9 +1,10 @@
 -- What the desk finds.
+pub mod Coming
 pub mod Fault
 pub mod FileLines
-pub mod SheetLines
 pub mod Heads
-pub mod SetNumber
+pub mod RoundPart
 pub mod RoundsPlayed
+pub mod SetNumber
+pub mod SheetLines
 pub mod Unplayed
-pub mod Coming

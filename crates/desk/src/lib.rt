@@ -7,7 +7,8 @@
 //! games of `games/desk/`.
 //!
 //! Reading order: `fault`, `text` (names, numbers and columns), `asked` (the round that is asked for),
-//! `round_part` (`round`), `ground` (what lay on the map), `ran` (`runs`).
+//! `round_part` (`round`), `why` (the rule that a line broke), `sought` (what was looked for), `ground`
+//! (what lay on the map), `ran` (`runs`).
 #![tactic(auto)]
 
 mod asked;
@@ -30,7 +31,9 @@ mod ground;
 mod ran;
 mod round_part;
 mod set_number;
+mod sought;
 mod text;
+mod why;
 
 pub use asked::read_round;
 pub use checking::{Findings, check};
@@ -38,4 +41,4 @@ pub use explain_table::{Entry, entries};
 pub use explaining::{entry_text, explain};
 pub use fault::DeskFault;
 pub use ran::runs;
-pub use round_part::round;
+pub use round_part::{round, round_with_rules};
