@@ -14,7 +14,7 @@ is_kept rounds round = is_some (get same_round rounds.lines round)
 
 -- the events begin the round
 abbrev pub is_begun : List Event → Round → Bool
-is_begun events round = list_any (same_round round) (rounds_begun events)
+is_begun events round = list_any (λ begun. same_round begun round) (rounds_begun events)
 
 -- the rounds are those that the events of a game begin
 abbrev pub AreRoundsOf : Rounds → List Event → Type 0

@@ -73,9 +73,23 @@ impl<'a> Heads<'a> {
             sent,
             replaces,
         })?;
-        if replaces.is_none() && self.has_all(sheets, sent.round) {
-            self.complete.insert(sent.round, line.number)?;
+        self.note_complete(sheets, sent.round, line.number)
+    }
+
+    /// Notes the line by which every player had a sheet for a round, once that is so.
+    fn note_complete(
+        &mut self,
+        sheets: &Sheets,
+        round: Round,
+        line: usize,
+    ) -> Result<(), AllocError>
+        ensures heads { self.new.heads ≡ self.old.heads }
+        ensures last { self.new.last ≡ self.old.last }
+    {
+        if self.complete.contains_key(&round) || !self.has_all(sheets, round) {
+            return Ok(());
         }
+        self.complete.insert(round, line)?;
         Ok(())
     }
 
