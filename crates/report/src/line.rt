@@ -429,8 +429,8 @@ fn push_field(out: &mut Vec<u8>, sheets: &Sheets, field: &Field) -> Result<(), A
 }
 
 /// Adds a square of the stock market: the letter of its row, and its column. A row that is none of
-/// the chart's has no letter.
-fn push_square(out: &mut Vec<u8>, square: Square) -> Result<(), AllocError>
+/// the chart's has no letter. An error where memory is refused.
+pub fn push_square(out: &mut Vec<u8>, square: Square) -> Result<(), AllocError>
     ensures { OnOk result (Adds out.old out.new (text_of_square square)) }
 {
     if let Some(letter) = ROWS.get(usize::from(square.row)) {
@@ -513,15 +513,16 @@ fn push_refused(
     )
 }
 
-/// Adds the name of a seat's player.
-pub(crate) fn push_name(out: &mut Vec<u8>, sheets: &Sheets, seat: Seat) -> Result<(), AllocError>
+/// Adds the name of a seat's player; nothing for a seat that nobody has. An error where memory is
+/// refused.
+pub fn push_name(out: &mut Vec<u8>, sheets: &Sheets, seat: Seat) -> Result<(), AllocError>
     ensures { OnOk result (Adds out.old out.new (name_of sheets.now seat)) }
 {
     out.extend_from_slice(name(sheets, seat))
 }
 
-/// The name of a seat's player.
-pub(crate) fn name<'a>(sheets: &'a Sheets, seat: Seat) -> &'a [u8]
+/// The name of a seat's player; no letters for a seat that nobody has.
+pub fn name<'a>(sheets: &'a Sheets, seat: Seat) -> &'a [u8]
     ensures { result.now ≡ name_of sheets.now seat }
 {
     sheets.name(seat).unwrap_or(&[])

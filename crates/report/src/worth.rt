@@ -33,14 +33,14 @@ fn push_worth(out: &mut Vec<u8>, sheets: &Sheets, past: &Past, seat: Seat) -> Re
     out.extend_from_slice(b"WORTH ")?;
     push_name(out, sheets, seat)?;
     out.push(b' ')?;
-    print_number(out, worth(past, seat))?;
+    print_number(out, player_worth(past, seat))?;
     out.push(b'\n')?;
     Ok(())
 }
 
 /// What a seat is worth, in dollars: its cash, its tenths at the market price, and its privates at
 /// their face value.
-fn worth(past: &Past, seat: Seat) -> Money
+pub fn player_worth(past: &Past, seat: Seat) -> Money
     ensures { result ≡ worth_of past.now.seats past.now.events.now seat }
 {
     let owned = tenths_worth(past, seat) + u128::from(privates_worth(past, seat));

@@ -6,7 +6,7 @@ use Rattle.history.specs.Event.{party_at}
 use Rattle.history.specs.LookBack.{cash_of}
 use Rattle.report.proofs.Worths.{wealth_fits}
 use Rattle.report.specs.Worth.{worth_of_all_tenths}
-use Rattle.report.proofs.worth.worth.Goals as goal
+use Rattle.report.proofs.worth.player_worth.Goals as goal
 
 pub returns : goal.returns
 returns c =

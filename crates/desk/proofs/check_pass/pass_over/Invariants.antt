@@ -1,0 +1,14 @@
+use Rattle.std.proofs.Common.{◌≡◌, ◌++◌}
+use Rattle.desk.specs.Heads.{AreKept, came}
+use Rattle.desk.specs.SheetLines.{heads_in}
+use Rattle.sheets.specs.File.{players_of}
+use Rattle.sheets.specs.Text.{lines_of}
+use Rattle.desk.proofs.check_pass.pass_over.Given as goal
+
+-- the heads that came and those of the lines that are left are all
+abbrev pub invariant-loop-line : goal.invariant-loop-line
+invariant-loop-line l = record {
+  kept : AreKept l.pass.heads;
+  whole : came l.pass.heads ++ heads_in (players_of l.sheets) l.line-iterator.passed (lines_of l.line-iterator.rest.now)
+      ≡ heads_in (players_of l.sheets) 0 (lines_of l.file);
+}

@@ -1,0 +1,43 @@
+-- A round's part of the report of a file: of the round that is asked for, or of the last that was played.
+use Rattle.std.specs.Prelude.{◌≡◌, ℕ, List, [], Option, Some, None}
+use Rattle.desk.specs.Refusal.{HasNone}
+use Rattle.desk.specs.declared.fault.DeskFault.{DeskFault}
+use Rattle.desk.specs.declared.fault.DeskFault.TheVariants as desk
+use Rattle.history.specs.LookBack.{round_of}
+use Rattle.report.specs.Report.{round_text_of}
+use Rattle.rounds.specs.Play.{IsTheGame, Played}
+use Rattle.tables.specs.declared.round.Round.{Round}
+
+-- the game that was played is that of the file
+pub record IsGameOf (file : List ℕ) (played : Played) : Type 0 where
+  pub of_file : played.file ≡ file
+  pub game : IsTheGame played
+
+-- the round that is asked for; the last of the game, where none is
+abbrev pub round_asked : Played → Option Round → Option Round
+round_asked played None = round_of played.game.events
+round_asked played (Some round) = Some round
+
+-- the text of a round of a game, if there is one
+abbrev pub text_of_round : Played → Option Round → List ℕ
+text_of_round played None = []
+text_of_round played (Some round) = round_text_of played round
+
+-- the text is that of the round that is asked for, in the game of the file
+pub record IsRoundPart (file : List ℕ) (asked : Option Round) (text : List ℕ) : Type 0 where
+  pub played : Played
+  pub of_file : IsGameOf file played
+  pub is : text ≡ text_of_round played (round_asked played asked)
+
+-- the round that is asked for has no text in the game of the file
+pub record IsNotPlayed (file : List ℕ) (asked : Option Round) : Type 0 where
+  pub played : Played
+  pub of_file : IsGameOf file played
+  pub round : Round
+  pub is_asked : round_asked played asked ≡ Some round
+  pub none : round_text_of played round ≡ []
+
+-- when each fault comes: the round is not played; the file is refused by that fault; memory may be refused at any time
+abbrev pub IsRoundFault : List ℕ → Option Round → DeskFault → Type 0
+IsRoundFault file asked desk.Round = IsNotPlayed file asked
+IsRoundFault file asked fault = HasNone fault file

@@ -1,0 +1,192 @@
+//! The SHEET lines of a file: whose sheet for which round each begins, and which it replaces.
+ghost use Rattle.std.specs.Prelude.{◌≡◌, ◌↔◌, IsTrue, OnOk, Some, [], false, option_map, slice_get};
+ghost use Rattle.std.specs.Option.{option_map_or};
+ghost use Rattle.desk.specs.Heads.{AreKept, came, with_head};
+ghost use Rattle.desk.specs.SheetLines.{Begins, last_line, post_of};
+ghost use Rattle.order_grammar.specs.Line.{reading_of};
+ghost use Rattle.order_grammar.specs.Words.{same_word};
+ghost use Rattle.sheets.specs.File.{players_of, post_begun, seat_from};
+
+use crate::check_lines::FileLine;
+use order_grammar::{Name, Order, begins_with_word, read_line};
+use sheets::Sheets;
+use std::alloc::{AllocError, Global};
+use std::collections::HashMap;
+use tables::{Round, Seat};
+
+/// Whose sheet for which round.
+#[derive(Clone, Copy, Debug, PartialEq, Eq, Hash)]
+pub(crate) struct Sent {
+    pub(crate) seat: Seat,
+    pub(crate) round: Round,
+}
+
+/// A good SHEET line.
+#[derive(Clone, Copy, Debug)]
+pub(crate) struct Head<'a> {
+    /// The line.
+    pub(crate) line: FileLine<'a>,
+    /// The sheet that it begins.
+    pub(crate) sent: Sent,
+    /// The number of the line that began the same sheet last before; `None` where none did.
+    pub(crate) replaces: Option<usize>,
+}
+
+/// The good SHEET lines of a file.
+#[derive(Drop)]
+pub(crate) struct Heads<'a> {
+    /// Each of them, in the order of the file.
+    pub(crate) heads: Vec<Head<'a>>,
+    /// The number of the last that begins a sheet.
+    last: HashMap<Sent, usize>,
+    /// The number of the line by which every player had a sheet for a round.
+    complete: HashMap<Round, usize>,
+}
+
+impl<'a> Heads<'a> {
+    /// None.
+    pub(crate) fn none(alloc: Global) -> Heads<'a>
+        ensures none { came result ≡ [] }
+        ensures kept { AreKept result }
+    {
+        Heads {
+            heads: Vec::new(alloc),
+            last: HashMap::new(alloc),
+            complete: HashMap::new(alloc),
+        }
+    }
+
+    /// Takes the next of them.
+    pub(crate) fn take(
+        &mut self,
+        sheets: &Sheets,
+        line: FileLine<'a>,
+        sent: Sent,
+    ) -> Result<(), AllocError>
+        requires { AreKept self.old }
+        ensures came { OnOk result (came self.new ≡ with_head (came self.old) line.entry sent) }
+        ensures kept { OnOk result (AreKept self.new) }
+    {
+        let replaces = self.last.insert(sent, line.number)?;
+        self.heads.push(Head {
+            line,
+            sent,
+            replaces,
+        })?;
+        self.note_complete(sheets, sent.round, line.number)
+    }
+
+    /// Notes the line by which every player had a sheet for a round, once that is so.
+    fn note_complete(
+        &mut self,
+        sheets: &Sheets,
+        round: Round,
+        line: usize,
+    ) -> Result<(), AllocError>
+        ensures heads { self.new.heads ≡ self.old.heads }
+        ensures last { self.new.last ≡ self.old.last }
+    {
+        if self.complete.contains_key(&round) || !self.has_all(sheets, round) {
+            return Ok(());
+        }
+        self.complete.insert(round, line)?;
+        Ok(())
+    }
+
+    /// Whether every player has a sheet for a round among those that came.
+    fn has_all(&self, sheets: &Sheets, round: Round) -> bool {
+        (0..sheets.seats()).all(|seat| {
+            let sent = Sent {
+                seat: Seat::at(seat),
+                round,
+            };
+            self.last.contains_key(&sent)
+        })
+    }
+
+    /// The number of the line by which every player had a sheet for a round; `None` where one has none.
+    pub(crate) fn complete_by(&self, round: Round) -> Option<usize> {
+        self.complete.get(&round).copied()
+    }
+
+    /// Whether the sheet that a line begins counts: no later one replaces it.
+    pub(crate) fn counts(&self, head: &Head) -> bool
+        requires { AreKept self.now }
+        ensures { IsTrue result ↔ (last_line (post_of head.now.sent) (came self.now)
+            ≡ Some head.now.line.number) }
+    {
+        match self.last.get(&head.sent) {
+            Some(last) => *last == head.line.number,
+            None => false,
+        }
+    }
+}
+
+/// What a line begins.
+#[derive(Clone, Copy, Debug, PartialEq, Eq)]
+pub(crate) enum Beginning {
+    /// A sheet.
+    Sheet(Sent),
+    /// Nothing, though its first word is SHEET: it closes the sheet before it.
+    Closing,
+    /// Nothing, and its first word is another.
+    Other,
+}
+
+/// What a line begins.
+#[tactic(auto, unfolding(sheets::specs::File::begins, sheets::specs::File::is_sheet_line))]
+pub(crate) fn begun_by(sheets: &Sheets, line: &[u8]) -> Beginning
+    ensures { Begins (players_of sheets.now) line.now result }
+{
+    if !begins_with_word(line, b"SHEET") {
+        return Beginning::Other;
+    }
+    match sheet_named(sheets, line) {
+        Some(sent) => Beginning::Sheet(sent),
+        None => Beginning::Closing,
+    }
+}
+
+/// The sheet that a line begins whose first word is SHEET, if it begins one. (Apart from its caller, which
+/// would else clear the room for a line that is read with each line that is not.)
+#[inline(never)]
+fn sheet_named(sheets: &Sheets, line: &[u8]) -> Option<Sent>
+    ensures { option_map post_of result
+        ≡ post_begun (players_of sheets.now) (reading_of line.now) }
+{
+    let Ok(read) = read_line(line) else {
+        return None;
+    };
+    let Order::Sheet { name, round } = &read.order else {
+        return None;
+    };
+    let seat = seat_of(sheets, name)?;
+    Some(Sent {
+        seat,
+        round: *round,
+    })
+}
+
+/// The seat of the player with a name; `None` where nobody who plays has it.
+fn seat_of(sheets: &Sheets, name: &Name) -> Option<Seat>
+    ensures { result ≡ seat_from 0 (players_of sheets.now) name.now }
+{
+    for number in 0..sheets.seats() {
+        let seat = Seat::at(number);
+        if is_named(sheets, seat, name) {
+            return Some(seat);
+        }
+    }
+    None
+}
+
+/// Whether a seat's player has this name.
+fn is_named(sheets: &Sheets, seat: Seat, name: &Name) -> bool
+    ensures { result ≡ option_map_or (λ player. same_word player name.now) false
+        (slice_get (players_of sheets.now) seat.0) }
+{
+    match sheets.name(seat) {
+        Some(player) => player == name.text(),
+        None => false,
+    }
+}

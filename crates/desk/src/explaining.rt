@@ -1,0 +1,48 @@
+//! What a code means: its rule in words, what to do about it, and the small game that shows it.
+ghost use Rattle.std.specs.Prelude.{◌≡◌, ◌≢◌, All, MatchOption};
+ghost use Rattle.std.specs.Str.{str_to_ascii_lowercase};
+
+use crate::explain_table::{Entry, entries};
+use crate::text::push_words;
+use std::alloc::{AllocError, Global};
+
+/// The entry of a code, which may be in either case; `None` where there is no such code.
+pub fn explain(code: &str) -> Option<&'static Entry> {
+    entry_among(entries(), code)
+}
+
+/// The first of some entries with this code, in either case.
+fn entry_among(entries: &'static [Entry], code: &str) -> Option<&'static Entry>
+    ensures { MatchOption result
+        (All (λ entry. str_to_ascii_lowercase entry.code.now
+        ≢ str_to_ascii_lowercase code.now) entries.now)
+        (λ entry. str_to_ascii_lowercase entry.now.code.now
+        ≡ str_to_ascii_lowercase code.now) }
+{
+    for entry in entries {
+        if entry.code.eq_ignore_ascii_case(code) {
+            return Some(entry);
+        }
+    }
+    None
+}
+
+/// What there is to say of a code, a line each: the rule, what to do about it, and the game.
+pub fn entry_text(alloc: Global, entry: &Entry) -> Result<Vec<u8>, AllocError> {
+    let mut text = Vec::new(alloc);
+    push_words(&mut text, entry.code)?;
+    push_words(&mut text, ": ")?;
+    push_words(&mut text, entry.rule)?;
+    push_words(&mut text, "\nTo do: ")?;
+    push_words(&mut text, entry.advice)?;
+    push_words(&mut text, "\nGame: ")?;
+    match entry.game {
+        Some(game) => {
+            push_words(&mut text, "games/codes/")?;
+            push_words(&mut text, game)?;
+            push_words(&mut text, ".orders\n")?;
+        }
+        None => push_words(&mut text, "too large to keep; games/make writes it\n")?,
+    }
+    Ok(text)
+}

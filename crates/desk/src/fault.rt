@@ -1,0 +1,49 @@
+ghost use Rattle.std.specs.Prelude.{◌≡◌};
+ghost use Rattle.desk.specs.Fault.{fault_of_file};
+ghost use Rattle.desk.specs.declared.fault.DeskFault.TheVariants.{Memory};
+
+use sheets::FileFault;
+use std::alloc::{AllocError, AllocFailed};
+use thiserror::Error;
+
+/// Why the desk has no answer.
+#[derive(Clone, Copy, Debug, PartialEq, Eq, Drop, Error)]
+pub enum DeskFault {
+    /// The order file is refused as a whole.
+    #[error("the order file is refused: {0}")]
+    File(FileFault),
+    /// The round that is asked for is not played.
+    #[error("the round is not played")]
+    Round,
+    /// Memory was refused.
+    #[error("memory was refused")]
+    Memory,
+}
+
+impl From<AllocError> for DeskFault {
+    ghost from_gives = { λ _ fault. fault ≡ Memory };
+
+    fn from(_error: AllocError) -> DeskFault {
+        DeskFault::Memory
+    }
+}
+
+impl<T: Drop> From<AllocFailed<T>> for DeskFault {
+    ghost from_gives = { λ _ fault. fault ≡ Memory };
+
+    fn from(_error: AllocFailed<T>) -> DeskFault {
+        DeskFault::Memory
+    }
+}
+
+/// A file for which memory was refused is not refused itself.
+impl From<FileFault> for DeskFault {
+    ghost from_gives = { λ file fault. fault ≡ fault_of_file file };
+
+    fn from(fault: FileFault) -> DeskFault {
+        match fault {
+            FileFault::Memory => DeskFault::Memory,
+            fault => DeskFault::File(fault),
+        }
+    }
+}

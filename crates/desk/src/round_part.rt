@@ -1,0 +1,99 @@
+//! A round's part of the report, and the same with the rules that refused lines broke.
+ghost use Rattle.std.specs.Prelude.{◌≡◌, IfErr, IfOk};
+ghost use Rattle.desk.specs.RoundPart.{IsRoundFault, IsRoundPart, round_asked};
+
+use crate::fault::DeskFault;
+use crate::why::push_why;
+use history::{Event, Walk};
+use report::round_text;
+use rounds::{Game, play};
+use sheets::{collect, first_line};
+use std::alloc::{AllocError, Global};
+use tables::Round;
+
+/// The part of the report of a file that tells of a round: of the last that was played, where none is
+/// asked for; empty where none was played. `Round` where the round that is asked for is not played.
+pub fn round(alloc: Global, file: &[u8], asked: Option<Round>) -> Result<Vec<u8>, DeskFault>
+    ensures part { IfOk result (λ text. IsRoundPart file.now asked text.items) }
+    ensures fault { IfErr result (IsRoundFault file.now asked) }
+{
+    let sheets = collect(alloc, file)?;
+    let game = play(alloc, &sheets)?;
+    let Some(round) = round_asked(&game, asked) else {
+        return Ok(Vec::new(alloc));
+    };
+    let text = round_text(alloc, &game, round)?;
+    if text.is_empty() {
+        return Err(DeskFault::Round);
+    }
+    Ok(text)
+}
+
+/// The same, with the rule that it broke under each line that was refused: two spaces, its code and the
+/// rule in words, with what was looked for where it is at hand.
+pub fn round_with_rules(
+    alloc: Global,
+    file: &[u8],
+    asked: Option<Round>,
+) -> Result<Vec<u8>, DeskFault> {
+    let sheets = collect(alloc, file)?;
+    let game = play(alloc, &sheets)?;
+    let Some(round) = round_asked(&game, asked) else {
+        return Ok(Vec::new(alloc));
+    };
+    let text = round_text(alloc, &game, round)?;
+    if text.is_empty() {
+        return Err(DeskFault::Round);
+    }
+    let mut out = Vec::new(alloc);
+    push_with_rules(&mut out, &game, round, text.as_slice())?;
+    Ok(out)
+}
+
+/// The round that is asked for; the last that was played, where none is; `None` before the first.
+fn round_asked(game: &Game, asked: Option<Round>) -> Option<Round>
+    ensures { result ≡ round_asked game.now asked }
+{
+    match asked {
+        Some(round) => Some(round),
+        None => game.history().round(),
+    }
+}
+
+/// Adds the text of a round, with the rule that it broke under each line that was refused. The lines
+/// of the events stand first in the text, one for each.
+fn push_with_rules(
+    out: &mut Vec<u8>,
+    game: &Game,
+    round: Round,
+    text: &[u8],
+) -> Result<(), AllocError> {
+    let events = game.history().events();
+    let mut walk = Walk::along(events);
+    let mut rest = text;
+    let mut within = false;
+    for (passed, event) in events.iter().enumerate() {
+        if let Some(begun) = event.round() {
+            within = begun == round;
+        }
+        if !within {
+            continue;
+        }
+        rest = push_first(out, rest)?;
+        if let Event::Ruled { seat, ruling, .. } = event {
+            walk.go(passed);
+            push_why(out, game.sheets(), &walk.past(game.sheets().seats()), *seat, ruling)?;
+        }
+    }
+    out.extend_from_slice(rest)
+}
+
+/// Adds the first line of a text; what follows it.
+fn push_first<'a>(out: &mut Vec<u8>, text: &'a [u8]) -> Result<&'a [u8], AllocError> {
+    let Some(piece) = first_line(text) else {
+        return Ok(text);
+    };
+    out.extend_from_slice(piece.line)?;
+    out.push(b'\n')?;
+    Ok(piece.rest)
+}

@@ -1,0 +1,95 @@
+//! The desk's program. Each of its words but `explain` reads an order file from standard input, and each
+//! writes text to standard output: `round` a round's part of the report, ready to be mailed; `state` how the
+//! game stands.
+//!
+//! Reading order: `task` (the command line), `streams` (standard input and output), `answers` (what is
+//! written, and the status).
+#![tactic(auto)]
+
+mod answers;
+mod streams;
+mod task;
+
+use crate::answers::{MISUSED, answer_to};
+use crate::streams::{StreamFault, read_file, write_text};
+use crate::task::{Task, task_of};
+use clap::Error;
+use clap::error::ErrorKind;
+use std::process::ExitCode;
+use std::rt::Runtime;
+use std::{env, io};
+
+/// The status where a read or a write failed, or memory was refused.
+const FAILED: u8 = 4;
+
+fn main(rt: HostRuntime) -> ExitCode {
+    match words(&rt) {
+        Ok(words) => start(&rt, words.as_slice()),
+        Err(error) if error.kind() == io::ErrorKind::OutOfMemory => fail(&rt, StreamFault::Memory),
+        Err(_) => misuse(&rt, "the command line is no text"),
+    }
+}
+
+/// The words of the command line.
+fn words(rt: &HostRuntime) -> io::Result<Vec<String>> {
+    Ok(env::args(rt)?.collect(rt.alloc())?)
+}
+
+/// Does what the command line asks for.
+fn start(rt: &HostRuntime, words: &[String]) -> ExitCode {
+    match task_of(rt.alloc(), words) {
+        Ok(Some(task)) => end(rt, perform(rt, task)),
+        Ok(None) => misuse(rt, "the round is none: PR1, SR1 and OR1.1 are rounds"),
+        Err(error) => no_task(rt, &error),
+    }
+}
+
+/// Says what is wrong with the command line, or writes the help or the version that it asks for.
+fn no_task(rt: &HostRuntime, error: &Error) -> ExitCode {
+    if error.kind() == ErrorKind::OutOfMemory {
+        return fail(rt, StreamFault::Memory);
+    }
+    let shown = error.print(rt);
+    if error.use_stderr() {
+        return ExitCode::from(MISUSED);
+    }
+    match shown {
+        Ok(()) => ExitCode::SUCCESS,
+        Err(_) => fail(rt, StreamFault::Write),
+    }
+}
+
+/// Reads standard input and writes what is asked for; the status.
+fn perform(rt: &HostRuntime, task: Task) -> Result<u8, StreamFault> {
+    let file = if task.needs_file() {
+        read_file(rt.alloc(), rt.reader())?
+    } else {
+        Vec::new(rt.alloc())
+    };
+    let answer = answer_to(rt.alloc(), file.as_slice(), task)?;
+    write_text(io::writer(rt), answer.text.as_slice())?;
+    if !answer.note.is_empty() {
+        let _ = eprintln!(rt; "desk: {}", answer.note);
+    }
+    Ok(answer.status)
+}
+
+/// Ends the program.
+fn end(rt: &HostRuntime, outcome: Result<u8, StreamFault>) -> ExitCode {
+    match outcome {
+        Ok(status) => ExitCode::from(status),
+        Err(fault) => fail(rt, fault),
+    }
+}
+
+/// Ends the program where a stream failed or memory was refused: the fault's word on standard error.
+fn fail(rt: &HostRuntime, fault: StreamFault) -> ExitCode {
+    let _ = eprintln!(rt; "{}", fault.word());
+    ExitCode::from(FAILED)
+}
+
+/// Ends the program for what is wrong with the command line.
+fn misuse(rt: &HostRuntime, what: &str) -> ExitCode {
+    let _ = eprintln!(rt; "error: {what}");
+    ExitCode::from(MISUSED)
+}
