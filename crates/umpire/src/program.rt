@@ -101,7 +101,7 @@ fn write_game<W: Write>(
 }
 
 /// Writes the header.
-fn write_header<W: Write>(
+pub(crate) fn write_header<W: Write>(
     alloc: Global,
     sheets: &Sheets,
     writer: &mut Watched<W>,
@@ -156,7 +156,11 @@ fn step(play: &mut Play, search: &mut Search) -> Result<Step, AllocError>
 }
 
 /// Writes what follows the rounds.
-fn write_end<W: Write>(alloc: Global, play: &Play, writer: &mut Watched<W>) -> Result<(), Fault>
+pub(crate) fn write_end<W: Write>(
+    alloc: Global,
+    play: &Play,
+    writer: &mut Watched<W>,
+) -> Result<(), Fault>
     requires unfailed { has_failed writer.old ≡ false }
     requires ended { HasEnded play.now }
     ensures ok { OnOk result (Appends (W.contents (inside writer.old))
