@@ -101,7 +101,7 @@ fn write_game<W: Write>(
 }
 
 /// Writes the header.
-fn write_header<W: Write>(
+pub(crate) fn write_header<W: Write>(
     alloc: Global,
     sheets: &Sheets,
     writer: &mut Watched<W>,
