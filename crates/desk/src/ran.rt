@@ -120,7 +120,7 @@ fn push_ran(
         }
         Order::RunBest => {
             push_words(out, " BEST\n")?;
-            let claim = best_at(alloc, &board, past, company)?;
+            let claim = best_at(alloc, past, company)?;
             push_claimed(out, &board, claim.runs.as_slice())
         }
         _ => push_words(out, "\n"),

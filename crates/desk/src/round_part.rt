@@ -13,6 +13,7 @@ use tables::Round;
 
 /// The part of the report of a file that tells of a round: of the last that was played, where none is
 /// asked for; empty where none was played. `Round` where the round that is asked for is not played.
+#[tactic(auto, using(crate::proofs::Refusals::none_where_it_fails))]
 pub fn round(alloc: Global, file: &[u8], asked: Option<Round>) -> Result<Vec<u8>, DeskFault>
     ensures part { IfOk result (λ text. IsRoundPart file.now asked text.items) }
     ensures fault { IfErr result (IsRoundFault file.now asked) }
