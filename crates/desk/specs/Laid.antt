@@ -7,5 +7,5 @@ use Rattle.history.specs.Event.{tile_laid, token_placed}
 use Rattle.history.specs.declared.event.Event.{Event}
 
 abbrev pub laid_then : Ground → Event → Ground
-laid_then ground event =
-    ground_of (ground.lays ++ cons_option (tile_laid event) []) (ground.tokens ++ cons_option (token_placed event) []) ground.phase
+laid_then laid event =
+    ground_of (laid.lays ++ cons_option (tile_laid event) []) (laid.tokens ++ cons_option (token_placed event) []) laid.phase
