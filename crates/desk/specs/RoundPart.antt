@@ -1,5 +1,5 @@
 -- A round's part of the report of a file: of the round that is asked for, or of the last that was played.
-use Rattle.std.specs.Prelude.{◌≡◌, ℕ, List, [], Option, Some, None}
+use Rattle.std.specs.Prelude.{◌≡◌, ℕ, List, [], Option, Some, None, ⊤}
 use Rattle.desk.specs.Refusal.{HasNone}
 use Rattle.desk.specs.declared.fault.DeskFault.{DeskFault}
 use Rattle.desk.specs.declared.fault.DeskFault.TheVariants as desk
@@ -28,6 +28,12 @@ pub record IsRoundPart (file : List ℕ) (asked : Option Round) (text : List ℕ
   pub played : Played
   pub of_file : IsGameOf file played
   pub is : text ≡ text_of_round played (round_asked played asked)
+
+-- there is no text of a round of a game, for this fault: it has none, or memory was refused
+abbrev pub HasNoText : Played → Round → DeskFault → Type 0
+HasNoText played round desk.Round = round_text_of played round ≡ []
+HasNoText played round desk.Memory = ⊤
+HasNoText played round (desk.File fault) = ⊥
 
 -- the round that is asked for has no text in the game of the file
 pub record IsNotPlayed (file : List ℕ) (asked : Option Round) : Type 0 where

@@ -1,6 +1,7 @@
 //! A round's part of the report, and the same with the rules that refused lines broke.
 ghost use Rattle.std.specs.Prelude.{◌≡◌, IfErr, IfOk};
-ghost use Rattle.desk.specs.RoundPart.{IsRoundFault, IsRoundPart, round_asked};
+ghost use Rattle.desk.specs.RoundPart.{HasNoText, IsRoundFault, IsRoundPart, round_asked};
+ghost use Rattle.report.specs.Report.{round_text_of};
 
 use crate::fault::DeskFault;
 use crate::why::push_why;
@@ -20,14 +21,10 @@ pub fn round(alloc: Global, file: &[u8], asked: Option<Round>) -> Result<Vec<u8>
 {
     let sheets = collect(alloc, file)?;
     let game = play(alloc, &sheets)?;
-    let Some(round) = round_asked(&game, asked) else {
-        return Ok(Vec::new(alloc));
-    };
-    let text = round_text(alloc, &game, round)?;
-    if text.is_empty() {
-        return Err(DeskFault::Round);
+    match round_asked(&game, asked) {
+        Some(round) => text_of(alloc, &game, round),
+        None => Ok(Vec::new(alloc)),
     }
-    Ok(text)
 }
 
 /// The same, with the rule that it broke under each line that was refused: two spaces, its code and the
@@ -39,15 +36,29 @@ pub fn round_with_rules(
 ) -> Result<Vec<u8>, DeskFault> {
     let sheets = collect(alloc, file)?;
     let game = play(alloc, &sheets)?;
-    let Some(round) = round_asked(&game, asked) else {
-        return Ok(Vec::new(alloc));
-    };
-    let text = round_text(alloc, &game, round)?;
+    match round_asked(&game, asked) {
+        Some(round) => text_with_rules(alloc, &game, round),
+        None => Ok(Vec::new(alloc)),
+    }
+}
+
+/// The text of a round of a game; `Round` where there is none.
+fn text_of(alloc: Global, game: &Game, round: Round) -> Result<Vec<u8>, DeskFault>
+    ensures text { IfOk result (λ text. text.items ≡ round_text_of game.now round) }
+    ensures fault { IfErr result (HasNoText game.now round) }
+{
+    let text = round_text(alloc, game, round)?;
     if text.is_empty() {
         return Err(DeskFault::Round);
     }
+    Ok(text)
+}
+
+/// The same with the rules that refused lines broke.
+fn text_with_rules(alloc: Global, game: &Game, round: Round) -> Result<Vec<u8>, DeskFault> {
+    let text = text_of(alloc, game, round)?;
     let mut out = Vec::new(alloc);
-    push_with_rules(&mut out, &game, round, text.as_slice())?;
+    push_with_rules(&mut out, game, round, text.as_slice())?;
     Ok(out)
 }
 
