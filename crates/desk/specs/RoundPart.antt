@@ -29,21 +29,25 @@ pub record IsRoundPart (file : List ℕ) (asked : Option Round) (text : List ℕ
   pub of_file : IsGameOf file played
   pub is : text ≡ text_of_round played (round_asked played asked)
 
--- there is no text of a round of a game, for this fault: it has none, or memory was refused
-abbrev pub HasNoText : Played → Round → DeskFault → Type 0
-HasNoText played round desk.Round = round_text_of played round ≡ []
-HasNoText played round desk.Memory = ⊤
-HasNoText played round (desk.File fault) = ⊥
+-- a round is asked for that has no text
+pub record IsNotPlayed (played : Played) (asked : Option Round) : Type 0 where
+  pub round : Round
+  pub is_asked : asked ≡ Some round
+  pub none : round_text_of played round ≡ []
 
--- the round that is asked for has no text in the game of the file
-pub record IsNotPlayed (file : List ℕ) (asked : Option Round) : Type 0 where
+-- there is no text of the round that is asked for of a game, for this fault: it was not played, or memory was refused
+abbrev pub HasNoText : Played → Option Round → DeskFault → Type 0
+HasNoText played asked desk.Round = IsNotPlayed played asked
+HasNoText played asked desk.Memory = ⊤
+HasNoText played asked (desk.File fault) = ⊥
+
+-- the round that is asked for was not played in the game of the file
+pub record IsNotPlayedIn (file : List ℕ) (asked : Option Round) : Type 0 where
   pub played : Played
   pub of_file : IsGameOf file played
-  pub round : Round
-  pub is_asked : round_asked played asked ≡ Some round
-  pub none : round_text_of played round ≡ []
+  pub none : IsNotPlayed played (round_asked played asked)
 
 -- when each fault comes: the round is not played; the file is refused by that fault; memory may be refused at any time
 abbrev pub IsRoundFault : List ℕ → Option Round → DeskFault → Type 0
-IsRoundFault file asked desk.Round = IsNotPlayed file asked
+IsRoundFault file asked desk.Round = IsNotPlayedIn file asked
 IsRoundFault file asked fault = HasNone fault file

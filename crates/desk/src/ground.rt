@@ -16,7 +16,6 @@ use std::alloc::{AllocError, Global};
 use tables::{Company, Kind, Money};
 
 /// The board as a game stood. It fails only if memory is refused.
-#[tactic(auto, using(crate::proofs::Laid::all_laid))]
 pub(crate) fn board_at(alloc: Global, past: &Past) -> Result<Board, AllocError>
     ensures { IfOk result (λ board. board ≡ ground_now past.now.events.now) }
 {

@@ -1,6 +1,6 @@
 //! A round's part of the report, and the same with the rules that refused lines broke.
-ghost use Rattle.std.specs.Prelude.{◌≡◌, IfErr, IfOk};
-ghost use Rattle.desk.specs.RoundPart.{HasNoText, IsRoundFault, IsRoundPart, round_asked};
+ghost use Rattle.std.specs.Prelude.{◌≡◌, IfErr, IfOk, Some};
+ghost use Rattle.desk.specs.RoundPart.{HasNoText, IsRoundFault, IsRoundPart, round_asked, text_of_round};
 ghost use Rattle.report.specs.Report.{round_text_of};
 
 use crate::fault::DeskFault;
@@ -8,7 +8,7 @@ use crate::why::push_why;
 use history::{Event, Walk};
 use report::round_text;
 use rounds::{Game, play};
-use sheets::{collect, first_line};
+use sheets::{Sheets, collect, first_line};
 use std::alloc::{AllocError, Global};
 use tables::Round;
 
@@ -20,9 +20,26 @@ pub fn round(alloc: Global, file: &[u8], asked: Option<Round>) -> Result<Vec<u8>
     ensures fault { IfErr result (IsRoundFault file.now asked) }
 {
     let sheets = collect(alloc, file)?;
-    let game = play(alloc, &sheets)?;
-    match round_asked(&game, asked) {
-        Some(round) => text_of(alloc, &game, round),
+    part_in(alloc, &sheets, asked)
+}
+
+/// That part of the report of some sheets.
+fn part_in(alloc: Global, sheets: &Sheets, asked: Option<Round>) -> Result<Vec<u8>, DeskFault>
+    ensures part { IfOk result (λ text. IsRoundPart sheets.now asked text.items) }
+    ensures fault { IfErr result (IsRoundFault sheets.now asked) }
+{
+    let game = play(alloc, sheets)?;
+    part_of(alloc, &game, asked)
+}
+
+/// That part of the report of a game.
+fn part_of(alloc: Global, game: &Game, asked: Option<Round>) -> Result<Vec<u8>, DeskFault>
+    ensures part { IfOk result (λ text.
+        text.items ≡ text_of_round game.now (round_asked game.now asked)) }
+    ensures fault { IfErr result (HasNoText game.now (round_asked game.now asked)) }
+{
+    match round_asked(game, asked) {
+        Some(round) => text_of(alloc, game, round),
         None => Ok(Vec::new(alloc)),
     }
 }
@@ -35,7 +52,12 @@ pub fn round_with_rules(
     asked: Option<Round>,
 ) -> Result<Vec<u8>, DeskFault> {
     let sheets = collect(alloc, file)?;
-    let game = play(alloc, &sheets)?;
+    rules_in(alloc, &sheets, asked)
+}
+
+/// That part of the report of some sheets, with these rules.
+fn rules_in(alloc: Global, sheets: &Sheets, asked: Option<Round>) -> Result<Vec<u8>, DeskFault> {
+    let game = play(alloc, sheets)?;
     match round_asked(&game, asked) {
         Some(round) => text_with_rules(alloc, &game, round),
         None => Ok(Vec::new(alloc)),
@@ -45,7 +67,7 @@ pub fn round_with_rules(
 /// The text of a round of a game; `Round` where there is none.
 fn text_of(alloc: Global, game: &Game, round: Round) -> Result<Vec<u8>, DeskFault>
     ensures text { IfOk result (λ text. text.items ≡ round_text_of game.now round) }
-    ensures fault { IfErr result (HasNoText game.now round) }
+    ensures fault { IfErr result (HasNoText game.now (Some round)) }
 {
     let text = round_text(alloc, game, round)?;
     if text.is_empty() {
