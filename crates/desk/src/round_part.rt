@@ -82,13 +82,7 @@ fn push_with_rules(
         rest = push_first(out, rest)?;
         if let Event::Ruled { seat, ruling, .. } = event {
             walk.go(passed);
-            push_why(
-                out,
-                game.sheets(),
-                &walk.past(game.sheets().seats()),
-                *seat,
-                ruling,
-            )?;
+            push_why(out, game.sheets(), &walk.past(game.sheets().seats()), *seat, ruling)?;
         }
     }
     out.extend_from_slice(rest)
