@@ -1,12 +1,11 @@
 -- A round's part of the report of a file: of the round that is asked for, or of the last that was played.
-use Rattle.std.specs.Prelude.{◌≡◌, ℕ, List, [], Option, Some, None, ⊤}
+use Rattle.std.specs.Prelude.{◌≡◌, ℕ, List, [], Option, Some, None}
+use Rattle.desk.specs.Refusal.{HasNone}
 use Rattle.desk.specs.declared.fault.DeskFault.{DeskFault}
 use Rattle.desk.specs.declared.fault.DeskFault.TheVariants as desk
 use Rattle.history.specs.LookBack.{round_of}
 use Rattle.report.specs.Report.{round_text_of}
 use Rattle.rounds.specs.Play.{IsTheGame, Played}
-use Rattle.sheets.specs.File.{content_of}
-use Rattle.std.specs.Prelude.{Err}
 use Rattle.tables.specs.declared.round.Round.{Round}
 
 -- the game that was played is that of the file
@@ -38,8 +37,7 @@ pub record IsNotPlayed (file : List ℕ) (asked : Option Round) : Type 0 where
   pub is_asked : round_asked played asked ≡ Some round
   pub none : round_text_of played round ≡ []
 
--- when each fault comes: the file is refused with that fault; the round is not played; memory may be refused at any time
+-- when each fault comes: the round is not played; the file is refused by that fault; memory may be refused at any time
 abbrev pub IsRoundFault : List ℕ → Option Round → DeskFault → Type 0
-IsRoundFault file asked (desk.File fault) = content_of file ≡ Err fault
 IsRoundFault file asked desk.Round = IsNotPlayed file asked
-IsRoundFault file asked desk.Memory = ⊤
+IsRoundFault file asked fault = HasNone fault file

@@ -8,7 +8,7 @@ use tables::{Kind, Round, rounds_in_set};
 
 /// The phase, and how many operating rounds the set has that began last. A game begins as if a set had
 /// begun in its first phase.
-#[derive(Clone, Copy, Debug)]
+#[derive(Clone, Copy)]
 pub(crate) struct SetSoFar {
     phase: Kind,
     rounds: u8,

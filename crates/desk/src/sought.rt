@@ -83,8 +83,8 @@ fn push_of_opening(
         OpeningRule::CashTooSmall => {
             push_words(out, " (")?;
             push_has(out, sheets, seat, past.cash(Party::of_seat(seat)))?;
-            push_number(out, ", of which bid elsewhere ", past.bids_elsewhere(seat, private))?;
-            push_words(out, ")")
+            push_number(out, ", less ", past.bids_elsewhere(seat, private))?;
+            push_words(out, " bid elsewhere)")
         }
         OpeningRule::NotOfOpening | OpeningRule::TurnUsed => Ok(()),
     }

@@ -2,7 +2,7 @@
 
 use crate::streams::StreamFault;
 use crate::task::Task;
-use desk::{DeskFault, Entry, check, entry_text, round, round_with_rules, runs};
+use desk::{DeskFault, Entry, check, entry_text, round, round_with_rules, runs, state};
 use report::refusal_text;
 use sheets::FileFault;
 use std::alloc::Global;
@@ -33,8 +33,6 @@ pub(crate) struct Answer {
 /// The answer to a task for an order file.
 pub(crate) fn answer_to(alloc: Global, file: &[u8], task: Task) -> Result<Answer, StreamFault> {
     let told = match task {
-        Task::Check => return checked(alloc, file),
-        Task::Explain(entry) => return explained(alloc, entry),
         Task::Round {
             round: asked,
             why: false,
@@ -43,6 +41,9 @@ pub(crate) fn answer_to(alloc: Global, file: &[u8], task: Task) -> Result<Answer
             round: asked,
             why: true,
         } => round_with_rules(alloc, file, asked),
+        Task::Check => return checked(alloc, file),
+        Task::Explain(entry) => return explained(alloc, entry),
+        Task::State => state(alloc, file),
         Task::Runs { round: asked } => runs(alloc, file, asked),
     };
     match told {

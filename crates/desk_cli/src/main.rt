@@ -1,5 +1,6 @@
 //! The desk's program. Each of its words but `explain` reads an order file from standard input, and each
-//! writes text to standard output: `round` a round's part of the report, ready to be mailed.
+//! writes text to standard output: `round` a round's part of the report, ready to be mailed; `state` how the
+//! game stands.
 //!
 //! Reading order: `task` (the command line), `streams` (standard input and output), `answers` (what is
 //! written, and the status).

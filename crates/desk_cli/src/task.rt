@@ -15,6 +15,8 @@ pub(crate) enum Task {
     Check,
     /// What a code means; of no code where there is none like it.
     Explain(Option<&'static Entry>),
+    /// How the game stands.
+    State,
     /// What the trains of each company ran in a round, in the last with runs where none is named.
     Runs { round: Option<Round> },
 }
@@ -39,7 +41,8 @@ pub(crate) fn task_of(alloc: Global, words: &[String]) -> Result<Option<Task>, E
         .subcommand(round_command(alloc)?)?
         .subcommand(check_command(alloc)?)?
         .subcommand(explain_command(alloc)?)?
-        .subcommand(runs_command(alloc)?)?;
+        .subcommand(runs_command(alloc)?)?
+        .subcommand(state_command(alloc))?;
     let matches = command.try_get_matches_from(words)?;
     Ok(named_task(&matches))
 }
@@ -54,6 +57,7 @@ fn named_task(matches: &ArgMatches) -> Option<Task> {
         }),
         "check" => Some(Task::Check),
         "explain" => Some(Task::Explain(entry_of(given))),
+        "state" => Some(Task::State),
         "runs" => Some(Task::Runs {
             round: round_of(given)?,
         }),
@@ -94,6 +98,13 @@ fn runs_command<'a>(alloc: Global) -> Result<Command<'a>, AllocError> {
         .about("Writes what the trains of each company ran in a round, stop by stop")
         .after_help("Example: desk runs OR2.1 < our-game.orders")
         .arg(round_argument(alloc))
+}
+
+/// The word `state`.
+fn state_command<'a>(alloc: Global) -> Command<'a> {
+    Command::new(alloc, "state")
+        .about("Writes how the game stands: who owes a sheet, players, companies, chart and map")
+        .after_help("Example: desk state < our-game.orders")
 }
 
 /// The round that a word is about.

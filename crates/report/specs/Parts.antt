@@ -39,9 +39,13 @@ end_told file (Some game) (Some end) = end_text file game.seats game.events end
 end_told file (Some game) None = []
 end_told file None end = []
 
+-- why play stopped; nothing before it has, and once it was broken off
+abbrev pub outcome_text_of : Underway → List ℕ
+outcome_text_of play = end_told play.file (game_so_far play) play.outcome
+
 -- what follows the rounds: the unread lines, and why play stopped
 abbrev pub end_text_of : Underway → List ℕ
-end_text_of play = unread_lines 0 (unread_of play.file) ++ end_told play.file (game_so_far play) play.outcome
+end_text_of play = unread_lines 0 (unread_of play.file) ++ outcome_text_of play
 
 -- so many steps, each of which played a round, lead from one play to another, and these are the texts of their rounds,
 -- one after the other

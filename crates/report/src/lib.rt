@@ -3,14 +3,15 @@
 //! in no sheet, and why play stopped, with what each player is worth where the game is over.
 //!
 //! `refusal_text` and `report` write it, `header_text`, `next_text` and `end_text` write it part by
-//! part as the game is played, and `round_text` writes one round of it: byte for byte the text that
-//! `specs/Report` and `specs/Parts` define, or the error that memory is refused. Each file has a
-//! report and no second.
+//! part as the game is played (`unread_text` and `outcome_text` write the two halves of `end_text`,
+//! the first a few lines at a time), and `round_text` writes one round of it: byte for byte the text
+//! that `specs/Report` and `specs/Parts` define, or the error that memory is refused. Each file has
+//! a report and no second.
 //!
 //! Reading order: `column` (numbers and names in columns), `line` (an event as a line), `statement`
 //! (what each player and the bank hold), `worth` (what each player is worth at the end), `text`
-//! (`refusal_text`, `report`, `round_text`), `parts` (`header_text`, `next_text`, `end_text`),
-//! `laws`.
+//! (`refusal_text`, `report`, `round_text`), `parts` (`header_text`, `next_text`, `end_text`
+//! and its halves), `laws`.
 #![tactic(auto)]
 
 mod column;
@@ -27,6 +28,6 @@ pub use laws::{
     report_is_its_parts, same_parts_same_report, some_report,
 };
 pub use line::{name, push_name, push_square};
-pub use parts::{end_text, header_text, next_text};
+pub use parts::{end_text, header_text, next_text, outcome_text, unread_text};
 pub use text::{refusal_text, report, round_text};
 pub use worth::player_worth;

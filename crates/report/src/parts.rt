@@ -1,9 +1,11 @@
-ghost use Rattle.report.specs.Parts.{end_text_of, next_text_of};
-ghost use Rattle.report.specs.Report.{header};
+ghost use Rattle.report.specs.Column.{Adds};
+ghost use Rattle.report.specs.Parts.{end_text_of, next_text_of, outcome_text_of};
+ghost use Rattle.report.specs.Report.{header, unread_lines};
 ghost use Rattle.rounds.specs.Steps.{HasEnded};
-ghost use Rattle.std.specs.Prelude.{◌≡◌, IfOk};
+ghost use Rattle.std.specs.Prelude.{◌≡◌, ◌+◌, ◌≤◌, IfOk, OnOk, length};
 
 use crate::text::{push_end, push_header, push_last_round, push_unread};
+use order_grammar::Fault;
 use rounds::Play;
 use sheets::Sheets;
 use std::alloc::{AllocError, Global};
@@ -36,9 +38,40 @@ pub fn end_text(alloc: Global, play: &Play) -> Result<Vec<u8>, AllocError>
     ensures { IfOk result (λ text. text.items ≡ end_text_of play.now) }
 {
     let mut out = Vec::new(alloc);
-    push_unread(&mut out, play.sheets().unread())?;
-    if let (Some(history), Some(end)) = (play.history(), play.outcome()) {
-        push_end(&mut out, play.sheets(), history, end)?;
-    }
+    push_unread(&mut out, 0, play.sheets().unread())?;
+    push_outcome(&mut out, play)?;
     Ok(out)
+}
+
+/// The lines for some of the lines that are in no sheet, by their faults, of which `before` came
+/// earlier in the file: so `end_text` can be told a few lines at a time. An error where memory is
+/// refused.
+pub fn unread_text(alloc: Global, before: usize, unread: &[Fault]) -> Result<Vec<u8>, AllocError>
+    requires { before + length unread.now ≤ usize.MAX }
+    ensures { IfOk result (λ text. text.items ≡ unread_lines before unread.now) }
+{
+    let mut out = Vec::new(alloc);
+    push_unread(&mut out, before, unread)?;
+    Ok(out)
+}
+
+/// Why play stopped, once a step has answered that it has: what `end_text` tells after the lines
+/// that are in no sheet. An error where memory is refused.
+pub fn outcome_text(alloc: Global, play: &Play) -> Result<Vec<u8>, AllocError>
+    requires { HasEnded play.now }
+    ensures { IfOk result (λ text. text.items ≡ outcome_text_of play.now) }
+{
+    let mut out = Vec::new(alloc);
+    push_outcome(&mut out, play)?;
+    Ok(out)
+}
+
+/// Adds why play stopped, where that is known.
+fn push_outcome(out: &mut Vec<u8>, play: &Play) -> Result<(), AllocError>
+    ensures { OnOk result (Adds out.old out.new (outcome_text_of play.now)) }
+{
+    if let (Some(history), Some(end)) = (play.history(), play.outcome()) {
+        push_end(out, play.sheets(), history, end)?;
+    }
+    Ok(())
 }

@@ -1,4 +1,4 @@
-ghost use Rattle.std.specs.Prelude.{◌≡◌, ◌≤◌, IfOk, OnOk, drop, length};
+ghost use Rattle.std.specs.Prelude.{◌≡◌, ◌+◌, ◌≤◌, IfOk, OnOk, drop, length};
 ghost use Rattle.report.specs.Column.{Adds};
 ghost use Rattle.report.specs.Parts.{last_round, last_round_text};
 ghost use Rattle.report.specs.Report.{IsLengthOfRound, awaiting_text, end_text, ends_round as ends_a_round, game_line, header, is_round as is_the_round, name_owing, over_text, refusal_line, report_of, round_text_of, rounds_text, text_between, unread_lines};
@@ -52,7 +52,7 @@ pub fn report(alloc: Global, game: &Game) -> Result<Vec<u8>, AllocError>
     let mut out = Vec::new(alloc);
     push_header(&mut out, game.sheets())?;
     push_rounds(&mut out, game)?;
-    push_unread(&mut out, game.sheets().unread())?;
+    push_unread(&mut out, 0, game.sheets().unread())?;
     push_end(&mut out, game.sheets(), game.history(), game.outcome())?;
     Ok(out)
 }
@@ -192,12 +192,18 @@ fn ends_round(later: &[Event]) -> bool
     later.first().is_none_or(|event| event.round().is_some())
 }
 
-pub(crate) fn push_unread(out: &mut Vec<u8>, unread: &[Fault]) -> Result<(), AllocError>
-    ensures { OnOk result (Adds out.old out.new (unread_lines 0 unread.now)) }
+/// Adds the lines for unread lines, of which so many came before.
+pub(crate) fn push_unread(
+    out: &mut Vec<u8>,
+    before: usize,
+    unread: &[Fault],
+) -> Result<(), AllocError>
+    requires { before + length unread.now ≤ usize.MAX }
+    ensures { OnOk result (Adds out.old out.new (unread_lines before unread.now)) }
 {
     for (i, fault) in unread.iter().enumerate() {
         out.extend_from_slice(b"UNREAD ")?;
-        print_number(out, i as u64 + 1)?;
+        print_number(out, (before + i) as u64 + 1)?;
         out.push(b' ')?;
         out.extend_from_slice(fault.code().as_bytes())?;
         out.push(b'\n')?;

@@ -3,7 +3,7 @@ use Rattle.std.proofs.Common.{◌≡◌, ℕ, ◌<◌, ◌≤◌, ◌⊎◌, inl
 use Rattle.std.specs.Prelude.{Option, Some, None, Result, Ok, Err, IfSome, IsOk}
 use Rattle.std.proofs.KnownBytes.{Appends-nil, Keeps-refl}
 use Rattle.std.proofs.lemmas.List.{take_all, length-take-le}
-use Rattle.report.specs.Report.{IsReport, IsReportOf}
+use Rattle.report.specs.Report.{IsReport, IsReportOf, refusal_line}
 use Rattle.sheets.proofs.ContentLemmas.{too_long}
 use Rattle.sheets.specs.File.{Content, IsAccepted, content_of}
 use Rattle.sheets.specs.declared.fault.FileFault.{FileFault}
@@ -108,6 +108,13 @@ front_of_none given old file whole some =
 pub nothing_written : ((file : List ℕ) → (text : List ℕ) × IsReport file text) → (given old : Option (List ℕ)) → IsCutShort given old old
 nothing_written some None old = front_of_none None old [] tt (some [])
 nothing_written some (Some bytes) old = front_of_none (Some bytes) old bytes refl (some bytes)
+
+-- a front of the line that says why a file is refused is a front of its report
+pub cut_in_refusal : (file : List ℕ) (old new : Option (List ℕ)) (fault : FileFault) → content_of file ≡ Err fault →
+    AppendsFront old new (refusal_line fault) → IsCutShort (Some file) old new
+cut_in_refusal file old new fault is front =
+    let report : IsReport file (refusal_line fault) = subst (λ (r : Result Content FileFault). IsReportOf file r (refusal_line fault)) (sym is) refl in
+    record { file = file; text = refusal_line fault; whole = refl; report = report; front = front }
 
 -- what reading leaves where it stops early
 pub read_stops : ((file : List ℕ) → (text : List ℕ) × IsReport file text) → (given old : Option (List ℕ)) (read_failed write_failed : Bool) (fault : Fault) → IsReadFault read_failed fault → write_failed ≡ false → Stops given old old read_failed write_failed fault

@@ -7,7 +7,7 @@ use Rattle.certificate.specs.declared.group.Group.{Group}
 use Rattle.certificate.specs.declared.runner.RunnerFault.{RunnerFault}
 use Rattle.certificate.specs.declared.runner.RunnerFault.TheVariants as runner
 use Rattle.operating.specs.Answered.{AreAnswered}
-use Rattle.operating.specs.Calls.{AreCutShort, AreMade, Call, Makes, unanswered}
+use Rattle.operating.specs.Calls.{AreCutShort, AreMade, Call, unanswered}
 use Rattle.rounds.specs.Faults.{fault_in_turn}
 use Rattle.rounds.specs.GameCalls.{AreFront, GameCalls, RefusedCallsAreAFront, SomeCalls}
 use Rattle.rounds.specs.Play.{Played}
@@ -17,7 +17,7 @@ use Rattle.rounds.specs.declared.fault.PlayFault.TheVariants as play
 use Rattle.sheets.specs.File.{IsAccepted}
 use Rattle.tables.specs.declared.roster.Company.{Company}
 use Rattle.tables.specs.declared.round.Round.{Round}
-use Rattle.umpire.specs.Verify.{HasGroup, HaveGroups, IsJudged, LacksGroup}
+use Rattle.umpire.specs.Verify.{HasAllGroups, HasGroup, HaveGroups, IsJudged, LacksGroup}
 
 -- a call that is answered by a group has it
 has_group :
@@ -27,6 +27,14 @@ has_group call None (Ok money) by answered = absurd cc
 has_group call None (Err fault) by answered = absurd cc
 has_group call (Some group) (Ok money) by answered = by.0
 has_group call (Some group) (Err fault) by answered = absurd cc
+
+-- calls that are made after others are made with them
+pub made_after :
+    (before between after : List (Option Group)) (earlier later : List Call) → AreMade AnswersByNext before earlier between →
+    AreMade AnswersByNext between later after → AreMade AnswersByNext before (earlier ++ later) after
+made_after before between after [] later is made = subst (λ (from : List (Option Group)). AreMade AnswersByNext from later after) is made
+made_after before between after (call ∷ earlier) later made others =
+    (made.0, made.1, made_after made.0 between after earlier later made.2 others)
 
 -- so have calls that are answered, whatever is asked after them
 have_groups :
@@ -90,18 +98,19 @@ module _ (answered : GamesAreAnswered) (some_calls : SomeCalls) (fronts : Refuse
         | inr short ↦ lacks file played some whole groups left round company short.0 short.1 short.2 is (answered file played whole is) made
       ]
 
-  -- the game is judged by the groups
-  pub judged : (groups left : List (Option Group)) (outcome : Result Played PlayFault) → Makes AnswersByNext groups (GameCalls file outcome) left → IsJudged file groups outcome
-  judged groups left (Ok played) makes =
-      let calls : List Call = makes.0 in
-      record {
-        played = played;
-        calls = calls;
-        made = makes.1;
-        have = have_all calls groups left makes.2 (answered file played calls makes.1);
-      }
-  judged groups left (Err play.Memory) makes = tt
-  judged groups left (Err (play.Refused round company)) makes =
+  -- a game whose calls are answered has all its groups
+  pub answered_have :
+      (groups left : List (Option Group)) (played : Played) (calls : List Call) → GameCalls file (Ok played) calls →
+      AreMade AnswersByNext groups calls left → HasAllGroups file groups
+  answered_have groups left played calls is made =
+      record { played = played; calls = calls; made = is; have = have_all calls groups left made (answered file played calls is) }
+
+  -- a game that was broken off is judged by its last call
+  pub broken_judged :
+      {A : Type 0} (groups left : List (Option Group)) (fault : PlayFault) (calls : List Call) → GameCalls file (Err fault) calls →
+      AreMade AnswersByNext groups calls left → IsJudged {A = A} file groups (Err fault)
+  broken_judged groups left play.Memory calls is made = tt
+  broken_judged groups left (play.Refused round company) calls is made =
       let whole = some_calls file accepted in
-      refused_by groups left round company makes.0 whole.1 whole.0 whole.2 makes.2
-      (fronts file (play.Refused round company) whole.0 makes.0 whole.1 makes.1 whole.2)
+      refused_by groups left round company calls whole.1 whole.0 whole.2 made
+      (fronts file (play.Refused round company) whole.0 calls whole.1 is whole.2)

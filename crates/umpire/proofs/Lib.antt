@@ -1,5 +1,6 @@
 pub mod Known
 pub mod Parts
+pub mod UnreadParts
 pub mod Files
 pub mod PartingLemmas
 pub mod GroupLemmas

@@ -23,6 +23,10 @@ pub record LeavesRest (old new : Option (List ℕ)) (text rest : List ℕ) : Typ
   pub whole : done ++ rest ≡ text
   pub appended : Appends old new done
 
+-- nothing of a text was written, and all of it is left
+pub leaves_all : (old : Option (List ℕ)) (text : List ℕ) → LeavesRest old old text text
+leaves_all old text = record { done = []; whole = refl; appended = Appends-nil old }
+
 -- a part of what was left is written
 pub leaves_less : (old mid new : Option (List ℕ)) (text before part rest : List ℕ) → LeavesRest old mid text before → before ≡ part ++ rest → Appends mid new part → LeavesRest old new text rest
 leaves_less old mid new text before part rest left is written =
@@ -59,13 +63,23 @@ none_of old text = record { count = 0; within = omega arith; appended = Appends-
 -- a front of a part that a text begins with is a front of the text
 front_of_first : (old new : Option (List ℕ)) (text part rest : List ℕ) → text ≡ part ++ rest → AppendsFront old new part → AppendsFront old new text
 front_of_first old new text part rest is front =
-    let none : LeavesRest old old text text = record { done = []; whole = refl; appended = Appends-nil old } in
-    front_of_part old old new text text part rest none is front
+    front_of_part old old new text text part rest (leaves_all old text) is front
 
 -- what was written whole is a front
 pub whole_front : (old new : Option (List ℕ)) (text : List ℕ) → Appends old new text → AppendsFront old new text
 whole_front old new text written =
     front_of_text old new text [] (record { done = text; whole = append-nil text; appended = written })
+
+-- a front of the first of two parts is a front of both
+pub front_of_first_part : (old new : Option (List ℕ)) (part rest : List ℕ) → AppendsFront old new part → AppendsFront old new (part ++ rest)
+front_of_first_part old new part rest front = front_of_first old new (part ++ rest) part rest refl front
+
+-- so is the first with a front of the second
+pub front_of_second_part : (old mid new : Option (List ℕ)) (part rest : List ℕ) → Appends old mid part → AppendsFront mid new rest →
+    AppendsFront old new (part ++ rest)
+front_of_second_part old mid new part rest written front =
+    let left : LeavesRest old mid (part ++ rest) rest = record { done = part; whole = refl; appended = written } in
+    front_of_part old mid new (part ++ rest) rest rest [] left (sym (append-nil rest)) front
 
 -- before the first round no text is told
 pub tells_none : (file : List ℕ) (play : Underway) (old : Option (List ℕ)) → play ≡ started file → TellsRounds file play old old

@@ -5,8 +5,9 @@ use Rattle.std.proofs.lemmas.List.{length-take-le, take_all}
 use Rattle.std.specs.Prelude.{Option, Some, None, Result, Ok, Err, IfErr, IfSome, IsOk, OnOk, nat_lt, unwrap_or}
 use Rattle.std.specs.Io.KnownBytes.{Appends}
 use Rattle.std.proofs.KnownBytes.{Keeps-refl}
-use Rattle.report.specs.Report.{IsReport, IsReportOf, report_of, report_text}
-use Rattle.rounds.specs.Play.{IsTheGame, Played, Plays}
+use Rattle.certificate.specs.declared.group.Group.{Group}
+use Rattle.report.specs.Report.{IsReport, refusal_line}
+use Rattle.rounds.specs.Steps.{Underway}
 use Rattle.sheets.proofs.ContentLemmas.{too_long}
 use Rattle.sheets.specs.File.{Content, IsAccepted, content_of}
 use Rattle.sheets.specs.declared.fault.FileFault.{FileFault}
@@ -14,8 +15,9 @@ use Rattle.sheets.specs.declared.fault.FileFault.TheVariants.{TooLong}
 use Rattle.umpire.proofs.PartingLemmas.{found_within}
 use Rattle.umpire.specs.Groups.{groups_of}
 use Rattle.umpire.specs.Parting.{certificates_most, certificates_of, file_before, from_divider, order_file_of, without_newline}
-use Rattle.umpire.specs.Run.{IsFileOf, IsReadFault}
-use Rattle.umpire.specs.Verify.{AnswersContent, AnswersGame, AnswersInput, IsAnswered, IsRefusal, StopsVerify, content_of_input}
+use Rattle.umpire.specs.Rounds.{IsTextOfRounds, TellsAllRounds}
+use Rattle.umpire.specs.Run.{IsFileOf, IsReadFault, IsReported, IsWriteFault}
+use Rattle.umpire.specs.Verify.{AnswersContent, AnswersGame, AnswersInput, HasAllGroups, IsAnswered, IsGameAnswered, IsRefusal, Refuses, StopsGame, StopsVerify, content_of_input}
 use Rattle.umpire.specs.declared.fault.Fault.{Fault}
 use Rattle.umpire.specs.declared.fault.Fault.TheVariants.{Read, Write, Memory, File, Certificate}
 
@@ -115,46 +117,25 @@ answered given old new input text outcome read answers written =
       written = written;
     }
 
--- no input is answered by a fault of reading, of writing or of memory
-not_so : (input : List ℕ) (content : Result Content FileFault) (fault : Fault) (text : List ℕ) → AnswersContent input content (Err fault) text →
-    (fault ≡ Read → ⊥) × (fault ≡ Write → ⊥) × (fault ≡ Memory → ⊥)
-not_so input (Ok content) Read text answers = absurd answers
-not_so input (Ok content) Write text answers = absurd answers
-not_so input (Ok content) Memory text answers = absurd answers
-not_so input (Ok content) (File fault) text answers = absurd answers
-not_so input (Ok content) (Certificate round company) text answers = (λ e. cc, λ e. cc, λ e. cc)
-not_so input (Err fault) Read text answers = absurd (cc)
-not_so input (Err fault) Write text answers = absurd (cc)
-not_so input (Err fault) Memory text answers = absurd (cc)
-not_so input (Err fault) (File other) text answers = (λ e. cc, λ e. cc, λ e. cc)
-not_so input (Err fault) (Certificate round company) text answers = absurd (cc)
+-- the answer to what was read is that to the whole input
+pub answered_whole :
+    (given old new : Option (List ℕ)) (input : List ℕ) (outcome : Result (Unit {0}) Fault) → IfSome given (λ bytes. input ≡ take 134217730 bytes) →
+    IsAnswered (Some input) outcome old new → IsAnswered given outcome old new
+answered_whole given old new input outcome read known =
+    answered given old new input known.text outcome read (subst (λ (other : List ℕ). AnswersInput other outcome known.text) known.whole known.answers)
+    known.written
 
--- a fault that is an answer, once it is written
-pub stops_answered :
-    (given old new : Option (List ℕ)) (input text : List ℕ) (read_failed write_failed : Bool) (fault : Fault) →
-    IfSome given (λ bytes. input ≡ take 134217730 bytes) → AnswersInput input (Err fault) text → Appends old new text → read_failed ≡ false →
-    write_failed ≡ false → StopsVerify given old new read_failed write_failed fault
-stops_answered given old new input text rf wf Read read answers written r w = absurd ((not_so input (content_of_input input) Read text answers).0 refl)
-stops_answered given old new input text rf wf Write read answers written r w = absurd ((not_so input (content_of_input input) Write text answers).1 refl)
-stops_answered given old new input text rf wf Memory read answers written r w = absurd ((not_so input (content_of_input input) Memory text answers).2 refl)
-stops_answered given old new input text rf wf (File fault) read answers written r w =
-    (r, w, answered given old new input text (Err (File fault)) read answers written)
-stops_answered given old new input text rf wf (Certificate round company) read answers written r w =
-    (r, w, answered given old new input text (Err (Certificate round company)) read answers written)
-
--- an outcome, once the answer is written
-pub ok_verdict :
-    (given old new : Option (List ℕ)) (input text : List ℕ) (outcome : Result (Unit {0}) Fault) → IfSome given (λ bytes. input ≡ take 134217730 bytes) →
-    AnswersInput input outcome text → Appends old new text → OnOk outcome (IsAnswered given (Ok tt) old new)
-ok_verdict given old new input text (Ok done) read answers written = answered given old new input text (Ok tt) read answers written
-ok_verdict given old new input text (Err fault) read answers written = tt
-
-pub err_verdict :
-    (given old new : Option (List ℕ)) (input text : List ℕ) (read_failed write_failed : Bool) (outcome : Result (Unit {0}) Fault) →
-    IfSome given (λ bytes. input ≡ take 134217730 bytes) → AnswersInput input outcome text → Appends old new text → read_failed ≡ false →
-    write_failed ≡ false → IfErr outcome (λ fault. StopsVerify given old new read_failed write_failed fault)
-err_verdict given old new input text rf wf (Ok done) read answers written r w = tt
-err_verdict given old new input text rf wf (Err fault) read answers written r w = stops_answered given old new input text rf wf fault read answers written r w
+pub stops_whole :
+    (given old new : Option (List ℕ)) (input : List ℕ) (read_failed write_failed : Bool) (fault : Fault) →
+    IfSome given (λ bytes. input ≡ take 134217730 bytes) → read_failed ≡ false → StopsVerify (Some input) old new false write_failed fault →
+    StopsVerify given old new read_failed write_failed fault
+stops_whole given old new input rf wf Read read unfailed known = absurd cc
+stops_whole given old new input rf wf Write read unfailed known = (unfailed, known.1)
+stops_whole given old new input rf wf Memory read unfailed known = (unfailed, known.1)
+stops_whole given old new input rf wf (File fault) read unfailed known =
+    (unfailed, known.1, answered_whole given old new input (Err (File fault)) read known.2)
+stops_whole given old new input rf wf (Certificate round company) read unfailed known =
+    (unfailed, known.1, answered_whole given old new input (Err (Certificate round company)) read known.2)
 
 -- reading stopped early, and nothing was written
 pub stops_reading :
@@ -165,22 +146,6 @@ stops_reading given old rf wf Memory is unfailed = (is, unfailed)
 stops_reading given old rf wf Write is unfailed = absurd is
 stops_reading given old rf wf (File fault) is unfailed = absurd is
 stops_reading given old rf wf (Certificate round company) is unfailed = absurd is
-
--- the report of the game of an accepted file
-reported_by :
-    (file text : List ℕ) (played : Played) (content : Result Content FileFault) → IsOk content → played.file ≡ file → IsTheGame played →
-    text ≡ report_of played → IsReportOf file content text
-reported_by file text played (Err fault) accepted is game told = absurd cc
-reported_by file text played (Ok content) accepted is game told =
-    record {
-      last = game.last;
-      game = subst (λ (f : List ℕ). Plays f game.last) is game.plays;
-      is = told ∙ (λ i. report_text (is i) (game.game i).seats (game.game i).events (game.end i));
-    }
-
--- the report of a game is that of its file
-pub game_reported : (file text : List ℕ) (played : Played) → IsAccepted file → played.file ≡ file → IsTheGame played → text ≡ report_of played → IsReport file text
-game_reported file text played accepted is game told = reported_by file text played (content_of file) accepted is game told
 
 -- a file that is refused is answered by its refusal
 pub refusal_answers : (input text : List ℕ) (fault : FileFault) (outcome : Result (Unit {0}) Fault) → content_of_input input ≡ Err fault → IsRefusal fault outcome text → AnswersInput input outcome text
@@ -205,3 +170,84 @@ judgement_answers input file certificates text outcome of_file of_certificates w
     (subst (λ (f : List ℕ). AnswersGame f (groups_of certificates) outcome text) of_file answers) in
     subst (λ (content : Result Content FileFault). AnswersContent input content outcome text) (sym (within_limit input few))
     (judgement_by input text outcome (content_of (order_file_of input)) (subst IsAccepted of_file accepted) of_whole)
+
+-- so an input is answered as its game is
+pub game_answers :
+    (input file certificates : List ℕ) (old new : Option (List ℕ)) (outcome : Result (Unit {0}) Fault) → file ≡ order_file_of input →
+    certificates ≡ certificates_of input → length certificates ≤ certificates_most → IsAccepted file →
+    IsGameAnswered file (groups_of certificates) outcome old new → IsAnswered (Some input) outcome old new
+game_answers input file certificates old new outcome of_file of_certificates within accepted known =
+    record {
+      input = input;
+      text = known.text;
+      whole = refl;
+      answers = judgement_answers input file certificates known.text outcome of_file of_certificates within accepted known.answers;
+      written = known.written;
+    }
+
+pub game_stops :
+    (input file certificates : List ℕ) (old new : Option (List ℕ)) (failed : Bool) (fault : Fault) → file ≡ order_file_of input →
+    certificates ≡ certificates_of input → length certificates ≤ certificates_most → IsAccepted file →
+    StopsGame file (groups_of certificates) old new failed fault → StopsVerify (Some input) old new false failed fault
+game_stops input file certificates old new failed Read of_file of_certificates within accepted stops = absurd stops
+game_stops input file certificates old new failed Write of_file of_certificates within accepted stops = (refl, stops)
+game_stops input file certificates old new failed Memory of_file of_certificates within accepted stops = (refl, stops)
+game_stops input file certificates old new failed (File fault) of_file of_certificates within accepted stops = absurd stops
+game_stops input file certificates old new failed (Certificate round company) of_file of_certificates within accepted stops =
+    (refl, stops.0, game_answers input file certificates old new (Err (Certificate round company)) of_file of_certificates within accepted stops.1)
+
+-- a fault of a file that is refused is the one with which its input is
+same_outcome : (fault refusal : FileFault) → fault ≡ refusal → IsRefusal refusal (Err (File fault)) (refusal_line refusal)
+same_outcome fault refusal is = (ap (λ (f : FileFault). let outcome : Result (Unit {0}) Fault = Err (File f) in outcome) is, refl)
+
+pub refusal_stops :
+    (input : List ℕ) (old new : Option (List ℕ)) (failed : Bool) (refusal : FileFault) (fault : Fault) → content_of_input input ≡ Err refusal →
+    Refuses refusal old new failed fault → StopsVerify (Some input) old new false failed fault
+refusal_stops input old new failed refusal Read is refuses = absurd refuses
+refusal_stops input old new failed refusal Write is refuses = (refl, refuses)
+refusal_stops input old new failed refusal Memory is refuses = (refl, refuses)
+refusal_stops input old new failed refusal (File fault) is refuses = (
+  refl,
+  refuses.0,
+  record {
+    input = input;
+    text = refusal_line refusal;
+    whole = refl;
+    answers = refusal_answers input (refusal_line refusal) refusal (Err (File fault)) is (same_outcome fault refusal refuses.1);
+    written = refuses.2;
+  },
+)
+refusal_stops input old new failed refusal (Certificate round company) is refuses = absurd refuses
+
+-- a game that has all its groups is answered by its report
+pub report_answers :
+    (file : List ℕ) (groups : List (Option Group)) (old new : Option (List ℕ)) → HasAllGroups file groups → IsReported (Some file) old new →
+    IsGameAnswered file groups (Ok tt) old new
+report_answers file groups old new all reported =
+    record {
+      text = reported.text;
+      answers = (all, subst (λ (other : List ℕ). IsReport other reported.text) reported.whole reported.report);
+      written = reported.written;
+    }
+
+-- a fault of writing there
+pub writing_stops :
+    (file : List ℕ) (groups : List (Option Group)) (old new : Option (List ℕ)) (failed : Bool) (fault : Fault) → IsWriteFault failed fault →
+    StopsGame file groups old new failed fault
+writing_stops file groups old new failed Read is = absurd is
+writing_stops file groups old new failed Write is = is
+writing_stops file groups old new failed Memory is = is
+writing_stops file groups old new failed (File fault) is = absurd is
+writing_stops file groups old new failed (Certificate round company) is = absurd is
+
+-- the texts of all rounds, once they are written
+pub rounds_told :
+    (file : List ℕ) (ended : Underway) (text : List ℕ) (old new : Option (List ℕ)) → IsTextOfRounds file ended text → Appends old new text →
+    TellsAllRounds file ended old new
+rounds_told file ended text old new all written =
+    record {
+      last = all.last;
+      told = record { steps = all.steps; text = text; told = all.told; written = written };
+      end = all.end;
+      stays = all.stays;
+    }

@@ -27,3 +27,11 @@ pub record TellsFront (file : List ℕ) (old new : Option (List ℕ)) : Type 0 w
   pub text : List ℕ
   pub told : StepsTell steps (started file) play text
   pub front : AppendsFront old new text
+
+-- these are the texts of all rounds of a file, one after the other, and a step has answered that play has stopped
+pub record IsTextOfRounds (file : List ℕ) (ended : Underway) (text : List ℕ) : Type 0 where
+  pub steps : ℕ
+  pub last : Underway
+  pub told : StepsTell steps (started file) last text
+  pub end : End
+  pub stays : Stays last end ended

@@ -75,6 +75,29 @@ AnswersGame file groups (Err Read) text = ⊥
 AnswersGame file groups (Err Write) text = ⊥
 AnswersGame file groups (Err Memory) text = ⊥
 
+-- it is answered so, and the answer follows what the writer held
+pub record IsGameAnswered (file : List ℕ) (groups : List (Option Group)) (outcome : Result (Unit {0}) Fault) (old new : Option (List ℕ)) : Type 0 where
+  pub text : List ℕ
+  pub answers : AnswersGame file groups outcome text
+  pub written : Appends old new text
+
+-- what a fault leaves there, and whether a call of the writer has failed
+abbrev pub StopsGame : List ℕ → List (Option Group) → Option (List ℕ) → Option (List ℕ) → Bool → Fault → Type 0
+StopsGame file groups old new failed Read = ⊥
+StopsGame file groups old new failed Write = failed ≡ true
+StopsGame file groups old new failed Memory = failed ≡ false
+StopsGame file groups old new failed (File fault) = ⊥
+StopsGame file groups old new failed (Certificate round company) =
+    (failed ≡ false) × IsGameAnswered file groups (Err (Certificate round company)) old new
+
+-- what a fault leaves where a file is refused: the line that says so, unless writing it was stopped
+abbrev pub Refuses : FileFault → Option (List ℕ) → Option (List ℕ) → Bool → Fault → Type 0
+Refuses refusal old new failed Read = ⊥
+Refuses refusal old new failed Write = failed ≡ true
+Refuses refusal old new failed Memory = failed ≡ false
+Refuses refusal old new failed (File fault) = (failed ≡ false) × (fault ≡ refusal) × Appends old new (refusal_line refusal)
+Refuses refusal old new failed (Certificate round company) = ⊥
+
 -- what the order file of an input says, or why the input is refused: its text of certificates is over its limit, or the
 -- order file is refused
 unfoldable pub content_of_input : List ℕ → Result Content FileFault

@@ -1,6 +1,5 @@
-ghost use Rattle.report.specs.Parts.{end_text_of};
 ghost use Rattle.report.specs.Report.{header};
-ghost use Rattle.rounds.specs.Steps.{ComesNearer, HasEnded, IsUnbroken, StepLeads, started};
+ghost use Rattle.rounds.specs.Steps.{ComesNearer, IsUnbroken, StepLeads, started};
 ghost use Rattle.sheets.specs.File.{IsAccepted};
 ghost use Rattle.std.specs.Io.KnownBytes.{Appends};
 ghost use Rattle.std.specs.Prelude.{◌≡◌, false, IfErr, IfOk, Ok, OnErr, OnOk};
@@ -9,20 +8,22 @@ ghost use Rattle.umpire.specs.Rounds.{TellsAllRounds, TellsFront};
 ghost use Rattle.umpire.specs.Run.{IsReported, IsWriteFault, Stops};
 ghost use Rattle.umpire.specs.Watched.{has_failed, inside};
 
+use crate::ending::write_end;
 use crate::fault::Fault;
 use crate::input::read_file;
 use crate::output::write_text;
+use crate::refusal::write_refusal;
 use crate::watched::Watched;
 use best_run::Search;
-use report::{end_text, header_text, next_text, parts_are_the_report, refusal_text, some_report};
+use report::{header_text, next_text, parts_are_the_report, some_report};
 use rounds::{Play, Step};
 use sheets::{FileFault, Sheets, collect};
 use std::alloc::{AllocError, Global};
 use std::io::{Read, Write};
 
 /// Reads an order file to its end, or to the first byte past the greatest size of a file, and
-/// writes its report, part by part: no more than one part is held at a time. What the writer then
-/// holds is what it held and, at
+/// writes its report, part by part: no more than the text of one round, or of 4,096 unread lines, is
+/// held at a time. What the writer then holds is what it held and, at
 ///
 /// - `Ok`: the report, whole;
 /// - `File`, where the file is refused: the one line that says so, whole;
@@ -68,8 +69,7 @@ fn write_answer<W: Write>(alloc: Global, file: &[u8], writer: &mut Watched<W>) -
         Ok(sheets) => write_game(alloc, &sheets, writer),
         Err(FileFault::Memory) => Err(Fault::Memory),
         Err(fault) => {
-            let line = refusal_text(alloc, fault)?;
-            write_text(writer, line.as_slice())?;
+            write_refusal(alloc, fault, writer)?;
             Err(Fault::File(fault))
         }
     }
@@ -101,7 +101,7 @@ fn write_game<W: Write>(
 }
 
 /// Writes the header.
-fn write_header<W: Write>(
+pub(crate) fn write_header<W: Write>(
     alloc: Global,
     sheets: &Sheets,
     writer: &mut Watched<W>,
@@ -153,20 +153,4 @@ fn step(play: &mut Play, search: &mut Search) -> Result<Step, AllocError>
         Ok(step) => Ok(step),
         Err(fault) => Err(fault.want_of_memory()),
     }
-}
-
-/// Writes what follows the rounds.
-fn write_end<W: Write>(alloc: Global, play: &Play, writer: &mut Watched<W>) -> Result<(), Fault>
-    requires unfailed { has_failed writer.old ≡ false }
-    requires ended { HasEnded play.now }
-    ensures ok { OnOk result (Appends (W.contents (inside writer.old))
-        (W.contents (inside writer.new)) (end_text_of play.now)) }
-    ensures unfailed { OnOk result (has_failed writer.new ≡ false) }
-    ensures err { IfErr result (IsWriteFault (has_failed writer.new)) }
-    ensures front { OnErr result (AppendsFront (W.contents (inside writer.old))
-        (W.contents (inside writer.new)) (end_text_of play.now)) }
-{
-    let text = end_text(alloc, play)?;
-    write_text(writer, text.as_slice())?;
-    Ok(())
 }

@@ -1,24 +1,30 @@
 //! Certificates, checked: anybody checks by them, without a search, that each company that ran its best
 //! could not earn more.
-ghost use Rattle.rounds.specs.Play.{IsTheGame};
+ghost use Rattle.rounds.specs.Steps.{started};
 ghost use Rattle.sheets.specs.File.{IsAccepted};
-ghost use Rattle.std.specs.Prelude.{◌≡◌, false, IfErr, IfOk, Ok, OnOk};
+ghost use Rattle.std.specs.Prelude.{◌≡◌, false, IfErr, IfOk, Ok, OnOk, Some};
 ghost use Rattle.umpire.specs.Failure.{TakesAtMost};
 ghost use Rattle.umpire.specs.Groups.{groups_of};
-ghost use Rattle.umpire.specs.Verify.{AnswersGame, AnswersInput, IsAnswered, IsJudged, IsRefusal, StopsVerify, uncertified_line};
+ghost use Rattle.umpire.specs.Rounds.{IsTextOfRounds};
+ghost use Rattle.umpire.specs.Run.{IsReported, IsWriteFault};
+ghost use Rattle.umpire.specs.Verify.{IsAnswered, IsGameAnswered, IsJudged, Refuses, StopsGame, StopsVerify, uncertified_line};
 ghost use Rattle.umpire.specs.Watched.{has_failed, inside};
 
+use crate::ending::write_end;
 use crate::fault::Fault;
 use crate::groups::read_groups;
 use crate::input::read_first;
 use crate::output::write_text;
 use crate::parting::{CERTIFICATES_MOST, Parted, part};
+use crate::program::write_header;
+use crate::refusal::write_refusal;
 use crate::watched::Watched;
 use certificate::{Checked, Group};
 use order_grammar::print_round;
-use report::{refusal_text, report};
+use report::{next_text, parts_are_the_report, some_report};
 use rounds::{
-    Game, PlayFault, calls_are_answered, play_with, refused_calls_are_a_front, some_calls,
+    Play, PlayFault, Step, broken_steps_call_a_broken_game, calls_are_answered,
+    refused_calls_are_a_front, some_calls, steps_call_the_game,
 };
 use sheets::{FILE_MOST, FileFault, Sheets, collect};
 use std::alloc::{AllocError, Global};
@@ -31,8 +37,9 @@ const INPUT_MOST: usize = FILE_MOST + 1 + CERTIFICATES_MOST;
 /// Reads an order file and the text of certificates behind it, to the end of the input or to the first
 /// byte past the greatest size of both and of the LF between them; plays the game, in which the k-th
 /// RUN BEST that is obeyed is judged by the k-th group and nothing is searched for; and then writes
-/// what `run` writes for the order file. Groups left over are not looked at. What the writer then
-/// holds is what it held and, at
+/// what `run` writes for the order file. Groups left over are not looked at. The text of the rounds is
+/// held in memory until the last of them is played; what follows it is written as by `run`. What the
+/// writer then holds is what it held and, at
 ///
 /// - `Ok`, where each of them has a group that is well formed, for its round and company, and
 ///   accepted: the report, whole;
@@ -61,82 +68,130 @@ pub fn verify<R: Read, W: Write>(
         (has_failed reader.new) (has_failed writer.new)) }
 {
     let input = read_first(alloc, INPUT_MOST + 1, reader)?;
-    let answer = answer_to(alloc, input.as_slice())?;
-    write_text(writer, answer.text.as_slice())?;
-    answer.outcome
+    write_answer(alloc, input.as_slice(), writer)
 }
 
-/// What an input is answered: what is written, and what `verify` returns then.
-#[derive(Drop)]
-struct Answer {
-    text: Vec<u8>,
-    outcome: Result<(), Fault>,
-}
-
-/// The answer to an input. It fails only if memory is refused.
-fn answer_to(alloc: Global, input: &[u8]) -> Result<Answer, AllocError>
-    ensures { IfOk result
-        (λ answer. AnswersInput input.now answer.outcome answer.text.items) }
+/// Writes the answer to an input.
+fn write_answer<W: Write>(
+    alloc: Global,
+    input: &[u8],
+    writer: &mut Watched<W>,
+) -> Result<(), Fault>
+    requires { has_failed writer.old ≡ false }
+    ensures ok { OnOk result (IsAnswered (Some input.now) (Ok tt)
+        (W.contents (inside writer.old)) (W.contents (inside writer.new))) }
+    ensures unfailed { OnOk result (has_failed writer.new ≡ false) }
+    ensures err { IfErr result (StopsVerify (Some input.now)
+        (W.contents (inside writer.old)) (W.contents (inside writer.new))
+        false (has_failed writer.new)) }
 {
     let Parted { file, certificates } = part(input);
     if certificates.len() > CERTIFICATES_MOST {
-        return refusal(alloc, FileFault::TooLong);
+        return Err(refuse(alloc, FileFault::TooLong, writer));
     }
     match collect(alloc, file) {
-        Ok(sheets) => judgement(alloc, &sheets, certificates),
-        Err(FileFault::Memory) => Err(AllocError),
-        Err(fault) => refusal(alloc, fault),
+        Ok(sheets) => write_judgement(alloc, &sheets, certificates, writer),
+        Err(FileFault::Memory) => Err(Fault::Memory),
+        Err(fault) => Err(refuse(alloc, fault, writer)),
     }
 }
 
-/// The answer to a file that is refused.
-fn refusal(alloc: Global, fault: FileFault) -> Result<Answer, AllocError>
-    ensures { IfOk result (λ answer. IsRefusal fault answer.outcome answer.text.items) }
+/// Writes the answer to a file that is refused. The result is what that comes to: that refusal, or
+/// what stopped the writing.
+fn refuse<W: Write>(alloc: Global, fault: FileFault, writer: &mut Watched<W>) -> Fault
+    requires { has_failed writer.old ≡ false }
+    ensures { Refuses fault (W.contents (inside writer.old)) (W.contents (inside writer.new))
+        (has_failed writer.new) result }
 {
-    Ok(Answer {
-        text: refusal_text(alloc, fault)?,
-        outcome: Err(Fault::File(fault)),
-    })
-}
-
-/// The answer to an order file that is not refused, by the text of certificates behind it.
-fn judgement(alloc: Global, sheets: &Sheets, certificates: &[u8]) -> Result<Answer, AllocError>
-    requires { IsAccepted sheets.now }
-    ensures { IfOk result (λ answer.
-        AnswersGame sheets.now (groups_of certificates.now) answer.outcome answer.text.items) }
-{
-    match play_checked(alloc, sheets, read_groups(alloc, certificates)?) {
-        Ok(game) => Ok(Answer {
-            text: report(alloc, &game)?,
-            outcome: Ok(()),
-        }),
-        Err(PlayFault::Memory) => Err(AllocError),
-        Err(PlayFault::Refused(round, company)) => Ok(Answer {
-            text: uncertified_text(alloc, round, company)?,
-            outcome: Err(Fault::Certificate(round, company)),
-        }),
+    match write_refusal(alloc, fault, writer) {
+        Ok(()) => Fault::File(fault),
+        Err(stopped) => stopped,
     }
 }
 
-/// Plays the game of some sheets, in which each RUN BEST that is obeyed is judged by its group. The
-/// errors are want of memory, and the round and the company of the first that has none.
-fn play_checked<'a>(
+/// Writes the answer to an order file that is not refused, by the text of certificates behind it:
+/// once the whole game is played, so that all that is written is known to be right.
+fn write_judgement<W: Write>(
     alloc: Global,
-    sheets: &'a Sheets<'a>,
-    groups: Vec<Option<Group>>,
-) -> Result<Game<'a>, PlayFault>
-    requires { IsAccepted sheets.now }
-    ensures file { IfOk result (λ game. game.file ≡ sheets.now) }
-    ensures game { IfOk result IsTheGame }
-    ensures judged { IsJudged sheets.now groups.items result }
+    sheets: &Sheets,
+    certificates: &[u8],
+    writer: &mut Watched<W>,
+) -> Result<(), Fault>
+    requires unfailed { has_failed writer.old ≡ false }
+    requires accepted { IsAccepted sheets.now }
+    ensures ok { OnOk result (IsGameAnswered sheets.now (groups_of certificates.now) (Ok tt)
+        (W.contents (inside writer.old)) (W.contents (inside writer.new))) }
+    ensures unfailed { OnOk result (has_failed writer.new ≡ false) }
+    ensures err { IfErr result (StopsGame sheets.now (groups_of certificates.now)
+        (W.contents (inside writer.old)) (W.contents (inside writer.new))
+        (has_failed writer.new)) }
 {
-    // Laws, which do nothing when they run: a file's game makes one list of calls, each of them is
-    // answered, and where one is refused the calls up to it are a front of that list.
+    let groups = read_groups(alloc, certificates)?;
+    let mut play = Play::start(alloc, sheets)?;
+    match play_checked(alloc, &mut play, groups) {
+        Ok(told) => write_told(alloc, sheets, &play, told.as_slice(), writer),
+        Err(PlayFault::Memory) => Err(Fault::Memory),
+        Err(PlayFault::Refused(round, company)) => {
+            let line = uncertified_text(alloc, round, company)?;
+            write_text(writer, line.as_slice())?;
+            Err(Fault::Certificate(round, company))
+        }
+    }
+}
+
+/// Plays the game as far as its sheets go; each RUN BEST that is obeyed is judged by its group. The
+/// answer is the text of each round, told before the next is played, one after the other. The errors
+/// are want of memory, and the round and the company of the first RUN BEST that has no group.
+fn play_checked(
+    alloc: Global,
+    play: &mut Play,
+    groups: Vec<Option<Group>>,
+) -> Result<Vec<u8>, PlayFault>
+    requires started { play.old ≡ started play.old.file }
+    requires accepted { IsAccepted play.old.file }
+    ensures judged { IsJudged play.old.file groups.items result }
+    ensures told { IfOk result (λ told. IsTextOfRounds play.old.file play.new told.items) }
+{
+    // Laws, which do nothing when they run: a file's game makes one list of calls, and each of them is
+    // answered; those of the steps are those of the game, or of one that is broken off, and then they
+    // are a front of that list.
     some_calls();
     calls_are_answered();
+    steps_call_the_game();
+    broken_steps_call_a_broken_game();
     refused_calls_are_a_front();
     let mut checked = Checked::new(groups);
-    play_with(alloc, sheets, &mut checked)
+    let mut told = Vec::new(alloc);
+    while let Step::Played(_) = play.step(&mut checked)? {
+        let text = next_text(alloc, play)?;
+        told.extend_from_slice(text.as_slice())?;
+    }
+    Ok(told)
+}
+
+/// Writes the report of some sheets, of which all rounds are played and have this text.
+fn write_told<W: Write>(
+    alloc: Global,
+    sheets: &Sheets,
+    play: &Play,
+    told: &[u8],
+    writer: &mut Watched<W>,
+) -> Result<(), Fault>
+    requires unfailed { has_failed writer.old ≡ false }
+    requires accepted { IsAccepted sheets.now }
+    requires told { IsTextOfRounds sheets.now play.now told.now }
+    ensures ok { OnOk result (IsReported (Some sheets.now)
+        (W.contents (inside writer.old)) (W.contents (inside writer.new))) }
+    ensures unfailed { OnOk result (has_failed writer.new ≡ false) }
+    ensures err { IfErr result (IsWriteFault (has_failed writer.new)) }
+{
+    // Laws, which do nothing when they run: the file has a report, and its parts make it up.
+    some_report();
+    parts_are_the_report();
+    write_header(alloc, sheets, writer)?;
+    write_text(writer, told)?;
+    write_end(alloc, play, writer)?;
+    Ok(())
 }
 
 /// The line that says that the best runs of a company in a round have no group.

@@ -1,7 +1,6 @@
-use Rattle.std.proofs.Common.{List, ℕ, subst}
-use Rattle.std.proofs.lemmas.Result.{err_from_is_err_and}
-use Rattle.umpire.proofs.VerifyLemmas.{err_verdict, ok_verdict, stops_reading}
-use Rattle.umpire.specs.Verify.{AnswersInput}
+use Rattle.std.specs.Prelude.{Ok}
+use Rattle.std.proofs.lemmas.Result.{IfErr-weaker, err_from_is_err_and, on_ok_weaker}
+use Rattle.umpire.proofs.VerifyLemmas.{answered_whole, stops_reading, stops_whole}
 use Rattle.umpire.proofs.verification.verify.Goals as goal
 
 pub returns-in_err-input-clause-err : goal.returns-in_err-input-clause-err
@@ -11,14 +10,11 @@ returns-in_err-input-clause-err g c =
 
 pub returns-clause-ok : goal.returns-clause-ok
 returns-clause-ok g c =
-    let answer = c.in_ok-answer.answer in
-    let answers = subst (λ (input : List ℕ). AnswersInput input answer.outcome answer.text.items) c.as_slice.ensures.value c.in_ok-answer.ensures in
-    let written = rw c.as_slice-2.ensures.value at c.in_ok-write_text.ensures.ok in
-    ok_verdict _ _ _ c.in_ok-input.input.items answer.text.items answer.outcome c.in_ok-input.ensures.bytes answers written
+    let known = rw c.as_slice.ensures.value at c.write_answer.ensures.ok in
+    on_ok_weaker c.write_answer.result (answered_whole _ _ _ c.in_ok-input.input.items (Ok tt) c.in_ok-input.ensures.bytes) known
 
 pub returns-clause-err : goal.returns-clause-err
 returns-clause-err g c =
-    let answer = c.in_ok-answer.answer in
-    let answers = subst (λ (input : List ℕ). AnswersInput input answer.outcome answer.text.items) c.as_slice.ensures.value c.in_ok-answer.ensures in
-    let written = rw c.as_slice-2.ensures.value at c.in_ok-write_text.ensures.ok in
-    err_verdict _ _ _ c.in_ok-input.input.items answer.text.items _ _ answer.outcome c.in_ok-input.ensures.bytes answers written c.in_ok-input.ensures.ok c.in_ok-write_text.ensures.unfailed
+    let known = rw c.as_slice.ensures.value at c.write_answer.ensures.err in
+    IfErr-weaker c.write_answer.result _ _
+    (λ fault held. stops_whole _ _ _ c.in_ok-input.input.items _ _ fault c.in_ok-input.ensures.bytes c.in_ok-input.ensures.ok held) known

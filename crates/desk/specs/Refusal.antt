@@ -1,0 +1,11 @@
+-- Why the desk has no answer where it is asked for no round: the file is refused by this fault, or memory was refused.
+use Rattle.std.specs.Prelude.{◌≡◌, ℕ, List, Err, ⊤}
+use Rattle.desk.specs.declared.fault.DeskFault.{DeskFault}
+use Rattle.desk.specs.declared.fault.DeskFault.TheVariants.{File, Round, Memory}
+use Rattle.sheets.specs.File.{content_of}
+
+-- of a file there is no answer, by this fault
+abbrev pub HasNone : DeskFault → List ℕ → Type 0
+HasNone (File fault) file = content_of file ≡ Err fault
+HasNone Round file = ⊥
+HasNone Memory file = ⊤

@@ -1,0 +1,46 @@
+//! What a player has: cash, certificates, and what all of it is worth.
+ghost use Rattle.std.specs.Prelude.{◌≡◌, ◌<◌};
+ghost use Rattle.certs.specs.Counted.{counted_of};
+ghost use Rattle.desk.specs.Purse.{purse_of};
+
+use certs::{Holdings, counted_by_the_game};
+use history::{History, Party, Tenths};
+use report::player_worth;
+use tables::{Money, Seat};
+
+/// What a player has.
+#[derive(Clone, Copy)]
+pub(crate) struct Purse {
+    /// In dollars.
+    pub cash: Money,
+    /// The cash that no standing bid ties, in dollars.
+    pub free: Money,
+    /// How many certificates count against the limit.
+    pub certificates: Tenths,
+    /// Cash, shares at their market price and privates at their face, in dollars.
+    pub worth: Money,
+}
+
+/// What the player of a seat has. The seat is one of six.
+pub(crate) fn purse_of(history: &History, seat: Seat) -> Purse
+    requires { seat.0 < 6 }
+    ensures { result ≡ purse_of history.now.seats history.now.events seat }
+{
+    let past = history.now();
+    Purse {
+        cash: past.cash(Party::of_seat(seat)),
+        free: past.free_cash(seat),
+        certificates: certificates(history, seat),
+        worth: player_worth(&past, seat),
+    }
+}
+
+/// How many certificates of a seat count against the limit. The seat is one of six.
+fn certificates(history: &History, seat: Seat) -> Tenths
+    requires { seat.0 < 6 }
+    ensures { result ≡ counted_of history.now.events seat }
+{
+    // A law, which does nothing when it runs: the tables count what the events say.
+    counted_by_the_game();
+    Holdings::of(history).counted(seat)
+}

@@ -1,0 +1,25 @@
+use Rattle.std.proofs.Common.{ℕ, List}
+use Rattle.certificate.specs.Checked.{AnswersByNext}
+use Rattle.operating.specs.Calls.{AreMade, Call}
+use Rattle.report.specs.Parts.{StepsTell}
+use Rattle.rounds.specs.Steps.{IsUnbroken, places_ahead, started}
+use Rattle.rounds.specs.StepsCall.{StepsCall}
+use Rattle.umpire.proofs.verification.play_checked.Given as goal
+
+-- some steps have led here; their calls were answered by the groups that are used, the texts of their rounds were told,
+-- and no fault has broken play off
+pub record Checking (l : goal.Live-loop-play) : Type 0 where
+  pub steps : ℕ
+  pub calls : List Call
+  pub called : StepsCall steps l.fn.play.file l.play calls
+  pub made : AreMade AnswersByNext l.fn.groups.items calls l.checked
+  pub rounds : ℕ
+  pub told : StepsTell rounds (started l.fn.play.file) l.play l.told.items
+  pub unbroken : IsUnbroken l.play
+
+abbrev pub invariant-loop-play : goal.invariant-loop-play
+invariant-loop-play l = Checking l
+
+-- each round has a later place than the one before
+abbrev pub decreases-loop-play : goal.decreases-loop-play
+decreases-loop-play l = places_ahead l.play
