@@ -4,4 +4,5 @@ pub mod Laid
 pub mod NameLemmas
 pub mod Refusals
 pub mod RoundLemmas
+pub mod RoundParts
 pub mod SentLemmas

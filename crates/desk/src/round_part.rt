@@ -14,7 +14,7 @@ use tables::Round;
 
 /// The part of the report of a file that tells of a round: of the last that was played, where none is
 /// asked for; empty where none was played. `Round` where the round that is asked for is not played.
-#[tactic(auto, using(crate::proofs::Refusals::none_where_it_fails))]
+#[tactic(auto, using(crate::proofs::Refusals::none_where_it_fails, crate::proofs::RoundParts::no_part_where_it_fails))]
 pub fn round(alloc: Global, file: &[u8], asked: Option<Round>) -> Result<Vec<u8>, DeskFault>
     ensures part { IfOk result (λ text. IsRoundPart file.now asked text.items) }
     ensures fault { IfErr result (IsRoundFault file.now asked) }
@@ -24,12 +24,14 @@ pub fn round(alloc: Global, file: &[u8], asked: Option<Round>) -> Result<Vec<u8>
 }
 
 /// That part of the report of some sheets.
+#[tactic(auto, using(crate::proofs::RoundParts::part_of_file, crate::proofs::RoundParts::no_part_of_file))]
 fn part_in(alloc: Global, sheets: &Sheets, asked: Option<Round>) -> Result<Vec<u8>, DeskFault>
     ensures part { IfOk result (λ text. IsRoundPart sheets.now asked text.items) }
     ensures fault { IfErr result (IsRoundFault sheets.now asked) }
 {
     let game = play(alloc, sheets)?;
-    part_of(alloc, &game, asked)
+    let text = part_of(alloc, &game, asked)?;
+    Ok(text)
 }
 
 /// That part of the report of a game.
@@ -65,6 +67,7 @@ fn rules_in(alloc: Global, sheets: &Sheets, asked: Option<Round>) -> Result<Vec<
 }
 
 /// The text of a round of a game; `Round` where there is none.
+#[tactic(auto, using(crate::proofs::RoundParts::without_text))]
 fn text_of(alloc: Global, game: &Game, round: Round) -> Result<Vec<u8>, DeskFault>
     ensures text { IfOk result (λ text. text.items ≡ round_text_of game.now round) }
     ensures fault { IfErr result (HasNoText game.now (Some round)) }
@@ -116,7 +119,13 @@ fn push_with_rules(
         rest = push_first(out, rest)?;
         if let Event::Ruled { seat, ruling, .. } = event {
             walk.go(passed);
-            push_why(out, game.sheets(), &walk.past(game.sheets().seats()), *seat, ruling)?;
+            push_why(
+                out,
+                game.sheets(),
+                &walk.past(game.sheets().seats()),
+                *seat,
+                ruling,
+            )?;
         }
     }
     out.extend_from_slice(rest)
