@@ -8,7 +8,7 @@ use crate::check_lines::FileLine;
 use crate::check_sheets::{Head, Heads};
 use history::Event;
 use rounds::{Game, play};
-use sheets::{FileFault, collect};
+use sheets::{FileFault, Sheets, collect};
 use std::alloc::{AllocError, Global};
 use std::collections::HashMap;
 use tables::Round;
@@ -170,17 +170,25 @@ fn turn_at(
     head: &Head,
 ) -> Result<Option<Turn>, AllocError> {
     match collect(alloc, before(file, &head.line)) {
-        Ok(sheets) => {
-            let game = play(alloc, &sheets)?;
-            Ok(Some(Turn {
-                line: head.line.number,
-                rounds: Rounds::of(alloc, heads, &game)?,
-                standing: standing_of(&game),
-            }))
-        }
+        Ok(sheets) => Ok(Some(turn_of(alloc, &sheets, heads, head)?)),
         Err(FileFault::Memory) => Err(AllocError),
         Err(_) => Ok(None),
     }
+}
+
+/// The game of the sheets that stand before a line.
+fn turn_of(
+    alloc: Global,
+    sheets: &Sheets,
+    heads: &Heads,
+    head: &Head,
+) -> Result<Turn, AllocError> {
+    let game = play(alloc, sheets)?;
+    Ok(Turn {
+        line: head.line.number,
+        rounds: Rounds::of(alloc, heads, &game)?,
+        standing: standing_of(&game),
+    })
 }
 
 /// What stands in a file before a line of it.

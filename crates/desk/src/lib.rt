@@ -53,7 +53,7 @@ mod why;
 
 pub use asked::read_round;
 pub use checking::{Findings, check};
-pub use explain_table::{Entry, entries};
+pub use explain_table::Entry;
 pub use explaining::{entry_text, explain};
 pub use fault::DeskFault;
 pub use ground::best_at;
