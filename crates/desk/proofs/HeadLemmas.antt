@@ -1,12 +1,12 @@
 -- Heads that come one after another.
-use Rattle.std.proofs.Common.{◌≡◌, ℕ, List, [], ◌∷◌, ◌++◌, Option, Bool, true, false, Some, None, map, cond, refl, sym, ap, ◌∙◌, append_assoc}
+use Rattle.std.proofs.Common.{◌≡◌, ℕ, ◌+◌, List, [], ◌∷◌, ◌++◌, Option, Bool, true, false, Some, None, map, cond, refl, sym, ap, ◌∙◌, append_assoc}
 use Rattle.std.proofs.lemmas.List.{append-nil, map-append}
 use Rattle.std.specs.Map.{lookup}
 use Rattle.std.specs.Option.{option_or}
-use Rattle.desk.specs.SheetLines.{HeadAt, ReplaceTheLast, head_at, last_line, post_of, same_sent}
+use Rattle.desk.specs.SheetLines.{HeadAt, ReplaceTheLast, head_at, head_here, heads_in, last_line, post_of, same_sent}
 use Rattle.desk.specs.declared.check_sheets.Head.{Head}
 use Rattle.desk.specs.declared.check_sheets.Sent.{Sent}
-use Rattle.sheets.specs.File.{same_post}
+use Rattle.sheets.specs.File.{begins, same_post}
 use Rattle.sheets.specs.declared.post.Post.{Post}
 use Rattle.std.specs.Prelude.{if◌then◌else◌}
 
@@ -58,3 +58,17 @@ last_after_insert key sent line old new heads put kept =
 -- the heads that came, once one more has come
 pub came_with_one : (heads : List Head) (head : Head) → map head_at (heads ++ head ∷ []) ≡ map head_at heads ++ head_at head ∷ []
 came_with_one heads head = map-append head_at heads (head ∷ [])
+
+-- one more line
+pub heads_step : (players : List (List ℕ)) (passed : ℕ) (old new whole : List HeadAt) (lines : List (List ℕ)) (line : List ℕ) (left : List (List ℕ)) →
+    old ++ heads_in players passed lines ≡ whole → lines ≡ line ∷ left
+    → new ≡ old ++ head_here (passed + 1) (begins players line)
+    → new ++ heads_in players (passed + 1) left ≡ whole
+heads_step players passed old new whole lines line left h e f =
+    rw (f, append_assoc) (sym (ap (λ ls. old ++ heads_in players passed ls) e) ∙ h)
+
+-- no line is left
+pub heads_end : (players : List (List ℕ)) (passed : ℕ) (heads whole : List HeadAt) (lines : List (List ℕ)) →
+    heads ++ heads_in players passed lines ≡ whole → lines ≡ [] → heads ≡ whole
+heads_end players passed heads whole lines h e =
+    sym (append-nil heads) ∙ sym (ap (λ ls. heads ++ heads_in players passed ls) e) ∙ h

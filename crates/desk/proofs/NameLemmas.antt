@@ -1,5 +1,6 @@
 -- The seat of a name is found by going through the seats.
-use Rattle.std.proofs.Common.{◌≡◌, ℕ, zero, suc, ◌+◌, Bool, true, false, ◌&&◌, List, [], ◌∷◌, drop, Option, Some, None, refl, sym, ap, true≢false}
+use Rattle.std.proofs.Common.{◌≡◌, ℕ, zero, suc, ◌+◌, Bool, true, false, ◌&&◌, List, [], ◌∷◌, drop, Option, Some, None, refl, sym, ap, ◌∙◌, true≢false, add-one, length, ◌≤◌}
+use Rattle.std.proofs.lemmas.List.{drop_all}
 use Rattle.std.specs.Cmp.Lexicographic.{pointwise}
 use Rattle.std.specs.Option.{option_map_or}
 use Rattle.std.specs.Prelude.{nat_eq, slice_get}
@@ -19,16 +20,25 @@ abbrev pub is_named : List (List ℕ) → ℕ → List ℕ → Bool
 is_named players seat name = option_map_or (λ player. same_word player name) false (slice_get players seat)
 
 -- a seat whose player has another name is passed
-pub seat_passed : (k : ℕ) (players : List (List ℕ)) (n : ℕ) (name : List ℕ) →
+passed : (k : ℕ) (players : List (List ℕ)) (n : ℕ) (name : List ℕ) →
     is_named players n name ≡ false → seat_from k (drop n players) name ≡ seat_from (k + 1) (drop (suc n) players) name
-seat_passed k [] zero name h = refl
-seat_passed k [] (suc n) name h = refl
-seat_passed k (player ∷ players) zero name h = rw h refl
-seat_passed k (player ∷ players) (suc n) name h = seat_passed k players n name h
+passed k [] zero name h = refl
+passed k [] (suc n) name h = refl
+passed k (player ∷ players) zero name h = rw h refl
+passed k (player ∷ players) (suc n) name h = passed k players n name h
+
+pub seat_passed : (k : ℕ) (players : List (List ℕ)) (n : ℕ) (name : List ℕ) →
+    is_named players n name ≡ false → seat_from k (drop n players) name ≡ seat_from (k + 1) (drop (n + 1) players) name
+seat_passed k players n name h = passed k players n name h ∙ ap (λ m. seat_from (k + 1) (drop m players) name) (sym (add-one n))
 
 -- the seat whose player has the name is found
 pub seat_found : (k : ℕ) (players : List (List ℕ)) (n : ℕ) (name : List ℕ) →
     is_named players n name ≡ true → seat_from k (drop n players) name ≡ Some (record { 0 = k })
-seat_found k [] n name h = absurd (true≢false (sym h))
+seat_found k [] zero name h = absurd (true≢false (sym h))
+seat_found k [] (suc n) name h = absurd (true≢false (sym h))
 seat_found k (player ∷ players) zero name h = rw h refl
 seat_found k (player ∷ players) (suc n) name h = seat_found k players n name h
+
+-- behind the last seat nobody is found
+pub no_seat_left : (k : ℕ) (players : List (List ℕ)) (n : ℕ) (name : List ℕ) → length players ≤ n → seat_from k (drop n players) name ≡ None
+no_seat_left k players n name h = ap (λ xs. seat_from k xs name) (drop_all n players h)

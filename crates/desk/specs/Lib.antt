@@ -4,6 +4,7 @@ pub mod Earnings
 pub mod Fault
 pub mod FileLines
 pub mod Heads
+pub mod Laid
 pub mod Purse
 pub mod Refusal
 pub mod RoundPart

@@ -1,5 +1,5 @@
 -- Which rounds of a game were played.
-use Rattle.std.specs.Prelude.{◌≡◌, Bool, List, is_some}
+use Rattle.std.specs.Prelude.{◌≡◌, Bool, List, [], ◌∷◌, ◌++◌, is_some}
 use Rattle.std.specs.HashMap.{get}
 use Rattle.std.specs.List.{list_any}
 use Rattle.desk.specs.declared.check_late.Rounds.{Rounds}
@@ -19,3 +19,7 @@ is_begun events round = list_any (λ begun. same_round begun round) (rounds_begu
 -- the rounds are those that the events of a game begin
 abbrev pub AreRoundsOf : Rounds → List Event → Type 0
 AreRoundsOf rounds events = (round : Round) → is_kept rounds round ≡ is_begun events round
+
+-- one more event is noted
+abbrev pub NotesEvent : Rounds → Event → Rounds → Type 0
+NotesEvent old event new = (events : List Event) → AreRoundsOf old events → AreRoundsOf new (events ++ event ∷ [])

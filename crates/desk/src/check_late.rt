@@ -1,13 +1,14 @@
 //! Sheets that replace others: whether the round was played, and how the game has changed since.
-ghost use Rattle.std.specs.Prelude.{◌≡◌, ◌-◌, IfOk, length, take};
-ghost use Rattle.desk.specs.RoundsPlayed.{AreRoundsOf, is_kept};
+ghost use Rattle.std.specs.Prelude.{◌≡◌, ◌-◌, IfOk, OnOk, length, take};
+ghost use Rattle.desk.specs.RoundsPlayed.{AreRoundsOf, NotesEvent, is_kept};
 ghost use Rattle.history.specs.LookBack.{round_of};
 
 use crate::check_found::{Found, Lateness, Matter, Standing};
 use crate::check_lines::FileLine;
 use crate::check_sheets::{Head, Heads};
+use history::Event;
 use rounds::{Game, play};
-use sheets::{FileFault, collect};
+use sheets::{FileFault, Sheets, collect};
 use std::alloc::{AllocError, Global};
 use std::collections::HashMap;
 use tables::Round;
@@ -17,6 +18,8 @@ use tables::Round;
 #[derive(Drop)]
 pub(crate) struct Rounds {
     lines: HashMap<Round, usize>,
+    /// The number of the line that the last of them has.
+    by: usize,
 }
 
 impl Rounds {
@@ -24,15 +27,26 @@ impl Rounds {
     pub(crate) fn of(alloc: Global, heads: &Heads, game: &Game) -> Result<Rounds, AllocError>
         ensures { IfOk result (λ rounds. AreRoundsOf rounds game.now.game.events) }
     {
-        let mut lines = HashMap::new(alloc);
-        let mut by = 0;
+        let mut rounds = Rounds {
+            lines: HashMap::new(alloc),
+            by: 0,
+        };
         for event in game.history().events() {
-            if let Some(round) = event.round() {
-                by = heads.complete_by(round).unwrap_or(by).max(by);
-                lines.insert(round, by)?;
-            }
+            rounds.note(heads, event)?;
         }
-        Ok(Rounds { lines })
+        Ok(rounds)
+    }
+
+    /// Notes the round that the next event begins, if it begins one.
+    fn note(&mut self, heads: &Heads, event: &Event) -> Result<(), AllocError>
+        ensures { OnOk result (NotesEvent self.old event.now self.new) }
+    {
+        let Some(round) = event.round() else {
+            return Ok(());
+        };
+        self.by = heads.complete_by(round).unwrap_or(0).max(self.by);
+        self.lines.insert(round, self.by)?;
+        Ok(())
     }
 
     /// Whether a round was played.
@@ -156,17 +170,25 @@ fn turn_at(
     head: &Head,
 ) -> Result<Option<Turn>, AllocError> {
     match collect(alloc, before(file, &head.line)) {
-        Ok(sheets) => {
-            let game = play(alloc, &sheets)?;
-            Ok(Some(Turn {
-                line: head.line.number,
-                rounds: Rounds::of(alloc, heads, &game)?,
-                standing: standing_of(&game),
-            }))
-        }
+        Ok(sheets) => Ok(Some(turn_of(alloc, &sheets, heads, head)?)),
         Err(FileFault::Memory) => Err(AllocError),
         Err(_) => Ok(None),
     }
+}
+
+/// The game of the sheets that stand before a line.
+fn turn_of(
+    alloc: Global,
+    sheets: &Sheets,
+    heads: &Heads,
+    head: &Head,
+) -> Result<Turn, AllocError> {
+    let game = play(alloc, sheets)?;
+    Ok(Turn {
+        line: head.line.number,
+        rounds: Rounds::of(alloc, heads, &game)?,
+        standing: standing_of(&game),
+    })
 }
 
 /// What stands in a file before a line of it.

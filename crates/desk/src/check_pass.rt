@@ -67,13 +67,18 @@ impl<'a> Pass<'a> {
         match begun_by(sheets, line.text) {
             Beginning::Sheet(sent) => {
                 self.open = Some(line.number);
-                self.heads.take(sheets, line, sent)
+                self.heads.take(sheets, line, sent)?;
+                Ok(())
             }
             Beginning::Closing => {
                 self.open = None;
-                self.take_loose(sheets, &line)
+                self.take_loose(sheets, &line)?;
+                Ok(())
             }
-            Beginning::Other => self.take_other(sheets, &line),
+            Beginning::Other => {
+                self.take_other(sheets, &line)?;
+                Ok(())
+            }
         }
     }
 

@@ -73,7 +73,8 @@ impl<'a> Heads<'a> {
             sent,
             replaces,
         })?;
-        self.note_complete(sheets, sent.round, line.number)
+        self.note_complete(sheets, sent.round, line.number)?;
+        Ok(())
     }
 
     /// Notes the line by which every player had a sheet for a round, once that is so.

@@ -13,8 +13,8 @@ pub struct Entry {
     pub game: Option<&'static str>,
 }
 
-/// Each code of the product once, in the order of the table.
-static ENTRIES: [Entry; 72] = [
+/// Those of files.
+static FILES: [Entry; 4] = [
     Entry {
         code: "F1",
         rule: "the first line that is not blank is neither `GAME 1830 1` nor `GAME 1830 2`",
@@ -40,6 +40,10 @@ static ENTRIES: [Entry; 72] = [
         advice: "take out sheets that later ones replace",
         game: None,
     },
+];
+
+/// Those of lines by themselves.
+static LINES: [Entry; 8] = [
     Entry {
         code: "G1",
         rule: "the line has over 1,024 bytes, its comment counted",
@@ -92,6 +96,10 @@ static ENTRIES: [Entry; 72] = [
         advice: "write fewer lines",
         game: Some("G8-past-line-512"),
     },
+];
+
+/// That of conditions.
+static CONDITIONS: [Entry; 1] = [
     Entry {
         code: "I1",
         rule: "the condition does not hold as the line is taken up, or, of a standing line, as \
@@ -101,6 +109,10 @@ static ENTRIES: [Entry; 72] = [
             lines; a company that is not started has no price",
         game: Some("I1-PRICE-in-a-stock-round"),
     },
+];
+
+/// Those of openings.
+static OPENINGS: [Entry; 7] = [
     Entry {
         code: "A1",
         rule: "the line neither buys a private nor bids on one; or a standing PAR is not for BO, \
@@ -144,6 +156,10 @@ static ENTRIES: [Entry; 72] = [
         advice: "buy it",
         game: Some("A7-bid-for-the-cheapest"),
     },
+];
+
+/// Those of stock rounds, and of RAISE.
+static STOCK_ROUNDS: [Entry; 14] = [
     Entry {
         code: "S1",
         rule: "the line is none of PAR, BUY of a tenth, SELL and EXCHANGE; or the RAISE is not \
@@ -232,6 +248,10 @@ static ENTRIES: [Entry; 72] = [
         advice: "nothing; where you have six, sell one before",
         game: Some("S14-who-may-exchange"),
     },
+];
+
+/// Those of lays.
+static LAYS: [Entry; 10] = [
     Entry {
         code: "L1",
         rule: "the lay of the turn is used, or its step is past",
@@ -294,6 +314,10 @@ static ENTRIES: [Entry; 72] = [
         advice: "lay where no terrain is to be paid",
         game: Some("L10-cash-too-small"),
     },
+];
+
+/// Those of tokens.
+static TOKENS: [Entry; 6] = [
     Entry {
         code: "K1",
         rule: "the step of the token is past",
@@ -331,6 +355,10 @@ static ENTRIES: [Entry; 72] = [
         advice: "withhold in a turn before",
         game: Some("K6-cash-too-small"),
     },
+];
+
+/// Those of runs.
+static RUNS: [Entry; 9] = [
     Entry {
         code: "R1",
         rule: "the step of the runs is past",
@@ -386,12 +414,20 @@ static ENTRIES: [Entry; 72] = [
         advice: "end there",
         game: Some("R9-red-stop-inside"),
     },
+];
+
+/// That of dividends.
+static DIVIDENDS: [Entry; 1] = [
     Entry {
         code: "D1",
         rule: "the company has paid or withheld; or PAY stands where it has earned nothing",
         advice: "write PAY or WITHHOLD once, after the runs and before the first TRAIN",
         game: Some("D1-pay-step-used"),
     },
+];
+
+/// Those of trains.
+static TRAINS: [Entry; 7] = [
     Entry {
         code: "T1",
         rule: "the bank or the pool does not sell such a train now",
@@ -436,6 +472,10 @@ static ENTRIES: [Entry; 72] = [
         advice: "write it for a round in which it has such a train and you preside",
         game: Some("T7-discard-lines"),
     },
+];
+
+/// Those of privates that companies buy.
+static PRIVATES: [Entry; 5] = [
     Entry {
         code: "P1",
         rule: "it comes before phase 3",
@@ -469,8 +509,64 @@ static ENTRIES: [Entry; 72] = [
     },
 ];
 
-/// Each code of the product once: those of files, of lines by themselves and of conditions, and then those
-/// of the rules of play.
-pub fn entries() -> &'static [Entry] {
-    &ENTRIES
+/// The entries of the codes that begin with this letter, in upper case; none for other letters.
+pub(crate) fn entries_of(letter: u8) -> &'static [Entry] {
+    match letter {
+        b'F' => of_files(),
+        b'G' => of_lines(),
+        b'I' => of_conditions(),
+        b'A' => of_openings(),
+        b'S' => of_stock_rounds(),
+        b'L' => of_lays(),
+        b'K' => of_tokens(),
+        b'R' => of_runs(),
+        b'D' => of_dividends(),
+        b'T' => of_trains(),
+        b'P' => of_privates(),
+        _ => &[],
+    }
+}
+
+fn of_files() -> &'static [Entry] {
+    &FILES
+}
+
+fn of_lines() -> &'static [Entry] {
+    &LINES
+}
+
+fn of_conditions() -> &'static [Entry] {
+    &CONDITIONS
+}
+
+fn of_openings() -> &'static [Entry] {
+    &OPENINGS
+}
+
+fn of_stock_rounds() -> &'static [Entry] {
+    &STOCK_ROUNDS
+}
+
+fn of_lays() -> &'static [Entry] {
+    &LAYS
+}
+
+fn of_tokens() -> &'static [Entry] {
+    &TOKENS
+}
+
+fn of_runs() -> &'static [Entry] {
+    &RUNS
+}
+
+fn of_dividends() -> &'static [Entry] {
+    &DIVIDENDS
+}
+
+fn of_trains() -> &'static [Entry] {
+    &TRAINS
+}
+
+fn of_privates() -> &'static [Entry] {
+    &PRIVATES
 }

@@ -2,13 +2,14 @@
 ghost use Rattle.std.specs.Prelude.{◌≡◌, ◌≢◌, All, MatchOption};
 ghost use Rattle.std.specs.Str.{str_to_ascii_lowercase};
 
-use crate::explain_table::{Entry, entries};
+use crate::explain_table::{Entry, entries_of};
 use crate::text::push_words;
 use std::alloc::{AllocError, Global};
 
 /// The entry of a code, which may be in either case; `None` where there is no such code.
 pub fn explain(code: &str) -> Option<&'static Entry> {
-    entry_among(entries(), code)
+    let letter = code.as_bytes().first()?;
+    entry_among(entries_of(letter.to_ascii_uppercase()), code)
 }
 
 /// The first of some entries with this code, in either case.

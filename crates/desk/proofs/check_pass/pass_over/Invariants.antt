@@ -7,8 +7,9 @@ use Rattle.desk.proofs.check_pass.pass_over.Given as goal
 
 -- the heads that came and those of the lines that are left are all
 abbrev pub invariant-loop-line : goal.invariant-loop-line
-invariant-loop-line l = record {
-  kept : AreKept l.pass.heads;
-  whole : came l.pass.heads ++ heads_in (players_of l.sheets) l.line-iterator.passed (lines_of l.line-iterator.rest.now)
-      ≡ heads_in (players_of l.sheets) 0 (lines_of l.file);
-}
+invariant-loop-line l =
+    goal.iterator-loop-line.can_next l.line-iterator ×
+    goal.iterator-loop-line.is_finite l.line-iterator ×
+    AreKept l.pass.heads ×
+    (came l.pass.heads ++ heads_in (players_of l.sheets) l.line-iterator.passed (lines_of l.line-iterator.rest.now)
+    ≡ heads_in (players_of l.sheets) 0 (lines_of l.file))
