@@ -4,3 +4,4 @@ pub mod NameLemmas
 pub mod RoundLemmas
 pub mod SentLemmas
 pub mod Refusals
+pub mod Orders

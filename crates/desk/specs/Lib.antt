@@ -4,7 +4,6 @@ pub mod Earnings
 pub mod Fault
 pub mod FileLines
 pub mod Heads
-pub mod Purse
 pub mod Refusal
 pub mod RoundPart
 pub mod RoundsPlayed
