@@ -6,3 +6,4 @@ pub mod Refusals
 pub mod RoundLemmas
 pub mod RoundParts
 pub mod SentLemmas
+pub mod Orders

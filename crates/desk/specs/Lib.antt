@@ -5,7 +5,6 @@ pub mod Fault
 pub mod FileLines
 pub mod Heads
 pub mod Laid
-pub mod Purse
 pub mod Refusal
 pub mod RoundPart
 pub mod RoundsPlayed
