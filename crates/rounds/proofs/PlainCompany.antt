@@ -1,9 +1,7 @@
 -- A company's turn adds but plain events, where no line of its block has a condition.
-use Rattle.std.proofs.Common.{◌≡◌, ℕ, ◌==◌, Bool, true, false, List, [], ◌∷◌, Option, Some, None, is_none, option_map, Result, Ok, Err, ℤ, inl, inr, pos, refl, sym, subst, ap}
+use Rattle.std.proofs.Common.{◌≡◌, ℕ, ◌==◌, Bool, true, false, if◌then◌else◌, List, [], ◌∷◌, Option, Some, None, is_none, option_map, Result, Ok, Err, ℤ, inl, inr, pos, refl, sym, subst, ap}
 use Rattle.std.specs.Int.RustNames.{unsigned_abs}
 use Rattle.std.specs.Int.Signed.{lt_z}
-use Rattle.board.specs.declared.fault.LayFault.{LayFault}
-use Rattle.board.specs.declared.fault.TokenFault.{TokenFault}
 use Rattle.certs.specs.declared.deal.Sale.{Sale}
 use Rattle.history.specs.LookBack.{Game, owner_of, with_event}
 use Rattle.history.specs.Shares.{president_of, square_of}
@@ -28,6 +26,7 @@ use Rattle.map_tables.specs.declared.lay.Lay.{Lay}
 use Rattle.map_tables.specs.declared.place.Place.{Place}
 use Rattle.market.specs.Moves.{left_of, right_of}
 use Rattle.market.specs.Token.{with_move}
+use Rattle.operating.proofs.ForcedBuying.{cheapest_plain}
 use Rattle.operating.proofs.ForcedGames.{operator}
 use Rattle.operating.proofs.TrainSteps.{IsPassedOn, OfClosings, of_bop, of_choice, of_iterate, of_next, of_phase, of_stable, of_trade}
 use Rattle.operating.specs.Act.{has_home_token, with_home, withheld}
@@ -38,17 +37,16 @@ use Rattle.operating.specs.InTurn.{InTurn, in_turn, is_unpaid, pay_done, ruled, 
 use Rattle.operating.specs.Judgement.{rule_of_lay, rule_of_token}
 use Rattle.operating.specs.Phases.{after_train, begins_phase, bought, with_phase, with_trade}
 use Rattle.operating.specs.Privates.{private_bought, private_judgement, sold_by}
-use Rattle.operating.specs.Runs.{judged_run, run_ruled}
+use Rattle.operating.specs.Runs.{after_run, judged_run, run_ruled}
 use Rattle.operating.specs.Trains.{cost_of, train_judgement}
-use Rattle.operating.specs.Turn.{AskedLeads, BlockEnds, BlockLeads, IsCompanyTurn, LinesLead, OrderLeads, ReadingLeads, begun, is_held, lay_answered, lay_refused, purchase_of, settled, token_answered, token_refused}
-use Rattle.operating.specs.declared.operator.Operator.{Operator}
-use Rattle.operating.specs.declared.purchase.Purchase.{Purchase}
-use Rattle.operating.specs.declared.runs.Ran.{Ran}
+use Rattle.operating.specs.Turn.{AskedLeads, BlockEnds, BlockLeads, IsCompanyTurn, LayLeads, LinesLead, OrderLeads, ReadingLeads, TokenLeads, begun, is_held, lay_answered, lay_refused, purchase_of, settled, token_answered, token_refused}
 use Rattle.order_grammar.specs.declared.condition.Condition.{Condition}
 use Rattle.order_grammar.specs.declared.fault.Fault.{Fault}
 use Rattle.order_grammar.specs.declared.fault.Fault.TheVariants.{OutOfPlace}
 use Rattle.order_grammar.specs.declared.order.Order.{Order}
 use Rattle.order_grammar.specs.declared.order.Order.TheVariants as order
+use Rattle.order_grammar.specs.declared.order.TrainSource.{TrainSource}
+use Rattle.order_grammar.specs.declared.order.TrainSource.TheVariants as source
 use Rattle.rounds.proofs.Growing.{broken_grows, further, is_still, passes_plain, stays}
 use Rattle.rounds.proofs.Growing as growing
 use Rattle.rounds.proofs.PlainLines.{ArePlain, GrowsPlain, IsPlain, SheetsArePlain, block_for_plain}
@@ -57,6 +55,7 @@ use Rattle.rounds.specs.Plain.{condition_ruled, is_plain}
 use Rattle.sheets.specs.Block.{block_for}
 use Rattle.sheets.specs.Part.{Numbered}
 use Rattle.tables.specs.Seat.{all_seats}
+use Rattle.tables.specs.declared.rolling_stock.Kind.{Kind}
 use Rattle.tables.specs.declared.roster.Company.{Company}
 use Rattle.tables.specs.declared.roster.Private.{Private}
 use Rattle.tables.specs.declared.round.Round.{Round}
@@ -100,10 +99,11 @@ by_move move game company =
     (token_grows move game.events company (square_of game.events company))
 
 -- by a sale of shares
-by_sale : (by : Operator) (game : Game) (sale : Sale) → AddsPlainly game (with_sale by game sale)
-by_sale by game sale =
-    passes_plain is_still game.events (with_sale by game sale).events
-    (sale_grows game.seats game.events by.president sale.company sale.tenths)
+by_sale : (company : Company) (seat : Seat) (game : Game) (sale : Sale) →
+    AddsPlainly game (with_sale (operator company seat) game sale)
+by_sale company seat game sale =
+    passes_plain is_still game.events (with_sale (operator company seat) game sale).events
+    (sale_grows game.seats game.events seat sale.company sale.tenths)
 
 module _ (company : Company) where
   -- by what the company withholds
@@ -164,8 +164,10 @@ module _ (company : Company) where
   by_private game private price None = on.same game
 
   -- by a train that it buys, and what follows
-  by_train : (game : Game) (purchase : Purchase) → AddsPlainly game (after_train game company purchase)
-  by_train game purchase =
+  by_train : (game : Game) (kind : Kind) (from : TrainSource) →
+      AddsPlainly game (after_train game company (purchase_of kind from))
+  by_train game kind from =
+      let purchase = purchase_of kind from in
       let closes : OfClosings AddsPlainly = λ now private. by_event now (event.Closed private) refl in
       let traded : Game = with_trade game company purchase.trade_in in
       let train : Event = event.Train company purchase.kind purchase.from (cost_of purchase) in
@@ -181,127 +183,133 @@ module _ (company : Company) where
       (of_bop AddsPlainly on closes came company) in
       let later : AddsPlainly (with_event all phase) followed =
       of_phase AddsPlainly on closes
-      (λ kind. of_stable AddsPlainly on kind (λ now owner. by_event now (event.Rusted owner kind) refl))
+      (λ old. of_stable AddsPlainly on old (λ now owner. by_event now (event.Rusted owner old) refl))
       (of_next AddsPlainly on (λ now its kind. by_event now (event.Discarded its kind) refl)) all purchase.kind in
       of_choice AddsPlainly (begins_phase game.events purchase.from purchase.kind) game followed all
       (on.both game all followed first
       (on.both all (with_event all phase) followed (by_event all phase refl) later)) first
 
-module _ (by : Operator) (line : Numbered) (plain : IsPlain line) where
+module _ (company : Company) (seat : Seat) (line : Numbered) (plain : IsPlain line) where
   -- by a ruling of the line
   by_ruling : (turn : InTurn) (ruling : Ruling) → condition_ruled ruling ≡ None →
-      TurnAdds turn (told by turn line ruling)
+      TurnAdds turn (told (operator company seat) turn line ruling)
   by_ruling turn ruling none =
-      by_event turn.game (event.Ruled by.president line.number ruling)
+      by_event turn.game (event.Ruled seat line.number ruling)
       (ap (λ (condition : Option Condition). is_none condition) none)
 
   -- by that it is obeyed, and what this brings
   by_obeyed : (turn : InTurn) (its : Order) (new : Game) →
-      AddsPlainly (told by turn line (Obeyed line.condition its)).game new → AddsPlainly turn.game new
+      AddsPlainly (told (operator company seat) turn line (Obeyed line.condition its)).game new → AddsPlainly turn.game new
   by_obeyed turn its new brings =
-      on.both turn.game (told by turn line (Obeyed line.condition its)).game new
+      on.both turn.game (told (operator company seat) turn line (Obeyed line.condition its)).game new
       (by_ruling turn (Obeyed line.condition its) plain) brings
 
   -- by that it breaks this rule first, or none
   by_ruled : (turn : InTurn) (its : Order) (broken : Option Refusal) (act : InTurn → InTurn) →
       ((after : InTurn) → TurnAdds after (act after)) →
-      TurnAdds turn (ruled by turn line its broken act)
+      TurnAdds turn (ruled (operator company seat) turn line its broken act)
   by_ruled turn its (Some rule) act acts = by_ruling turn (Refused rule line.condition its) plain
   by_ruled turn its None act acts =
-      by_obeyed turn its (ruled by turn line its None act).game (acts (told by turn line (Obeyed line.condition its)))
+      by_obeyed turn its (ruled (operator company seat) turn line its None act).game (acts (told (operator company seat) turn line (Obeyed line.condition its)))
 
   -- LAY
   by_refused_lay : (turn : InTurn) (lay : Lay) (rule : Option LayRule) →
-      TurnAdds turn (lay_refused by turn line lay rule)
+      TurnAdds turn (lay_refused (operator company seat) turn line lay rule)
   by_refused_lay turn lay None = on.same turn.game
   by_refused_lay turn lay (Some rule) = by_ruling turn (Refused (refusal.Lay rule) line.condition (order.Lay lay)) plain
 
-  by_lay : (turn : InTurn) (lay : Lay) (answer : Result ℤ LayFault) →
-      TurnAdds turn (lay_answered by turn line lay answer)
-  by_lay turn lay (Err fault) = by_refused_lay turn lay (rule_of_lay fault)
-  by_lay turn lay (Ok cost) =
-      by_obeyed turn (order.Lay lay) (lay_answered by turn line lay (Ok cost)).game
-      (by_event (told by turn line (Obeyed line.condition (order.Lay lay))).game
-      (event.Laid by.company lay (unsigned_abs cost)) refl)
+  by_lay : (turn : InTurn) (lay : Lay) (new : InTurn) → LayLeads (operator company seat) turn line lay new → TurnAdds turn new
+  by_lay turn lay new leads =
+      let obeyed : InTurn = told (operator company seat) turn line (Obeyed line.condition (order.Lay lay)) in
+      subst (TurnAdds turn) (sym leads.after)
+      (elim (leads.answer) as (λ answer. TurnAdds turn (lay_answered (operator company seat) turn line lay answer)) [
+        | Err fault ↦ by_refused_lay turn lay (rule_of_lay fault)
+        | Ok cost ↦
+            let laid : Event = event.Laid company lay (unsigned_abs cost) in
+            by_obeyed turn (order.Lay lay) (with_event obeyed.game laid) (by_event obeyed.game laid refl)
+      ])
 
   -- TOKEN
   by_refused_token : (turn : InTurn) (at : Place) (rule : Option TokenRule) →
-      TurnAdds turn (token_refused by turn line at rule)
+      TurnAdds turn (token_refused (operator company seat) turn line at rule)
   by_refused_token turn at None = on.same turn.game
   by_refused_token turn at (Some rule) =
       by_ruling turn (Refused (refusal.Token rule) line.condition (order.Token at)) plain
 
-  by_token : (turn : InTurn) (at : Place) (answer : Result ℤ TokenFault) →
-      TurnAdds turn (token_answered by turn line at answer)
-  by_token turn at (Err fault) = by_refused_token turn at (rule_of_token fault)
-  by_token turn at (Ok cost) =
-      by_obeyed turn (order.Token at) (token_answered by turn line at (Ok cost)).game
-      (by_event (told by turn line (Obeyed line.condition (order.Token at))).game
-      (event.Token by.company at (unsigned_abs cost)) refl)
+  by_token : (turn : InTurn) (at : Place) (new : InTurn) → TokenLeads (operator company seat) turn line at new → TurnAdds turn new
+  by_token turn at new leads =
+      let obeyed : InTurn = told (operator company seat) turn line (Obeyed line.condition (order.Token at)) in
+      subst (TurnAdds turn) (sym leads.after)
+      (elim (leads.answer) as (λ answer. TurnAdds turn (token_answered (operator company seat) turn line at answer)) [
+        | Err fault ↦ by_refused_token turn at (rule_of_token fault)
+        | Ok cost ↦
+            let token : Event = event.Token company at (unsigned_abs cost) in
+            by_obeyed turn (order.Token at) (with_event obeyed.game token) (by_event obeyed.game token refl)
+      ])
 
   -- RUN
-  by_run : (turn : InTurn) (its : Order) (judged : Result Ran RunRule) →
-      TurnAdds turn (run_ruled by turn line its judged)
-  by_run turn its (Err rule) = by_ruling turn (Refused (refusal.Run rule) line.condition its) plain
-  by_run turn its (Ok ran) =
-      by_obeyed turn its (run_ruled by turn line its (Ok ran)).game
-      (by_event (told by turn line (Obeyed line.condition its)).game (event.Runs by.company ran.earned) refl)
+  by_run : (turn : InTurn) (kind : Kind) (run : List Place) →
+      TurnAdds turn (after_run (operator company seat) turn line (order.Run kind run) kind run)
+  by_run turn kind run =
+      let obeyed : InTurn = told (operator company seat) turn line (Obeyed line.condition (order.Run kind run)) in
+      elim (judged_run turn company kind run) as (λ judged. TurnAdds turn (run_ruled (operator company seat) turn line (order.Run kind run) judged)) [
+        | Err rule ↦ by_ruling turn (Refused (refusal.Run rule) line.condition (order.Run kind run)) plain
+        | Ok ran ↦
+            let runs : Event = event.Runs company ran.earned in
+            by_obeyed turn (order.Run kind run) (with_event obeyed.game runs) (by_event obeyed.game runs refl)
+      ]
 
   -- RUN BEST
-  by_best : (turn : InTurn) (rule : Option RunRule) (new : InTurn) → BestRuled by turn line rule new →
+  by_best : (turn : InTurn) (rule : Option RunRule) (new : InTurn) → BestRuled (operator company seat) turn line rule new →
       TurnAdds turn new
   by_best turn (Some rule) new leads =
       subst (TurnAdds turn) (sym leads)
       (by_ruling turn (Refused (refusal.Run rule) line.condition order.RunBest) plain)
   by_best turn None new leads =
       subst (TurnAdds turn) (sym leads.2)
-      (by_obeyed turn order.RunBest (best_earned by turn line leads.0).game
-      (by_event (told by turn line (Obeyed line.condition order.RunBest)).game (event.Runs by.company leads.0) refl))
+      (by_obeyed turn order.RunBest (best_earned (operator company seat) turn line leads.0).game
+      (by_event (told (operator company seat) turn line (Obeyed line.condition order.RunBest)).game (event.Runs company leads.0) refl))
 
   -- an order in this line
-  by_order : (turn : InTurn) (its : Order) (new : InTurn) → OrderLeads by turn line its new → TurnAdds turn new
-  by_order turn (order.Lay lay) new leads =
-      subst (TurnAdds turn) (sym leads.after) (by_lay turn lay leads.answer)
-  by_order turn (order.Token at) new leads =
-      subst (TurnAdds turn) (sym leads.after) (by_token turn at leads.answer)
-  by_order turn (order.Run kind run) new leads =
-      subst (TurnAdds turn) (sym leads)
-      (by_run turn (order.Run kind run) (judged_run turn by.company kind run))
-  by_order turn order.RunBest new leads = by_best turn (best_judgement turn by.company) new leads
+  by_order : (turn : InTurn) (its : Order) (new : InTurn) → OrderLeads (operator company seat) turn line its new → TurnAdds turn new
+  by_order turn (order.Lay lay) new leads = by_lay turn lay new leads
+  by_order turn (order.Token at) new leads = by_token turn at new leads
+  by_order turn (order.Run kind run) new leads = subst (TurnAdds turn) (sym leads) (by_run turn kind run)
+  by_order turn order.RunBest new leads = by_best turn (best_judgement turn company) new leads
   by_order turn order.Pay new leads =
       let revenue : ℕ = turn.progress.runs.revenue in
-      let act : InTurn → InTurn = λ after. in_turn (paid_out after.game by.company revenue) (pay_done after.progress) in
+      let act : InTurn → InTurn = λ after. in_turn (paid_out after.game company revenue) (pay_done after.progress) in
       subst (TurnAdds turn) (sym leads)
       (by_ruled turn order.Pay (option_map refusal.Pay (pay_judgement turn.progress)) act
-      (λ after. by_paid_out by.company after.game revenue))
+      (λ after. by_paid_out company after.game revenue))
   by_order turn order.Withhold new leads =
       let revenue : ℕ = turn.progress.runs.revenue in
-      let act : InTurn → InTurn = λ after. in_turn (withheld after.game by.company revenue) (pay_done after.progress) in
+      let act : InTurn → InTurn = λ after. in_turn (withheld after.game company revenue) (pay_done after.progress) in
       subst (TurnAdds turn) (sym leads)
       (by_ruled turn order.Withhold (option_map refusal.Pay (withhold_judgement turn.progress)) act
-      (λ after. by_withheld by.company after.game revenue))
+      (λ after. by_withheld company after.game revenue))
   by_order turn (order.BuyTrain kind from) new leads =
-      let paid : InTurn = settled by.company turn in
-      let purchase : Purchase = purchase_of kind from in
-      let rule : Option Refusal = option_map refusal.Train (train_judgement paid.game by.company purchase) in
-      let act : InTurn → InTurn = λ after. in_turn (after_train after.game by.company purchase) after.progress in
+      let paid : InTurn = settled company turn in
+      let purchase = purchase_of kind from in
+      let rule : Option Refusal = option_map refusal.Train (train_judgement paid.game company purchase) in
+      let act : InTurn → InTurn = λ after. in_turn (after_train after.game company purchase) after.progress in
       subst (TurnAdds turn) (sym leads)
-      (on.both turn.game paid.game (ruled by paid line (order.BuyTrain kind from) rule act).game
-      (by_settled by.company turn)
-      (by_ruled paid (order.BuyTrain kind from) rule act (λ after. by_train by.company after.game purchase)))
+      (on.both turn.game paid.game (ruled (operator company seat) paid line (order.BuyTrain kind from) rule act).game
+      (by_settled company turn)
+      (by_ruled paid (order.BuyTrain kind from) rule act (λ after. by_train company after.game kind from)))
   by_order turn (order.BuyOwnedPrivate private price) new leads =
-      let rule : Option Refusal = option_map refusal.Private (private_judgement turn.game by.company private price) in
+      let rule : Option Refusal = option_map refusal.Private (private_judgement turn.game company private price) in
       let act : InTurn → InTurn =
-      λ after. in_turn (private_bought after.game by.company private price) after.progress in
+      λ after. in_turn (private_bought after.game company private price) after.progress in
       subst (TurnAdds turn) (sym leads)
       (by_ruled turn (order.BuyOwnedPrivate private price) rule act
-      (λ after. by_private by.company after.game private price (owner_of after.game.events private)))
-  by_order turn (order.Raise company tenths) new leads =
+      (λ after. by_private company after.game private price (owner_of after.game.events private)))
+  by_order turn (order.Raise its tenths) new leads =
       subst (TurnAdds turn) (sym leads) (on.same turn.game)
   by_order turn other new leads = subst (TurnAdds turn) (sym leads) (by_ruling turn (Faulty OutOfPlace) refl)
 
   -- one that is asked for its condition
-  by_asked : (turn : InTurn) (its : Order) (held : Bool) (new : InTurn) → AskedLeads by turn line its held new →
+  by_asked : (turn : InTurn) (its : Order) (held : Bool) (new : InTurn) → AskedLeads (operator company seat) turn line its held new →
       TurnAdds turn new
   by_asked turn its true new leads =
       subst (TurnAdds turn) (sym leads)
@@ -309,97 +317,110 @@ module _ (by : Operator) (line : Numbered) (plain : IsPlain line) where
   by_asked turn its false new leads = by_order turn its new leads
 
   -- the line
-  by_line : (turn : InTurn) (reading : Result Order Fault) (new : InTurn) → ReadingLeads by turn line reading new →
+  by_line : (turn : InTurn) (reading : Result Order Fault) (new : InTurn) → ReadingLeads (operator company seat) turn line reading new →
       TurnAdds turn new
   by_line turn (Err fault) new leads = subst (TurnAdds turn) (sym leads) (by_ruling turn (Faulty fault) refl)
   by_line turn (Ok its) new leads = by_asked turn its (is_held turn.game.events line.condition its) new leads
 
   -- a RAISE
   by_raise_ruled : (game : Game) (sale : Sale) (broken : Option Refusal) →
-      AddsPlainly game (raise_ruled by game line sale broken)
+      AddsPlainly game (raise_ruled (operator company seat) game line sale broken)
   by_raise_ruled game sale (Some rule) =
       let refused : Ruling = Refused rule line.condition (order.Raise sale.company sale.tenths) in
-      by_event game (event.Ruled by.president line.number refused)
+      by_event game (event.Ruled seat line.number refused)
       (ap (λ (condition : Option Condition). is_none condition) plain)
   by_raise_ruled game sale None =
       let obeyed : Ruling = Obeyed line.condition (order.Raise sale.company sale.tenths) in
-      let ruled : Game = with_ruling by game line obeyed in
-      on.both game ruled (with_sale by ruled sale)
-      (by_event game (event.Ruled by.president line.number obeyed)
-      (ap (λ (condition : Option Condition). is_none condition) plain)) (by_sale by ruled sale)
+      let ruled : Game = with_ruling (operator company seat) game line obeyed in
+      on.both game ruled (with_sale (operator company seat) ruled sale)
+      (by_event game (event.Ruled seat line.number obeyed)
+      (ap (λ (condition : Option Condition). is_none condition) plain)) (by_sale company seat ruled sale)
 
   by_raise : (due : Bool) (game : Game) (reading : Result Order Fault) →
-      AddsPlainly game (after_raise_line due by game line reading)
-  by_raise due game (Ok (order.Raise company tenths)) =
-      let sale : Sale = record { company = company; tenths = tenths } in
-      by_raise_ruled game sale (raise_rule due by game line.condition sale)
+      AddsPlainly game (after_raise_line due (operator company seat) game line reading)
+  by_raise due game (Ok (order.Raise its tenths)) =
+      let sale : Sale = record { company = its; tenths = tenths } in
+      by_raise_ruled game sale (raise_rule due (operator company seat) game line.condition sale)
   by_raise due game other = on.same game
 
-module _ (by : Operator) where
+module _ (company : Company) (seat : Seat) where
   -- lines of the block
-  by_lines : (turn : InTurn) (lines : List Numbered) (new : InTurn) → ArePlain lines → LinesLead by turn lines new →
+  by_lines : (turn : InTurn) (lines : List Numbered) (new : InTurn) → ArePlain lines → LinesLead (operator company seat) turn lines new →
       TurnAdds turn new
   by_lines turn [] new are leads =
       subst (TurnAdds turn) (sym leads) (on.same turn.game)
   by_lines turn (line ∷ lines) new are leads =
-      on.both turn.game leads.0.game new.game (by_line by line are.0 turn line.reading leads.0 leads.1)
+      on.both turn.game leads.0.game new.game (by_line company seat line are.0 turn line.reading leads.0 leads.1)
       (by_lines leads.0 lines new are.1 leads.2)
 
   -- the RAISE lines of the block
   by_raises : (due : Bool) (lines : List Numbered) (game : Game) → ArePlain lines →
-      AddsPlainly game (after_raises due by game lines)
+      AddsPlainly game (after_raises due (operator company seat) game lines)
   by_raises due [] game are = on.same game
   by_raises due (line ∷ lines) game are =
-      let next : Game = after_raise_line due by game line line.reading in
-      on.both game next (after_raises due by next lines) (by_raise by line are.0 due game line.reading)
+      let next : Game = after_raise_line due (operator company seat) game line line.reading in
+      on.both game next (after_raises due (operator company seat) next lines) (by_raise company seat line are.0 due game line.reading)
       (by_raises due lines next are.1)
 
   -- single tenths that are sold
-  by_one_sold : (game : Game) (found : Option Company) → AddsPlainly game (with_one_sold by game found)
+  by_one_sold : (game : Game) (found : Option Company) → AddsPlainly game (with_one_sold (operator company seat) game found)
   by_one_sold game None = on.same game
-  by_one_sold game (Some company) = by_sale by game (one_tenth company)
+  by_one_sold game (Some its) = by_sale company seat game (one_tenth its)
 
-  by_further : (game : Game) → AddsPlainly game (sold_further by game)
+  by_further : (game : Game) → AddsPlainly game (sold_further (operator company seat) game)
   unfolding sold_further
   by_further game =
-      of_choice AddsPlainly (falls_short by game) game (with_one_sold by game (next_to_sell by game)) game
-      (by_one_sold game (next_to_sell by game)) (on.same game)
+      of_choice AddsPlainly (falls_short (operator company seat) game) game (with_one_sold (operator company seat) game (next_to_sell (operator company seat) game)) game
+      (by_one_sold game (next_to_sell (operator company seat) game)) (on.same game)
 
-  by_singly : (game : Game) → AddsPlainly game (sold_singly by game)
+  by_singly : (game : Game) → AddsPlainly game (sold_singly (operator company seat) game)
   unfolding sold_singly
-  by_singly game = of_iterate AddsPlainly (sold_further by) on by_further 40 game
+  by_singly game = of_iterate AddsPlainly (sold_further (operator company seat)) on by_further 40 game
 
   -- what the president pays
-  by_aid : (game : Game) → AddsPlainly game (with_aid by game)
+  by_aid : (game : Game) → AddsPlainly game (with_aid (operator company seat) game)
   unfolding with_aid
   by_aid game =
-      let its : Event = event.Aid by.president by.company (so_many (lack_of game by.company)) in
-      of_choice AddsPlainly (lt_z (pos 0) (lack_of game by.company)) game (with_event game its) game
+      let its : Event = event.Aid seat company (so_many (lack_of game company)) in
+      of_choice AddsPlainly (lt_z (pos 0) (lack_of game company)) game (with_event game its) game
       (by_event game its refl) (on.same game)
 
+  -- the cheapest train by a list
+  by_cheapest : (game : Game) (events : List Event) → AddsPlainly game (after_train game company (cheapest events))
+  by_cheapest game events =
+      let its = cheapest_plain events in
+      elim its.1 [
+        | inl is ↦
+            subst (λ purchase. AddsPlainly game (after_train game company purchase)) (sym is)
+            (by_train company game its.0 source.Bank)
+        | inr is ↦
+            subst (λ purchase. AddsPlainly game (after_train game company purchase)) (sym is)
+            (by_train company game its.0 source.BankPool)
+      ]
+
   -- the purchase, or the bankruptcy
-  by_concluded : (game : Game) → AddsPlainly game (concluded by game)
+  by_concluded : (game : Game) → AddsPlainly game (concluded (operator company seat) game)
   unfolding concluded
   by_concluded game =
-      let aided : Game = with_aid by game in
-      let purchase : Purchase = cheapest game.events in
-      of_choice AddsPlainly (falls_short by game) game (with_event game (event.Bankrupt by.president))
-      (after_train aided by.company purchase) (by_event game (event.Bankrupt by.president) refl)
-      (on.both game aided (after_train aided by.company purchase) (by_aid game) (by_train by.company aided purchase))
+      let aided : Game = with_aid (operator company seat) game in
+      let purchase = cheapest game.events in
+      of_choice AddsPlainly (falls_short (operator company seat) game) game (with_event game (event.Bankrupt seat))
+      (after_train aided company purchase) (by_event game (event.Bankrupt seat) refl)
+      (on.both game aided (after_train aided company purchase) (by_aid game) (by_cheapest aided game.events))
 
   -- a purchase that is due
-  by_forced : (lines : List Numbered) (game : Game) → ArePlain lines → AddsPlainly game (after_forced by lines game)
+  by_forced : (lines : List Numbered) (game : Game) → ArePlain lines → AddsPlainly game (after_forced (operator company seat) lines game)
   unfolding after_forced
   by_forced lines game are =
-      let due : Game = with_event game (event.Forced by.company) in
-      let raised : Game = after_raises true by due lines in
-      let gained : Game = sold_singly by raised in
-      on.both game due (concluded by gained) (by_event game (event.Forced by.company) refl)
-      (on.both due raised (concluded by gained) (by_raises true lines due are)
-      (on.both raised gained (concluded by gained) (by_singly raised) (by_concluded gained)))
+      let due : Game = with_event game (event.Forced company) in
+      let raised : Game = after_raises true (operator company seat) due lines in
+      let gained : Game = sold_singly (operator company seat) raised in
+      on.both game due (concluded (operator company seat) gained) (by_event game (event.Forced company) refl)
+      (on.both due raised (concluded (operator company seat) gained) (by_raises true lines due are)
+      (on.both raised gained (concluded (operator company seat) gained) (by_singly raised) (by_concluded gained)))
 
   -- the end of the turn
-  by_end : (lines : List Numbered) (game new : Game) → ArePlain lines → EndLeads by lines game new →
+  by_end : (lines : List Numbered) (game new : Game) → ArePlain lines → EndLeads (operator company seat) lines game new →
       AddsPlainly game new
   by_end lines game new are (inl due) = subst (AddsPlainly game) (sym due.1) (by_forced lines game are)
   by_end lines game new are (inr none) = subst (AddsPlainly game) (sym none.1) (by_raises false lines game are)
@@ -412,7 +433,7 @@ module _ (file : List ℕ) (round : Round) (sheets : SheetsArePlain file round) 
   by_block turn None new leads =
       subst (TurnAdds turn) (sym leads) (on.same turn.game)
   by_block turn (Some seat) new leads =
-      by_lines (operator company seat) turn (block_for file round seat.0 company) new
+      by_lines company seat turn (block_for file round seat.0 company) new
       (block_for_plain file round sheets seat.0 company) leads
 
   -- what it brings at the end of the turn
@@ -421,7 +442,7 @@ module _ (file : List ℕ) (round : Round) (sheets : SheetsArePlain file round) 
       AddsPlainly game new
   by_block_end game None new ends = subst (AddsPlainly game) (sym ends) (on.same game)
   by_block_end game (Some seat) new ends =
-      by_end (operator company seat) (block_for file round seat.0 company) game new
+      by_end company seat (block_for file round seat.0 company) game new
       (block_for_plain file round sheets seat.0 company) ends
 
   -- the whole turn
