@@ -4,7 +4,7 @@ pub mod Earnings
 pub mod Fault
 pub mod FileLines
 pub mod Heads
-pub mod Purse
+pub mod Laid
 pub mod Refusal
 pub mod RoundPart
 pub mod RoundsPlayed

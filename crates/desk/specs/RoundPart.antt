@@ -1,5 +1,5 @@
 -- A round's part of the report of a file: of the round that is asked for, or of the last that was played.
-use Rattle.std.specs.Prelude.{◌≡◌, ℕ, List, [], Option, Some, None}
+use Rattle.std.specs.Prelude.{◌≡◌, ℕ, List, [], Option, Some, None, ⊤}
 use Rattle.desk.specs.Refusal.{HasNone}
 use Rattle.desk.specs.declared.fault.DeskFault.{DeskFault}
 use Rattle.desk.specs.declared.fault.DeskFault.TheVariants as desk
@@ -29,15 +29,25 @@ pub record IsRoundPart (file : List ℕ) (asked : Option Round) (text : List ℕ
   pub of_file : IsGameOf file played
   pub is : text ≡ text_of_round played (round_asked played asked)
 
--- the round that is asked for has no text in the game of the file
-pub record IsNotPlayed (file : List ℕ) (asked : Option Round) : Type 0 where
+-- a round is asked for that has no text
+pub record IsNotPlayed (played : Played) (asked : Option Round) : Type 0 where
+  pub round : Round
+  pub is_asked : asked ≡ Some round
+  pub none : round_text_of played round ≡ []
+
+-- there is no text of the round that is asked for of a game, for this fault: it was not played, or memory was refused
+abbrev pub HasNoText : Played → Option Round → DeskFault → Type 0
+HasNoText played asked desk.Round = IsNotPlayed played asked
+HasNoText played asked desk.Memory = ⊤
+HasNoText played asked (desk.File fault) = ⊥
+
+-- the round that is asked for was not played in the game of the file
+pub record IsNotPlayedIn (file : List ℕ) (asked : Option Round) : Type 0 where
   pub played : Played
   pub of_file : IsGameOf file played
-  pub round : Round
-  pub is_asked : round_asked played asked ≡ Some round
-  pub none : round_text_of played round ≡ []
+  pub none : IsNotPlayed played (round_asked played asked)
 
 -- when each fault comes: the round is not played; the file is refused by that fault; memory may be refused at any time
 abbrev pub IsRoundFault : List ℕ → Option Round → DeskFault → Type 0
-IsRoundFault file asked desk.Round = IsNotPlayed file asked
+IsRoundFault file asked desk.Round = IsNotPlayedIn file asked
 IsRoundFault file asked fault = HasNone fault file

@@ -1,4 +1,5 @@
 //! The stock market as text, with the tokens of the companies.
+ghost use Rattle.std.specs.Prelude.{◌<◌};
 
 use crate::page::Page;
 use crate::stack::company_at;

@@ -2,6 +2,7 @@
 ghost use Rattle.std.specs.Prelude.{◌≡◌, ◌++◌, IfOk, OnOk, replicate};
 ghost use Rattle.certificate.specs.Claim.{ClaimHolds};
 ghost use Rattle.certificate.specs.Set.{IsGreatest};
+ghost use Rattle.desk.specs.Laid.{laid_then};
 ghost use Rattle.history.specs.Trains.{so_many};
 ghost use Rattle.operating.specs.Best.{trains_now};
 ghost use Rattle.operating.specs.Ground.{ground_now};
@@ -26,7 +27,9 @@ pub(crate) fn board_at(alloc: Global, past: &Past) -> Result<Board, AllocError>
 }
 
 /// Lays the tile or the token of an event on a board.
-fn lay(board: &mut Board, event: &Event) -> Result<(), AllocError> {
+fn lay(board: &mut Board, event: &Event) -> Result<(), AllocError>
+    ensures { OnOk result (board.new ≡ laid_then board.old event.now) }
+{
     if let Some(lay) = event.lay() {
         board.put_lay(lay)?;
     }
@@ -36,23 +39,18 @@ fn lay(board: &mut Board, event: &Event) -> Result<(), AllocError> {
     Ok(())
 }
 
-/// The runs by which a company's trains earned the most that they could as a game stood, with what they
+/// The runs by which a company's trains earn the most that they can as a game stood, with what they
 /// earn. It fails only if memory is refused.
-pub(crate) fn best_at(
-    alloc: Global,
-    board: &Board,
-    past: &Past,
-    company: Company,
-) -> Result<Claim, AllocError>
-    requires { board.now ≡ ground_now past.now.events.now }
+pub fn best_at(alloc: Global, past: &Past, company: Company) -> Result<Claim, AllocError>
     ensures holds { let events = past.now.events.now in
         IfOk result (ClaimHolds (position_now events) company (trains_now events company)) }
     ensures greatest { let events = past.now.events.now in
         IfOk result (λ claim.
         IsGreatest (position_now events) company (trains_now events company) claim.revenue) }
 {
+    let board = board_at(alloc, past)?;
     let trains = trains_of(alloc, past, company)?;
-    let found = best(alloc, board, company, trains.as_slice())?;
+    let found = best(alloc, &board, company, trains.as_slice())?;
     Ok(found.claim)
 }
 

@@ -56,6 +56,7 @@ pub use checking::{Findings, check};
 pub use explain_table::Entry;
 pub use explaining::{entry_text, explain};
 pub use fault::DeskFault;
+pub use ground::best_at;
 pub use ran::runs;
 pub use round_part::{round, round_with_rules};
 pub use state_text::state;

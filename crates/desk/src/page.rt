@@ -1,4 +1,5 @@
 //! A text that is laid out in columns.
+ghost use Rattle.std.specs.Prelude.{◌<◌};
 
 use crate::text::{push_spaces, push_words};
 use std::alloc::{AllocError, Global};

@@ -1,7 +1,10 @@
 //! What a player has: cash, certificates, and what all of it is worth.
 ghost use Rattle.std.specs.Prelude.{◌≡◌, ◌<◌};
 ghost use Rattle.certs.specs.Counted.{counted_of};
-ghost use Rattle.desk.specs.Purse.{purse_of};
+ghost use Rattle.history.specs.Bids.{free_cash_of};
+ghost use Rattle.history.specs.Event.{party_at};
+ghost use Rattle.history.specs.LookBack.{cash_of};
+ghost use Rattle.report.specs.Worth.{worth_of};
 
 use certs::{Holdings, counted_by_the_game};
 use history::{History, Party, Tenths};
@@ -24,15 +27,24 @@ pub(crate) struct Purse {
 /// What the player of a seat has. The seat is one of six.
 pub(crate) fn purse_of(history: &History, seat: Seat) -> Purse
     requires { seat.0 < 6 }
-    ensures { result ≡ purse_of history.now.seats history.now.events seat }
+    ensures cash { result.cash ≡ cash_of history.now.seats history.now.events (party_at seat) }
+    ensures free { result.free ≡ free_cash_of history.now.seats history.now.events seat }
+    ensures certificates { result.certificates ≡ counted_of history.now.events seat }
+    ensures worth { result.worth ≡ worth_of history.now.seats history.now.events seat }
 {
-    let past = history.now();
     Purse {
-        cash: past.cash(Party::of_seat(seat)),
-        free: past.free_cash(seat),
+        cash: history.cash(Party::of_seat(seat)),
+        free: history.free_cash(seat),
         certificates: certificates(history, seat),
-        worth: player_worth(&past, seat),
+        worth: worth(history, seat),
     }
+}
+
+/// Cash, shares at their market price and privates at their face, in dollars.
+fn worth(history: &History, seat: Seat) -> Money
+    ensures { result ≡ worth_of history.now.seats history.now.events seat }
+{
+    player_worth(&history.now(), seat)
 }
 
 /// How many certificates of a seat count against the limit. The seat is one of six.

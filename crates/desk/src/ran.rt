@@ -10,7 +10,7 @@ use map_tables::{Place, Run};
 use order_grammar::{Order, print_number, print_order, print_round};
 use reach::Network;
 use rounds::{Game, play};
-use sheets::collect;
+use sheets::{Sheets, collect};
 use std::alloc::{AllocError, Global};
 use tables::{Amount, Company, Kind, Round};
 
@@ -20,10 +20,20 @@ use tables::{Amount, Company, Kind, Round};
 /// that is asked for is not played.
 pub fn runs(alloc: Global, file: &[u8], asked: Option<Round>) -> Result<Vec<u8>, DeskFault> {
     let sheets = collect(alloc, file)?;
-    let game = play(alloc, &sheets)?;
+    runs_in(alloc, &sheets, asked)
+}
+
+/// The same of some sheets.
+fn runs_in(alloc: Global, sheets: &Sheets, asked: Option<Round>) -> Result<Vec<u8>, DeskFault> {
+    let game = play(alloc, sheets)?;
+    runs_of(alloc, &game, asked)
+}
+
+/// The same of a game.
+fn runs_of(alloc: Global, game: &Game, asked: Option<Round>) -> Result<Vec<u8>, DeskFault> {
     let mut out = Vec::new(alloc);
-    if let Some(round) = asked_or_last(&game, asked)? {
-        push_round(alloc, &mut out, &game, round)?;
+    if let Some(round) = asked_or_last(game, asked)? {
+        push_round(alloc, &mut out, game, round)?;
     }
     Ok(out)
 }
@@ -120,7 +130,7 @@ fn push_ran(
         }
         Order::RunBest => {
             push_words(out, " BEST\n")?;
-            let claim = best_at(alloc, &board, past, company)?;
+            let claim = best_at(alloc, past, company)?;
             push_claimed(out, &board, claim.runs.as_slice())
         }
         _ => push_words(out, "\n"),

@@ -1,32 +1,49 @@
 //! A round's part of the report, and the same with the rules that refused lines broke.
-ghost use Rattle.std.specs.Prelude.{◌≡◌, IfErr, IfOk};
-ghost use Rattle.desk.specs.RoundPart.{IsRoundFault, IsRoundPart, round_asked};
+ghost use Rattle.std.specs.Prelude.{◌≡◌, IfErr, IfOk, Some};
+ghost use Rattle.desk.specs.RoundPart.{HasNoText, IsRoundFault, IsRoundPart, round_asked, text_of_round};
+ghost use Rattle.report.specs.Report.{round_text_of};
 
 use crate::fault::DeskFault;
 use crate::why::push_why;
 use history::{Event, Walk};
 use report::round_text;
 use rounds::{Game, play};
-use sheets::{collect, first_line};
+use sheets::{Sheets, collect, first_line};
 use std::alloc::{AllocError, Global};
 use tables::Round;
 
 /// The part of the report of a file that tells of a round: of the last that was played, where none is
 /// asked for; empty where none was played. `Round` where the round that is asked for is not played.
+#[tactic(auto, using(crate::proofs::Refusals::none_where_it_fails, crate::proofs::RoundParts::no_part_where_it_fails))]
 pub fn round(alloc: Global, file: &[u8], asked: Option<Round>) -> Result<Vec<u8>, DeskFault>
     ensures part { IfOk result (λ text. IsRoundPart file.now asked text.items) }
     ensures fault { IfErr result (IsRoundFault file.now asked) }
 {
     let sheets = collect(alloc, file)?;
-    let game = play(alloc, &sheets)?;
-    let Some(round) = round_asked(&game, asked) else {
-        return Ok(Vec::new(alloc));
-    };
-    let text = round_text(alloc, &game, round)?;
-    if text.is_empty() {
-        return Err(DeskFault::Round);
-    }
+    part_in(alloc, &sheets, asked)
+}
+
+/// That part of the report of some sheets.
+#[tactic(auto, using(crate::proofs::RoundParts::part_of_file, crate::proofs::RoundParts::no_part_of_file))]
+fn part_in(alloc: Global, sheets: &Sheets, asked: Option<Round>) -> Result<Vec<u8>, DeskFault>
+    ensures part { IfOk result (λ text. IsRoundPart sheets.now asked text.items) }
+    ensures fault { IfErr result (IsRoundFault sheets.now asked) }
+{
+    let game = play(alloc, sheets)?;
+    let text = part_of(alloc, &game, asked)?;
     Ok(text)
+}
+
+/// That part of the report of a game.
+fn part_of(alloc: Global, game: &Game, asked: Option<Round>) -> Result<Vec<u8>, DeskFault>
+    ensures part { IfOk result (λ text.
+        text.items ≡ text_of_round game.now (round_asked game.now asked)) }
+    ensures fault { IfErr result (HasNoText game.now (round_asked game.now asked)) }
+{
+    match round_asked(game, asked) {
+        Some(round) => text_of(alloc, game, round),
+        None => Ok(Vec::new(alloc)),
+    }
 }
 
 /// The same, with the rule that it broke under each line that was refused: two spaces, its code and the
@@ -37,16 +54,36 @@ pub fn round_with_rules(
     asked: Option<Round>,
 ) -> Result<Vec<u8>, DeskFault> {
     let sheets = collect(alloc, file)?;
-    let game = play(alloc, &sheets)?;
-    let Some(round) = round_asked(&game, asked) else {
-        return Ok(Vec::new(alloc));
-    };
-    let text = round_text(alloc, &game, round)?;
+    rules_in(alloc, &sheets, asked)
+}
+
+/// That part of the report of some sheets, with these rules.
+fn rules_in(alloc: Global, sheets: &Sheets, asked: Option<Round>) -> Result<Vec<u8>, DeskFault> {
+    let game = play(alloc, sheets)?;
+    match round_asked(&game, asked) {
+        Some(round) => text_with_rules(alloc, &game, round),
+        None => Ok(Vec::new(alloc)),
+    }
+}
+
+/// The text of a round of a game; `Round` where there is none.
+#[tactic(auto, using(crate::proofs::RoundParts::without_text))]
+fn text_of(alloc: Global, game: &Game, round: Round) -> Result<Vec<u8>, DeskFault>
+    ensures text { IfOk result (λ text. text.items ≡ round_text_of game.now round) }
+    ensures fault { IfErr result (HasNoText game.now (Some round)) }
+{
+    let text = round_text(alloc, game, round)?;
     if text.is_empty() {
         return Err(DeskFault::Round);
     }
+    Ok(text)
+}
+
+/// The same with the rules that refused lines broke.
+fn text_with_rules(alloc: Global, game: &Game, round: Round) -> Result<Vec<u8>, DeskFault> {
+    let text = text_of(alloc, game, round)?;
     let mut out = Vec::new(alloc);
-    push_with_rules(&mut out, &game, round, text.as_slice())?;
+    push_with_rules(&mut out, game, round, text.as_slice())?;
     Ok(out)
 }
 
@@ -82,7 +119,13 @@ fn push_with_rules(
         rest = push_first(out, rest)?;
         if let Event::Ruled { seat, ruling, .. } = event {
             walk.go(passed);
-            push_why(out, game.sheets(), &walk.past(game.sheets().seats()), *seat, ruling)?;
+            push_why(
+                out,
+                game.sheets(),
+                &walk.past(game.sheets().seats()),
+                *seat,
+                ruling,
+            )?;
         }
     }
     out.extend_from_slice(rest)

@@ -142,7 +142,12 @@ fn push_of_stock(
     match rule {
         StockRule::NotHeld | StockRule::OverSixTenths => {
             push_words(out, " (")?;
-            push_has(out, sheets, seat, past.shares(company, Shareholder::Seat(seat)))?;
+            push_has(
+                out,
+                sheets,
+                seat,
+                past.shares(company, Shareholder::Seat(seat)),
+            )?;
             push_words(out, ")")
         }
         StockRule::PoolFull | StockRule::NoneThere => push_with_bank(out, past, company),
@@ -256,7 +261,10 @@ fn push_of_train(
 /// Adds which train the bank sells: the first kind of which it has not sold all.
 fn push_on_sale(out: &mut Vec<u8>, past: &Past) -> Result<(), AllocError> {
     for kind in Kind::ALL {
-        if train(kind).number.is_none_or(|number| past.trains_sold(kind) < usize::from(number)) {
+        if train(kind)
+            .number
+            .is_none_or(|number| past.trains_sold(kind) < usize::from(number))
+        {
             push_words(out, " (the bank sells a ")?;
             push_words(out, kind.code())?;
             return push_words(out, ")");

@@ -1,5 +1,4 @@
 //! What each company has: its place on the stock market, its figures, its shares and its tokens.
-ghost use Rattle.std.specs.Prelude.{◌<◌};
 
 use crate::earnings::earnings_of;
 use crate::page::Page;

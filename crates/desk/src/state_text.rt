@@ -16,7 +16,7 @@ use crate::state_players::{push_owners, push_players};
 use crate::state_round::{push_awaited, push_matters};
 use crate::state_stock::{push_laid, push_tiles_left, push_trains};
 use rounds::{Game, play};
-use sheets::collect;
+use sheets::{Sheets, collect};
 use std::alloc::{AllocError, Global};
 
 /// How the game of an order file stands after the last round that its sheets play: who owes a sheet, or how
@@ -29,7 +29,12 @@ pub fn state(alloc: Global, file: &[u8]) -> Result<Vec<u8>, DeskFault>
     ensures refused { IfErr result (λ fault. HasNone fault file.now) }
 {
     let sheets = collect(alloc, file)?;
-    let game = play(alloc, &sheets)?;
+    Ok(state_of_sheets(alloc, &sheets)?)
+}
+
+/// How the game of some sheets stands.
+fn state_of_sheets(alloc: Global, sheets: &Sheets) -> Result<Vec<u8>, AllocError> {
+    let game = play(alloc, sheets)?;
     let mut page = Page::new(alloc);
     push_state(&mut page, alloc, &game)?;
     Ok(page.text)

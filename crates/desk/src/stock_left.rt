@@ -34,6 +34,7 @@ pub(crate) fn tiles_left(lays: &[Lay], number: TileNo) -> usize
 }
 
 /// How many tiles of a number lie on the map.
+#[tactic(auto, unfolding(board::specs::LayRules::lying_of))]
 fn lying_of(lays: &[Lay], number: TileNo) -> usize
     ensures { result ≡ lying_of lays.now number }
 {

@@ -86,6 +86,12 @@ lacks file played some whole groups left round company runner.Refused short faul
       lacks = lacks_group short.earlier short.next groups left cut;
     }
 
+-- a game that a refusal broke off
+pub refused_lacks :
+    (file : List ℕ) (groups : List (Option Group)) (fault : PlayFault) (round : Round) (company : Company) → fault ≡ play.Refused round company →
+    IsJudged {A = List ℕ} file groups (Err fault) → LacksGroup file groups round company
+refused_lacks file groups fault round company is judged = subst (λ (why : PlayFault). IsJudged {A = List ℕ} file groups (Err why)) is judged
+
 module _ (answered : GamesAreAnswered) (some_calls : SomeCalls) (fronts : RefusedCallsAreAFront) (file : List ℕ) (accepted : IsAccepted file) where
   -- play that was broken off by a refusal
   refused_by :
@@ -107,8 +113,8 @@ module _ (answered : GamesAreAnswered) (some_calls : SomeCalls) (fronts : Refuse
 
   -- a game that was broken off is judged by its last call
   pub broken_judged :
-      {A : Type 0} (groups left : List (Option Group)) (fault : PlayFault) (calls : List Call) → GameCalls file (Err fault) calls →
-      AreMade AnswersByNext groups calls left → IsJudged {A = A} file groups (Err fault)
+      (groups left : List (Option Group)) (fault : PlayFault) (calls : List Call) → GameCalls file (Err fault) calls →
+      AreMade AnswersByNext groups calls left → IsJudged {A = List ℕ} file groups (Err fault)
   broken_judged groups left play.Memory calls is made = tt
   broken_judged groups left (play.Refused round company) calls is made =
       let whole = some_calls file accepted in

@@ -1,9 +1,42 @@
 -- Where the last line that divides stands, as a text is read line by line.
 use Rattle.std.proofs.Common.{◌≡◌, ℕ, ◌≤◌, List, [], ◌∷◌, ◌++◌, true, false, cond, length, refl, ◌∙◌, ap, suc, arith, eqb}
-use Rattle.std.specs.Prelude.{Bool, ◌&&◌, Option, Some, None}
+use Rattle.std.specs.Prelude.{Bool, ◌&&◌, Option, Some, None, Result, Ok, Err, codes, ◌↔◌}
 use Rattle.std.specs.Option.{option_or}
+use Rattle.order_grammar.specs.Line.{cert_reading_of}
+use Rattle.order_grammar.specs.Spells.{AreWordsFor, SpellsIn}
+use Rattle.order_grammar.specs.Texts.{certificate}
+use Rattle.order_grammar.specs.Words.{first_of_words, same_word, words_of}
+use Rattle.order_grammar.specs.declared.fault.Fault.{Fault}
+use Rattle.order_grammar.specs.declared.order.Order.{Order}
+use Rattle.order_grammar.specs.declared.order.Order.TheVariants.{Certs}
 use Rattle.sheets.specs.Text.{lines_of, rest_of}
-use Rattle.umpire.specs.Parting.{is_divider, begin_with_divider, from_divider, without_newline}
+use Rattle.umpire.specs.Parting.{is_divider, begin_with_divider, from_divider, says_certs, without_newline}
+
+-- a line of a certificate's text is read as an order exactly where it spells that
+abbrev CertLinesAreReadWhereSpelt : Type 0
+CertLinesAreReadWhereSpelt = (line : List ℕ) (order : Order) → (cert_reading_of line ≡ Ok order) ↔ SpellsIn certificate line order
+
+-- what is read of a line is that order where it says so
+said : (reading : Result Order Fault) → says_certs reading ≡ true → reading ≡ Ok Certs
+said (Ok Certs) says = refl
+said other says = absurd cc
+
+word_of : (words : List (List ℕ)) → AreWordsFor Certs words → same_word (first_of_words words) (codes "CERTS") ≡ true
+word_of [] are = absurd are
+word_of (word ∷ words) are = rw are.0 refl
+
+-- the first word of a line that divides is CERTS
+begins : CertLinesAreReadWhereSpelt → (line : List ℕ) → is_divider line ≡ true → same_word (first_of_words (words_of line)) (codes "CERTS") ≡ true
+unfolding is_divider
+begins read line divides = word_of (words_of line) ((read line Certs).0 (said (cert_reading_of line) divides)).loosely.words
+
+only_so : (divides begun : Bool) → (divides ≡ true → begun ≡ true) → begun ≡ false → divides ≡ false
+only_so true begun leads other = absurd (let is : begun ≡ true = leads refl in cc)
+only_so false begun leads other = refl
+
+-- a line with another first word does not divide
+pub divides_not : CertLinesAreReadWhereSpelt → (line : List ℕ) → same_word (first_of_words (words_of line)) (codes "CERTS") ≡ false → is_divider line ≡ false
+divides_not read line other = only_so (is_divider line) (same_word (first_of_words (words_of line)) (codes "CERTS")) (begins read line) other
 
 or_nothing : {A : Type 0} (o : Option A) → option_or o None ≡ o
 or_nothing None = refl

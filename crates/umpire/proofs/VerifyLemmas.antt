@@ -12,12 +12,14 @@ use Rattle.sheets.proofs.ContentLemmas.{too_long}
 use Rattle.sheets.specs.File.{Content, IsAccepted, content_of}
 use Rattle.sheets.specs.declared.fault.FileFault.{FileFault}
 use Rattle.sheets.specs.declared.fault.FileFault.TheVariants.{TooLong}
+use Rattle.tables.specs.declared.roster.Company.{Company}
+use Rattle.tables.specs.declared.round.Round.{Round}
 use Rattle.umpire.proofs.PartingLemmas.{found_within}
 use Rattle.umpire.specs.Groups.{groups_of}
 use Rattle.umpire.specs.Parting.{certificates_most, certificates_of, file_before, from_divider, order_file_of, without_newline}
 use Rattle.umpire.specs.Rounds.{IsTextOfRounds, TellsAllRounds}
 use Rattle.umpire.specs.Run.{IsFileOf, IsReadFault, IsReported, IsWriteFault}
-use Rattle.umpire.specs.Verify.{AnswersContent, AnswersGame, AnswersInput, HasAllGroups, IsAnswered, IsGameAnswered, IsRefusal, Refuses, StopsGame, StopsVerify, content_of_input}
+use Rattle.umpire.specs.Verify.{AnswersContent, AnswersGame, AnswersInput, HasAllGroups, IsAnswered, IsGameAnswered, IsRefusal, LacksGroup, Refuses, StopsGame, StopsVerify, content_of_input, uncertified_line}
 use Rattle.umpire.specs.declared.fault.Fault.{Fault}
 use Rattle.umpire.specs.declared.fault.Fault.TheVariants.{Read, Write, Memory, File, Certificate}
 
@@ -229,6 +231,14 @@ report_answers file groups old new all reported =
       answers = (all, subst (λ (other : List ℕ). IsReport other reported.text) reported.whole reported.report);
       written = reported.written;
     }
+
+-- one in which a call is the first that has none is answered by the line that says so
+pub refusal_answers_game :
+    (file : List ℕ) (groups : List (Option Group)) (old new : Option (List ℕ)) (failed : Bool) (round : Round) (company : Company) →
+    Appends old new (uncertified_line round company) → failed ≡ false → LacksGroup file groups round company →
+    StopsGame file groups old new failed (Certificate round company)
+refusal_answers_game file groups old new failed round company written unfailed lacks =
+    (unfailed, record { text = uncertified_line round company; answers = (lacks, refl); written = written })
 
 -- a fault of writing there
 pub writing_stops :

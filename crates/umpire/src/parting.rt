@@ -1,7 +1,7 @@
 ghost use Rattle.std.specs.Prelude.{◌≡◌, true, None, Some, MatchOption};
 ghost use Rattle.umpire.specs.Parting.{certificates_of, from_divider, is_divider, order_file_of, without_newline};
 
-use order_grammar::{Line, Order, read_cert_line};
+use order_grammar::{Line, Order, begins_with_word, cert_line_read_where_spelt, read_cert_line};
 use sheets::first_line;
 
 /// The most bytes of the text of certificates.
@@ -51,18 +51,22 @@ fn from_divider(text: &[u8]) -> Option<&[u8]>
     found
 }
 
-/// Whether a line is `CERTS 1`, of at most 2,048 bytes.
+/// Whether a line is `CERTS 1`, of at most 2,048 bytes. Most lines are none by their first word, and
+/// are not read further.
 #[tactic(auto, unfolding(crate::specs::Parting::is_divider))]
 fn is_divider(line: &[u8]) -> bool
     ensures { result ≡ is_divider line.now }
 {
-    matches!(
-        read_cert_line(line),
-        Ok(Line {
-            order: Order::Certs,
-            ..
-        })
-    )
+    // A law, which does nothing when it runs: what is read as an order has its words.
+    cert_line_read_where_spelt();
+    begins_with_word(line, b"CERTS")
+        && matches!(
+            read_cert_line(line),
+            Ok(Line {
+                order: Order::Certs,
+                ..
+            })
+        )
 }
 
 /// A text without the one LF that ends it.

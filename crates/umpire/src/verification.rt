@@ -72,11 +72,7 @@ pub fn verify<R: Read, W: Write>(
 }
 
 /// Writes the answer to an input.
-fn write_answer<W: Write>(
-    alloc: Global,
-    input: &[u8],
-    writer: &mut Watched<W>,
-) -> Result<(), Fault>
+fn write_answer<W: Write>(alloc: Global, input: &[u8], writer: &mut Watched<W>) -> Result<(), Fault>
     requires { has_failed writer.old ≡ false }
     ensures ok { OnOk result (IsAnswered (Some input.now) (Ok tt)
         (W.contents (inside writer.old)) (W.contents (inside writer.new))) }
@@ -162,11 +158,13 @@ fn play_checked(
     refused_calls_are_a_front();
     let mut checked = Checked::new(groups);
     let mut told = Vec::new(alloc);
-    while let Step::Played(_) = play.step(&mut checked)? {
+    loop {
+        if let Step::Ended(_) = play.step(&mut checked)? {
+            return Ok(told);
+        }
         let text = next_text(alloc, play)?;
         told.extend_from_slice(text.as_slice())?;
     }
-    Ok(told)
 }
 
 /// Writes the report of some sheets, of which all rounds are played and have this text.

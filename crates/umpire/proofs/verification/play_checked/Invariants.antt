@@ -8,7 +8,7 @@ use Rattle.umpire.proofs.verification.play_checked.Given as goal
 
 -- some steps have led here; their calls were answered by the groups that are used, the texts of their rounds were told,
 -- and no fault has broken play off
-pub record Checking (l : goal.Live-loop-play) : Type 0 where
+pub record Checking (l : goal.Live-loop-told) : Type 0 where
   pub steps : ℕ
   pub calls : List Call
   pub called : StepsCall steps l.fn.play.file l.play calls
@@ -17,9 +17,9 @@ pub record Checking (l : goal.Live-loop-play) : Type 0 where
   pub told : StepsTell rounds (started l.fn.play.file) l.play l.told.items
   pub unbroken : IsUnbroken l.play
 
-abbrev pub invariant-loop-play : goal.invariant-loop-play
-invariant-loop-play l = Checking l
+abbrev pub invariant-loop-told : goal.invariant-loop-told
+invariant-loop-told l = Checking l
 
 -- each round has a later place than the one before
-abbrev pub decreases-loop-play : goal.decreases-loop-play
-decreases-loop-play l = places_ahead l.play
+abbrev pub decreases-loop-told : goal.decreases-loop-told
+decreases-loop-told l = places_ahead l.play

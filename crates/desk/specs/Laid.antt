@@ -1,0 +1,11 @@
+-- What lies on the map after one more event: its tile, if it lays one, behind those that were laid, and its token, if it
+-- places one, behind those that were placed.
+use Rattle.std.specs.Prelude.{[], ◌++◌}
+use Rattle.std.specs.List.{cons_option}
+use Rattle.board.specs.Ground.{Ground, ground_of}
+use Rattle.history.specs.Event.{tile_laid, token_placed}
+use Rattle.history.specs.declared.event.Event.{Event}
+
+abbrev pub laid_then : Ground → Event → Ground
+laid_then laid event =
+    ground_of (laid.lays ++ cons_option (tile_laid event) []) (laid.tokens ++ cons_option (token_placed event) []) laid.phase
