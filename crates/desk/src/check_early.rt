@@ -74,7 +74,7 @@ fn find_faults<'a>(
 }
 
 /// What a line of a sheet is that is not played yet.
-#[derive(Clone, Copy, Debug, PartialEq, Eq)]
+#[derive(Clone, Copy)]
 enum Look {
     /// The head of a group or a block.
     Head,

@@ -3,7 +3,7 @@
 use tables::{Company, Private};
 
 /// What a name of a player is besides.
-#[derive(Clone, Copy, Debug, PartialEq, Eq)]
+#[derive(Clone, Copy)]
 pub(crate) enum Likeness {
     /// The code of a company.
     Company,

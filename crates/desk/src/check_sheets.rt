@@ -15,14 +15,14 @@ use std::collections::HashMap;
 use tables::{Round, Seat};
 
 /// Whose sheet for which round.
-#[derive(Clone, Copy, Debug, PartialEq, Eq, Hash)]
+#[derive(Clone, Copy, PartialEq, Eq, Hash)]
 pub(crate) struct Sent {
     pub(crate) seat: Seat,
     pub(crate) round: Round,
 }
 
 /// A good SHEET line.
-#[derive(Clone, Copy, Debug)]
+#[derive(Clone, Copy)]
 pub(crate) struct Head<'a> {
     /// The line.
     pub(crate) line: FileLine<'a>,
@@ -124,7 +124,7 @@ impl<'a> Heads<'a> {
 }
 
 /// What a line begins.
-#[derive(Clone, Copy, Debug, PartialEq, Eq)]
+#[derive(Clone, Copy)]
 pub(crate) enum Beginning {
     /// A sheet.
     Sheet(Sent),
@@ -183,8 +183,8 @@ fn seat_of(sheets: &Sheets, name: &Name) -> Option<Seat>
 
 /// Whether a seat's player has this name.
 fn is_named(sheets: &Sheets, seat: Seat, name: &Name) -> bool
-    ensures { result ≡ option_map_or (λ player. same_word player name.now) false
-        (slice_get (players_of sheets.now) seat.0) }
+    ensures { result ≡ option_map_or (λ player. same_word player name.now)
+        (slice_get (players_of sheets.now) seat.0) false }
 {
     match sheets.name(seat) {
         Some(player) => player == name.text(),

@@ -1,12 +1,15 @@
 -- Laws of reports: files whose sheets are read alike have reports that differ in the version alone; in which order
 -- the sheets of different players arrive changes nothing in the report; and the report is its parts, one after the
 -- other, also as they are told while the game is played.
-use Rattle.std.specs.Prelude.{◌≡◌, ℕ, List, [], ◌∷◌, ◌++◌, codes, decimal, None, Ok}
-use Rattle.std.specs.List.{flat_map}
+use Rattle.std.specs.Prelude.{◌≡◌, ℕ, List, [], ◌∷◌, ◌++◌, codes, decimal, None, Ok, ⊤}
+use Rattle.std.specs.List.{AllByRecursion, flat_map}
 use Rattle.history.specs.Event.{code_of_refusal}
+use Rattle.history.specs.declared.event.Event.{Event}
 use Rattle.history.specs.declared.event.Event.TheVariants.{Ruled}
 use Rattle.history.specs.declared.ruling.Refusal.{Refusal}
-use Rattle.history.specs.declared.ruling.Ruling.TheVariants.{Obeyed, Refused}
+use Rattle.history.specs.declared.ruling.Ruling.{Ruling}
+use Rattle.history.specs.declared.ruling.Ruling.TheVariants.{Obeyed, Refused, Faulty}
+use Rattle.order_grammar.specs.Fault.{code_of as code_of_fault}
 use Rattle.order_grammar.specs.Print.{spaced, spelling_of}
 use Rattle.order_grammar.specs.declared.condition.Version.TheVariants.{One}
 use Rattle.order_grammar.specs.declared.order.Order.{Order}
@@ -42,11 +45,25 @@ SamePartsSameReport =
     → IsReport first text
     → DiffersInVersion first second text
 
--- what a report says of a file of version 1, and of orders without a condition, such as all of its are: its first line
--- has that version, and a ruling has the spelling of its order alone
+-- what became of a line, with its order alone
+abbrev pub order_alone : Ruling → List (List ℕ)
+order_alone (Obeyed condition order) = codes "OBEYED" ∷ spelling_of order ∷ []
+order_alone (Refused rule condition order) = codes "REFUSED" ∷ code_of_refusal rule ∷ spelling_of order ∷ []
+order_alone (Faulty fault) = codes "REFUSED" ∷ code_of_fault fault ∷ []
+
+-- the line of an event that is a ruling tells no condition
+abbrev pub TellsNoCondition : List ℕ → Event → Type 0
+TellsNoCondition file (Ruled seat line ruling) =
+    event_line file (Ruled seat line ruling) ≡ line_of (name_of file seat) (decimal line ∷ order_alone ruling)
+TellsNoCondition file other = ⊤
+
+-- the report of a file of version 1 has that version in its first line, and tells no condition: each ruling of its game
+-- has the spelling of its order alone. So has that of each order without a condition, whatever the version of its file
 pub record PlainReports : Type 0 where
   pub head : (file : List ℕ) → version_of file ≡ One →
       header file ≡ codes "GAME 1830 1" ++ 10 ∷ codes "PLAYERS" ++ spaced (players_of file) ++ 10 ∷ []
+  pub rulings : (played : Played) → version_of played.file ≡ One → IsTheGame played →
+      AllByRecursion (TellsNoCondition played.file) played.game.events
   pub obeyed : (file : List ℕ) (seat : Seat) (line : ℕ) (order : Order) →
       event_line file (Ruled seat line (Obeyed None order))
       ≡ line_of (name_of file seat) (decimal line ∷ codes "OBEYED" ∷ spelling_of order ∷ [])

@@ -5,7 +5,7 @@ ghost use Rattle.std.specs.Prelude.{◌≡◌, ℕ, List};
 
 use rounds::{
     one_game, rounds_follow_in_order, rounds_only_add, same_parts_same_game,
-    same_sheets_are_read_alike, some_game, steps_play_the_game,
+    same_sheets_are_read_alike, some_game, steps_play_the_game, version_one_is_ruled_plainly,
 };
 use sheets::arrival_changes_nothing;
 
@@ -32,12 +32,14 @@ pub fn same_parts_same_report()
     same_parts_same_game()
 }
 
-/// A report of a file of version 1 has that version in its first line, and a ruling of an order
-/// without a condition has the spelling of the order alone. (No line of such a file stands under a
-/// condition: `sheets` has that law.)
+/// The report of a file of version 1 has that version in its first line, and tells no condition: each
+/// ruling of its game has the spelling of its order alone. So has that of each order without a
+/// condition, whatever the version of its file.
 pub fn plain_reports()
     ensures { PlainReports }
-{}
+{
+    version_one_is_ruled_plainly()
+}
 
 /// In which order the sheets of different players arrive changes nothing in the report: two accepted
 /// files of one version and the same players have one report, where each player sent the same sheets

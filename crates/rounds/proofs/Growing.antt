@@ -15,6 +15,7 @@ use Rattle.history.specs.declared.event.Event.TheVariants as event
 use Rattle.history.specs.declared.event.Holder.{Holder}
 use Rattle.operating.specs.PrivateLaws.{names_owner}
 use Rattle.operating.specs.SaleLaws.{sells_to_company}
+use Rattle.rounds.specs.Plain.{is_plain}
 use Rattle.sheets.specs.Part.{Numbered}
 use Rattle.tables.specs.Roster.{revenue_of}
 use Rattle.tables.specs.Seat.{seat_at}
@@ -50,6 +51,14 @@ Grows old new = GrowsBy is_aside old new
 abbrev pub GrowsStill : List Event → List Event → Type 0
 GrowsStill old new = GrowsBy is_still old new
 
+-- an event passes a test, and is plain
+abbrev pub and_plain : (Event → Bool) → Event → Bool
+and_plain test event = test event && is_plain event
+
+-- the list grows, and what is new passes a test and is plain
+abbrev pub GrowsPlainly : (Event → Bool) → List Event → List Event → Type 0
+GrowsPlainly test old new = GrowsBy (and_plain test) old new
+
 -- events that pass one test pass another
 pass_too : (test other : Event → Bool) → ((event : Event) → test event ≡ true → other event ≡ true) →
     (more : List Event) →
@@ -72,6 +81,26 @@ stands_aside =
     grows_too is_still is_aside
     (λ event still. (and_parts (is_aside event)
     (is_none (bidding_of event) && not (names_owner (ownership_of event))) still).0)
+
+-- what passes a test and is plain passes the test
+pub passes_test : (test : Event → Bool) (old new : List Event) → GrowsPlainly test old new → GrowsBy test old new
+passes_test test =
+    grows_too (and_plain test) test (λ event both. (and_parts (test event) (is_plain event) both).0)
+
+-- and is plain
+pub passes_plain : (test : Event → Bool) (old new : List Event) → GrowsPlainly test old new → GrowsBy is_plain old new
+passes_plain test =
+    grows_too (and_plain test) is_plain (λ event both. (and_parts (test event) (is_plain event) both).1)
+
+-- what is still and plain stands aside and is plain
+pub stands_plainly : (old new : List Event) → GrowsPlainly is_still old new → GrowsPlainly is_aside old new
+stands_plainly =
+    grows_too (and_plain is_still) (and_plain is_aside)
+    (λ event both.
+    let parts = and_parts (is_still event) (is_plain event) both in
+    let still =
+    and_parts (is_aside event) (is_none (bidding_of event) && not (names_owner (ownership_of event))) parts.0 in
+    ap (λ (b : Bool). b && is_plain event) still.0 ∙ parts.1)
 
 -- a list that stays as it is
 pub stays : {test : Event → Bool} (events : List Event) → GrowsBy test events events
@@ -102,8 +131,9 @@ in_either old one other true first second = first
 in_either old one other false first second = second
 
 -- by each step
-pub by_steps : (step : List Event → List Event) → ((events : List Event) → Grows events (step events)) →
-    (n : ℕ) (events : List Event) → Grows events (iterate step n events)
+pub by_steps : {test : Event → Bool} (step : List Event → List Event) →
+    ((events : List Event) → GrowsBy test events (step events)) →
+    (n : ℕ) (events : List Event) → GrowsBy test events (iterate step n events)
 by_steps step each zero events = stays events
 by_steps step each (suc n) events =
     further events (iterate step n events) (step (iterate step n events)) (by_steps step each n events)
@@ -115,14 +145,14 @@ pub told : {test : Event → Bool} (events : List Event) (event : Event) → tes
 told events event aside = record { more = event ∷ []; longer = refl; aside = ap (λ (b : Bool). b && true) aside }
 
 -- by BROKEN, where the bank breaks
-pub broken_grows : (seats : ℕ) (events : List Event) → GrowsStill events (with_broken seats events)
+pub broken_grows : (seats : ℕ) (events : List Event) → GrowsPlainly is_still events (with_broken seats events)
 broken_grows seats events =
     in_either events (events ++ event.Broken ∷ []) events (breaks seats events) (told events event.Broken refl)
     (stays events)
 
 -- by a revenue
 owner_grows : (seats : ℕ) (events : List Event) (private : Private) (owner : Option Holder) →
-    GrowsStill events (paid_to_owner seats events private owner)
+    GrowsPlainly is_still events (paid_to_owner seats events private owner)
 owner_grows seats events private None = stays events
 owner_grows seats events private (Some owner) =
     let paid : List Event = events ++ event.Revenue private owner (revenue_of private) ∷ [] in
@@ -131,7 +161,7 @@ owner_grows seats events private (Some owner) =
 
 -- by the revenues of some privates
 pub revenues_grow : (seats : ℕ) (events : List Event) (paying : List Private) →
-    GrowsStill events (after_revenues seats events paying)
+    GrowsPlainly is_still events (after_revenues seats events paying)
 revenues_grow seats events [] = stays events
 revenues_grow seats events (private ∷ others) =
     let paid : List Event = paid_to_owner seats events private (owner_of events private) in
@@ -153,7 +183,8 @@ by_turns play acts passes (suc n) start =
     (further at.now turned.state _ acted (passes seat turned.state)))
 
 -- a count of lines that were left stands aside
-pub count_aside : (seat : Seat) (count : ℕ) (none : Bool) (events : List Event) → list_all is_still events ≡ true →
-    list_all is_still (if none then events else event.Left seat count ∷ events) ≡ true
+pub count_aside : (seat : Seat) (count : ℕ) (none : Bool) (events : List Event) →
+    list_all (and_plain is_still) events ≡ true →
+    list_all (and_plain is_still) (if none then events else event.Left seat count ∷ events) ≡ true
 count_aside seat count true events aside = aside
 count_aside seat count false events aside = aside

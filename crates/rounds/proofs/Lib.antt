@@ -9,6 +9,8 @@ pub mod Arrival
 pub mod Example
 pub mod StockExample
 mod Growing
+mod PlainLines
+mod PlainTurns
 mod OpeningGrows
 mod StockGrows
 mod OperatingGrows
@@ -28,6 +30,8 @@ mod OpeningSteps
 mod OpeningSeats
 mod Closings
 mod Bids
+mod PlainCompany
+mod PlainGames
 pub mod GameEnds
 mod StepByStep
 mod CallsJoined

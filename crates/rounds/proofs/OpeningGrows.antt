@@ -17,9 +17,11 @@ use Rattle.privates.specs.Closing.{after_fall, after_passing, all_sold, closed, 
 use Rattle.privates.specs.Judgement.{price_of, refusal_of}
 use Rattle.privates.specs.Opening.{IsOpeningRound}
 use Rattle.privates.specs.Sale.{after_sale, gifts, settle, settled, settled_by, settled_of}
-use Rattle.privates.specs.Standing.{standing_ruling}
-use Rattle.privates.specs.Turn.{InTurn, acted, after_act, after_line, after_ruling, opening_rules}
-use Rattle.rounds.proofs.Growing.{Grows, by_steps, further, in_either, is_aside, revenues_grow, stands_aside, stays, told}
+use Rattle.privates.specs.Standing.{has_place_before, standing_refusal, standing_ruling}
+use Rattle.privates.specs.Turn.{InTurn, acted, after_act, after_line, after_ruling, opening_rules, ruling_in}
+use Rattle.rounds.proofs.Growing.{Grows, GrowsPlainly, and_plain, by_steps, further, in_either, is_aside, passes_plain, passes_test, revenues_grow, stands_plainly, stays, told}
+use Rattle.rounds.proofs.PlainLines.{recorded_plain, ruled_plain, ruling_plain}
+use Rattle.rounds.proofs.PlainTurns.{AddsPlain}
 use Rattle.sheets.specs.Part.{Numbered}
 use Rattle.tables.specs.Roster.{privates}
 use Rattle.tables.specs.declared.roster.Private.{Private}
@@ -31,7 +33,8 @@ use Rattle.turns.proofs.Ruled.{of_ruled}
 use Rattle.turns.specs.Ruling.{has_place_in_group, obeyed_by, recorded}
 
 -- what comes with a sale stands aside
-gifts_aside : (events : List Event) (private : Private) (buyer : Seat) → list_all is_aside (gifts events private buyer) ≡ true
+gifts_aside : (events : List Event) (private : Private) (buyer : Seat) →
+    list_all (and_plain is_aside) (gifts events private buyer) ≡ true
 gifts_aside events private.SchuylkillValley buyer = refl
 gifts_aside events private.ChamplainStLawrence buyer = refl
 gifts_aside events private.DelawareHudson buyer = refl
@@ -40,29 +43,33 @@ gifts_aside events private.CamdenAmboy buyer = refl
 gifts_aside events private.BaltimoreOhio buyer = refl
 
 -- by a sale
-sale_grows : (events : List Event) (private : Private) (buyer : Seat) (price : ℕ) → Grows events (after_sale events private buyer price)
+sale_grows : (events : List Event) (private : Private) (buyer : Seat) (price : ℕ) →
+    GrowsPlainly is_aside events (after_sale events private buyer price)
 sale_grows events private buyer price =
     record { more = _; longer = refl; aside = gifts_aside events private buyer }
 
 -- by the sale that the bids on a private bring
-bids_grow : (seats : ℕ) (events : List Event) (private : Private) (bids : List Bid) → Grows events (settled_by seats events private bids)
+bids_grow : (seats : ℕ) (events : List Event) (private : Private) (bids : List Bid) →
+    GrowsPlainly is_aside events (settled_by seats events private bids)
 bids_grow seats events private [] = stays events
 bids_grow seats events private (bid ∷ []) = sale_grows events private bid.seat bid.amount
 bids_grow seats events private (bid ∷ other ∷ bids) = sale_grows events private _ _
 
 -- by that of the cheapest private
-cheapest_grows : (seats : ℕ) (events : List Event) (cheapest : Option Private) → Grows events (settled_of seats events cheapest)
+cheapest_grows : (seats : ℕ) (events : List Event) (cheapest : Option Private) →
+    GrowsPlainly is_aside events (settled_of seats events cheapest)
 cheapest_grows seats events None = stays events
 cheapest_grows seats events (Some private) = bids_grow seats events private (bids_on seats events private)
 
 -- by the sales that follow from a sale
-settled_grows : (seats : ℕ) (events : List Event) → Grows events (settled seats events)
+settled_grows : (seats : ℕ) (events : List Event) → GrowsPlainly is_aside events (settled seats events)
 unfolding settled
 settled_grows seats events =
     by_steps (settle seats) (λ list. cheapest_grows seats list (cheapest_of list)) 6 events
 
 -- by an order that was obeyed
-act_grows : (seats : ℕ) (seat : Seat) (events : List Event) (done : Order) → Grows events (after_act seats seat events done)
+act_grows : (seats : ℕ) (seat : Seat) (events : List Event) (done : Order) →
+    GrowsPlainly is_aside events (after_act seats seat events done)
 act_grows seats seat events (order.BuyPrivate private) =
     let sold : List Event = after_sale events private seat (price_of events private) in
     further events sold (settled seats sold) (sale_grows events private seat (price_of events private)) (settled_grows seats sold)
@@ -75,10 +82,12 @@ done_grows : (seats : ℕ) (seat : Seat) (turn : InTurn) (number : ℕ) (conditi
 done_grows seats seat turn number condition done =
     let ruled : List Event = recorded seat number (ruling.Obeyed condition done) turn.events in
     further turn.events ruled (after_act seats seat ruled done)
-    (told turn.events (event.Ruled seat number (ruling.Obeyed condition done)) refl) (act_grows seats seat ruled done)
+    (told turn.events (event.Ruled seat number (ruling.Obeyed condition done)) refl)
+    (passes_test is_aside ruled (after_act seats seat ruled done) (act_grows seats seat ruled done))
 
 -- by a line of a turn
-line_grows : (seats : ℕ) (seat : Seat) (turn : InTurn) (line : Numbered) → Grows turn.events (after_line seats seat turn line).events
+line_grows : (seats : ℕ) (seat : Seat) (turn : InTurn) (line : Numbered) →
+    Grows turn.events (after_line seats seat turn line).events
 line_grows seats seat turn line =
     of_ruled (acted seats seat) (refusal_of seats turn.events seat turn.deeds) seat turn line.number (λ (after : InTurn). Grows turn.events after.events)
     (λ (ruled : Ruling) (none : obeyed_by ruled ≡ None). told turn.events (event.Ruled seat line.number ruled) refl)
@@ -87,7 +96,8 @@ line_grows seats seat turn line =
     has_place_in_group turn.events line
 
 -- by the fall of SV's price
-fall_grows : (seats : ℕ) (events : List Event) (price : ℕ) (holder : Seat) → Grows events (after_fall seats events price holder)
+fall_grows : (seats : ℕ) (events : List Event) (price : ℕ) (holder : Seat) →
+    GrowsPlainly is_aside events (after_fall seats events price holder)
 fall_grows seats events price holder =
     let given : List Event = given_away events holder in
     in_either events (settled seats given) (events ++ event.Price price ∷ []) (price == 0)
@@ -95,13 +105,14 @@ fall_grows seats events price holder =
     (record { more = _; longer = refl; aside = refl })
 
 -- by the close
-close_grows : (seats : ℕ) (events : List Event) → Grows events (closed seats events)
+close_grows : (seats : ℕ) (events : List Event) → GrowsPlainly is_aside events (closed seats events)
 close_grows seats events =
     in_either events events (after_passing seats events) (all_sold events) (stays events)
-    (in_either events (after_revenues seats events privates) (after_fall seats events (sv_price_of events - 5) (priority_of seats events)) (is_sold events private.SchuylkillValley) (stands_aside events (after_revenues seats events privates) (revenues_grow seats events privates)) (fall_grows seats events (sv_price_of events - 5) (priority_of seats events)))
+    (in_either events (after_revenues seats events privates) (after_fall seats events (sv_price_of events - 5) (priority_of seats events)) (is_sold events private.SchuylkillValley) (stands_plainly events (after_revenues seats events privates) (revenues_grow seats events privates)) (fall_grows seats events (sv_price_of events - 5) (priority_of seats events)))
 
 -- an opening round adds its own ROUND event, and then events that stand aside
-pub opening_grows : (file : List ℕ) (round : Round) (old new : Game) → IsOpeningRound file round old new → Grows (old.events ++ event.Round round ∷ []) new.events
+pub opening_grows : (file : List ℕ) (round : Round) (old new : Game) → IsOpeningRound file round old new →
+    Grows (old.events ++ event.Round round ∷ []) new.events
 opening_grows =
     round_leads opening_rules Grows
     (record {
@@ -110,6 +121,22 @@ opening_grows =
       standing = λ seat events line. told events (event.Ruled seat line.number (standing_ruling events line)) refl;
       line = line_grows;
       passes = λ events seat. told events (event.Passes seat) refl;
-      closed = close_grows;
+      closed = λ seats events. passes_test is_aside events (closed seats events) (close_grows seats events);
       leaves = λ events seat lines. told events (event.Left seat lines) refl;
     })
+
+-- a line without a condition adds but plain events, and so does the close
+pub opening_adds : AddsPlain opening_rules
+opening_adds =
+    record {
+      standing = λ seat events line plain.
+          recorded_plain seat line.number (standing_ruling events line) events
+          (ruling_plain has_place_before (standing_refusal events) events line plain);
+      line = λ seats seat turn line plain.
+          ruled_plain (acted seats seat)
+          (λ at done. passes_plain is_aside at.events (after_act seats seat at.events done)
+          (act_grows seats seat at.events done))
+          seat turn line.number (ruling_in seats seat turn line)
+          (ruling_plain has_place_in_group (refusal_of seats turn.events seat turn.deeds) turn.events line plain);
+      closed = λ seats events. passes_plain is_aside events (closed seats events) (close_grows seats events);
+    }

@@ -24,7 +24,7 @@ use Rattle.privates.specs.Closing.{after_fall, after_passing, all_sold, closed, 
 use Rattle.privates.specs.Judgement.{judgement_of, price_of, refusal_of}
 use Rattle.privates.specs.Sale.{after_sale, gifts, settle, settled, settled_by, settled_of}
 use Rattle.privates.specs.Turn.{InTurn, acted, after_line, after_ruling}
-use Rattle.rounds.proofs.Growing.{GrowsStill, is_still, revenues_grow}
+use Rattle.rounds.proofs.Growing.{GrowsStill, is_still, passes_test, revenues_grow}
 use Rattle.sheets.specs.Part.{Numbered}
 use Rattle.tables.specs.Roster.{privates}
 use Rattle.tables.specs.Steps.{iterate}
@@ -182,7 +182,8 @@ module _ (Sits : Seat → Type 0) (R : List Event → List Event → Type 0) (of
       R events (if sold then after_revenues seats events privates else after_fall seats events
       (sv_price_of events - 5) (priority_of seats events))
   of_passing seats events true is =
-      of_growing_still events (after_revenues seats events privates) (revenues_grow seats events privates)
+      of_growing_still events (after_revenues seats events privates)
+      (passes_test is_still events (after_revenues seats events privates) (revenues_grow seats events privates))
   of_passing seats events false is = of_fall seats events (sv_price_of events - 5) (priority_of seats events) is
 
   -- of the close

@@ -4,8 +4,9 @@ use Rattle.std.specs.List.{list_all, range_with_len}
 use Rattle.history.specs.LookBack.{Game}
 use Rattle.history.specs.declared.event.Event.{Event}
 use Rattle.history.specs.declared.event.Event.TheVariants as event
-use Rattle.operating.specs.Standing.{after_standing, after_standing_line}
-use Rattle.rounds.proofs.Growing.{Grows, GrowsStill, count_aside, further, is_still, revenues_grow, stands_aside, stays}
+use Rattle.operating.specs.Standing.{after_standing, after_standing_line, has_place_before, standing_judgement, standing_ruling}
+use Rattle.rounds.proofs.Growing.{Grows, GrowsPlainly, GrowsStill, and_plain, count_aside, further, is_still, passes_plain, passes_test, revenues_grow, stands_aside, stays}
+use Rattle.rounds.proofs.PlainLines.{GrowsPlain, SheetsArePlain, recorded_plain, ruling_plain, standing_plain}
 use Rattle.rounds.specs.OperatingRound.{finished, lines_left, opened, told_left}
 use Rattle.sheets.specs.Part.{Numbered, parts_for}
 use Rattle.sheets.specs.Taken.{after_all_before, after_each, after_lines_before}
@@ -15,7 +16,8 @@ use Rattle.tables.specs.declared.round.Round.{Round}
 use Rattle.tables.specs.declared.seat.Seat.{Seat}
 
 -- by standing lines
-standing_lines_grow : (seat : Seat) (events : List Event) (lines : List Numbered) → GrowsStill events (after_each (after_standing_line seat) events lines)
+standing_lines_grow : (seat : Seat) (events : List Event) (lines : List Numbered) →
+    GrowsStill events (after_each (after_standing_line seat) events lines)
 standing_lines_grow seat events [] = stays events
 standing_lines_grow seat events (line ∷ lines) =
     further events (after_standing_line seat events line) _ (record { more = _; longer = refl; aside = refl })
@@ -31,25 +33,55 @@ standing_grows file round events (seat ∷ seats) =
     (standing_grows file round (after_lines_before after_standing_line file round events seat) seats)
 
 -- by those and the revenues
-pub opened_still : (file : List ℕ) (round : Round) (old : Game) → GrowsStill (old.events ++ event.Round round ∷ []) (opened file round old).events
+pub opened_still : (file : List ℕ) (round : Round) (old : Game) →
+    GrowsStill (old.events ++ event.Round round ∷ []) (opened file round old).events
 opened_still file round old =
     let begun : List Event = old.events ++ event.Round round ∷ [] in
     let ruled : List Event = after_standing old.seats file round begun in
-    further begun ruled _ (standing_grows file round begun (range_with_len 0 old.seats)) (revenues_grow old.seats ruled privates)
+    further begun ruled _ (standing_grows file round begun (range_with_len 0 old.seats))
+    (passes_test is_still ruled (opened file round old).events (revenues_grow old.seats ruled privates))
 
--- the counts of lines that were left are still
-left_aside : (file : List ℕ) (round : Round) (events : List Event) (seats : List ℕ) → list_all is_still (told_left file round events seats) ≡ true
+-- the counts of lines that were left are still and plain
+left_aside : (file : List ℕ) (round : Round) (events : List Event) (seats : List ℕ) →
+    list_all (and_plain is_still) (told_left file round events seats) ≡ true
 left_aside file round events [] = refl
 left_aside file round events (seat ∷ seats) =
     let count : ℕ = lines_left file round events (seat_at seat) in
     count_aside (seat_at seat) count (count == 0) (told_left file round events seats) (left_aside file round events seats)
 
 -- by those counts
-pub finished_still : (file : List ℕ) (round : Round) (seats : ℕ) (events : List Event) → GrowsStill events (finished file round seats events)
-finished_still file round seats events =
+finished_grows : (file : List ℕ) (round : Round) (seats : ℕ) (events : List Event) →
+    GrowsPlainly is_still events (finished file round seats events)
+finished_grows file round seats events =
     record { more = _; longer = refl; aside = left_aside file round events (range_with_len 0 seats) }
 
+-- so it is still
+pub finished_still : (file : List ℕ) (round : Round) (seats : ℕ) (events : List Event) →
+    GrowsStill events (finished file round seats events)
+finished_still file round seats events =
+    passes_test is_still events (finished file round seats events) (finished_grows file round seats events)
+
 -- those events stand aside
-pub opened_grows : (file : List ℕ) (round : Round) (old : Game) → Grows (old.events ++ event.Round round ∷ []) (opened file round old).events
+pub opened_grows : (file : List ℕ) (round : Round) (old : Game) →
+    Grows (old.events ++ event.Round round ∷ []) (opened file round old).events
 opened_grows file round old =
     stands_aside (old.events ++ event.Round round ∷ []) (opened file round old).events (opened_still file round old)
+
+-- where no sheet has a condition, the events before the first company are plain
+pub opened_adds : (file : List ℕ) (round : Round) (old : Game) → SheetsArePlain file round →
+    GrowsPlain (old.events ++ event.Round round ∷ []) (opened file round old).events
+opened_adds file round old sheets =
+    let begun : List Event = old.events ++ event.Round round ∷ [] in
+    let ruled : List Event = after_standing old.seats file round begun in
+    further begun ruled (opened file round old).events
+    (standing_plain after_standing_line
+    (λ seat events line plain. recorded_plain seat line.number (standing_ruling events seat line) events
+    (ruling_plain has_place_before (standing_judgement events seat) events line plain))
+    file round sheets begun (range_with_len 0 old.seats))
+    (passes_plain is_still ruled (opened file round old).events (revenues_grow old.seats ruled privates))
+
+-- and those after its last
+pub finished_adds : (file : List ℕ) (round : Round) (seats : ℕ) (events : List Event) →
+    GrowsPlain events (finished file round seats events)
+finished_adds file round seats events =
+    passes_plain is_still events (finished file round seats events) (finished_grows file round seats events)

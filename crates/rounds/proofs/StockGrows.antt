@@ -17,14 +17,16 @@ use Rattle.order_grammar.specs.declared.condition.Condition.{Condition}
 use Rattle.order_grammar.specs.declared.order.Order.{Order}
 use Rattle.order_grammar.specs.declared.order.Order.TheVariants as order
 use Rattle.order_grammar.specs.declared.order.ShareSource.{ShareSource}
-use Rattle.rounds.proofs.Growing.{Grows, GrowsStill, broken_grows, further, in_either, stands_aside, stays, told}
+use Rattle.rounds.proofs.Growing.{Grows, GrowsPlainly, GrowsStill, broken_grows, further, in_either, is_still, passes_plain, passes_test, stands_aside, stays, told}
+use Rattle.rounds.proofs.PlainLines.{recorded_plain, ruled_plain, ruling_plain}
+use Rattle.rounds.proofs.PlainTurns.{AddsPlain}
 use Rattle.sheets.specs.Part.{Numbered}
 use Rattle.stock_round.specs.Act.{after_act, after_exchange, after_purchase, bought, exchanged, floated_at, is_to_float, with_float}
 use Rattle.stock_round.specs.Closing.{all_risen, is_sold_out, risen}
 use Rattle.stock_round.specs.Judgement.{exchange_source, refusal_of}
 use Rattle.stock_round.specs.Standing.{fault_of_standing}
 use Rattle.stock_round.specs.StockRound.{IsStockRound}
-use Rattle.stock_round.specs.Turn.{InTurn, acted, after_line, after_ruling, stock_rules}
+use Rattle.stock_round.specs.Turn.{InTurn, acted, after_line, after_ruling, ruling_in, stock_rules}
 use Rattle.tables.specs.declared.roster.Company.{Company}
 use Rattle.tables.specs.declared.roster.Company.TheVariants.{NewYorkCentral}
 use Rattle.tables.specs.declared.round.Round.{Round}
@@ -35,7 +37,8 @@ use Rattle.turns.proofs.Ruled.{of_ruled}
 use Rattle.turns.specs.Ruling.{has_place_in_group, obeyed_by, recorded}
 
 -- by the presidency of a company, where it moves from this seat, if any has it
-successor_grows : (seats : ℕ) (events : List Event) (company : Company) (old : Option Seat) → GrowsStill events (with_successor seats events company old)
+successor_grows : (seats : ℕ) (events : List Event) (company : Company) (old : Option Seat) →
+    GrowsPlainly is_still events (with_successor seats events company old)
 successor_grows seats events company None = stays events
 successor_grows seats events company (Some old) =
     let new : Seat = successor_of seats events company old in
@@ -43,30 +46,35 @@ successor_grows seats events company (Some old) =
     (told events (event.President company new) refl)
 
 -- by a presidency that moves
-president_grows : (seats : ℕ) (events : List Event) (company : Company) → GrowsStill events (with_president seats events company)
+president_grows : (seats : ℕ) (events : List Event) (company : Company) →
+    GrowsPlainly is_still events (with_president seats events company)
 president_grows seats events company = successor_grows seats events company (president_of events company)
 
 -- by the float of a company with this par value
-floated_grows : (seats : ℕ) (events : List Event) (company : Company) (par : ℕ) → GrowsStill events (floated_at seats events company par)
+floated_grows : (seats : ℕ) (events : List Event) (company : Company) (par : ℕ) →
+    GrowsPlainly is_still events (floated_at seats events company par)
 floated_grows seats events company par =
     further events (events ++ event.Floats company (10 * par) ∷ []) _ (told events (event.Floats company (10 * par)) refl)
     (broken_grows seats (events ++ event.Floats company (10 * par) ∷ []))
 
 -- by a float
-float_grows : (seats : ℕ) (events : List Event) (company : Company) → GrowsStill events (with_float seats events company)
+float_grows : (seats : ℕ) (events : List Event) (company : Company) →
+    GrowsPlainly is_still events (with_float seats events company)
 float_grows seats events company =
     in_either events (floated_at seats events company (unwrap_or (par_of events company) 0)) events (is_to_float events company)
     (floated_grows seats events company (unwrap_or (par_of events company) 0)) (stays events)
 
 -- by the move of a token from this square, if it is on one
-token_grows : (move : Square → Square) (events : List Event) (company : Company) (square : Option Square) → GrowsStill events (moved_from move events company square)
+pub token_grows : (move : Square → Square) (events : List Event) (company : Company) (square : Option Square) →
+    GrowsPlainly is_still events (moved_from move events company square)
 token_grows move events company None = stays events
 token_grows move events company (Some square) =
     in_either events events (events ++ event.Moves company (move square) ∷ []) (same_square (move square) square) (stays events)
     (told events (event.Moves company (move square)) refl)
 
 -- by a purchase
-purchase_grows : (seats : ℕ) (events : List Event) (seat : Seat) (company : Company) (from : ShareSource) → GrowsStill events (after_purchase seats events seat company from)
+purchase_grows : (seats : ℕ) (events : List Event) (seat : Seat) (company : Company) (from : ShareSource) →
+    GrowsPlainly is_still events (after_purchase seats events seat company from)
 purchase_grows seats events seat company from =
     let paid : List Event = bought events seat company from in
     let presided : List Event = with_president seats paid company in
@@ -74,7 +82,8 @@ purchase_grows seats events seat company from =
     (further paid presided _ (president_grows seats paid company) (float_grows seats presided company))
 
 -- by a sale
-sale_grows : (seats : ℕ) (events : List Event) (seat : Seat) (company : Company) (tenths : ℕ) → GrowsStill events (after_sale seats events seat company tenths)
+pub sale_grows : (seats : ℕ) (events : List Event) (seat : Seat) (company : Company) (tenths : ℕ) →
+    GrowsPlainly is_still events (after_sale seats events seat company tenths)
 sale_grows seats events seat company tenths =
     let told_so : List Event = events ++ event.Sells company seat tenths (tenths * market_price_of events company) ∷ [] in
     let paid : List Event = sold seats events seat company tenths in
@@ -84,7 +93,8 @@ sale_grows seats events seat company tenths =
     (further paid presided _ (president_grows seats paid company) (token_grows (fallen tenths) presided company (square_of presided company))))
 
 -- by an exchange
-exchange_grows : (seats : ℕ) (events : List Event) (seat : Seat) → GrowsStill events (after_exchange seats events seat)
+exchange_grows : (seats : ℕ) (events : List Event) (seat : Seat) →
+    GrowsPlainly is_still events (after_exchange seats events seat)
 exchange_grows seats events seat =
     let done : List Event = exchanged events seat in
     let presided : List Event = with_president seats done NewYorkCentral in
@@ -92,7 +102,8 @@ exchange_grows seats events seat =
     (further done presided _ (president_grows seats done NewYorkCentral) (float_grows seats presided NewYorkCentral))
 
 -- by an order that was obeyed
-act_grows : (seats : ℕ) (seat : Seat) (events : List Event) (done : Order) → GrowsStill events (after_act seats seat events done)
+act_grows : (seats : ℕ) (seat : Seat) (events : List Event) (done : Order) →
+    GrowsPlainly is_still events (after_act seats seat events done)
 act_grows seats seat events (order.Par company price) = record { more = _; longer = refl; aside = refl }
 act_grows seats seat events (order.BuyShare company from) = purchase_grows seats events seat company from
 act_grows seats seat events (order.Sell company tenths) = sale_grows seats events seat company tenths
@@ -105,10 +116,12 @@ done_grows : (seats : ℕ) (seat : Seat) (turn : InTurn) (number : ℕ) (conditi
 done_grows seats seat turn number condition done =
     let ruled : List Event = recorded seat number (ruling.Obeyed condition done) turn.events in
     further turn.events ruled (after_act seats seat ruled done)
-    (told turn.events (event.Ruled seat number (ruling.Obeyed condition done)) refl) (act_grows seats seat ruled done)
+    (told turn.events (event.Ruled seat number (ruling.Obeyed condition done)) refl)
+    (passes_test is_still ruled (after_act seats seat ruled done) (act_grows seats seat ruled done))
 
 -- by a line of a turn
-line_grows : (seats : ℕ) (seat : Seat) (turn : InTurn) (line : Numbered) → GrowsStill turn.events (after_line seats seat turn line).events
+line_grows : (seats : ℕ) (seat : Seat) (turn : InTurn) (line : Numbered) →
+    GrowsStill turn.events (after_line seats seat turn line).events
 line_grows seats seat turn line =
     of_ruled (acted seats seat) (refusal_of seats turn.events seat turn.deeds.bought) seat turn line.number (λ (after : InTurn). GrowsStill turn.events after.events)
     (λ (ruled : Ruling) (none : obeyed_by ruled ≡ None). told turn.events (event.Ruled seat line.number ruled) refl)
@@ -117,19 +130,21 @@ line_grows seats seat turn line =
     has_place_in_group turn.events line
 
 -- by the rise of a company that is sold out
-rise_grows : (events : List Event) (company : Company) → GrowsStill events (risen events company)
+rise_grows : (events : List Event) (company : Company) → GrowsPlainly is_still events (risen events company)
 rise_grows events company =
     in_either events (moved_from up_of events company (square_of events company)) events (is_sold_out events company)
     (token_grows up_of events company (square_of events company)) (stays events)
 
 -- by that of some companies
-rises_grow : (events : List Event) (companies : List Company) → GrowsStill events (all_risen events companies)
+rises_grow : (events : List Event) (companies : List Company) →
+    GrowsPlainly is_still events (all_risen events companies)
 rises_grow events [] = stays events
 rises_grow events (company ∷ others) =
     further events (risen events company) _ (rise_grows events company) (rises_grow (risen events company) others)
 
 -- a stock round adds its own ROUND event, and then events that are still
-pub stock_round_still : (file : List ℕ) (round : Round) (old new : Game) → IsStockRound file round old new → GrowsStill (old.events ++ event.Round round ∷ []) new.events
+pub stock_round_still : (file : List ℕ) (round : Round) (old new : Game) → IsStockRound file round old new →
+    GrowsStill (old.events ++ event.Round round ∷ []) new.events
 stock_round_still =
     round_leads stock_rules GrowsStill
     (record {
@@ -138,11 +153,31 @@ stock_round_still =
       standing = λ seat events line. told events (event.Ruled seat line.number (ruling.Faulty (fault_of_standing line.reading))) refl;
       line = line_grows;
       passes = λ events seat. told events (event.Passes seat) refl;
-      closed = λ seats events. rises_grow events (operating_order_of events);
+      closed = λ seats events.
+          let order : List Company = operating_order_of events in
+          passes_test is_still events (all_risen events order) (rises_grow events order);
       leaves = λ events seat lines. told events (event.Left seat lines) refl;
     })
 
 -- so they stand aside
-pub stock_round_grows : (file : List ℕ) (round : Round) (old new : Game) → IsStockRound file round old new → Grows (old.events ++ event.Round round ∷ []) new.events
+pub stock_round_grows : (file : List ℕ) (round : Round) (old new : Game) → IsStockRound file round old new →
+    Grows (old.events ++ event.Round round ∷ []) new.events
 stock_round_grows file round old new played =
     stands_aside (old.events ++ event.Round round ∷ []) new.events (stock_round_still file round old new played)
+
+-- a line without a condition adds but plain events, and so does the close
+pub stock_adds : AddsPlain stock_rules
+stock_adds =
+    record {
+      standing = λ seat events line plain.
+          recorded_plain seat line.number (ruling.Faulty (fault_of_standing line.reading)) events refl;
+      line = λ seats seat turn line plain.
+          ruled_plain (acted seats seat)
+          (λ at done. passes_plain is_still at.events (after_act seats seat at.events done)
+          (act_grows seats seat at.events done))
+          seat turn line.number (ruling_in seats seat turn line)
+          (ruling_plain has_place_in_group (refusal_of seats turn.events seat turn.deeds.bought) turn.events line plain);
+      closed = λ seats events.
+          let order : List Company = operating_order_of events in
+          passes_plain is_still events (all_risen events order) (rises_grow events order);
+    }

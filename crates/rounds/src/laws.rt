@@ -8,6 +8,7 @@ ghost use Rattle.rounds.specs.Ends.{BankruptcyEndsGames, BrokenBankEndsSets, Gam
 ghost use Rattle.rounds.specs.Example.{first_end, first_file, second_end, second_file};
 ghost use Rattle.rounds.specs.GameCalls.{CallsAreOfTheGame, EachGameCalls, OneListOfCalls, RefusedCallsAreAFront, SomeCalls};
 ghost use Rattle.rounds.specs.OperatingRound.{CompaniesOperateOnce, EndsSoon, OneOperatingRound};
+ghost use Rattle.rounds.specs.Plain.{VersionOneIsRuledPlainly};
 ghost use Rattle.rounds.specs.Play.{OneGame, Plays, SomeGame};
 ghost use Rattle.rounds.specs.Privates.{BidsRiseInEachGame, ClosedForGood, SellersAgreeInEachGame};
 ghost use Rattle.rounds.specs.ReadAlike.{SamePartsSameGame, SameSheetsAreReadAlike};
@@ -28,7 +29,9 @@ use operating::{
     sellers_agree_in_turns, turn_only_adds, turns_say_no_bid,
 };
 use privates::{one_opening_round, opening_bids_rise, opening_round_ends};
-use sheets::{arrival_changes_nothing, sheets_are_numbered, three_to_six_play};
+use sheets::{
+    arrival_changes_nothing, sheets_are_numbered, three_to_six_play, version_one_is_plain,
+};
 use stock_round::{one_stock_round, stock_round_ends};
 
 /// An operating round has at most one outcome: the sheets and the game before it say what the game
@@ -163,6 +166,14 @@ pub fn sellers_agree_in_each_game()
     ensures { SellersAgreeInEachGame }
 {
     sellers_agree_in_turns()
+}
+
+/// No ruling in the game of a file of version 1 is of an order under a condition, however many rounds
+/// were played.
+pub fn version_one_is_ruled_plainly()
+    ensures { VersionOneIsRuledPlainly }
+{
+    version_one_is_plain()
 }
 
 /// While the bank is not broken, some round follows each round in the sequence.

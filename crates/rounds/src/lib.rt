@@ -31,7 +31,7 @@ pub use laws::{
     operating_round_ends, phases_go_on_in_rounds, refused_calls_are_a_front,
     rounds_follow_in_order, rounds_only_add, same_parts_same_game, same_sheets_are_read_alike,
     second_example, sellers_agree_in_each_game, sequence_goes_forward, sets_keep_their_number,
-    some_calls, some_game, steps_call_the_game, steps_play_the_game,
+    some_calls, some_game, steps_call_the_game, steps_play_the_game, version_one_is_ruled_plainly,
 };
 pub use sequence::next;
 pub use steps::{Play, Step};

@@ -1,0 +1,163 @@
+-- The lines of a sheet of version 1 stand under no condition, and so does what becomes of them.
+use Rattle.std.proofs.Common.{◌≡◌, ℕ, ◌+◌, Bool, true, false, if◌then◌else◌, List, [], ◌∷◌, Option, Some, None, is_none, map, drop, Result, Ok, Err, slice_set, unwrap_or, refl, sym, subst, ap}
+use Rattle.std.specs.List.{AllByRecursion}
+use Rattle.history.specs.declared.event.Event.{Event}
+use Rattle.history.specs.declared.event.Event.TheVariants as event
+use Rattle.history.specs.declared.ruling.Refusal.{Refusal}
+use Rattle.history.specs.declared.ruling.Ruling.{Ruling}
+use Rattle.order_grammar.specs.declared.condition.Condition.{Condition}
+use Rattle.order_grammar.specs.declared.condition.Version.TheVariants.{One}
+use Rattle.order_grammar.specs.declared.fault.Fault.{Fault}
+use Rattle.order_grammar.specs.declared.fault.Fault.TheVariants.{OutOfPlace}
+use Rattle.order_grammar.specs.declared.order.Order.{Order}
+use Rattle.rounds.proofs.Growing.{GrowsBy, further, stays, told}
+use Rattle.rounds.specs.Plain.{condition_ruled, is_plain}
+use Rattle.sheets.specs.Block.{block_for, block_in, opens_block_of}
+use Rattle.sheets.specs.File.{sheet_of, version_of}
+use Rattle.sheets.specs.Laws.{VersionOneIsPlain, plain, plain_parts}
+use Rattle.sheets.specs.Part.{Numbered, Part, Parts, after_head, after_line, groups_of, opens_part, parts_for}
+use Rattle.sheets.specs.Taken.{after_all_before, after_each, after_lines_before}
+use Rattle.tables.specs.Seat.{seat_at}
+use Rattle.tables.specs.declared.roster.Company.{Company}
+use Rattle.tables.specs.declared.round.Round.{Round}
+use Rattle.tables.specs.declared.seat.Seat.{Seat}
+use Rattle.turns.specs.RoundOfTurns.{InTurn, in_turn}
+use Rattle.turns.specs.Ruling.{after_ruling, done, judged, line_ruling, obeyed_by, placed_ruling, recorded, ruling_of, under}
+
+-- the list grows, and what is new is plain
+abbrev pub GrowsPlain : List Event → List Event → Type 0
+GrowsPlain old new = GrowsBy is_plain old new
+
+-- a line stands under no condition
+abbrev pub IsPlain : Numbered → Type 0
+IsPlain line = line.condition ≡ None
+
+-- nor does each of these
+abbrev pub ArePlain : List Numbered → Type 0
+ArePlain lines = AllByRecursion IsPlain lines
+
+-- nor does each line of these groups or blocks
+abbrev pub GroupsArePlain : List (List Numbered) → Type 0
+GroupsArePlain groups = AllByRecursion ArePlain groups
+
+-- nor does each line of a sheet
+abbrev pub PartsArePlain : Parts → Type 0
+PartsArePlain parts = ArePlain parts.before × GroupsArePlain (groups_of parts)
+
+-- a line in front of parts
+with_plain : (head : Bool) (line : Numbered) (parts : Parts) → IsPlain line → PartsArePlain parts →
+    PartsArePlain (if head then after_head line parts else after_line line parts)
+with_plain true line parts is others = (tt, (others.0, others.1))
+with_plain false line parts is others = ((is, others.0), others.1)
+
+-- the parts of lines without conditions
+parts_plain : (opens : Result Order Fault → Bool) (lines : List (List ℕ)) (count : ℕ) →
+    PartsArePlain (plain_parts opens count lines)
+parts_plain opens [] count = (tt, tt)
+parts_plain opens (line ∷ lines) count =
+    let first : Numbered = plain (count + 1) line in
+    with_plain (opens first.reading) first (plain_parts opens (count + 1) lines) refl
+    (parts_plain opens lines (count + 1))
+
+-- each sheet for a round is so in a file of version 1
+abbrev pub SheetsArePlain : List ℕ → Round → Type 0
+SheetsArePlain file round = (seat : ℕ) → PartsArePlain (parts_for file round seat)
+
+pub sheets_plain : VersionOneIsPlain → (file : List ℕ) (round : Round) → version_of file ≡ One →
+    SheetsArePlain file round
+sheets_plain law file round one seat =
+    subst PartsArePlain (sym (law file round seat one))
+    (parts_plain (opens_part round) (unwrap_or (sheet_of file seat round) []) 0)
+
+-- the lines of one of two blocks
+either_plain : (test : Bool) (some others : List Numbered) → ArePlain some → ArePlain others →
+    ArePlain (if test then some else others)
+either_plain true some others first second = first
+either_plain false some others first second = second
+
+-- of the block of a company among these
+block_plain : (company : Company) (parts : List Part) → GroupsArePlain (map (λ part. part.lines) parts) →
+    ArePlain (block_in company parts)
+block_plain company [] are = tt
+block_plain company (part ∷ parts) are =
+    either_plain (opens_block_of company part.head.reading) part.lines (block_in company parts) are.0
+    (block_plain company parts are.1)
+
+-- and in a sheet
+pub block_for_plain : (file : List ℕ) (round : Round) → SheetsArePlain file round → (seat : ℕ) (company : Company) →
+    ArePlain (block_for file round seat company)
+block_for_plain file round sheets seat company =
+    block_plain company (parts_for file round seat).opened (sheets seat).1
+
+-- an order without a condition is ruled without one
+judged_plain : (condition : Option Condition) (order : Order) (broken : Option Refusal) → condition ≡ None →
+    condition_ruled (judged condition order broken) ≡ None
+judged_plain condition order None is = is
+judged_plain condition order (Some rule) is = is
+
+-- whether it has a place or not
+placed_plain : (has : Bool) (judgement : Order → Option Refusal) (condition : Option Condition) (order : Order) →
+    condition ≡ None →
+    condition_ruled (placed_ruling judgement condition (if has then Ok order else Err OutOfPlace)) ≡ None
+placed_plain true judgement condition order is = judged_plain condition order (judgement order) is
+placed_plain false judgement condition order is = refl
+
+-- a line by its reading
+reading_plain : (has_place : Order → Bool) (judgement : Order → Option Refusal) (condition : Option Condition)
+    (reading : Result Order Fault) → condition ≡ None →
+    condition_ruled (ruling_of has_place judgement condition reading) ≡ None
+reading_plain has_place judgement condition (Err fault) is = refl
+reading_plain has_place judgement condition (Ok order) is = placed_plain (has_place order) judgement condition order is
+
+-- so is a line without one
+pub ruling_plain : (has_place : Order → Bool) (judgement : Order → Option Refusal) (events : List Event)
+    (line : Numbered) →
+    IsPlain line → condition_ruled (line_ruling has_place judgement events line) ≡ None
+ruling_plain has_place judgement events line is =
+    reading_plain has_place (under events line.condition judgement) line.condition line.reading is
+
+-- such a ruling is plain
+pub recorded_plain : (seat : Seat) (number : ℕ) (ruling : Ruling) (events : List Event) →
+    condition_ruled ruling ≡ None →
+    GrowsPlain events (recorded seat number ruling events)
+recorded_plain seat number ruling events is =
+    told events (event.Ruled seat number ruling) (ap (λ (condition : Option Condition). is_none condition) is)
+
+module _ {Deeds : Type 0} (act : InTurn Deeds → Order → InTurn Deeds)
+    (acts : (turn : InTurn Deeds) (order : Order) → GrowsPlain turn.events (act turn order).events) where
+  -- what an order brings that is done, if there is one
+  done_plain : (turn : InTurn Deeds) (found : Option Order) → GrowsPlain turn.events (done act turn found).events
+  done_plain turn None = stays turn.events
+  done_plain turn (Some order) = acts turn order
+
+  -- in a turn, after a line without a condition
+  pub ruled_plain : (seat : Seat) (turn : InTurn Deeds) (number : ℕ) (ruling : Ruling) → condition_ruled ruling ≡ None →
+      GrowsPlain turn.events (after_ruling act seat turn number ruling).events
+  ruled_plain seat turn number ruling is =
+      let ruled : List Event = recorded seat number ruling turn.events in
+      further turn.events ruled (after_ruling act seat turn number ruling).events
+      (recorded_plain seat number ruling turn.events is)
+      (done_plain (in_turn ruled turn.deeds) (obeyed_by ruling))
+
+module _ (step : Seat → List Event → Numbered → List Event)
+    (adds : (seat : Seat) (events : List Event) (line : Numbered) → IsPlain line →
+    GrowsPlain events (step seat events line)) where
+  -- after the standing lines of a seat
+  before_plain : (seat : Seat) (events : List Event) (lines : List Numbered) → ArePlain lines →
+      GrowsPlain events (after_each (step seat) events lines)
+  before_plain seat events [] are = stays events
+  before_plain seat events (line ∷ lines) are =
+      let next : List Event = step seat events line in
+      further events next (after_each (step seat) next lines) (adds seat events line are.0)
+      (before_plain seat next lines are.1)
+
+  -- and of seats
+  pub standing_plain : (file : List ℕ) (round : Round) → SheetsArePlain file round →
+      (events : List Event) (seats : List ℕ) →
+      GrowsPlain events (after_all_before step file round events seats)
+  standing_plain file round sheets events [] = stays events
+  standing_plain file round sheets events (seat ∷ seats) =
+      let next : List Event = after_lines_before step file round events seat in
+      further events next (after_all_before step file round next seats)
+      (before_plain (seat_at seat) events (parts_for file round seat).before (sheets seat).0)
+      (standing_plain file round sheets next seats)
