@@ -96,13 +96,16 @@ impl<'a> Heads<'a> {
 
     /// Whether every player has a sheet for a round among those that came.
     fn has_all(&self, sheets: &Sheets, round: Round) -> bool {
-        (0..sheets.seats()).all(|seat| {
+        for number in 0..sheets.seats() {
             let sent = Sent {
-                seat: Seat::at(seat),
+                seat: Seat::at(number),
                 round,
             };
-            self.last.contains_key(&sent)
-        })
+            if !self.last.contains_key(&sent) {
+                return false;
+            }
+        }
+        true
     }
 
     /// The number of the line by which every player had a sheet for a round; `None` where one has none.
