@@ -5,3 +5,4 @@ pub mod RoundLemmas
 pub mod SentLemmas
 pub mod Refusals
 pub mod Orders
+pub mod Stacks
