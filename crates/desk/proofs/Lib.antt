@@ -7,3 +7,4 @@ pub mod RoundLemmas
 pub mod RoundParts
 pub mod SentLemmas
 pub mod Orders
+pub mod Stacks

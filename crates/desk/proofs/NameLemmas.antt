@@ -17,7 +17,7 @@ pointwise_is_same_word (x ∷ a) (y ∷ b) = ap (λ t. nat_eq x y && t) (pointwi
 
 -- the player of a seat has this name
 abbrev pub is_named : List (List ℕ) → ℕ → List ℕ → Bool
-is_named players seat name = option_map_or (λ player. same_word player name) false (slice_get players seat)
+is_named players seat name = option_map_or (λ player. same_word player name) (slice_get players seat) false
 
 -- a seat whose player has another name is passed
 passed : (k : ℕ) (players : List (List ℕ)) (n : ℕ) (name : List ℕ) →

@@ -1,5 +1,6 @@
 //! Sheets for rounds that are not played yet: whether the round can come, and the faults of their lines.
 ghost use Rattle.std.specs.Prelude.{◌≡◌, Ok};
+ghost use Rattle.desk.specs.Heads.{AreKept};
 ghost use Rattle.desk.specs.Unplayed.{has_place, has_place_before, has_place_behind, has_place_in_block, look_of};
 ghost use Rattle.sheets.specs.Part.{line_unread, opens_part};
 
@@ -21,7 +22,9 @@ pub(crate) fn find_unplayed<'a>(
     game: &Game,
     rounds: &Rounds,
     found: &mut Found<'a>,
-) -> Result<(), AllocError> {
+) -> Result<(), AllocError>
+    requires { AreKept heads.now }
+{
     let end = game.outcome();
     for head in &heads.heads {
         if !heads.counts(head) || rounds.has(head.sent.round) {
@@ -74,7 +77,7 @@ fn find_faults<'a>(
 }
 
 /// What a line of a sheet is that is not played yet.
-#[derive(Clone, Copy, Debug, PartialEq, Eq)]
+#[derive(Clone, Copy)]
 enum Look {
     /// The head of a group or a block.
     Head,

@@ -7,7 +7,7 @@ use order_grammar::{LINE_MOST, has_word};
 use sheets::first_line;
 
 /// A line of a file.
-#[derive(Clone, Copy, Debug)]
+#[derive(Clone, Copy)]
 pub(crate) struct FileLine<'a> {
     /// Its number in the file, from 1, blank ones counted.
     pub(crate) number: usize,
@@ -21,7 +21,7 @@ pub(crate) struct FileLine<'a> {
 }
 
 /// The lines of a file that are still to come.
-#[derive(Debug, Drop)]
+#[derive(Drop)]
 pub(crate) struct FileLines<'a> {
     /// How many came before them.
     pub(crate) passed: usize,

@@ -16,9 +16,7 @@ const HEADS: [&str; 8] = [
 /// says who is quoted, `On Friday Bob wrote:`.
 pub(crate) fn is_mail(line: &[u8]) -> bool {
     match line.first() {
-        Some(first) if is_begun_so(*first) => {
-            HEADS.iter().any(|head| line.starts_with(head.as_bytes())) || is_attribution(line)
-        }
+        Some(first) if is_begun_so(*first) => is_begun_as_mail(line) || is_attribution(line),
         _ => false,
     }
 }
@@ -26,6 +24,16 @@ pub(crate) fn is_mail(line: &[u8]) -> bool {
 /// Whether a line of a mail may begin with this byte.
 fn is_begun_so(byte: u8) -> bool {
     matches!(byte, b'F' | b'T' | b'C' | b'D' | b'S' | b'M' | b'O' | b'>')
+}
+
+/// Whether a line begins with one of those words.
+fn is_begun_as_mail(line: &[u8]) -> bool {
+    for head in HEADS {
+        if line.starts_with(head.as_bytes()) {
+            return true;
+        }
+    }
+    false
 }
 
 /// Whether a line says who is quoted.

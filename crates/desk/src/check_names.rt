@@ -3,7 +3,7 @@
 use tables::{Company, Private};
 
 /// What a name of a player is besides.
-#[derive(Clone, Copy, Debug, PartialEq, Eq)]
+#[derive(Clone, Copy)]
 pub(crate) enum Likeness {
     /// The code of a company.
     Company,
@@ -37,19 +37,30 @@ pub(crate) fn likeness_of(name: &[u8]) -> Option<Likeness> {
 
 /// Whether a name is the code of a company.
 fn is_company(name: &[u8]) -> bool {
-    Company::ALL
-        .iter()
-        .any(|company| company.code().as_bytes() == name)
+    for company in Company::ALL {
+        if company.code().as_bytes() == name {
+            return true;
+        }
+    }
+    false
 }
 
 /// Whether a name is the code of a private.
 fn is_private(name: &[u8]) -> bool {
-    Private::ALL
-        .iter()
-        .any(|private| private.code().as_bytes() == name)
+    for private in Private::ALL {
+        if private.code().as_bytes() == name {
+            return true;
+        }
+    }
+    false
 }
 
 /// Whether lines of a report begin with this word, or have it in the place of a name.
 fn is_word_of_reports(name: &[u8]) -> bool {
-    WORDS.iter().any(|word| word.as_bytes() == name)
+    for word in WORDS {
+        if word.as_bytes() == name {
+            return true;
+        }
+    }
+    false
 }

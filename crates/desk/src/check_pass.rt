@@ -34,6 +34,7 @@ struct Pass<'a> {
 }
 
 /// Passes over the file of some sheets: its good SHEET lines, and what was found on the way.
+#[tactic(auto, using(crate::proofs::HeadLemmas::heads_step, crate::proofs::HeadLemmas::heads_end))]
 pub(crate) fn pass_over<'a>(
     alloc: Global,
     sheets: &Sheets,

@@ -14,7 +14,7 @@ const BYTE_ORDER_MARK: &[u8] = b"\xEF\xBB\xBF";
 const GAME: u32 = 1830;
 
 /// Why a file is refused.
-#[derive(Clone, Copy, Debug, PartialEq, Eq)]
+#[derive(Clone, Copy)]
 pub(crate) enum Cause<'a> {
     /// The file as a whole is too large.
     TooLarge,
@@ -59,7 +59,7 @@ pub(crate) enum Cause<'a> {
 }
 
 /// A cause, with the line that it is about, if it is about one.
-#[derive(Clone, Copy, Debug)]
+#[derive(Clone, Copy)]
 pub(crate) struct Refusal<'a> {
     pub(crate) line: Option<FileLine<'a>>,
     pub(crate) cause: Cause<'a>,

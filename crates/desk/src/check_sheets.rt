@@ -15,14 +15,14 @@ use std::collections::HashMap;
 use tables::{Round, Seat};
 
 /// Whose sheet for which round.
-#[derive(Clone, Copy, Debug, PartialEq, Eq, Hash)]
+#[derive(Clone, Copy, PartialEq, Eq, Hash)]
 pub(crate) struct Sent {
     pub(crate) seat: Seat,
     pub(crate) round: Round,
 }
 
 /// A good SHEET line.
-#[derive(Clone, Copy, Debug)]
+#[derive(Clone, Copy)]
 pub(crate) struct Head<'a> {
     /// The line.
     pub(crate) line: FileLine<'a>,
@@ -96,13 +96,16 @@ impl<'a> Heads<'a> {
 
     /// Whether every player has a sheet for a round among those that came.
     fn has_all(&self, sheets: &Sheets, round: Round) -> bool {
-        (0..sheets.seats()).all(|seat| {
+        for number in 0..sheets.seats() {
             let sent = Sent {
-                seat: Seat::at(seat),
+                seat: Seat::at(number),
                 round,
             };
-            self.last.contains_key(&sent)
-        })
+            if !self.last.contains_key(&sent) {
+                return false;
+            }
+        }
+        true
     }
 
     /// The number of the line by which every player had a sheet for a round; `None` where one has none.
@@ -124,7 +127,7 @@ impl<'a> Heads<'a> {
 }
 
 /// What a line begins.
-#[derive(Clone, Copy, Debug, PartialEq, Eq)]
+#[derive(Clone, Copy)]
 pub(crate) enum Beginning {
     /// A sheet.
     Sheet(Sent),
@@ -183,8 +186,8 @@ fn seat_of(sheets: &Sheets, name: &Name) -> Option<Seat>
 
 /// Whether a seat's player has this name.
 fn is_named(sheets: &Sheets, seat: Seat, name: &Name) -> bool
-    ensures { result ≡ option_map_or (λ player. same_word player name.now) false
-        (slice_get (players_of sheets.now) seat.0) }
+    ensures { result ≡ option_map_or (λ player. same_word player name.now)
+        (slice_get (players_of sheets.now) seat.0) false }
 {
     match sheets.name(seat) {
         Some(player) => player == name.text(),

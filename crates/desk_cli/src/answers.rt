@@ -57,7 +57,7 @@ pub(crate) fn answer_to(alloc: Global, file: &[u8], task: Task) -> Result<Answer
 /// The answer that is a text.
 fn written(text: Vec<u8>) -> Answer {
     let note = if text.is_empty() {
-        "no round is played yet"
+        "no such round is played yet"
     } else {
         ""
     };
