@@ -177,12 +177,7 @@ fn turn_at(
 }
 
 /// The game of the sheets that stand before a line.
-fn turn_of(
-    alloc: Global,
-    sheets: &Sheets,
-    heads: &Heads,
-    head: &Head,
-) -> Result<Turn, AllocError> {
+fn turn_of(alloc: Global, sheets: &Sheets, heads: &Heads, head: &Head) -> Result<Turn, AllocError> {
     let game = play(alloc, sheets)?;
     Ok(Turn {
         line: head.line.number,

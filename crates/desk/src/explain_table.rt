@@ -99,17 +99,15 @@ static LINES: [Entry; 8] = [
 ];
 
 /// That of conditions.
-static CONDITIONS: [Entry; 1] = [
-    Entry {
-        code: "I1",
-        rule: "the condition does not hold as the line is taken up, or, of a standing line, as \
+static CONDITIONS: [Entry; 1] = [Entry {
+    code: "I1",
+    rule: "the condition does not hold as the line is taken up, or, of a standing line, as \
             the round begins",
-        advice: "nothing, where you meant that; else look at what the report tells above that \
+    advice: "nothing, where you meant that; else look at what the report tells above that \
             line: the price that the token's square has then, not the par; PHASE and FLOATED \
             lines; a company that is not started has no price",
-        game: Some("I1-PRICE-in-a-stock-round"),
-    },
-];
+    game: Some("I1-PRICE-in-a-stock-round"),
+}];
 
 /// Those of openings.
 static OPENINGS: [Entry; 7] = [
@@ -417,14 +415,12 @@ static RUNS: [Entry; 9] = [
 ];
 
 /// That of dividends.
-static DIVIDENDS: [Entry; 1] = [
-    Entry {
-        code: "D1",
-        rule: "the company has paid or withheld; or PAY stands where it has earned nothing",
-        advice: "write PAY or WITHHOLD once, after the runs and before the first TRAIN",
-        game: Some("D1-pay-step-used"),
-    },
-];
+static DIVIDENDS: [Entry; 1] = [Entry {
+    code: "D1",
+    rule: "the company has paid or withheld; or PAY stands where it has earned nothing",
+    advice: "write PAY or WITHHOLD once, after the runs and before the first TRAIN",
+    game: Some("D1-pay-step-used"),
+}];
 
 /// Those of trains.
 static TRAINS: [Entry; 7] = [
