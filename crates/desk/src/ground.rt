@@ -11,9 +11,17 @@ ghost use Rattle.operating.specs.Runs.{position_now};
 use best_run::best;
 use board::Board;
 use certificate::Claim;
-use history::{Event, Past, TrainCount, so_many};
+use history::{Event, Past, TrainCount, Walk, so_many};
 use std::alloc::{AllocError, Global};
 use tables::{Company, Kind, Money};
+
+/// Goes to the place behind so many events of a game. There are as many, which the prover does not
+/// see where they are gone through by number.
+pub(crate) fn go_behind(walk: &mut Walk, passed: usize) {
+    if passed <= walk.events.len() {
+        walk.go(passed);
+    }
+}
 
 /// The board as a game stood. It fails only if memory is refused.
 pub(crate) fn board_at(alloc: Global, past: &Past) -> Result<Board, AllocError>

@@ -1,7 +1,7 @@
 //! What the trains of each company ran in a round, stop by stop.
 
 use crate::fault::DeskFault;
-use crate::ground::{best_at, board_at};
+use crate::ground::{best_at, board_at, go_behind};
 use crate::text::{push_company, push_words};
 use board::Board;
 use certificate::ClaimedRun;
@@ -93,7 +93,7 @@ fn push_round(
             ordered = order_obeyed(ruling);
         }
         if let (true, Event::Runs { company, revenue }, Some(order)) = (within, event, &ordered) {
-            walk.go(passed);
+            go_behind(&mut walk, passed);
             let past = walk.past(history.seats());
             push_ran(alloc, out, &past, *company, *revenue, order)?;
         }

@@ -4,6 +4,7 @@ ghost use Rattle.desk.specs.RoundPart.{HasNoText, IsRoundFault, IsRoundPart, rou
 ghost use Rattle.report.specs.Report.{round_text_of};
 
 use crate::fault::DeskFault;
+use crate::ground::go_behind;
 use crate::why::push_why;
 use history::{Event, Walk};
 use report::round_text;
@@ -118,7 +119,7 @@ fn push_with_rules(
         }
         rest = push_first(out, rest)?;
         if let Event::Ruled { seat, ruling, .. } = event {
-            walk.go(passed);
+            go_behind(&mut walk, passed);
             push_why(
                 out,
                 game.sheets(),
