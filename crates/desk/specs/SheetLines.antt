@@ -50,6 +50,11 @@ last_line post [] = None
 last_line post (head ∷ heads) =
     option_or (last_line post heads) (if same_post head.post post then Some head.line else None)
 
+-- this is the line
+abbrev pub is_at : Option ℕ → ℕ → Bool
+is_at None number = false
+is_at (Some line) number = line == number
+
 -- each of some heads replaces the sheet that the last before it began for the same player and round
 abbrev pub ReplaceTheLast : List HeadAt → List Head → Type 0
 ReplaceTheLast before [] = ⊤

@@ -41,8 +41,9 @@ impl Rounds {
     fn note(&mut self, heads: &Heads, event: &Event) -> Result<(), AllocError>
         ensures { OnOk result (NotesEvent self.old event.now self.new) }
     {
-        let Some(round) = event.round() else {
-            return Ok(());
+        let round = match event.round() {
+            Some(round) => round,
+            None => return Ok(()),
         };
         self.by = heads.complete_by(round).unwrap_or(0).max(self.by);
         self.lines.insert(round, self.by)?;

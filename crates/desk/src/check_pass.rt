@@ -107,23 +107,25 @@ impl<'a> Pass<'a> {
         }
         self.preamble += 1;
         if self.preamble == PREAMBLE {
-            self.look_at_names(sheets, line)?;
+            look_at_names(sheets, line, &mut self.found)?;
         }
         Ok(())
     }
+}
 
-    /// Looks at the names of the players, which stand on this line.
-    fn look_at_names(&mut self, sheets: &Sheets, line: &FileLine<'a>) -> Result<(), AllocError>
-        ensures { self.new.heads ≡ self.old.heads }
-    {
-        for number in 0..sheets.seats() {
-            let seat = Seat::at(number);
-            if let Some(likeness) = likeness_of(name(sheets, seat)) {
-                self.found.tell(line, Matter::Name { seat, likeness })?;
-            }
+/// Looks at the names of the players, which stand on this line.
+fn look_at_names<'a>(
+    sheets: &Sheets,
+    line: &FileLine<'a>,
+    found: &mut Found<'a>,
+) -> Result<(), AllocError> {
+    for number in 0..sheets.seats() {
+        let seat = Seat::at(number);
+        if let Some(likeness) = likeness_of(name(sheets, seat)) {
+            found.tell(line, Matter::Name { seat, likeness })?;
         }
-        Ok(())
     }
+    Ok(())
 }
 
 /// The code of a line that is in no sheet.

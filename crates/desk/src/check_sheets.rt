@@ -1,8 +1,8 @@
 //! The SHEET lines of a file: whose sheet for which round each begins, and which it replaces.
-ghost use Rattle.std.specs.Prelude.{◌≡◌, ◌↔◌, IsTrue, OnOk, Some, [], false, option_map, slice_get};
+ghost use Rattle.std.specs.Prelude.{◌≡◌, OnOk, [], false, option_map, slice_get};
 ghost use Rattle.std.specs.Option.{option_map_or};
 ghost use Rattle.desk.specs.Heads.{AreKept, came, with_head};
-ghost use Rattle.desk.specs.SheetLines.{Begins, last_line, post_of};
+ghost use Rattle.desk.specs.SheetLines.{Begins, is_at, last_line, post_of};
 ghost use Rattle.order_grammar.specs.Line.{reading_of};
 ghost use Rattle.order_grammar.specs.Words.{same_word};
 ghost use Rattle.sheets.specs.File.{players_of, post_begun, seat_from};
@@ -116,8 +116,8 @@ impl<'a> Heads<'a> {
     /// Whether the sheet that a line begins counts: no later one replaces it.
     pub(crate) fn counts(&self, head: &Head) -> bool
         requires { AreKept self.now }
-        ensures { IsTrue result ↔ (last_line (post_of head.now.sent) (came self.now)
-            ≡ Some head.now.line.number) }
+        ensures { result ≡ is_at (last_line (post_of head.now.sent) (came self.now))
+            head.now.line.number }
     {
         match self.last.get(&head.sent) {
             Some(last) => *last == head.line.number,
@@ -185,6 +185,7 @@ fn seat_of(sheets: &Sheets, name: &Name) -> Option<Seat>
 }
 
 /// Whether a seat's player has this name.
+#[tactic(auto, using(crate::proofs::NameLemmas::pointwise_is_same_word))]
 fn is_named(sheets: &Sheets, seat: Seat, name: &Name) -> bool
     ensures { result ≡ option_map_or (λ player. same_word player name.now)
         (slice_get (players_of sheets.now) seat.0) false }

@@ -3,7 +3,7 @@ use Rattle.desk.proofs.RoundLemmas.{none_begun, one_begun}
 use Rattle.desk.proofs.check_late.Rounds.note.Goals as goal
 
 pub returns-in-None : goal.returns-in-None
-returns-in-None c = λ events h round. h round ∙ sym (none_begun events c.args.event.now round (sym c.round.ensures ∙ c.in-None.is))
+returns-in-None c = λ events h round. h round ∙ sym (none_begun events c.args.event.now round (sym c.in-None.ensures))
 
 pub returns : goal.returns
 returns c = λ events h round.
