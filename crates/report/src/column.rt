@@ -17,11 +17,7 @@ pub fn push_left(out: &mut Vec<u8>, text: &[u8], width: usize) -> Result<(), All
 /// Adds a number at the right of a column of so many bytes. A wider number is printed whole. An error
 /// where memory is refused.
 #[tactic(auto, unfolding(crate::specs::Column::at_right))]
-pub fn push_right<I: Integer>(
-    out: &mut Vec<u8>,
-    number: I,
-    width: usize,
-) -> Result<(), AllocError>
+pub fn push_right<I: Integer>(out: &mut Vec<u8>, number: I, width: usize) -> Result<(), AllocError>
     ensures { OnOk result (Adds out.old out.new (at_right width (I.text number))) }
 {
     let mut buffer = itoa::Buffer::new();

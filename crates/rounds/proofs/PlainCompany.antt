@@ -1,5 +1,5 @@
 -- A company's turn adds but plain events, where no line of its block has a condition.
-use Rattle.std.proofs.Common.{◌≡◌, ℕ, ◌==◌, Bool, true, false, if◌then◌else◌, List, [], ◌∷◌, Option, Some, None, is_none, option_map, Result, Ok, Err, ℤ, inl, inr, pos, refl, sym, subst, ap}
+use Rattle.std.proofs.Common.{◌≡◌, ℕ, ◌==◌, Bool, true, false, if◌then◌else◌, List, [], ◌∷◌, Option, Some, None, is_none, option_map, Result, Ok, Err, inl, inr, pos, refl, sym, subst, ap}
 use Rattle.std.specs.Int.RustNames.{unsigned_abs}
 use Rattle.std.specs.Int.Signed.{lt_z}
 use Rattle.certs.specs.declared.deal.Sale.{Sale}
@@ -13,7 +13,6 @@ use Rattle.history.specs.declared.event.Holder.{Holder}
 use Rattle.history.specs.declared.event.Holder.TheVariants as holder
 use Rattle.history.specs.declared.event.Shareholder.TheVariants as place
 use Rattle.history.specs.declared.ruling.LayRule.{LayRule}
-use Rattle.history.specs.declared.ruling.PayRule.{PayRule}
 use Rattle.history.specs.declared.ruling.Refusal.{Refusal}
 use Rattle.history.specs.declared.ruling.Refusal.TheVariants as refusal
 use Rattle.history.specs.declared.ruling.Ruling.{Ruling}
@@ -199,7 +198,8 @@ module _ (company : Company) (seat : Seat) (line : Numbered) (plain : IsPlain li
 
   -- by that it is obeyed, and what this brings
   by_obeyed : (turn : InTurn) (its : Order) (new : Game) →
-      AddsPlainly (told (operator company seat) turn line (Obeyed line.condition its)).game new → AddsPlainly turn.game new
+      AddsPlainly (told (operator company seat) turn line (Obeyed line.condition its)).game new →
+      AddsPlainly turn.game new
   by_obeyed turn its new brings =
       on.both turn.game (told (operator company seat) turn line (Obeyed line.condition its)).game new
       (by_ruling turn (Obeyed line.condition its) plain) brings
@@ -210,7 +210,8 @@ module _ (company : Company) (seat : Seat) (line : Numbered) (plain : IsPlain li
       TurnAdds turn (ruled (operator company seat) turn line its broken act)
   by_ruled turn its (Some rule) act acts = by_ruling turn (Refused rule line.condition its) plain
   by_ruled turn its None act acts =
-      by_obeyed turn its (ruled (operator company seat) turn line its None act).game (acts (told (operator company seat) turn line (Obeyed line.condition its)))
+      let obeyed : InTurn = told (operator company seat) turn line (Obeyed line.condition its) in
+      by_obeyed turn its (act obeyed).game (acts obeyed)
 
   -- LAY
   by_refused_lay : (turn : InTurn) (lay : Lay) (rule : Option LayRule) →
@@ -218,7 +219,8 @@ module _ (company : Company) (seat : Seat) (line : Numbered) (plain : IsPlain li
   by_refused_lay turn lay None = on.same turn.game
   by_refused_lay turn lay (Some rule) = by_ruling turn (Refused (refusal.Lay rule) line.condition (order.Lay lay)) plain
 
-  by_lay : (turn : InTurn) (lay : Lay) (new : InTurn) → LayLeads (operator company seat) turn line lay new → TurnAdds turn new
+  by_lay : (turn : InTurn) (lay : Lay) (new : InTurn) → LayLeads (operator company seat) turn line lay new →
+      TurnAdds turn new
   by_lay turn lay new leads =
       let obeyed : InTurn = told (operator company seat) turn line (Obeyed line.condition (order.Lay lay)) in
       subst (TurnAdds turn) (sym leads.after)
@@ -236,7 +238,8 @@ module _ (company : Company) (seat : Seat) (line : Numbered) (plain : IsPlain li
   by_refused_token turn at (Some rule) =
       by_ruling turn (Refused (refusal.Token rule) line.condition (order.Token at)) plain
 
-  by_token : (turn : InTurn) (at : Place) (new : InTurn) → TokenLeads (operator company seat) turn line at new → TurnAdds turn new
+  by_token : (turn : InTurn) (at : Place) (new : InTurn) → TokenLeads (operator company seat) turn line at new →
+      TurnAdds turn new
   by_token turn at new leads =
       let obeyed : InTurn = told (operator company seat) turn line (Obeyed line.condition (order.Token at)) in
       subst (TurnAdds turn) (sym leads.after)
@@ -252,7 +255,8 @@ module _ (company : Company) (seat : Seat) (line : Numbered) (plain : IsPlain li
       TurnAdds turn (after_run (operator company seat) turn line (order.Run kind run) kind run)
   by_run turn kind run =
       let obeyed : InTurn = told (operator company seat) turn line (Obeyed line.condition (order.Run kind run)) in
-      elim (judged_run turn company kind run) as (λ judged. TurnAdds turn (run_ruled (operator company seat) turn line (order.Run kind run) judged)) [
+      elim (judged_run turn company kind run) as (λ judged. TurnAdds turn
+      (run_ruled (operator company seat) turn line (order.Run kind run) judged)) [
         | Err rule ↦ by_ruling turn (Refused (refusal.Run rule) line.condition (order.Run kind run)) plain
         | Ok ran ↦
             let runs : Event = event.Runs company ran.earned in
@@ -260,7 +264,8 @@ module _ (company : Company) (seat : Seat) (line : Numbered) (plain : IsPlain li
       ]
 
   -- RUN BEST
-  by_best : (turn : InTurn) (rule : Option RunRule) (new : InTurn) → BestRuled (operator company seat) turn line rule new →
+  by_best : (turn : InTurn) (rule : Option RunRule) (new : InTurn) →
+      BestRuled (operator company seat) turn line rule new →
       TurnAdds turn new
   by_best turn (Some rule) new leads =
       subst (TurnAdds turn) (sym leads)
@@ -268,10 +273,12 @@ module _ (company : Company) (seat : Seat) (line : Numbered) (plain : IsPlain li
   by_best turn None new leads =
       subst (TurnAdds turn) (sym leads.2)
       (by_obeyed turn order.RunBest (best_earned (operator company seat) turn line leads.0).game
-      (by_event (told (operator company seat) turn line (Obeyed line.condition order.RunBest)).game (event.Runs company leads.0) refl))
+      (by_event (told (operator company seat) turn line (Obeyed line.condition order.RunBest)).game
+      (event.Runs company leads.0) refl))
 
   -- an order in this line
-  by_order : (turn : InTurn) (its : Order) (new : InTurn) → OrderLeads (operator company seat) turn line its new → TurnAdds turn new
+  by_order : (turn : InTurn) (its : Order) (new : InTurn) → OrderLeads (operator company seat) turn line its new →
+      TurnAdds turn new
   by_order turn (order.Lay lay) new leads = by_lay turn lay new leads
   by_order turn (order.Token at) new leads = by_token turn at new leads
   by_order turn (order.Run kind run) new leads = subst (TurnAdds turn) (sym leads) (by_run turn kind run)
@@ -309,7 +316,8 @@ module _ (company : Company) (seat : Seat) (line : Numbered) (plain : IsPlain li
   by_order turn other new leads = subst (TurnAdds turn) (sym leads) (by_ruling turn (Faulty OutOfPlace) refl)
 
   -- one that is asked for its condition
-  by_asked : (turn : InTurn) (its : Order) (held : Bool) (new : InTurn) → AskedLeads (operator company seat) turn line its held new →
+  by_asked : (turn : InTurn) (its : Order) (held : Bool) (new : InTurn) →
+      AskedLeads (operator company seat) turn line its held new →
       TurnAdds turn new
   by_asked turn its true new leads =
       subst (TurnAdds turn) (sym leads)
@@ -317,7 +325,8 @@ module _ (company : Company) (seat : Seat) (line : Numbered) (plain : IsPlain li
   by_asked turn its false new leads = by_order turn its new leads
 
   -- the line
-  by_line : (turn : InTurn) (reading : Result Order Fault) (new : InTurn) → ReadingLeads (operator company seat) turn line reading new →
+  by_line : (turn : InTurn) (reading : Result Order Fault) (new : InTurn) →
+      ReadingLeads (operator company seat) turn line reading new →
       TurnAdds turn new
   by_line turn (Err fault) new leads = subst (TurnAdds turn) (sym leads) (by_ruling turn (Faulty fault) refl)
   by_line turn (Ok its) new leads = by_asked turn its (is_held turn.game.events line.condition its) new leads
@@ -345,7 +354,8 @@ module _ (company : Company) (seat : Seat) (line : Numbered) (plain : IsPlain li
 
 module _ (company : Company) (seat : Seat) where
   -- lines of the block
-  by_lines : (turn : InTurn) (lines : List Numbered) (new : InTurn) → ArePlain lines → LinesLead (operator company seat) turn lines new →
+  by_lines : (turn : InTurn) (lines : List Numbered) (new : InTurn) → ArePlain lines →
+      LinesLead (operator company seat) turn lines new →
       TurnAdds turn new
   by_lines turn [] new are leads =
       subst (TurnAdds turn) (sym leads) (on.same turn.game)
@@ -359,19 +369,22 @@ module _ (company : Company) (seat : Seat) where
   by_raises due [] game are = on.same game
   by_raises due (line ∷ lines) game are =
       let next : Game = after_raise_line due (operator company seat) game line line.reading in
-      on.both game next (after_raises due (operator company seat) next lines) (by_raise company seat line are.0 due game line.reading)
+      on.both game next (after_raises due (operator company seat) next lines)
+      (by_raise company seat line are.0 due game line.reading)
       (by_raises due lines next are.1)
 
   -- single tenths that are sold
-  by_one_sold : (game : Game) (found : Option Company) → AddsPlainly game (with_one_sold (operator company seat) game found)
+  by_one_sold : (game : Game) (found : Option Company) →
+      AddsPlainly game (with_one_sold (operator company seat) game found)
   by_one_sold game None = on.same game
   by_one_sold game (Some its) = by_sale company seat game (one_tenth its)
 
   by_further : (game : Game) → AddsPlainly game (sold_further (operator company seat) game)
   unfolding sold_further
   by_further game =
-      of_choice AddsPlainly (falls_short (operator company seat) game) game (with_one_sold (operator company seat) game (next_to_sell (operator company seat) game)) game
-      (by_one_sold game (next_to_sell (operator company seat) game)) (on.same game)
+      let found : Option Company = next_to_sell (operator company seat) game in
+      of_choice AddsPlainly (falls_short (operator company seat) game) game
+      (with_one_sold (operator company seat) game found) game (by_one_sold game found) (on.same game)
 
   by_singly : (game : Game) → AddsPlainly game (sold_singly (operator company seat) game)
   unfolding sold_singly
@@ -409,7 +422,8 @@ module _ (company : Company) (seat : Seat) where
       (on.both game aided (after_train aided company purchase) (by_aid game) (by_cheapest aided game.events))
 
   -- a purchase that is due
-  by_forced : (lines : List Numbered) (game : Game) → ArePlain lines → AddsPlainly game (after_forced (operator company seat) lines game)
+  by_forced : (lines : List Numbered) (game : Game) → ArePlain lines →
+      AddsPlainly game (after_forced (operator company seat) lines game)
   unfolding after_forced
   by_forced lines game are =
       let due : Game = with_event game (event.Forced company) in
@@ -420,7 +434,8 @@ module _ (company : Company) (seat : Seat) where
       (on.both raised gained (concluded (operator company seat) gained) (by_singly raised) (by_concluded gained)))
 
   -- the end of the turn
-  by_end : (lines : List Numbered) (game new : Game) → ArePlain lines → EndLeads (operator company seat) lines game new →
+  by_end : (lines : List Numbered) (game new : Game) → ArePlain lines →
+      EndLeads (operator company seat) lines game new →
       AddsPlainly game new
   by_end lines game new are (inl due) = subst (AddsPlainly game) (sym due.1) (by_forced lines game are)
   by_end lines game new are (inr none) = subst (AddsPlainly game) (sym none.1) (by_raises false lines game are)

@@ -5,7 +5,6 @@ use Rattle.std.specs.List.{list_all}
 use Rattle.history.specs.LookBack.{Game}
 use Rattle.history.specs.declared.event.Event.{Event}
 use Rattle.history.specs.declared.event.Event.TheVariants as event
-use Rattle.order_grammar.specs.declared.condition.Version.TheVariants.{One}
 use Rattle.privates.specs.Turn.{opening_rules}
 use Rattle.rounds.proofs.Growing.{further, stays, told}
 use Rattle.rounds.proofs.OpeningGrows.{opening_adds}
@@ -16,8 +15,7 @@ use Rattle.rounds.proofs.PlainTurns.{by_round}
 use Rattle.rounds.proofs.StockGrows.{stock_adds}
 use Rattle.rounds.specs.OperatingRound.{IsOperatingRound, TakeTurns, finished, opened}
 use Rattle.rounds.specs.Plain.{VersionOneIsRuledPlainly, is_plain}
-use Rattle.rounds.specs.Play.{AreRounds, Between, IsPlayed, before_play}
-use Rattle.sheets.specs.File.{version_of}
+use Rattle.rounds.specs.Play.{Between, IsPlayed}
 use Rattle.sheets.specs.Laws.{VersionOneIsPlain}
 use Rattle.stock_round.specs.Turn.{stock_rules}
 use Rattle.tables.specs.declared.roster.Company.{Company}

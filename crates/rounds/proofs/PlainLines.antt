@@ -1,5 +1,5 @@
 -- The lines of a sheet of version 1 stand under no condition, and so does what becomes of them.
-use Rattle.std.proofs.Common.{◌≡◌, ℕ, ◌+◌, Bool, true, false, if◌then◌else◌, List, [], ◌∷◌, Option, Some, None, is_none, map, drop, Result, Ok, Err, slice_set, unwrap_or, refl, sym, subst, ap}
+use Rattle.std.proofs.Common.{◌≡◌, ℕ, ◌+◌, Bool, true, false, if◌then◌else◌, List, [], ◌∷◌, Option, Some, None, is_none, map, Result, Ok, Err, unwrap_or, refl, sym, subst, ap}
 use Rattle.std.specs.List.{AllByRecursion}
 use Rattle.history.specs.declared.event.Event.{Event}
 use Rattle.history.specs.declared.event.Event.TheVariants as event

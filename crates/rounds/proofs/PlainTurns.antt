@@ -14,7 +14,7 @@ use Rattle.tables.specs.Steps.{iterate}
 use Rattle.tables.specs.Turns.{InPlay, after_turn, groups_at, next_group}
 use Rattle.tables.specs.declared.round.Round.{Round}
 use Rattle.tables.specs.declared.seat.Seat.{Seat}
-use Rattle.turns.specs.RoundOfTurns.{InTurn, IsRoundOfTurns, RoundRules, after_group, after_lines, finished, groups_for, in_turn, left_from, opened, turns_of}
+use Rattle.turns.specs.RoundOfTurns.{InTurn, IsRoundOfTurns, RoundRules, after_group, after_lines, finished, in_turn, left_from, opened, turns_of}
 
 -- no group of any seat has a condition
 abbrev AllArePlain : List (List (List Numbered)) → Type 0
