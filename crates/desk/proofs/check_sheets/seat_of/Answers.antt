@@ -1,4 +1,4 @@
-use Rattle.std.proofs.Common.{sym, ap, ◌∙◌, arith}
+use Rattle.std.proofs.Common.{Some, sym, ap, ◌∙◌, arith}
 use Rattle.desk.proofs.NameLemmas.{is_named, no_seat_left, seat_found, seat_passed}
 use Rattle.sheets.specs.File.{players_of}
 use Rattle.tables.specs.declared.seat.Seat.{Seat}
@@ -14,7 +14,8 @@ loop-number-preserved c =
 
 pub returns-then-is_named : goal.returns-then-is_named
 returns-then-is_named c =
-    sym (c.loop-number.invariant
+    ap (λ (seat : Seat). Some seat) c.at-seat.ensures
+    ∙ sym (c.loop-number.invariant
     ∙ seat_found c.loop-number.number (players_of c.args.sheets.now) c.loop-number.number c.args.name.now
     (sym (c.is_named.ensures
     ∙ ap (λ (seat : Seat). is_named (players_of c.args.sheets.now) seat.0 c.args.name.now) c.at-seat.ensures)
