@@ -37,7 +37,7 @@ pub(crate) fn rule_standing_line(
     line: UnreadLine,
     order: &mut Order,
 ) -> Result<(), AllocError>
-    requires small { IsSmallReading (line_unread line.entry).reading }
+    requires small { IsSmallReading (line_unread line).reading }
     requires underway { IsUnderway history.old }
     ensures seats { OnOk result (history.new.seats ≡ history.old.seats) }
     ensures events { OnOk result (history.new.events

@@ -53,7 +53,7 @@ pub(crate) fn rule_line(
 ) -> Result<bool, AllocError>
     requires few { history.old.seats ≤ 6 }
     requires at_table { seat.0 < history.old.seats }
-    requires small { IsSmallReading (line_unread line.entry).reading }
+    requires small { IsSmallReading (line_unread line).reading }
     requires underway { IsUnderway history.old }
     ensures seats { OnOk result (history.new.seats ≡ history.old.seats) }
     ensures turn { IfOk result (λ used. in_turn history.new.events used

@@ -39,7 +39,7 @@ pub trait TurnRules {
         line: UnreadLine,
         order: &mut Order,
     ) -> Result<(), AllocError>
-        requires small { IsSmallReading (line_unread line.entry).reading }
+        requires small { IsSmallReading (line_unread line).reading }
         requires underway { holds history.old }
         ensures seats { OnOk result (history.new.seats ≡ history.old.seats) }
         ensures events { OnOk result (history.new.events
@@ -62,7 +62,7 @@ pub trait TurnRules {
     ) -> Result<Self::Deeds, AllocError>
         requires few { history.old.seats ≤ 6 }
         requires at_table { seat.0 < history.old.seats }
-        requires small { IsSmallReading (line_unread line.entry).reading }
+        requires small { IsSmallReading (line_unread line).reading }
         requires underway { holds history.old }
         ensures seats { OnOk result (history.new.seats ≡ history.old.seats) }
         ensures turn { IfOk result (λ now. in_turn history.new.events now
