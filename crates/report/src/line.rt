@@ -448,17 +448,28 @@ fn push_ruled(
 ) -> Result<(), AllocError>
     ensures { OnOk result (Adds out.old out.new (ruled_line sheets.now seat line ruling.now)) }
 {
-    let line = Number(line);
     match ruling.verdict() {
-        Verdict::Obeyed => tell_of(out, sheets, seat, &[line, Word("OBEYED"), OrderOf(ruling)]),
-        Verdict::Refused(rule) => {
-            let fields = [line, Word("REFUSED"), Word(rule.code()), OrderOf(ruling)];
+        Verdict::Obeyed => {
+            let fields = [Number(line), Word("OBEYED"), OrderOf(ruling)];
             tell_of(out, sheets, seat, &fields)
         }
-        Verdict::Faulty(fault) => {
-            let fields = [line, Word("REFUSED"), Word(fault.code())];
-            tell_of(out, sheets, seat, &fields)
-        }
+        Verdict::Refused(rule) => tell_of(
+            out,
+            sheets,
+            seat,
+            &[
+                Number(line),
+                Word("REFUSED"),
+                Word(rule.code()),
+                OrderOf(ruling),
+            ],
+        ),
+        Verdict::Faulty(fault) => tell_of(
+            out,
+            sheets,
+            seat,
+            &[Number(line), Word("REFUSED"), Word(fault.code())],
+        ),
     }
 }
 
