@@ -288,8 +288,8 @@ impl KeptRuling {
         }
     }
 
-    /// Adds the spelling of its order under the condition, if it has one: upper case, single spaces,
-    /// no leading zeros. Nothing for a fault. An error where memory is refused.
+    /// Adds the spelling of its order under the condition, if it has one: upper case, single
+    /// spaces, no leading zeros. Nothing for a fault. An error where memory is refused.
     pub fn print_order(&self, text: &mut Vec<u8>) -> Result<(), AllocError>
         ensures { OnOk result (text.new.items ≡ text.old.items ++ order_text self.now) }
     {
@@ -307,6 +307,7 @@ impl KeptRuling {
     }
 
     /// The order that it obeys, if it obeys one that takes few bytes: any but a run through places.
+    #[inline(always)]
     pub fn short_obeyed(&self) -> Option<ShortOrder>
         ensures { IsShortOf (order_obeyed self.now) result }
     {

@@ -259,7 +259,8 @@ fn print_amount(text: &mut Vec<u8>, order: ShortOrder) -> Result<(), AllocError>
 /// Adds the order of a lay.
 fn print_lay(text: &mut Vec<u8>, lay: Lay) -> Result<(), AllocError>
     ensures ok { OnOk result (text.new.items ≡ text.old.items ++ spelling_of (LayOrder lay)) }
-    ensures err { OnErr result (AddsFront text.old.items text.new.items (spelling_of (LayOrder lay))) }
+    ensures err { OnErr result (AddsFront text.old.items text.new.items
+        (spelling_of (LayOrder lay))) }
 {
     let (tile, hex) = (Value::Tile(lay.tile), Value::Hex(lay.hex));
     let rotation = Value::Rotation(lay.rot);

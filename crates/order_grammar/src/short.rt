@@ -5,8 +5,8 @@ use crate::order::{Offer, Order, ShareSource, TrainSource};
 use map_tables::{Lay, Place};
 use tables::{Amount, Company, Kind, Private};
 
-/// An order of play that takes few bytes, which is any but a run through places. (An `Order` has room
-/// for a run.)
+/// An order of play that takes few bytes, which is any but a run through places. (An `Order` has
+/// room for a run.)
 #[derive(Clone, Copy, Debug, PartialEq, Eq)]
 pub enum ShortOrder {
     BuyPrivate(Private),
