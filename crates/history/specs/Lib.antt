@@ -2,6 +2,7 @@
 pub mod KeptPlace
 pub mod KeptRun
 pub mod Kept
+pub mod Told
 pub mod Event
 pub mod LookBack
 pub mod Bids

@@ -1,103 +1,28 @@
 //! Orders and rulings as events keep them, in few bytes; an order under a condition stands behind a
 //! box with it.
-ghost use Rattle.std.specs.Prelude.{◌≡◌, None, Some, false, MatchOption, MatchResult};
+ghost use Rattle.std.specs.Prelude.{◌≡◌, ◌++◌, None, Some, MatchResult, OnOk};
 ghost use Rattle.std.specs.Option.{option_copied};
 ghost use Rattle.history.specs.Event.{acts, order_obeyed};
-ghost use Rattle.history.specs.Kept.{IsSeenAs, TakesBox, has_short_form, order_in, order_in_short, ruling_by};
+ghost use Rattle.history.specs.Kept.{IsShortOf, TakesBox, order_in, ruling_by, verdict_in};
 ghost use Rattle.history.specs.Offers.{offer_obeyed, offer_said, same_offer, same_terms};
 ghost use Rattle.history.specs.Orders.{limit_obeyed, limit_said, par_of_baltimore_in, par_of_baltimore_obeyed};
+ghost use Rattle.history.specs.Told.{order_text, verdict_of};
 ghost use Rattle.history.specs.declared.ruling.Ruling.TheVariants.{Faulty, Obeyed, Refused};
 ghost use Rattle.order_grammar.specs.Condition.{ordered};
+ghost use Rattle.order_grammar.specs.Print.{spelling_of};
 ghost use Rattle.order_grammar.specs.declared.order.Order.TheVariants as order;
 
-use crate::kept_run::{LongRun, ShortRun};
-use crate::ruling::{Refusal, Ruling};
-use map_tables::{Lay, Place, Run};
-use order_grammar::{Condition, Fault, Offer, Order, ShareSource, TrainSource};
+use crate::kept_place::KeptPlace;
+use crate::kept_run::{LongRun, ShortRun, print_places};
+use crate::ruling::{Refusal, Ruling, Verdict};
+use map_tables::Run;
+use order_grammar::{
+    Condition, Fault, Offer, Order, ShortOrder, print_condition, print_order, print_run_front,
+    print_short_order,
+};
 use std::alloc::{AllocError, Global};
 use std::marker::Model;
 use tables::{Amount, Company, Kind, Private, par_square};
-
-/// The forms of play that take few bytes, all but runs.
-#[derive(Clone, Copy, Debug)]
-enum ShortOrder {
-    BuyPrivate(Private),
-    Bid { private: Private, amount: Amount },
-    Limit { private: Private, amount: Amount },
-    Par { company: Company, price: Amount },
-    BuyShare { company: Company, from: ShareSource },
-    Sell { company: Company, tenths: Amount },
-    ExchangeMohawk,
-    Lay(Lay),
-    Token(Place),
-    RunBest,
-    Pay,
-    Withhold,
-    BuyTrain { kind: Kind, from: TrainSource },
-    Discard { company: Company, kind: Kind },
-    BuyOwnedPrivate { private: Private, price: Amount },
-    Raise { company: Company, tenths: Amount },
-    Offer(Offer),
-}
-
-impl ShortOrder {
-    /// Keeps a copy of an order; `None` where it is of none of these forms.
-    fn keep(order: &Order) -> Option<ShortOrder>
-        ensures { MatchOption result (has_short_form order.now ≡ false)
-            (λ short. order_in_short short ≡ order.now) }
-    {
-        let short = match *order {
-            Order::BuyPrivate(private) => ShortOrder::BuyPrivate(private),
-            Order::Bid { private, amount } => ShortOrder::Bid { private, amount },
-            Order::Limit { private, amount } => ShortOrder::Limit { private, amount },
-            Order::Par { company, price } => ShortOrder::Par { company, price },
-            Order::BuyShare { company, from } => ShortOrder::BuyShare { company, from },
-            Order::Sell { company, tenths } => ShortOrder::Sell { company, tenths },
-            Order::ExchangeMohawk => ShortOrder::ExchangeMohawk,
-            Order::Lay(lay) => ShortOrder::Lay(lay),
-            Order::Token(place) => ShortOrder::Token(place),
-            Order::RunBest => ShortOrder::RunBest,
-            Order::Pay => ShortOrder::Pay,
-            Order::Withhold => ShortOrder::Withhold,
-            Order::BuyTrain { kind, from } => ShortOrder::BuyTrain { kind, from },
-            Order::Discard { company, kind } => ShortOrder::Discard { company, kind },
-            Order::BuyOwnedPrivate { private, price } => {
-                ShortOrder::BuyOwnedPrivate { private, price }
-            }
-            Order::Raise { company, tenths } => ShortOrder::Raise { company, tenths },
-            Order::Offer(offer) => ShortOrder::Offer(offer),
-            _ => return None,
-        };
-        Some(short)
-    }
-
-    /// The order that is kept.
-    fn order(self) -> Order
-        ensures { result ≡ order_in_short self }
-    {
-        match self {
-            ShortOrder::BuyPrivate(private) => Order::BuyPrivate(private),
-            ShortOrder::Bid { private, amount } => Order::Bid { private, amount },
-            ShortOrder::Limit { private, amount } => Order::Limit { private, amount },
-            ShortOrder::Par { company, price } => Order::Par { company, price },
-            ShortOrder::BuyShare { company, from } => Order::BuyShare { company, from },
-            ShortOrder::Sell { company, tenths } => Order::Sell { company, tenths },
-            ShortOrder::ExchangeMohawk => Order::ExchangeMohawk,
-            ShortOrder::Lay(lay) => Order::Lay(lay),
-            ShortOrder::Token(place) => Order::Token(place),
-            ShortOrder::RunBest => Order::RunBest,
-            ShortOrder::Pay => Order::Pay,
-            ShortOrder::Withhold => Order::Withhold,
-            ShortOrder::BuyTrain { kind, from } => Order::BuyTrain { kind, from },
-            ShortOrder::Discard { company, kind } => Order::Discard { company, kind },
-            ShortOrder::BuyOwnedPrivate { private, price } => {
-                Order::BuyOwnedPrivate { private, price }
-            }
-            ShortOrder::Raise { company, tenths } => Order::Raise { company, tenths },
-            ShortOrder::Offer(offer) => Order::Offer(offer),
-        }
-    }
-}
 
 /// An order that is to be ruled, with its condition if it has one, in few bytes; contracts see the
 /// two.
@@ -178,7 +103,7 @@ impl OrderKept {
                     run: Box::new(alloc, LongRun::keep(alloc, run)?)?,
                 },
             },
-            other => match ShortOrder::keep(other) {
+            other => match ShortOrder::of(other) {
                 Some(short) => OrderKept::Short(short),
                 None => OrderKept::Boxed(Box::new(alloc, other.duplicate())?),
             },
@@ -198,24 +123,29 @@ impl OrderKept {
         }
     }
 
-    /// The order as a reader sees it.
-    fn seen(&self) -> OrderSeen<'_>
-        ensures { IsSeenAs (Some (order_in self.now)) result }
+    /// The order, if it is one of few bytes.
+    fn short(&self) -> Option<ShortOrder>
+        ensures { IsShortOf (Some (order_in self.now)) result }
     {
         match self {
-            OrderKept::Short(order) => OrderSeen::Short(*order),
-            OrderKept::Boxed(order) => OrderSeen::Long(order),
-            _ => OrderSeen::Run,
+            OrderKept::Short(order) => Some(*order),
+            OrderKept::Boxed(order) => ShortOrder::of(order),
+            _ => None,
         }
     }
-}
 
-/// An order as a reader sees it that asks for no run.
-#[derive(Clone, Copy, Debug)]
-enum OrderSeen<'a> {
-    Short(ShortOrder),
-    Long(&'a Order),
-    Run,
+    /// Adds the spelling of the order.
+    fn print(&self, text: &mut Vec<u8>) -> Result<(), AllocError>
+        ensures { OnOk result (text.new.items
+            ≡ text.old.items ++ spelling_of (order_in self.now)) }
+    {
+        match self {
+            OrderKept::Short(order) => print_short_order(text, *order),
+            OrderKept::ShortRun { kind, run } => print_run(text, *kind, run.places()),
+            OrderKept::LongRun { kind, run } => print_run(text, *kind, run.places()),
+            OrderKept::Boxed(order) => print_order(text, order),
+        }
+    }
 }
 
 /// A ruling as an event keeps it, in few bytes; contracts see the ruling.
@@ -226,34 +156,45 @@ pub struct KeptRuling {
 
 /// What became of an order.
 #[derive(Clone, Copy, Debug)]
-enum Verdict {
+enum OrderVerdict {
     Obeyed,
     Refused(Refusal),
+}
+
+impl OrderVerdict {
+    fn verdict(self) -> Verdict
+        ensures { result ≡ verdict_in self }
+    {
+        match self {
+            OrderVerdict::Obeyed => Verdict::Obeyed,
+            OrderVerdict::Refused(rule) => Verdict::Refused(rule),
+        }
+    }
 }
 
 /// A kept order with its verdict, or what is wrong with the line.
 #[derive(Debug, Drop)]
 enum RulingKept {
     Short {
-        verdict: Verdict,
+        verdict: OrderVerdict,
         order: ShortOrder,
     },
     ShortRun {
-        verdict: Verdict,
+        verdict: OrderVerdict,
         kind: Kind,
         run: ShortRun,
     },
     LongRun {
-        verdict: Verdict,
+        verdict: OrderVerdict,
         kind: Kind,
         run: Box<LongRun>,
     },
     Boxed {
-        verdict: Verdict,
+        verdict: OrderVerdict,
         order: Box<Order>,
     },
     Conditional {
-        verdict: Verdict,
+        verdict: OrderVerdict,
         order: Box<ConditionalKept>,
     },
     Faulty(Fault),
@@ -276,14 +217,14 @@ impl KeptRuling {
     pub fn obeyed(order: KeptOrder) -> KeptRuling
         ensures { result ≡ Obeyed order.condition order.order }
     {
-        KeptRuling::of(Verdict::Obeyed, order)
+        KeptRuling::of(OrderVerdict::Obeyed, order)
     }
 
     /// The order breaks a rule of play, of which this is the first.
     pub fn refused(rule: Refusal, order: KeptOrder) -> KeptRuling
         ensures { result ≡ Refused rule order.condition order.order }
     {
-        KeptRuling::of(Verdict::Refused(rule), order)
+        KeptRuling::of(OrderVerdict::Refused(rule), order)
     }
 
     /// The line has a fault by itself or has no place where it stands.
@@ -296,7 +237,7 @@ impl KeptRuling {
     }
 
     /// An order with its verdict.
-    fn of(verdict: Verdict, order: KeptOrder) -> KeptRuling
+    fn of(verdict: OrderVerdict, order: KeptOrder) -> KeptRuling
         ensures { result ≡ ruling_by verdict order.condition order.order }
     {
         let kept = match order.kept {
@@ -333,32 +274,56 @@ impl KeptRuling {
         }
     }
 
-    /// The order that it obeys, as a reader sees it, if it obeys one.
-    fn obeyed_order(&self) -> Option<OrderSeen<'_>>
-        ensures { MatchOption result (order_obeyed self.now ≡ None)
-            (λ seen. IsSeenAs (order_obeyed self.now) seen) }
+    /// What became of the line, without the order.
+    pub fn verdict(&self) -> Verdict
+        ensures { result ≡ verdict_of self.now }
+    {
+        match &self.kept {
+            RulingKept::Short { verdict, .. } => verdict.verdict(),
+            RulingKept::ShortRun { verdict, .. } => verdict.verdict(),
+            RulingKept::LongRun { verdict, .. } => verdict.verdict(),
+            RulingKept::Boxed { verdict, .. } => verdict.verdict(),
+            RulingKept::Conditional { verdict, .. } => verdict.verdict(),
+            RulingKept::Faulty(fault) => Verdict::Faulty(*fault),
+        }
+    }
+
+    /// Adds the spelling of its order under the condition, if it has one: upper case, single
+    /// spaces, no leading zeros. Nothing for a fault. An error where memory is refused.
+    pub fn print_order(&self, text: &mut Vec<u8>) -> Result<(), AllocError>
+        ensures { OnOk result (text.new.items ≡ text.old.items ++ order_text self.now) }
+    {
+        match &self.kept {
+            RulingKept::Short { order, .. } => print_short_order(text, *order),
+            RulingKept::ShortRun { kind, run, .. } => print_run(text, *kind, run.places()),
+            RulingKept::LongRun { kind, run, .. } => print_run(text, *kind, run.places()),
+            RulingKept::Boxed { order, .. } => print_order(text, order),
+            RulingKept::Conditional { order, .. } => {
+                print_condition(text, Some(&order.condition))?;
+                order.order.print(text)
+            }
+            RulingKept::Faulty(_) => Ok(()),
+        }
+    }
+
+    /// The order that it obeys, if it obeys one that takes few bytes: any but a run through places.
+    #[inline(always)]
+    pub fn short_obeyed(&self) -> Option<ShortOrder>
+        ensures { IsShortOf (order_obeyed self.now) result }
     {
         match &self.kept {
             RulingKept::Short {
-                verdict: Verdict::Obeyed,
+                verdict: OrderVerdict::Obeyed,
                 order,
-            } => Some(OrderSeen::Short(*order)),
-            RulingKept::ShortRun {
-                verdict: Verdict::Obeyed,
-                ..
-            } => Some(OrderSeen::Run),
-            RulingKept::LongRun {
-                verdict: Verdict::Obeyed,
-                ..
-            } => Some(OrderSeen::Run),
+            } => Some(*order),
             RulingKept::Boxed {
-                verdict: Verdict::Obeyed,
+                verdict: OrderVerdict::Obeyed,
                 order,
-            } => Some(OrderSeen::Long(order)),
+            } => ShortOrder::of(order),
             RulingKept::Conditional {
-                verdict: Verdict::Obeyed,
+                verdict: OrderVerdict::Obeyed,
                 order,
-            } => Some(order.order.seen()),
+            } => order.order.short(),
             _ => None,
         }
     }
@@ -368,17 +333,10 @@ impl KeptRuling {
     pub fn is_act(&self) -> bool
         ensures { result ≡ acts self.now }
     {
-        match self.obeyed_order() {
-            Some(OrderSeen::Short(order)) => matches!(
-                order,
-                ShortOrder::BuyPrivate(_) | ShortOrder::Bid { .. } | ShortOrder::Sell { .. }
-            ),
-            Some(OrderSeen::Long(order)) => matches!(
-                order,
-                Order::BuyPrivate(_) | Order::Bid { .. } | Order::Sell { .. }
-            ),
-            _ => false,
-        }
+        matches!(
+            self.short_obeyed(),
+            Some(ShortOrder::BuyPrivate(_) | ShortOrder::Bid { .. } | ShortOrder::Sell { .. })
+        )
     }
 
     /// The private in whose auction the order that it obeys says how far to go, and how far, if it
@@ -387,11 +345,8 @@ impl KeptRuling {
         ensures { (private : Private) →
             limit_said private result ≡ limit_obeyed private self.now }
     {
-        match self.obeyed_order() {
-            Some(OrderSeen::Short(ShortOrder::Limit { private, amount })) => {
-                Some((private, amount))
-            }
-            Some(OrderSeen::Long(Order::Limit { private, amount })) => Some((*private, *amount)),
+        match self.short_obeyed() {
+            Some(ShortOrder::Limit { private, amount }) => Some((private, amount)),
             _ => None,
         }
     }
@@ -407,9 +362,8 @@ impl KeptRuling {
     pub(crate) fn offer(&self) -> Option<Offer>
         ensures { (sale : Offer) → offer_said sale result ≡ offer_obeyed sale self.now }
     {
-        match self.obeyed_order() {
-            Some(OrderSeen::Short(ShortOrder::Offer(sale))) => Some(sale),
-            Some(OrderSeen::Long(Order::Offer(sale))) => Some(*sale),
+        match self.short_obeyed() {
+            Some(ShortOrder::Offer(sale)) => Some(sale),
             _ => None,
         }
     }
@@ -428,13 +382,8 @@ impl KeptRuling {
     pub(crate) fn par_of_baltimore(&self) -> Option<Amount>
         ensures { result ≡ par_of_baltimore_obeyed self.now }
     {
-        match self.obeyed_order() {
-            Some(OrderSeen::Short(ShortOrder::Par { company, price })) => {
-                par_of_baltimore(company, price)
-            }
-            Some(OrderSeen::Long(Order::Par { company, price })) => {
-                par_of_baltimore(*company, *price)
-            }
+        match self.short_obeyed() {
+            Some(ShortOrder::Par { company, price }) => par_of_baltimore(company, price),
             _ => None,
         }
     }
@@ -492,17 +441,26 @@ fn is_on_terms(buyer: Company, price: Amount, to: Company, sum: Amount) -> bool
 }
 
 /// The ruling of an order.
-fn ruling_of(verdict: Verdict, condition: Option<Condition>, order: Order) -> Ruling
+fn ruling_of(verdict: OrderVerdict, condition: Option<Condition>, order: Order) -> Ruling
     ensures { result ≡ ruling_by verdict condition order }
 {
     match verdict {
-        Verdict::Obeyed => Ruling::Obeyed { condition, order },
-        Verdict::Refused(rule) => Ruling::Refused {
+        OrderVerdict::Obeyed => Ruling::Obeyed { condition, order },
+        OrderVerdict::Refused(rule) => Ruling::Refused {
             rule,
             condition,
             order,
         },
     }
+}
+
+/// Adds the spelling of the order to run a train.
+fn print_run(text: &mut Vec<u8>, kind: Kind, places: &[KeptPlace]) -> Result<(), AllocError>
+    ensures { OnOk result (text.new.items
+        ≡ text.old.items ++ spelling_of (order.Run kind places.now)) }
+{
+    print_run_front(text, kind)?;
+    print_places(text, places)
 }
 
 /// The order to run a train.

@@ -1,7 +1,8 @@
 //! A run as a ruling keeps it, in two bytes a place: one of few places by itself, any other in a
 //! block of exactly its size.
-ghost use Rattle.std.specs.Prelude.{◌≡◌, ◌<◌, ◌≤◌, IfOk, MatchOption, length};
+ghost use Rattle.std.specs.Prelude.{◌≡◌, ◌++◌, ◌<◌, ◌≤◌, IfOk, MatchOption, OnOk, length};
 ghost use Rattle.history.specs.KeptRun.{places_in};
+ghost use Rattle.order_grammar.specs.Print.{places_text};
 
 use crate::kept_place::KeptPlace;
 use arrayvec::ArrayVec;
@@ -51,11 +52,20 @@ impl ShortRun {
     pub(crate) fn run(&self) -> Run
         ensures { result ≡ places_in self.now }
     {
+        run_of(self.places())
+    }
+
+    /// Its places, 2 to 5.
+    pub(crate) fn places(&self) -> &[KeptPlace]
+        ensures places { result.now ≡ places_in self.now }
+        ensures least { 2 ≤ length (places_in self.now) }
+        ensures most { length (places_in self.now) ≤ 5 }
+    {
         match self {
-            ShortRun::Two(places) => run_of(places),
-            ShortRun::Three(places) => run_of(places),
-            ShortRun::Four(places) => run_of(places),
-            ShortRun::Five(places) => run_of(places),
+            ShortRun::Two(places) => places,
+            ShortRun::Three(places) => places,
+            ShortRun::Four(places) => places,
+            ShortRun::Five(places) => places,
         }
     }
 }
@@ -94,7 +104,16 @@ impl LongRun {
     pub(crate) fn run(&self) -> Run
         ensures { result ≡ self.now }
     {
-        run_of(self.places.as_slice())
+        run_of(self.places())
+    }
+
+    /// Its places, 2 to 280.
+    pub(crate) fn places(&self) -> &[KeptPlace]
+        ensures places { result.now ≡ self.now }
+        ensures least { 2 ≤ length self.now }
+        ensures most { length self.now ≤ 280 }
+    {
+        self.places.as_slice()
     }
 }
 
@@ -109,4 +128,15 @@ fn run_of(kept: &[KeptPlace]) -> Run
         places.push(place.place());
     }
     Run::from_places(places).unwrap()
+}
+
+/// Adds places, each with a space before it.
+pub(crate) fn print_places(text: &mut Vec<u8>, places: &[KeptPlace]) -> Result<(), AllocError>
+    ensures { OnOk result (text.new.items ≡ text.old.items ++ places_text places.now) }
+{
+    for place in places {
+        text.push(b' ')?;
+        text.extend_from_slice(place.place().text().as_slice())?;
+    }
+    Ok(())
 }

@@ -63,7 +63,7 @@ pub use look_back::Past;
 pub use owners::Owners;
 pub use ruling::{
     LayRule, OpeningRule, PayRule, PrivateRule, Refusal, Ruling, RunRule, StockRule, TokenRule,
-    TrainRule,
+    TrainRule, Verdict,
 };
 pub use shares::Tenths;
 pub use trains::{TrainCount, so_many};

@@ -391,3 +391,14 @@ pub enum Ruling {
     /// The line has a fault by itself or has no place where it stands.
     Faulty(Fault),
 }
+
+/// What became of a line, without its order.
+#[derive(Clone, Copy, Debug, PartialEq, Eq)]
+pub enum Verdict {
+    /// The order was carried out.
+    Obeyed,
+    /// The order breaks a rule of play, of which this is the first.
+    Refused(Refusal),
+    /// The line has a fault by itself or has no place where it stands.
+    Faulty(Fault),
+}

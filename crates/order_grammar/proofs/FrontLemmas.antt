@@ -1,18 +1,12 @@
 -- What a text holds where memory is refused while it is printed: what it held, and a front of the rest.
-use Rattle.std.proofs.Common.{◌≡◌, ℕ, ◌+◌, ◌<◌, List, [], ◌∷◌, ◌++◌, Option, Some, length, get_or, map, take, drop, codes, subst, Result, Ok, Err, OnErr, refl, sym, ap, append_assoc, take-append-drop, ◌∙◌}
+use Rattle.std.proofs.Common.{◌≡◌, ℕ, ◌+◌, ◌<◌, List, [], ◌∷◌, ◌++◌, length, get_or, map, take, drop, subst, Result, Ok, Err, OnErr, refl, sym, ap, append_assoc, take-append-drop, ◌∙◌}
 use Rattle.std.proofs.lemmas.Grind.{flat_map-append}
 use Rattle.std.proofs.lemmas.List.{append-nil, drop_more, take_more}
 use Rattle.std.proofs.lemmas.List.Concat.{flat_map-cons}
-use Rattle.std.proofs.lemmas.Option.{same_Some}
-use Rattle.order_grammar.specs.Condition.{condition_values}
 use Rattle.order_grammar.specs.Keyword.{text_of_keyword}
-use Rattle.order_grammar.specs.Order.{made_of, parts_of}
-use Rattle.order_grammar.specs.Print.{AddsFront, conditional_spelling, spaced, spelling_of, text_of_value, values_text, words_of_parts, words_of_tail, joined}
-use Rattle.order_grammar.specs.declared.order.Order.{Order}
-use Rattle.order_grammar.specs.declared.condition.Condition.{Condition}
-use Rattle.order_grammar.specs.declared.keyword.Keyword.TheVariants.{If}
-use Rattle.order_grammar.specs.declared.order.Parts.{Parts}
-use Rattle.order_grammar.specs.declared.order.Tail.TheVariants.{Nothing}
+use Rattle.order_grammar.specs.Print.{AddsFront, spaced, text_of_value, words_text, joined}
+use Rattle.order_grammar.specs.declared.keyword.Keyword.{Keyword}
+use Rattle.order_grammar.specs.declared.order.Value.{Value}
 
 -- what holds also holds at an error
 pub at_error : {T E P : Type 0} (r : Result T E) → P → OnErr r P
@@ -83,57 +77,27 @@ words_more old before mid new words count word more is so_far space added =
     ∙ append_assoc old (spaced (take count words) ++ 32 ∷ []) word
     ∙ ap (λ (text : List ℕ). old ++ text) (append_assoc (spaced (take count words)) (32 ∷ []) word ∙ sym next)
 
--- the keyword and the values of an order, and a front of what is repeated
-pub order_front : (old begun mid new : List ℕ) (order : Order) (parts : Parts) (words : List (List ℕ)) → parts_of order ≡ Some parts →
-    begun ≡ old ++ text_of_keyword parts.keyword → mid ≡ begun ++ values_text parts.values.items → words_of_tail parts.tail ≡ words →
-    AddsFront mid new (spaced words) → AddsFront old new (spelling_of order)
-order_front old begun mid new order parts words made keyword values tail adds =
-    let first = text_of_keyword parts.keyword in
-    let texts = map text_of_value parts.values.items in
-    let whole : spelling_of order ≡ (first ++ spaced texts) ++ spaced words =
-    ap (λ (some : Option Parts). joined (words_of_parts some)) made
-    ∙ ap (λ (all : List (List ℕ)). first ++ spaced (texts ++ all)) tail
-    ∙ ap (λ (text : List ℕ). first ++ text) (flat_map-append (λ (word : List ℕ). 32 ∷ word) texts words)
-    ∙ sym (append_assoc first (spaced texts) (spaced words)) in
-    rw whole (front_of_second old mid new (first ++ spaced texts) (spaced words) (values ∙ two_added old begun first (spaced texts) keyword) adds)
+-- a literal word and values, and then further words
+words_joined : (keyword : Keyword) (values : List Value) (words : List (List ℕ)) →
+    joined (text_of_keyword keyword ∷ map text_of_value values ++ words) ≡ words_text keyword values ++ spaced words
+words_joined keyword values words =
+    let first = text_of_keyword keyword in
+    let texts = map text_of_value values in
+    ap (λ (text : List ℕ). first ++ text) (flat_map-append (λ (word : List ℕ). 32 ∷ word) texts words)
+    ∙ sym (append_assoc first (spaced texts) (spaced words))
 
--- what IF and the words after it are made of
-record AreConditionParts (condition : Condition) (parts : Parts) : Type 0 where
-  keyword : text_of_keyword parts.keyword ≡ text_of_keyword If
-  values : values_text parts.values.items ≡ values_text (condition_values condition)
+-- a front of a literal word and values, before further words
+pub words_first_front : (old new : List ℕ) (keyword : Keyword) (values : List Value) (words : List (List ℕ)) →
+    AddsFront old new (words_text keyword values) →
+    AddsFront old new (joined (text_of_keyword keyword ∷ map text_of_value values ++ words))
+words_first_front old new keyword values words adds =
+    subst (λ (text : List ℕ). AddsFront old new text) (sym (words_joined keyword values words))
+    (front_of_first old new (words_text keyword values) (spaced words) adds)
 
-condition_parts : (condition : Condition) (parts : Parts) →
-    Some parts ≡ made_of If (condition_values condition) Nothing →
-    AreConditionParts condition parts
-condition_parts condition parts made =
-    let is = same_Some parts (record {
-      keyword = If;
-      values = record { items = condition_values condition };
-      tail =
-          Nothing;
-    }) made in
-    record {
-      keyword = ap (λ (p : Parts). text_of_keyword p.keyword) is;
-      values =
-          ap (λ (p : Parts). values_text p.values.items) is;
-    }
-
--- IF, the words of a condition and a space, and a front of the order
-pub order_front_under : (old begun mid spaced_so new : List ℕ) (condition : Condition) (copied : Option Condition)
-    (parts : Parts) (order : Order) →
-    copied ≡ Some condition → Some parts ≡ made_of If (condition_values condition) Nothing →
-    begun ≡ old ++ text_of_keyword parts.keyword →
-    mid ≡ begun ++ values_text parts.values.items → spaced_so ≡ mid ++ 32 ∷ [] →
-    AddsFront spaced_so new (spelling_of order) →
-    AddsFront old new (conditional_spelling copied order)
-order_front_under old begun mid spaced_so new condition copied parts order some made keyword values space adds =
-    let is = condition_parts condition parts made in
-    let first = text_of_keyword If in
-    let all = values_text (condition_values condition) in
-    let keyword_is : begun ≡ old ++ first = keyword ∙ ap (λ (text : List ℕ). old ++ text) is.keyword in
-    let values_are : mid ≡ old ++ (first ++ all) =
-    values ∙ ap (λ (text : List ℕ). begun ++ text) is.values ∙ two_added old begun first all keyword_is in
-    let whole : AddsFront old new (conditional_spelling (Some condition) order) =
-    front_of_second old spaced_so new ((first ++ all) ++ codes " ") (spelling_of order)
-    (space ∙ two_added old mid (first ++ all) (codes " ") values_are) adds in
-    subst (λ (one : Option Condition). AddsFront old new (conditional_spelling one order)) (sym some) whole
+-- a front of further words behind a literal word and values
+pub words_then_front : (old mid new : List ℕ) (keyword : Keyword) (values : List Value) (words : List (List ℕ)) →
+    mid ≡ old ++ words_text keyword values → AddsFront mid new (spaced words) →
+    AddsFront old new (joined (text_of_keyword keyword ∷ map text_of_value values ++ words))
+words_then_front old mid new keyword values words begun adds =
+    subst (λ (text : List ℕ). AddsFront old new text) (sym (words_joined keyword values words))
+    (front_of_second old mid new (words_text keyword values) (spaced words) begun adds)

@@ -7,12 +7,11 @@ use Rattle.map_tables.specs.declared.side.Rotation.{Rotation}
 use Rattle.map_tables.specs.declared.tiles.TileNo.{TileNo}
 use Rattle.order_grammar.specs.Form.{has_form}
 use Rattle.order_grammar.specs.Name.{is_name}
-use Rattle.order_grammar.specs.Order.{lay_of, parts_of}
+use Rattle.order_grammar.specs.Order.{lay_of, parts_of, Parts}
 use Rattle.order_grammar.specs.Spells.{HasSpelling, is_round_of_line}
 use Rattle.order_grammar.specs.declared.order.Offer.TheVariants as offer
 use Rattle.order_grammar.specs.declared.order.Order.{Order}
 use Rattle.order_grammar.specs.declared.order.Order.TheVariants.{Game, Players, Sheet, Bid, Limit, Par, BuyShare, Sell, Lay, Run, BuyTrain, BuyOwnedPrivate, Raise, Offer, Cert, Claim, Marks}
-use Rattle.order_grammar.specs.declared.order.Parts.{Parts}
 use Rattle.order_grammar.specs.declared.order.ShareSource.TheVariants.{InitialOffering, BankPool}
 use Rattle.order_grammar.specs.declared.order.TrainSource.TheVariants as source
 use Rattle.order_grammar.specs.declared.order.Value.{Value}
@@ -30,7 +29,7 @@ has_word other = true
 -- whether parts are those of a form, and have words
 abbrev pub have_words : Option Parts → Bool
 have_words None = true
-have_words (Some parts) = has_form parts && list_all has_word parts.values.items
+have_words (Some parts) = has_form parts && list_all has_word parts.values
 
 lay_has_words : (tile : TileNo) (hex : Hex) (rot : Rotation) (swap : Bool) → have_words (parts_of (Lay (lay_of tile hex rot swap))) ≡ true
 lay_has_words tile hex rot true = refl

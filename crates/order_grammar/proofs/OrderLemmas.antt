@@ -10,14 +10,13 @@ use Rattle.map_tables.specs.declared.tiles.TileNo.{TileNo}
 use Rattle.tables.specs.declared.rolling_stock.Kind.{Kind}
 use Rattle.order_grammar.specs.Form.{forms, is_row_of, is_run_length, has_form, are_names}
 use Rattle.order_grammar.specs.Keyword.{text_of_keyword}
-use Rattle.order_grammar.specs.Order.{lay_of, made_of, parts_of, order_from}
+use Rattle.order_grammar.specs.Order.{lay_of, made_of, parts_of, order_from, Parts}
 use Rattle.order_grammar.specs.Spells.{IsWord, IsNumber, IsName, IsRoundOfLine, IsPrivate, IsCompany, IsKind, IsTile, IsHex, IsRotation, IsPlace, AreHexDigits, AreNames, Then, End, AreWordsFor}
 use Rattle.order_grammar.specs.declared.keyword.Keyword.{Keyword}
 use Rattle.order_grammar.specs.declared.keyword.Keyword.TheVariants as keyword
 use Rattle.order_grammar.specs.declared.order.Order.{Order}
 use Rattle.order_grammar.specs.declared.order.Order.TheVariants.{Blank, Game, Players, Sheet, Turn, BuyPrivate, Bid, Limit, Par, BuyShare, Sell, ExchangeMohawk, Company as CompanyTurn, Lay, Token, Run, RunBest, Pay, Withhold, BuyTrain, Discard, BuyOwnedPrivate, Raise, Offer, Certs, Cert, Claim, Marks}
 use Rattle.order_grammar.specs.declared.order.Offer.TheVariants as offer
-use Rattle.order_grammar.specs.declared.order.Parts.{Parts}
 use Rattle.order_grammar.specs.declared.order.ShareSource.TheVariants.{InitialOffering, BankPool}
 use Rattle.order_grammar.specs.declared.order.Tail.{Tail}
 use Rattle.order_grammar.specs.declared.order.Tail.TheVariants as tail
@@ -83,7 +82,7 @@ formed k values t h = absurd (false≢true h)
 -- an order is made again of its parts
 abbrev pub IsMadeAgain : Order → Option Parts → Type 0
 IsMadeAgain order None = order ≡ Blank
-IsMadeAgain order (Some parts) = order_from parts.keyword parts.values.items parts.tail ≡ Some order
+IsMadeAgain order (Some parts) = order_from parts.keyword parts.values parts.tail ≡ Some order
 
 lay_made_again : (tile : TileNo) (hex : Hex) (rot : Rotation) (swap : Bool) →
     IsMadeAgain (Lay (lay_of tile hex rot swap)) (parts_of (Lay (lay_of tile hex rot swap)))
@@ -133,7 +132,7 @@ AreTextsOf (v ∷ values) t words = Then (IsTextOf v) (AreTextsOf values t) word
 abbrev pub AreWordsByParts : Option Parts → List (List ℕ) → Type 0
 AreWordsByParts None words = End words
 AreWordsByParts (Some parts) words =
-    Then (IsWord (text_of_keyword parts.keyword)) (AreTextsOf parts.values.items parts.tail) words × (has_form parts ≡ true)
+    Then (IsWord (text_of_keyword parts.keyword)) (AreTextsOf parts.values parts.tail) words × (has_form parts ≡ true)
 
 -- the words of a players line
 players_by_parts : (words names : List (List ℕ)) → Then (IsWord (text_of_keyword keyword.Players)) (AreNames names) words →
@@ -156,7 +155,7 @@ run_by_parts (first ∷ second ∷ words) kind run h =
 
 -- of the forms that begin as it does, only that of a run has places
 run_counted : (kind : Kind) (run : List Place) →
-    has_form (record { keyword = keyword.Run; values = record { items = value.Kind kind ∷ [] }; tail = tail.Places run }) ≡ true →
+    has_form (record { keyword = keyword.Run; values = value.Kind kind ∷ []; tail = tail.Places run }) ≡ true →
     is_run_length (length run) ≡ true
 run_counted kind run h =
     elim (cases_Bool (is_run_length (length run))) [
@@ -176,7 +175,7 @@ claim_by_parts (first ∷ second ∷ words) kind run h =
 
 -- of the forms that begin as it does, only that of a claim has places
 claim_counted : (kind : Kind) (run : List Place) →
-    has_form (record { keyword = keyword.Claim; values = record { items = value.Kind kind ∷ [] }; tail = tail.Places run }) ≡ true →
+    has_form (record { keyword = keyword.Claim; values = value.Kind kind ∷ []; tail = tail.Places run }) ≡ true →
     is_run_length (length run) ≡ true
 claim_counted kind run h =
     elim (cases_Bool (is_run_length (length run))) [
@@ -229,7 +228,7 @@ by_parts other words h = (h, refl)
 
 -- of the forms only that of a players line has names
 players_names : (names : List (List ℕ)) →
-    has_form (record { keyword = keyword.Players; values = record { items = [] }; tail = tail.Names (record { items = names }) }) ≡ true →
+    has_form (record { keyword = keyword.Players; values = []; tail = tail.Names (record { items = names }) }) ≡ true →
     are_names 3 6 names ≡ true
 players_names names h =
     elim (cases_Bool (are_names 3 6 names)) [
@@ -264,7 +263,7 @@ of_parts other words h = h.0
 
 -- the order that parts make is that of which they are
 pub remade : (order : Order) (parts : Parts) (made : Option Order) → Some parts ≡ parts_of order →
-    made ≡ order_from parts.keyword parts.values.items parts.tail → unwrap_or made Blank ≡ order
+    made ≡ order_from parts.keyword parts.values parts.tail → unwrap_or made Blank ≡ order
 remade order parts made is by =
-    let again : order_from parts.keyword parts.values.items parts.tail ≡ Some order = subst (IsMadeAgain order) (sym is) (made_again order) in
+    let again : order_from parts.keyword parts.values parts.tail ≡ Some order = subst (IsMadeAgain order) (sym is) (made_again order) in
     ap (λ (o : Option Order). unwrap_or o Blank) (by ∙ again)

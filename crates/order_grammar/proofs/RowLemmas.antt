@@ -5,14 +5,13 @@ use Rattle.std.specs.List.{list_all, list_any}
 use Rattle.std.proofs.lemmas.Bool.{cases_Bool, cases_lt, le-ltb, lt-ltb, and_parts, and_from, or_cases, or_left, or_right, false≢true}
 use Rattle.order_grammar.specs.Form.{Row, forms, values_reading, order_of_values, nearness, nearer, row_reading, is_row_of}
 use Rattle.order_grammar.specs.Keyword.{text_of_keyword}
-use Rattle.order_grammar.specs.Order.{made_of, parts_of, order_from}
+use Rattle.order_grammar.specs.Order.{made_of, parts_of, order_from, Parts}
 use Rattle.order_grammar.specs.Spells.{HasSmallNumbers, AreWordsFor}
 use Rattle.order_grammar.specs.Words.{same_word}
 use Rattle.order_grammar.specs.declared.fault.Fault.{Fault}
 use Rattle.order_grammar.specs.declared.fault.Fault.TheVariants.{UnknownWord, WrongWords, NumberTooLarge}
 use Rattle.order_grammar.specs.declared.keyword.Keyword.{Keyword}
 use Rattle.order_grammar.specs.declared.order.Order.{Order}
-use Rattle.order_grammar.specs.declared.order.Parts.{Parts}
 use Rattle.order_grammar.specs.declared.order.Tail.{Tail}
 use Rattle.order_grammar.specs.declared.order.Value.{Value}
 use Rattle.order_grammar.proofs.ApartLemmas.{are_rows_apart, are_all_apart, forms_apart, IsNear, rows_apart}
@@ -128,10 +127,10 @@ parts_read order None [] made are = ap (λ (o : Order). Ok o) (sym made)
 parts_read order None (word ∷ words) made are = absurd are
 parts_read order (Some parts) [] made are = absurd are.0
 parts_read order (Some parts) (first ∷ rest) made are =
-    let row = among_any (is_row_of parts.keyword parts.values.items parts.tail) forms are.1 in
-    let read = row_read row.0 parts.keyword parts.values.items parts.tail order first rest row.2 are.0.0 are.0.1 made in
-    rows_read forms row.0 first rest (Err UnknownWord) (read_as order (list_all is_small parts.values.items)) forms_apart row.1 read
-    (near_read_as order (list_all is_small parts.values.items)) (omega arith)
+    let row = among_any (is_row_of parts.keyword parts.values parts.tail) forms are.1 in
+    let read = row_read row.0 parts.keyword parts.values parts.tail order first rest row.2 are.0.0 are.0.1 made in
+    rows_read forms row.0 first rest (Err UnknownWord) (read_as order (list_all is_small parts.values)) forms_apart row.1 read
+    (near_read_as order (list_all is_small parts.values)) (omega arith)
 
 -- words that spell an order, but that its numbers may be too large, are read so
 pub words_for_read : (words : List (List ℕ)) (order : Order) → AreWordsFor order words → all_reading words ≡ read_as order (are_small (parts_of order))

@@ -5,12 +5,11 @@ use Rattle.std.proofs.lemmas.Bool.{and_parts, le-leb, leb-true}
 use Rattle.tables.specs.Round.{number_most}
 use Rattle.tables.specs.declared.round.Round.{Round}
 use Rattle.tables.specs.declared.round.Round.TheVariants.{Opening, Stock, Operating}
-use Rattle.order_grammar.specs.Order.{parts_of, swap_values}
+use Rattle.order_grammar.specs.Order.{parts_of, swap_values, Parts}
 use Rattle.order_grammar.specs.Spells.{HasSmallNumbers, IsSmallRound}
 use Rattle.order_grammar.specs.declared.order.Offer.TheVariants as offer
 use Rattle.order_grammar.specs.declared.order.Order.{Order}
 use Rattle.order_grammar.specs.declared.order.Order.TheVariants.{Game, Sheet, Bid, Limit, Par, Sell, Lay, BuyTrain, BuyOwnedPrivate, Raise, Offer, Cert}
-use Rattle.order_grammar.specs.declared.order.Parts.{Parts}
 use Rattle.order_grammar.specs.declared.order.TrainSource.TheVariants as source
 use Rattle.order_grammar.specs.declared.order.Value.{Value}
 use Rattle.order_grammar.specs.declared.order.Value.TheVariants as value
@@ -30,7 +29,7 @@ is_small other = true
 -- whether parts have no number that is too large
 abbrev pub are_small : Option Parts → Bool
 are_small None = true
-are_small (Some parts) = list_all is_small parts.values.items
+are_small (Some parts) = list_all is_small parts.values
 
 round_by_parts : (round : Round) → IsSmallRound round → is_small_round round ≡ true
 round_by_parts (Opening number) small = le-leb number number_most small

@@ -40,7 +40,7 @@ use Rattle.tables.specs.Round.{number_most, operating_most}
 use Rattle.order_grammar.specs.Limits.{line_most}
 use Rattle.order_grammar.specs.Line.{reading_by}
 use Rattle.order_grammar.specs.Name.{is_name, is_capital, is_digit, is_letter_or_digit}
-use Rattle.order_grammar.specs.Order.{made_of, parts_of}
+use Rattle.order_grammar.specs.Order.{made_of, parts_of, Parts}
 use Rattle.order_grammar.specs.Print.{spaced, joined, text_of_value, words_of_order, words_of_tail, words_of_parts, spelling_of, conditional_spelling}
 use Rattle.order_grammar.specs.Row.{has_room, is_short}
 use Rattle.order_grammar.specs.Spells.{AreWordsFor, HasSmallNumbers, IsNumber, IsNumbered, is_round_of_line, BeginWithOneOf, FitsLineIn, IsOrderIn}
@@ -58,7 +58,6 @@ use Rattle.order_grammar.specs.declared.keyword.Keyword.{Keyword}
 use Rattle.order_grammar.specs.declared.keyword.Keyword.TheVariants as keyword
 use Rattle.order_grammar.specs.declared.order.Order.{Order}
 use Rattle.order_grammar.specs.declared.order.Order.TheVariants.{Run, Claim}
-use Rattle.order_grammar.specs.declared.order.Parts.{Parts}
 use Rattle.order_grammar.specs.declared.order.Tail.{Tail}
 use Rattle.order_grammar.specs.declared.order.Tail.TheVariants as tail
 use Rattle.order_grammar.specs.declared.order.Value.{Value}
@@ -502,7 +501,7 @@ FitWithPlaces most k values t = Unit {0}
 
 abbrev FitsParts : ℕ → Option Parts → Type 0
 FitsParts most None = Unit {0}
-FitsParts most (Some parts) = FitWithPlaces most parts.keyword parts.values.items parts.tail
+FitsParts most (Some parts) = FitWithPlaces most parts.keyword parts.values parts.tail
 
 -- so do those of an order that does
 fits_by_parts : (text : TextKind) (order : Order) → FitsLineIn text order → FitsParts text.most (parts_of order)
@@ -526,14 +525,14 @@ record IsSpeltOut (order : Order) (parts : Parts) : Type 0 where
   plain : ArePlain (words_of_parts (Some parts))
   are : AreWordsFor order (words_of_parts (Some parts))
   small : HasSmallNumbers order
-  five : length parts.values.items ≤ 5
+  five : length parts.values ≤ 5
   few : IsFew parts.tail
 
 spelt_out : (order : Order) (parts : Parts) → parts_of order ≡ Some parts → have_words (Some parts) ≡ true →
     IsSpeltOut order parts
 unfolding ArePlain
 spelt_out order parts is has =
-    let values = parts.values.items in
+    let values = parts.values in
     let h = and_parts (has_form parts) (list_all has_word values) has in
     let row = among_any (is_row_of parts.keyword values parts.tail) forms h.0 in
     let of_row =
@@ -566,7 +565,7 @@ parts_read text rows of room order (Some parts) is has fits known =
     let words = words_of_parts (Some parts) in
     let spelt = spelt_out order parts is has in
     reading_by-joined text.most rows words spelt.plain
-    (parts_fit text.most parts.keyword parts.values.items parts.tail room spelt.five spelt.few spelt.plain fits)
+    (parts_fit text.most parts.keyword parts.values parts.tail room spelt.five spelt.few spelt.plain fits)
     ∙ known_read text rows words of known
     ∙ spelt_words_read words order spelt.are spelt.small
 
@@ -630,7 +629,7 @@ FitUnderWith condition k values t = Unit {0}
 
 abbrev FitUnder : Condition → Option Parts → Type 0
 FitUnder condition None = Unit {0}
-FitUnder condition (Some parts) = FitUnderWith condition parts.keyword parts.values.items parts.tail
+FitUnder condition (Some parts) = FitUnderWith condition parts.keyword parts.values parts.tail
 
 -- so do those of an order that does
 fits_under : (condition : Condition) (order : Order) → FitsLineUnder condition order →
@@ -696,7 +695,7 @@ parts_read_under condition order (Some parts) is has small fits begins =
     (refl, condition_spelt condition order behind small (begins, spelt.are)) in
     spells_read_in Two (joined words) (ordered (Some condition) order) (record {
       loosely = record {
-        short = under_fit condition parts.keyword parts.values.items parts.tail spelt.five spelt.few plain fits;
+        short = under_fit condition parts.keyword parts.values parts.tail spelt.five spelt.few plain fits;
         printable = line.printable;
         words = subst (AreWordsUnder Two (Some condition) order) (sym line.are) are;
       };

@@ -1,9 +1,9 @@
--- The families of keywords and of orders, by which the code takes them.
+-- The families of keywords and of orders of few bytes, by which the code takes them.
 use Rattle.std.specs.Prelude.{⊤}
 use Rattle.order_grammar.specs.declared.keyword.Keyword.{Keyword}
 use Rattle.order_grammar.specs.declared.keyword.Keyword.TheVariants as keyword
-use Rattle.order_grammar.specs.declared.order.Order.{Order}
-use Rattle.order_grammar.specs.declared.order.Order.TheVariants.{Bid, BuyOwnedPrivate, Cert, Certs, Limit, Marks, Par, Raise, Sell}
+use Rattle.order_grammar.specs.declared.short.ShortOrder.{ShortOrder}
+use Rattle.order_grammar.specs.declared.short.ShortOrder.TheVariants as short
 
 -- a line of the file or a head of its sheets begins with it
 abbrev pub IsOfFile : Keyword → Type 0
@@ -48,19 +48,12 @@ IsOfCertificate keyword.Cert = ⊤
 IsOfCertificate keyword.Marks = ⊤
 IsOfCertificate other = ⊥
 
--- the order names a number of dollars or of tenths
-abbrev pub HasAmount : Order → Type 0
-HasAmount (Bid private amount) = ⊤
-HasAmount (Limit private amount) = ⊤
-HasAmount (Par company price) = ⊤
-HasAmount (Sell company tenths) = ⊤
-HasAmount (BuyOwnedPrivate private price) = ⊤
-HasAmount (Raise company tenths) = ⊤
+-- an order of few bytes that names a number of dollars or of tenths
+abbrev pub HasAmount : ShortOrder → Type 0
+HasAmount (short.Bid private amount) = ⊤
+HasAmount (short.Limit private amount) = ⊤
+HasAmount (short.Par company price) = ⊤
+HasAmount (short.Sell company tenths) = ⊤
+HasAmount (short.BuyOwnedPrivate private price) = ⊤
+HasAmount (short.Raise company tenths) = ⊤
 HasAmount other = ⊥
-
--- the order is such a line of a certificate's text
-abbrev pub IsCertificateLine : Order → Type 0
-IsCertificateLine Certs = ⊤
-IsCertificateLine (Cert round company revenue) = ⊤
-IsCertificateLine Marks = ⊤
-IsCertificateLine other = ⊥

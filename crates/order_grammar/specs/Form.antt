@@ -8,7 +8,7 @@ use Rattle.order_grammar.specs.Class.{class_reading, is_of_class}
 use Rattle.order_grammar.specs.Keyword.{text_of_keyword}
 use Rattle.order_grammar.specs.Name.{is_name}
 use Rattle.order_grammar.specs.Words.{same_word}
-use Rattle.order_grammar.specs.Order.{order_from}
+use Rattle.order_grammar.specs.Order.{order_from, Parts}
 use Rattle.order_grammar.specs.declared.class.Class.{Class}
 use Rattle.order_grammar.specs.declared.class.Class.TheVariants as class
 use Rattle.order_grammar.specs.declared.class.Reading.{Reading}
@@ -21,7 +21,6 @@ use Rattle.order_grammar.specs.declared.keyword.Keyword.{Keyword}
 use Rattle.order_grammar.specs.declared.keyword.Keyword.TheVariants as keyword
 use Rattle.order_grammar.specs.declared.order.Order.{Order}
 use Rattle.order_grammar.specs.declared.order.Order.TheVariants.{Blank}
-use Rattle.order_grammar.specs.declared.order.Parts.{Parts}
 use Rattle.order_grammar.specs.declared.order.Tail.{Tail}
 use Rattle.order_grammar.specs.declared.order.Tail.TheVariants as tail
 use Rattle.order_grammar.specs.declared.order.Value.{Value}
@@ -200,4 +199,4 @@ is_row_of keyword values tail row =
 
 -- whether some form is that of an order of these parts
 abbrev pub has_form : Parts → Bool
-has_form parts = list_any (is_row_of parts.keyword parts.values.items parts.tail) forms
+has_form parts = list_any (is_row_of parts.keyword parts.values parts.tail) forms

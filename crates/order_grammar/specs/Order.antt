@@ -12,7 +12,6 @@ use Rattle.order_grammar.specs.declared.order.Offer as offers
 use Rattle.order_grammar.specs.declared.order.Offer.TheVariants as offer
 use Rattle.order_grammar.specs.declared.order.Order.{Order}
 use Rattle.order_grammar.specs.declared.order.Order.TheVariants.{Blank, Game, Players, Sheet, Turn, BuyPrivate, Bid, Limit, Par, BuyShare, Sell, ExchangeMohawk, Company as CompanyTurn, Lay, Token, Run, RunBest, Pay, Withhold, BuyTrain, Discard, BuyOwnedPrivate, Raise, Offer, Certs, Cert, Claim, Marks}
-use Rattle.order_grammar.specs.declared.order.Parts.{Parts}
 use Rattle.order_grammar.specs.declared.order.ShareSource.{ShareSource}
 use Rattle.order_grammar.specs.declared.order.ShareSource.TheVariants.{InitialOffering, BankPool}
 use Rattle.order_grammar.specs.declared.order.Tail.{Tail}
@@ -54,9 +53,15 @@ offer_values (offer.Train kind seller buyer price) =
 abbrev pub lay_of : TileNo → Hex → Rotation → Bool → lays.Lay
 lay_of tile hex rotation swap = record { hex = hex; tile = tile; rot = rotation; swap = swap }
 
+-- what an order is made of, in the order of its line's words
+pub record Parts : Type 0 where
+  pub keyword : Keyword
+  pub values : List Value
+  pub tail : Tail
+
 -- an order that is made of these
 abbrev pub made_of : Keyword → List Value → Tail → Option Parts
-made_of keyword values tail = Some (record { keyword = keyword; values = record { items = values }; tail = tail })
+made_of keyword values tail = Some (record { keyword = keyword; values = values; tail = tail })
 
 -- the parts of an order; a blank line has none
 abbrev pub parts_of : Order → Option Parts

@@ -5,15 +5,16 @@ use Rattle.map_tables.specs.declared.place.Place.{Place}
 use Rattle.map_tables.specs.Text.{text_of_hex, text_of_place, text_of_rotation, text_of_tile}
 use Rattle.tables.specs.Roster.{code_of_company, code_of_private}
 use Rattle.tables.specs.Train.{code_of_kind}
+use Rattle.tables.specs.declared.rolling_stock.Kind.{Kind}
 use Rattle.tables.specs.declared.round.Round.{Round}
 use Rattle.tables.specs.declared.round.Round.TheVariants.{Opening, Stock, Operating}
 use Rattle.order_grammar.specs.Condition.{condition_values}
 use Rattle.order_grammar.specs.Keyword.{text_of_keyword}
-use Rattle.order_grammar.specs.Order.{parts_of}
+use Rattle.order_grammar.specs.Order.{parts_of, Parts}
 use Rattle.order_grammar.specs.declared.condition.Condition.{Condition}
+use Rattle.order_grammar.specs.declared.keyword.Keyword.{Keyword}
 use Rattle.order_grammar.specs.declared.keyword.Keyword.TheVariants as keyword
 use Rattle.order_grammar.specs.declared.order.Order.{Order}
-use Rattle.order_grammar.specs.declared.order.Parts.{Parts}
 use Rattle.order_grammar.specs.declared.order.Tail.{Tail}
 use Rattle.order_grammar.specs.declared.order.Tail.TheVariants as tail
 use Rattle.order_grammar.specs.declared.order.Value.{Value}
@@ -54,6 +55,10 @@ spaced words = flat_map (λ word. 32 ∷ word) words
 abbrev pub values_text : List Value → List ℕ
 values_text values = spaced (map text_of_value values)
 
+-- a literal word, and the words of values
+abbrev pub words_text : Keyword → List Value → List ℕ
+words_text keyword values = text_of_keyword keyword ++ values_text values
+
 -- the words of places, each with a space before it
 abbrev pub places_text : List Place → List ℕ
 places_text places = spaced (map text_of_place places)
@@ -63,11 +68,15 @@ abbrev pub joined : List (List ℕ) → List ℕ
 joined [] = []
 joined (word ∷ words) = word ++ spaced words
 
+-- the line of a literal word, a kind of train and places
+abbrev pub places_line : Keyword → Kind → List Place → List ℕ
+places_line keyword kind places = joined (text_of_keyword keyword ∷ code_of_kind kind ∷ map text_of_place places)
+
 -- the words of parts
 abbrev pub words_of_parts : Option Parts → List (List ℕ)
 words_of_parts None = []
 words_of_parts (Some parts) =
-    text_of_keyword parts.keyword ∷ map text_of_value parts.values.items ++ words_of_tail parts.tail
+    text_of_keyword parts.keyword ∷ map text_of_value parts.values ++ words_of_tail parts.tail
 
 -- the words of an order
 abbrev pub words_of_order : Order → List (List ℕ)
@@ -77,12 +86,14 @@ words_of_order order = words_of_parts (parts_of order)
 abbrev pub spelling_of : Order → List ℕ
 spelling_of order = joined (words_of_order order)
 
+-- IF, the words of a condition and a space; nothing where there is no condition
+abbrev pub condition_text : Option Condition → List ℕ
+condition_text None = []
+condition_text (Some condition) = words_text keyword.If (condition_values condition) ++ codes " "
+
 -- the spelling of an order under a condition, if there is one
 abbrev pub conditional_spelling : Option Condition → Order → List ℕ
-conditional_spelling None order = spelling_of order
-conditional_spelling (Some condition) order =
-    joined (text_of_keyword keyword.If ∷ map text_of_value (condition_values condition)) ++ codes " "
-    ++ spelling_of order
+conditional_spelling condition order = condition_text condition ++ spelling_of order
 
 -- what was there, and after it a front of the text
 pub record AddsFront (old new text : List ℕ) : Type 0 where

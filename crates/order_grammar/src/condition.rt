@@ -1,8 +1,7 @@
-ghost use Rattle.std.specs.Prelude.{◌≡◌, Some};
+ghost use Rattle.std.specs.Prelude.{◌≡◌};
 ghost use Rattle.order_grammar.specs.Condition.{
   condition_if_read,
   condition_of,
-  condition_values,
   conditional_reading,
   ordered_reading,
   price_of,
@@ -13,16 +12,13 @@ ghost use Rattle.order_grammar.specs.Condition.{
   under,
   play_reading,
 };
-ghost use Rattle.order_grammar.specs.Order.{made_of};
 ghost use Rattle.order_grammar.specs.Words.{texts_of};
-ghost use Rattle.order_grammar.specs.declared.keyword.Keyword.TheVariants.{If};
-ghost use Rattle.order_grammar.specs.declared.order.Tail.TheVariants.{Nothing};
 
 use crate::class::{Class, Reading};
 use crate::fault::Fault;
 use crate::form::{order_forms, play_forms, read_nearest};
 use crate::keyword::Keyword;
-use crate::order::{Order, Parts, Value};
+use crate::order::{Order, Value};
 use crate::words::{Words, is_word};
 use tables::{Amount, Company, Kind};
 
@@ -44,33 +40,6 @@ pub enum Condition {
     Phase(Kind),
     /// `IF FLOATED co`: the company has floated.
     Floated(Company),
-}
-
-impl Condition {
-    /// What a condition is made of: IF and the words after it.
-    pub(crate) fn parts(&self) -> Parts
-        ensures { Some result ≡ made_of If (condition_values self.now) Nothing }
-    {
-        match self {
-            Condition::Price(company, price) => Parts::of(
-                Keyword::If,
-                &[
-                    Value::Word(Keyword::Price),
-                    Value::Company(*company),
-                    Value::Word(Keyword::AtLeast),
-                    Value::Number(*price),
-                ],
-            ),
-            Condition::Phase(kind) => {
-                let phase = Value::Word(Keyword::Phase);
-                Parts::of(Keyword::If, &[phase, Value::Kind(*kind)])
-            }
-            Condition::Floated(company) => {
-                let floated = Value::Word(Keyword::Floated);
-                Parts::of(Keyword::If, &[floated, Value::Company(*company)])
-            }
-        }
-    }
 }
 
 /// Puts the order that the words of a line of version 2 spell in place of another, and gives its

@@ -8,7 +8,7 @@
 //! no memory; printing takes it for its text alone.
 //!
 //! Reading order: `name`, `fault`, `words` (a line and its words), `keyword` (the literal words),
-//! `order` (orders and what they are made of), `class` (the texts of each class of words), `form`
+//! `order` (orders), `short` (those that take few bytes), `class` (the texts of each class of words), `form`
 //! (the table), `condition` (versions, and an order under a condition), `read`, `print`, `laws`.
 #![tactic(auto)]
 
@@ -22,6 +22,7 @@ mod name;
 mod order;
 mod print;
 mod read;
+mod short;
 mod words;
 
 pub use class::MARKS_DIGITS_MOST;
@@ -36,9 +37,11 @@ pub use laws::{
 pub use name::{NAME_MOST, Name};
 pub use order::{Offer, Order, ShareSource, TrainSource};
 pub use print::{
-    print_conditional, print_conditional_order, print_line, print_number, print_order, print_round,
+    print_condition, print_conditional, print_conditional_order, print_line, print_number,
+    print_order, print_round, print_run_front, print_short_order,
 };
 pub use read::{
     CERT_LINE_MOST, LINE_MOST, Line, read_cert_line, read_line, read_line_in, read_order_in,
 };
+pub use short::ShortOrder;
 pub use words::{Span, Token, Words, begins_with_word, has_word};

@@ -1,13 +1,14 @@
-ghost use Rattle.std.specs.Prelude.{◌≡◌, ◌≤◌, Some, [], ◌∷◌, length};
-ghost use Rattle.order_grammar.specs.Family.{HasAmount, IsCertificateLine, IsOfAmount, IsOfCertificate, IsOfFile, IsOfOne, IsOfTenths, IsOfTrains};
+ghost use Rattle.std.specs.Prelude.{◌≡◌, false};
+ghost use Rattle.order_grammar.specs.Family.{IsOfAmount, IsOfCertificate, IsOfFile, IsOfOne, IsOfTenths, IsOfTrains};
+ghost use Rattle.order_grammar.specs.Order.{keyword_of_source, order_from, put_if, text_of_source};
+ghost use Rattle.order_grammar.specs.Short.{has_short_form};
 ghost use Rattle.order_grammar.specs.declared.keyword.Keyword.TheVariants.{Buy, Lay as LayWord, Offer as OfferWord, Train};
-ghost use Rattle.order_grammar.specs.declared.order.Order.TheVariants.{BuyShare, BuyTrain, Discard, Lay as LayOrder, Offer as OfferOrder};
-ghost use Rattle.order_grammar.specs.declared.order.Tail.TheVariants.{Nothing, Places};
-ghost use Rattle.order_grammar.specs.declared.order.Value.TheVariants.{Kind as KindValue, Number};
-ghost use Rattle.order_grammar.specs.Order.{keyword_of_source, made_of, order_from, parts_of, put_if, text_of_source};
+ghost use Rattle.order_grammar.specs.declared.order.Tail.TheVariants.{Nothing};
+ghost use Rattle.order_grammar.specs.declared.order.Value.TheVariants.{Number};
 
 use crate::keyword::Keyword;
 use crate::name::Name;
+use crate::short::ShortOrder;
 use arrayvec::ArrayVec;
 use map_tables::{Hex, Lay, Place, Rotation, Run, TileNo};
 use tables::{Amount, Company, Kind, PLAYERS_MOST, Private, Round};
@@ -170,7 +171,7 @@ impl ShareSource {
         self.keyword().text()
     }
 
-    fn keyword(self) -> Keyword
+    pub(crate) fn keyword(self) -> Keyword
         ensures { result ≡ keyword_of_source self }
     {
         match self {
@@ -222,222 +223,59 @@ pub(crate) enum Tail {
     Places(Run),
 }
 
-/// What an order is made of, in the order of its line's words.
-#[derive(Debug, Drop, PartialEq, Eq)]
-pub(crate) struct Parts {
-    pub(crate) keyword: Keyword,
-    pub(crate) values: Values,
-    pub(crate) tail: Tail,
-}
-
 const _: () = prove!(size_of::<Order>() <= 1024);
-
-const _: () = prove!(size_of::<Parts>() <= 1024);
 
 impl Order {
     /// An equal order.
     pub fn duplicate(&self) -> Order
         ensures { result ≡ self.now }
     {
-        let Some(parts) = self.parts() else {
-            return Order::Blank;
-        };
-        let Parts {
-            keyword,
-            values,
-            tail,
-        } = parts;
-        let mut order = Order::Blank;
-        if put_order(keyword, values.as_slice(), tail, &mut order) {
-            order
-        } else {
-            Order::Blank
+        match ShortOrder::of(self) {
+            Some(short) => short.order(),
+            None => self.duplicate_long(),
         }
     }
 
-    /// What the order is made of; `None` for a blank line.
-    pub(crate) fn parts(&self) -> Option<Parts>
-        ensures { result ≡ parts_of self.now }
-    {
-        let parts = match self {
-            Order::Blank => return None,
-            Order::Game { game, version } => {
-                Parts::of(
-                    Keyword::Game,
-                    &[Value::Number(*game), Value::Number(*version)],
-                )
-            }
-            Order::Players(names) => {
-                Parts::with_tail(Keyword::Players, &[], Tail::Names(duplicate_names(names)))
-            }
-            Order::Sheet { name, round } => {
-                Parts::of(Keyword::Sheet, &[Value::Name(*name), Value::Round(*round)])
-            }
-            Order::Turn => Parts::of(Keyword::Turn, &[]),
-            Order::BuyPrivate(private) => Parts::of(Keyword::Buy, &[Value::Private(*private)]),
-            Order::Bid { .. } | Order::Limit { .. } | Order::Par { .. } | Order::Sell { .. } => {
-                self.parts_of_amount()
-            }
-            Order::BuyShare { company, from } => parts_of_share(*company, *from),
-            Order::ExchangeMohawk => {
-                Parts::of(Keyword::Exchange, &[Value::Word(Keyword::Mohawk)])
-            }
-            Order::Company(company) => Parts::of(Keyword::Company, &[Value::Company(*company)]),
-            Order::Lay(lay) => parts_of_lay(*lay),
-            Order::Token(place) => Parts::of(Keyword::Token, &[Value::Place(*place)]),
-            Order::Run { kind, run } => parts_of_places(Keyword::Run, *kind, run),
-            Order::RunBest => Parts::of(Keyword::Run, &[Value::Word(Keyword::Best)]),
-            Order::Pay => Parts::of(Keyword::Pay, &[]),
-            Order::Withhold => Parts::of(Keyword::Withhold, &[]),
-            Order::BuyTrain { kind, from } => parts_of_purchase(*kind, *from),
-            Order::Discard { company, kind } => parts_of_discard(*company, *kind),
-            Order::BuyOwnedPrivate { .. } | Order::Raise { .. } => self.parts_of_amount(),
-            Order::Offer(offer) => parts_of_offer(*offer),
-            Order::Certs | Order::Cert { .. } | Order::Marks => self.parts_of_certificate_line(),
-            Order::Claim { kind, run } => parts_of_places(Keyword::Claim, *kind, run),
-        };
-        Some(parts)
-    }
-
-    /// What an order is made of that names a number of dollars or of tenths.
-    fn parts_of_amount(&self) -> Parts
-        requires { HasAmount self.now }
-        ensures { Some result ≡ parts_of self.now }
-    {
-        let (keyword, of, amount) = match self {
-            Order::Bid { private, amount } => (Keyword::Bid, Value::Private(*private), *amount),
-            Order::Limit { private, amount } => (Keyword::Limit, Value::Private(*private), *amount),
-            Order::Par { company, price } => (Keyword::Par, Value::Company(*company), *price),
-            Order::Sell { company, tenths } => (Keyword::Sell, Value::Company(*company), *tenths),
-            Order::BuyOwnedPrivate { private, price } => {
-                (Keyword::Private, Value::Private(*private), *price)
-            }
-            Order::Raise { company, tenths } => (Keyword::Raise, Value::Company(*company), *tenths),
-            _ => unreachable!(),
-        };
-        Parts::of(keyword, &[of, Value::Number(amount)])
-    }
-
-    /// What a line of a certificate's text is made of that has no places.
-    fn parts_of_certificate_line(&self) -> Parts
-        requires { IsCertificateLine self.now }
-        ensures { Some result ≡ parts_of self.now }
+    /// The same of an order without a short form.
+    fn duplicate_long(&self) -> Order
+        requires { has_short_form self.now ≡ false }
+        ensures { result ≡ self.now }
     {
         match self {
-            Order::Certs => Parts::of(Keyword::Certs, &[Value::Word(Keyword::One)]),
+            Order::Blank => Order::Blank,
+            Order::Game { game, version } => Order::Game {
+                game: *game,
+                version: *version,
+            },
+            Order::Players(names) => Order::Players(duplicate_names(names)),
+            Order::Sheet { name, round } => Order::Sheet {
+                name: *name,
+                round: *round,
+            },
+            Order::Turn => Order::Turn,
+            Order::Company(company) => Order::Company(*company),
+            Order::Run { kind, run } => Order::Run {
+                kind: *kind,
+                run: run.duplicate(),
+            },
+            Order::Certs => Order::Certs,
             Order::Cert {
                 round,
                 company,
                 revenue,
-            } => Parts::of(
-                Keyword::Cert,
-                &[
-                    Value::Round(*round),
-                    Value::Company(*company),
-                    Value::Number(*revenue),
-                ],
-            ),
-            Order::Marks => Parts::of(Keyword::Marks, &[Value::HexDigits]),
+            } => Order::Cert {
+                round: *round,
+                company: *company,
+                revenue: *revenue,
+            },
+            Order::Claim { kind, run } => Order::Claim {
+                kind: *kind,
+                run: run.duplicate(),
+            },
+            Order::Marks => Order::Marks,
             _ => unreachable!(),
         }
     }
-}
-
-/// What the order of a lay is made of.
-fn parts_of_lay(lay: Lay) -> Parts
-    ensures { Some result ≡ parts_of (LayOrder lay) }
-{
-    let (tile, hex) = (Value::Tile(lay.tile), Value::Hex(lay.hex));
-    let rotation = Value::Rotation(lay.rot);
-    if lay.swap {
-        Parts::of(
-            Keyword::Lay,
-            &[tile, hex, rotation, Value::Word(Keyword::Swap)],
-        )
-    } else {
-        Parts::of(Keyword::Lay, &[tile, hex, rotation])
-    }
-}
-
-/// What the order to buy a tenth of a company is made of.
-fn parts_of_share(company: Company, from: ShareSource) -> Parts
-    ensures { Some result ≡ parts_of (BuyShare company from) }
-{
-    let (company, from) = (Value::Company(company), Value::Word(from.keyword()));
-    Parts::of(Keyword::Buy, &[company, from])
-}
-
-/// What a line is made of that has a kind of train and the places of a run.
-fn parts_of_places(keyword: Keyword, kind: Kind, run: &Run) -> Parts
-    ensures { Some result ≡ made_of keyword (KindValue kind ∷ []) (Places run.now) }
-{
-    let places = Tail::Places(run.duplicate());
-    Parts::with_tail(keyword, &[Value::Kind(kind)], places)
-}
-
-/// What the order to buy a train is made of.
-fn parts_of_purchase(kind: Kind, from: TrainSource) -> Parts
-    ensures { Some result ≡ parts_of (BuyTrain kind from) }
-{
-    let (kind, bank) = (Value::Kind(kind), Value::Word(Keyword::Bank));
-    match from {
-        TrainSource::Bank => Parts::of(Keyword::Train, &[kind, bank]),
-        TrainSource::Trade(other) => {
-            let trade = Value::Word(Keyword::Trade);
-            Parts::of(Keyword::Train, &[kind, bank, trade, Value::Kind(other)])
-        }
-        TrainSource::BankPool => Parts::of(Keyword::Train, &[kind, Value::Word(Keyword::Pool)]),
-        TrainSource::Company { seller, price } => Parts::of(
-            Keyword::Train,
-            &[kind, Value::Company(seller), Value::Number(price)],
-        ),
-    }
-}
-
-/// What the consent to a sale is made of.
-fn parts_of_offer(offer: Offer) -> Parts
-    ensures { Some result ≡ parts_of (OfferOrder offer) }
-{
-    match offer {
-        Offer::Private {
-            private,
-            buyer,
-            price,
-        } => Parts::of(
-            Keyword::Offer,
-            &[
-                Value::Word(Keyword::Private),
-                Value::Private(private),
-                Value::Company(buyer),
-                Value::Number(price),
-            ],
-        ),
-        Offer::Train {
-            kind,
-            seller,
-            buyer,
-            price,
-        } => Parts::of(
-            Keyword::Offer,
-            &[
-                Value::Word(Keyword::Train),
-                Value::Kind(kind),
-                Value::Company(seller),
-                Value::Company(buyer),
-                Value::Number(price),
-            ],
-        ),
-    }
-}
-
-/// What the order to discard a train is made of.
-fn parts_of_discard(company: Company, kind: Kind) -> Parts
-    ensures { Some result ≡ parts_of (Discard company kind) }
-{
-    Parts::of(
-        Keyword::Discard,
-        &[Value::Company(company), Value::Kind(kind)],
-    )
 }
 
 /// Puts the order of these parts in place of another, if there is one, and answers whether there is.
@@ -737,36 +575,7 @@ fn put_certificate_line(keyword: Keyword, values: &[Value], order: &mut Order) -
     true
 }
 
-impl Parts {
-    /// These parts, of which none is repeated.
-    pub(crate) fn of(keyword: Keyword, values: &[Value]) -> Parts
-        requires { length values.now ≤ 5 }
-        ensures keyword { result.keyword ≡ keyword }
-        ensures values { result.values.items ≡ values.now }
-        ensures tail { result.tail ≡ Nothing }
-    {
-        Parts::with_tail(keyword, values, Tail::Nothing)
-    }
-
-    /// These parts.
-    fn with_tail(keyword: Keyword, values: &[Value], tail: Tail) -> Parts
-        requires { length values.now ≤ 5 }
-        ensures keyword { result.keyword ≡ keyword }
-        ensures values { result.values.items ≡ values.now }
-        ensures tail { result.tail ≡ tail }
-    {
-        let mut copies = Values::new();
-        for value in values {
-            copies.push(*value);
-        }
-        Parts {
-            keyword,
-            values: copies,
-            tail,
-        }
-    }
-}
-
+/// Equal names.
 fn duplicate_names(names: &ArrayVec<Name, PLAYERS_MOST>) -> ArrayVec<Name, PLAYERS_MOST>
     ensures { result.items ≡ names.now.items }
 {

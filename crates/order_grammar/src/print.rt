@@ -1,15 +1,24 @@
-ghost use Rattle.std.specs.Prelude.{◌≡◌, ◌++◌, IfOk, OnErr, OnOk};
+ghost use Rattle.std.specs.Prelude.{◌≡◌, ◌++◌, ◌∷◌, false, IfOk, List, OnErr, OnOk};
 ghost use Rattle.std.specs.Option.{option_copied};
 ghost use Rattle.map_tables.specs.Text.{text_of_place};
-ghost use Rattle.order_grammar.specs.Print.{AddsFront, conditional_spelling, places_text, spaced, values_text, spelling_of, text_of_round, text_of_value};
+ghost use Rattle.map_tables.specs.declared.place.Place.{Place as MapPlace};
+ghost use Rattle.order_grammar.specs.Condition.{condition_values};
+ghost use Rattle.order_grammar.specs.Family.{HasAmount};
+ghost use Rattle.order_grammar.specs.Keyword.{text_of_keyword};
+ghost use Rattle.order_grammar.specs.Print.{AddsFront, condition_text, conditional_spelling, joined, places_line, places_text, spaced, spelling_of, text_of_round, text_of_value, values_text, words_text};
+ghost use Rattle.order_grammar.specs.Short.{has_short_form, order_in_short};
+ghost use Rattle.order_grammar.specs.declared.keyword.Keyword.TheVariants.{If, Players};
+ghost use Rattle.order_grammar.specs.declared.order.Order.TheVariants.{BuyTrain, Lay as LayOrder, Offer as OfferOrder, Run};
 
 use crate::condition::Condition;
+use crate::keyword::Keyword;
 use crate::name::Name;
-use crate::order::{Order, Tail, Value};
+use crate::order::{Offer, Order, TrainSource, Value};
+use crate::short::ShortOrder;
 use itoa::Integer;
-use map_tables::Place;
+use map_tables::{Lay, Place};
 use std::alloc::{AllocError, Global};
-use tables::Round;
+use tables::{Kind, Round};
 
 /// The one spelling of an order: upper case, single spaces, no leading zeros. (`Marks` has none:
 /// its digits stand in the line that was read.)
@@ -48,14 +57,53 @@ pub fn print_conditional_order(
     ensures err { OnErr result (AddsFront text.old.items text.new.items
         (conditional_spelling (option_copied condition.entry) order.now)) }
 {
-    let Some(condition) = condition else {
-        return print_order(text, order);
-    };
-    let parts = condition.parts();
-    text.extend_from_slice(parts.keyword.text())?;
-    print_values(text, parts.values.as_slice())?;
-    text.push(b' ')?;
+    print_condition(text, condition)?;
     print_order(text, order)
+}
+
+/// Adds IF, the words of a condition and a space; nothing where there is no condition. At want of
+/// memory a front of that may have been added.
+pub fn print_condition(text: &mut Vec<u8>, condition: Option<&Condition>) -> Result<(), AllocError>
+    ensures ok { OnOk result (text.new.items
+        ≡ text.old.items ++ condition_text (option_copied condition.entry)) }
+    ensures err { OnErr result (AddsFront text.old.items text.new.items
+        (condition_text (option_copied condition.entry))) }
+{
+    let Some(condition) = condition else {
+        return Ok(());
+    };
+    print_words_of_condition(text, *condition)?;
+    text.push(b' ')?;
+    Ok(())
+}
+
+/// Adds IF and the words of a condition.
+fn print_words_of_condition(text: &mut Vec<u8>, condition: Condition) -> Result<(), AllocError>
+    ensures ok { OnOk result (text.new.items
+        ≡ text.old.items ++ words_text If (condition_values condition)) }
+    ensures err { OnErr result (AddsFront text.old.items text.new.items
+        (words_text If (condition_values condition))) }
+{
+    match condition {
+        Condition::Price(company, price) => print_words(
+            text,
+            Keyword::If,
+            &[
+                Value::Word(Keyword::Price),
+                Value::Company(company),
+                Value::Word(Keyword::AtLeast),
+                Value::Number(price),
+            ],
+        ),
+        Condition::Phase(kind) => {
+            let phase = Value::Word(Keyword::Phase);
+            print_words(text, Keyword::If, &[phase, Value::Kind(kind)])
+        }
+        Condition::Floated(company) => {
+            let floated = Value::Word(Keyword::Floated);
+            print_words(text, Keyword::If, &[floated, Value::Company(company)])
+        }
+    }
 }
 
 /// Adds the spelling of an order: upper case, single spaces, no leading zeros. At want of memory a
@@ -64,16 +112,242 @@ pub fn print_order(text: &mut Vec<u8>, order: &Order) -> Result<(), AllocError>
     ensures ok { OnOk result (text.new.items ≡ text.old.items ++ spelling_of order.now) }
     ensures err { OnErr result (AddsFront text.old.items text.new.items (spelling_of order.now)) }
 {
-    let Some(parts) = order.parts() else {
-        return Ok(());
-    };
-    text.extend_from_slice(parts.keyword.text())?;
-    print_values(text, parts.values.as_slice())?;
-    match parts.tail {
-        Tail::Nothing => Ok(()),
-        Tail::Names(names) => print_names(text, names.as_slice()),
-        Tail::Places(run) => print_places(text, run.as_slice()),
+    match ShortOrder::of(order) {
+        Some(short) => print_short_order(text, short),
+        None => print_long_order(text, order),
     }
+}
+
+/// The same of an order without a short form.
+fn print_long_order(text: &mut Vec<u8>, order: &Order) -> Result<(), AllocError>
+    requires { has_short_form order.now ≡ false }
+    ensures ok { OnOk result (text.new.items ≡ text.old.items ++ spelling_of order.now) }
+    ensures err { OnErr result (AddsFront text.old.items text.new.items (spelling_of order.now)) }
+{
+    match order {
+        Order::Blank => Ok(()),
+        Order::Game { game, version } => {
+            let numbers = [Value::Number(*game), Value::Number(*version)];
+            print_words(text, Keyword::Game, &numbers)
+        }
+        Order::Players(names) => print_players(text, names.as_slice()),
+        Order::Sheet { name, round } => {
+            let head = [Value::Name(*name), Value::Round(*round)];
+            print_words(text, Keyword::Sheet, &head)
+        }
+        Order::Turn => print_words(text, Keyword::Turn, &[]),
+        Order::Company(company) => {
+            print_words(text, Keyword::Company, &[Value::Company(*company)])
+        }
+        Order::Run { kind, run } => print_of_places(text, Keyword::Run, *kind, run.as_slice()),
+        Order::Certs => print_words(text, Keyword::Certs, &[Value::Word(Keyword::One)]),
+        Order::Cert {
+            round,
+            company,
+            revenue,
+        } => {
+            let (round, company) = (Value::Round(*round), Value::Company(*company));
+            print_words(
+                text,
+                Keyword::Cert,
+                &[round, company, Value::Number(*revenue)],
+            )
+        }
+        Order::Claim { kind, run } => print_of_places(text, Keyword::Claim, *kind, run.as_slice()),
+        Order::Marks => print_words(text, Keyword::Marks, &[Value::HexDigits]),
+        _ => unreachable!(),
+    }
+}
+
+/// Adds the line of those who play.
+fn print_players(text: &mut Vec<u8>, names: &[Name]) -> Result<(), AllocError>
+    ensures ok { OnOk result (text.new.items
+        ≡ text.old.items ++ joined (text_of_keyword Players ∷ names.now)) }
+    ensures err { OnErr result (AddsFront text.old.items text.new.items
+        (joined (text_of_keyword Players ∷ names.now))) }
+{
+    print_words(text, Keyword::Players, &[])?;
+    print_names(text, names)
+}
+
+/// Adds a line that has a kind of train and the places of a run.
+fn print_of_places(
+    text: &mut Vec<u8>,
+    keyword: Keyword,
+    kind: Kind,
+    places: &[Place],
+) -> Result<(), AllocError>
+    ensures ok { OnOk result (text.new.items
+        ≡ text.old.items ++ places_line keyword kind places.now) }
+    ensures err { OnErr result (AddsFront text.old.items text.new.items
+        (places_line keyword kind places.now)) }
+{
+    print_words(text, keyword, &[Value::Kind(kind)])?;
+    print_places(text, places)
+}
+
+/// Adds the front of an order to run a train of a kind; its places follow, each with a space before
+/// it.
+pub fn print_run_front(text: &mut Vec<u8>, kind: Kind) -> Result<(), AllocError>
+    ensures { OnOk result ((run : List MapPlace) →
+        text.new.items ++ places_text run ≡ text.old.items ++ spelling_of (Run kind run)) }
+{
+    print_words(text, Keyword::Run, &[Value::Kind(kind)])
+}
+
+/// Adds the spelling of an order that takes few bytes: upper case, single spaces, no leading zeros.
+/// At want of memory a front of that may have been added.
+pub fn print_short_order(text: &mut Vec<u8>, order: ShortOrder) -> Result<(), AllocError>
+    ensures ok { OnOk result (text.new.items
+        ≡ text.old.items ++ spelling_of (order_in_short order)) }
+    ensures err { OnErr result (AddsFront text.old.items text.new.items
+        (spelling_of (order_in_short order))) }
+{
+    match order {
+        ShortOrder::BuyPrivate(private) => {
+            print_words(text, Keyword::Buy, &[Value::Private(private)])
+        }
+        ShortOrder::BuyShare { company, from } => {
+            let shares = [Value::Company(company), Value::Word(from.keyword())];
+            print_words(text, Keyword::Buy, &shares)
+        }
+        ShortOrder::ExchangeMohawk => {
+            print_words(text, Keyword::Exchange, &[Value::Word(Keyword::Mohawk)])
+        }
+        ShortOrder::Lay(lay) => print_lay(text, lay),
+        ShortOrder::Token(place) => print_words(text, Keyword::Token, &[Value::Place(place)]),
+        ShortOrder::RunBest => print_words(text, Keyword::Run, &[Value::Word(Keyword::Best)]),
+        ShortOrder::Pay => print_words(text, Keyword::Pay, &[]),
+        ShortOrder::Withhold => print_words(text, Keyword::Withhold, &[]),
+        ShortOrder::BuyTrain { kind, from } => print_purchase(text, kind, from),
+        ShortOrder::Discard { company, kind } => {
+            let train = [Value::Company(company), Value::Kind(kind)];
+            print_words(text, Keyword::Discard, &train)
+        }
+        ShortOrder::Offer(offer) => print_offer(text, offer),
+        ShortOrder::Bid { .. }
+        | ShortOrder::Limit { .. }
+        | ShortOrder::Par { .. }
+        | ShortOrder::Sell { .. }
+        | ShortOrder::BuyOwnedPrivate { .. }
+        | ShortOrder::Raise { .. } => print_amount(text, order),
+    }
+}
+
+/// The same of an order that names a number of dollars or of tenths.
+fn print_amount(text: &mut Vec<u8>, order: ShortOrder) -> Result<(), AllocError>
+    requires { HasAmount order }
+    ensures ok { OnOk result (text.new.items
+        ≡ text.old.items ++ spelling_of (order_in_short order)) }
+    ensures err { OnErr result (AddsFront text.old.items text.new.items
+        (spelling_of (order_in_short order))) }
+{
+    let (keyword, of, amount) = match order {
+        ShortOrder::Bid { private, amount } => (Keyword::Bid, Value::Private(private), amount),
+        ShortOrder::Limit { private, amount } => (Keyword::Limit, Value::Private(private), amount),
+        ShortOrder::Par { company, price } => (Keyword::Par, Value::Company(company), price),
+        ShortOrder::Sell { company, tenths } => (Keyword::Sell, Value::Company(company), tenths),
+        ShortOrder::BuyOwnedPrivate { private, price } => {
+            (Keyword::Private, Value::Private(private), price)
+        }
+        ShortOrder::Raise { company, tenths } => (Keyword::Raise, Value::Company(company), tenths),
+        _ => unreachable!(),
+    };
+    print_words(text, keyword, &[of, Value::Number(amount)])
+}
+
+/// Adds the order of a lay.
+fn print_lay(text: &mut Vec<u8>, lay: Lay) -> Result<(), AllocError>
+    ensures ok { OnOk result (text.new.items ≡ text.old.items ++ spelling_of (LayOrder lay)) }
+    ensures err { OnErr result (AddsFront text.old.items text.new.items
+        (spelling_of (LayOrder lay))) }
+{
+    let (tile, hex) = (Value::Tile(lay.tile), Value::Hex(lay.hex));
+    let rotation = Value::Rotation(lay.rot);
+    if lay.swap {
+        let swap = Value::Word(Keyword::Swap);
+        print_words(text, Keyword::Lay, &[tile, hex, rotation, swap])
+    } else {
+        print_words(text, Keyword::Lay, &[tile, hex, rotation])
+    }
+}
+
+/// Adds the order to buy a train.
+fn print_purchase(text: &mut Vec<u8>, kind: Kind, from: TrainSource) -> Result<(), AllocError>
+    ensures ok { OnOk result (text.new.items
+        ≡ text.old.items ++ spelling_of (BuyTrain kind from)) }
+    ensures err { OnErr result (AddsFront text.old.items text.new.items
+        (spelling_of (BuyTrain kind from))) }
+{
+    let (kind, bank) = (Value::Kind(kind), Value::Word(Keyword::Bank));
+    match from {
+        TrainSource::Bank => print_words(text, Keyword::Train, &[kind, bank]),
+        TrainSource::Trade(other) => {
+            let trade = Value::Word(Keyword::Trade);
+            print_words(
+                text,
+                Keyword::Train,
+                &[kind, bank, trade, Value::Kind(other)],
+            )
+        }
+        TrainSource::BankPool => {
+            print_words(text, Keyword::Train, &[kind, Value::Word(Keyword::Pool)])
+        }
+        TrainSource::Company { seller, price } => {
+            let (seller, price) = (Value::Company(seller), Value::Number(price));
+            print_words(text, Keyword::Train, &[kind, seller, price])
+        }
+    }
+}
+
+/// Adds the consent to a sale.
+fn print_offer(text: &mut Vec<u8>, offer: Offer) -> Result<(), AllocError>
+    ensures ok { OnOk result (text.new.items
+        ≡ text.old.items ++ spelling_of (OfferOrder offer)) }
+    ensures err { OnErr result (AddsFront text.old.items text.new.items
+        (spelling_of (OfferOrder offer))) }
+{
+    match offer {
+        Offer::Private {
+            private,
+            buyer,
+            price,
+        } => {
+            let of = [
+                Value::Word(Keyword::Private),
+                Value::Private(private),
+                Value::Company(buyer),
+                Value::Number(price),
+            ];
+            print_words(text, Keyword::Offer, &of)
+        }
+        Offer::Train {
+            kind,
+            seller,
+            buyer,
+            price,
+        } => {
+            let of = [
+                Value::Word(Keyword::Train),
+                Value::Kind(kind),
+                Value::Company(seller),
+                Value::Company(buyer),
+                Value::Number(price),
+            ];
+            print_words(text, Keyword::Offer, &of)
+        }
+    }
+}
+
+/// Adds a literal word, and words of values, each with a space before it.
+fn print_words(text: &mut Vec<u8>, keyword: Keyword, values: &[Value]) -> Result<(), AllocError>
+    ensures ok { OnOk result (text.new.items
+        ≡ text.old.items ++ words_text keyword values.now) }
+    ensures err { OnErr result (AddsFront text.old.items text.new.items
+        (words_text keyword values.now)) }
+{
+    text.extend_from_slice(keyword.text())?;
+    print_values(text, values)
 }
 
 /// Adds words of values, each with a space before it.

@@ -1,6 +1,7 @@
 -- An event as a line of the report: its words, parted by single spaces, and its LF.
 use Rattle.std.specs.Prelude.{ℕ, Bool, if◌then◌else◌, List, [], ◌∷◌, ◌++◌, Option, Some, None, map, codes, decimal, unwrap_or, slice_get, ⊤}
 use Rattle.history.specs.Event.{code_of_refusal}
+use Rattle.history.specs.Told.{order_text}
 use Rattle.history.specs.declared.event.Event.{Event}
 use Rattle.history.specs.declared.event.Event.TheVariants.{Round, Ruled, Passes, Left, Sold, Bids, Price, Revenue, Given, Par, President, Bought, Sells, Exchanged, Floats, Moves, Home, Laid, Token, Withheld, Runs, Dividend, Traded, Train, Phase, Rusted, Discarded, Closed, PrivateBought, Forced, Aid, Bankrupt, Broken}
 use Rattle.history.specs.declared.event.Holder.{Holder}
@@ -16,7 +17,7 @@ use Rattle.order_grammar.specs.Order.{text_of_source}
 use Rattle.order_grammar.specs.declared.order.ShareSource.{ShareSource}
 use Rattle.order_grammar.specs.Print.{conditional_spelling, spaced, text_of_round}
 use Rattle.report.specs.declared.line.Field.{Field}
-use Rattle.report.specs.declared.line.Field.TheVariants.{Word, Name, Holds, Number, Tenths, Source, On, Tile, In, Turned, At, OfRound, Spelt}
+use Rattle.report.specs.declared.line.Field.TheVariants.{Word, Name, Holds, Number, Tenths, Source, On, Tile, In, Turned, At, OfRound, OrderOf}
 use Rattle.sheets.specs.File.{players_of}
 use Rattle.tables.specs.Chart.{price_of}
 use Rattle.tables.specs.Roster.{code_of_company, code_of_private}
@@ -207,7 +208,7 @@ field_text file (In hex) = text_of_hex hex
 field_text file (Turned rotation) = text_of_rotation rotation
 field_text file (At place) = text_of_place place
 field_text file (OfRound round) = text_of_round round
-field_text file (Spelt condition order) = conditional_spelling condition order.now
+field_text file (OrderOf ruling) = order_text ruling.now
 
 -- fields as their texts
 abbrev pub field_texts : List ℕ → List Field → List (List ℕ)

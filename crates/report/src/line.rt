@@ -1,14 +1,13 @@
 ghost use Rattle.std.specs.Prelude.{◌≡◌, OnOk};
-ghost use Rattle.history.specs.declared.ruling.Ruling.TheVariants.{Obeyed, Refused};
 ghost use Rattle.report.specs.Column.{Adds};
 ghost use Rattle.report.specs.Line.{IsOfCompany, IsOfForce, IsOfPrivate, IsOfTenths, IsOfTrains, IsOfTurn, event_line, exchange_line, field_text, lay_line, line_of_company, line_of_fields, line_of_seat, line_of_word, name_of, private_line, ruled_line, text_of_seller, text_of_square, text_of_stable};
 
-use Field::{At, Holds, In, Name, Number, OfRound, On, Source, Spelt, Tenths, Tile, Turned, Word};
-use history::{Event, Holder, KeptRuling, Refusal, Ruling, TrainSeller};
-use map_tables::{Hex, Lay, Place, Rotation, TileNo};
-use order_grammar::{
-    Condition, Order, ShareSource, print_conditional_order, print_number, print_round,
+use Field::{
+    At, Holds, In, Name, Number, OfRound, On, OrderOf, Source, Tenths, Tile, Turned, Word,
 };
+use history::{Event, Holder, KeptRuling, TrainSeller, Verdict};
+use map_tables::{Hex, Lay, Place, Rotation, TileNo};
+use order_grammar::{ShareSource, print_number, print_round};
 use sheets::Sheets;
 use std::alloc::AllocError;
 use tables::{Amount, Company, Private, Round, Seat, Square, price};
@@ -40,8 +39,8 @@ pub(crate) enum Field<'a> {
     At(Place),
     /// A round.
     OfRound(Round),
-    /// The spelling of an order under its condition, if it has one.
-    Spelt(Option<Condition>, &'a Order),
+    /// The spelling of a ruling's order under its condition, if it has one.
+    OrderOf(&'a KeptRuling),
 }
 
 /// The letters of the rows of the stock market.
@@ -424,7 +423,7 @@ fn push_field(out: &mut Vec<u8>, sheets: &Sheets, field: &Field) -> Result<(), A
         Turned(rotation) => print_number(out, rotation.turns()),
         At(place) => out.extend_from_slice(place.text().as_slice()),
         OfRound(round) => print_round(out, round),
-        Spelt(condition, order) => print_conditional_order(out, condition.as_ref(), order),
+        OrderOf(ruling) => ruling.print_order(out),
     }
 }
 
@@ -449,68 +448,29 @@ fn push_ruled(
 ) -> Result<(), AllocError>
     ensures { OnOk result (Adds out.old out.new (ruled_line sheets.now seat line ruling.now)) }
 {
-    match ruling.ruling() {
-        Ruling::Obeyed { condition, order } => {
-            push_obeyed(out, sheets, seat, line, condition, &order)
+    match ruling.verdict() {
+        Verdict::Obeyed => {
+            let fields = [Number(line), Word("OBEYED"), OrderOf(ruling)];
+            tell_of(out, sheets, seat, &fields)
         }
-        Ruling::Refused {
-            rule,
-            condition,
-            order,
-        } => push_refused(out, sheets, seat, line, rule, condition, &order),
-        Ruling::Faulty(fault) => tell_of(
+        Verdict::Refused(rule) => tell_of(
+            out,
+            sheets,
+            seat,
+            &[
+                Number(line),
+                Word("REFUSED"),
+                Word(rule.code()),
+                OrderOf(ruling),
+            ],
+        ),
+        Verdict::Faulty(fault) => tell_of(
             out,
             sheets,
             seat,
             &[Number(line), Word("REFUSED"), Word(fault.code())],
         ),
     }
-}
-
-/// Adds that an order of a seat was carried out.
-fn push_obeyed(
-    out: &mut Vec<u8>,
-    sheets: &Sheets,
-    seat: Seat,
-    line: u32,
-    condition: Option<Condition>,
-    order: &Order,
-) -> Result<(), AllocError>
-    ensures { OnOk result (Adds out.old out.new
-        (ruled_line sheets.now seat line (Obeyed condition order.now))) }
-{
-    tell_of(
-        out,
-        sheets,
-        seat,
-        &[Number(line), Word("OBEYED"), Spelt(condition, order)],
-    )
-}
-
-/// Adds that an order of a seat breaks a rule of play.
-fn push_refused(
-    out: &mut Vec<u8>,
-    sheets: &Sheets,
-    seat: Seat,
-    line: u32,
-    rule: Refusal,
-    condition: Option<Condition>,
-    order: &Order,
-) -> Result<(), AllocError>
-    ensures { OnOk result (Adds out.old out.new
-        (ruled_line sheets.now seat line (Refused rule condition order.now))) }
-{
-    tell_of(
-        out,
-        sheets,
-        seat,
-        &[
-            Number(line),
-            Word("REFUSED"),
-            Word(rule.code()),
-            Spelt(condition, order),
-        ],
-    )
 }
 
 /// Adds the name of a seat's player; nothing for a seat that nobody has. An error where memory is
