@@ -13,8 +13,8 @@ use Rattle.certificate.specs.Law.{NameLegalRun, RunsEarnByBorders, unused}
 use Rattle.certificate.specs.Legal.{IsLegalRun, crossed, earned}
 use Rattle.certificate.specs.Marks.{borders_used, marked}
 use Rattle.history.specs.Trains.{trains_held}
-use Rattle.history.specs.declared.ruling.RunRule.{RunRule}
-use Rattle.history.specs.declared.ruling.RunRule.TheVariants as run_rule
+use Rattle.map_tables.specs.declared.rules.RunRule.{RunRule}
+use Rattle.map_tables.specs.declared.rules.RunRule.TheVariants as run_rule
 use Rattle.map_tables.specs.declared.place.Place.{Place}
 use Rattle.operating.specs.Done.{Done, IsBounded}
 use Rattle.operating.specs.InTurn.{InTurn}

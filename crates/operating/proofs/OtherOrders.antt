@@ -3,10 +3,10 @@ use Rattle.std.proofs.Common.{◌≡◌, ℕ, Bool, true, false, if◌then◌els
 use Rattle.board.specs.declared.fault.LayFault.{LayFault}
 use Rattle.board.specs.declared.fault.TokenFault.{TokenFault}
 use Rattle.history.specs.LookBack.{Game}
-use Rattle.history.specs.declared.ruling.LayRule.{LayRule}
+use Rattle.map_tables.specs.declared.rules.LayRule.{LayRule}
 use Rattle.history.specs.declared.ruling.PayRule.{PayRule}
 use Rattle.history.specs.declared.ruling.PrivateRule.{PrivateRule}
-use Rattle.history.specs.declared.ruling.TokenRule.{TokenRule}
+use Rattle.map_tables.specs.declared.rules.TokenRule.{TokenRule}
 use Rattle.history.specs.declared.ruling.TrainRule.{TrainRule}
 use Rattle.map_tables.specs.declared.lay.Lay.{Lay}
 use Rattle.map_tables.specs.declared.place.Place.{Place}

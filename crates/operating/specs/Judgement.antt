@@ -10,10 +10,10 @@ use Rattle.history.specs.Event.{party_of_company}
 use Rattle.history.specs.LookBack.{Game, cash_of, owner_of}
 use Rattle.history.specs.declared.event.Holder.{Holder}
 use Rattle.history.specs.declared.event.Holder.TheVariants as holder
-use Rattle.history.specs.declared.ruling.LayRule.{LayRule}
-use Rattle.history.specs.declared.ruling.LayRule.TheVariants as lay_rule
-use Rattle.history.specs.declared.ruling.TokenRule.{TokenRule}
-use Rattle.history.specs.declared.ruling.TokenRule.TheVariants as token_rule
+use Rattle.map_tables.specs.declared.rules.LayRule.{LayRule}
+use Rattle.map_tables.specs.declared.rules.LayRule.TheVariants as lay_rule
+use Rattle.map_tables.specs.declared.rules.TokenRule.{TokenRule}
+use Rattle.map_tables.specs.declared.rules.TokenRule.TheVariants as token_rule
 use Rattle.operating.specs.declared.progress.Progress.{Progress}
 use Rattle.tables.specs.Roster.{privates, same_company}
 use Rattle.tables.specs.declared.roster.Company.{Company}

@@ -12,13 +12,13 @@ use Rattle.history.specs.declared.event.Event.TheVariants as event
 use Rattle.history.specs.declared.event.Holder.{Holder}
 use Rattle.history.specs.declared.event.Holder.TheVariants as holder
 use Rattle.history.specs.declared.event.Shareholder.TheVariants as place
-use Rattle.history.specs.declared.ruling.LayRule.{LayRule}
+use Rattle.map_tables.specs.declared.rules.LayRule.{LayRule}
 use Rattle.history.specs.declared.ruling.Refusal.{Refusal}
 use Rattle.history.specs.declared.ruling.Refusal.TheVariants as refusal
 use Rattle.history.specs.declared.ruling.Ruling.{Ruling}
 use Rattle.history.specs.declared.ruling.Ruling.TheVariants.{Obeyed, Refused, Faulty}
-use Rattle.history.specs.declared.ruling.RunRule.{RunRule}
-use Rattle.history.specs.declared.ruling.TokenRule.{TokenRule}
+use Rattle.map_tables.specs.declared.rules.RunRule.{RunRule}
+use Rattle.map_tables.specs.declared.rules.TokenRule.{TokenRule}
 use Rattle.map_tables.specs.Home.{home_of}
 use Rattle.map_tables.specs.Place.{place_of}
 use Rattle.map_tables.specs.declared.lay.Lay.{Lay}
