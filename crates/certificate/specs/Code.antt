@@ -1,9 +1,9 @@
 -- The codes of the rules of runs.
 use Rattle.std.specs.Prelude.{ℕ, List, codes}
-use Rattle.certificate.specs.declared.run_fault.RunFault.{RunFault}
-use Rattle.certificate.specs.declared.run_fault.RunFault.TheVariants.{NoTrack, WrongNumber, StopTwice, BorderTwice, PassesFull, NoToken, RedInside}
+use Rattle.map_tables.specs.declared.rules.RunRule.{RunRule}
+use Rattle.map_tables.specs.declared.rules.RunRule.TheVariants.{NoTrack, WrongNumber, StopTwice, BorderTwice, PassesFull, NoToken, RedInside}
 
-abbrev pub code_of_run_fault : RunFault → List ℕ
+abbrev pub code_of_run_fault : RunRule → List ℕ
 code_of_run_fault NoTrack = codes "R3"
 code_of_run_fault WrongNumber = codes "R4"
 code_of_run_fault StopTwice = codes "R5"
