@@ -14,8 +14,9 @@ ghost use Rattle.certificate.specs.Tree.{bound, from_stop, goes_over, leads_on, 
 ghost use Rattle.certificate.specs.Walked.{capped};
 ghost use Rattle.certificate.specs.Walking.{AreCrossed, AreVisited, Continues, Descends, IsTree, is_none_left, Stands, StandsBetween, WalksOver, may_take, node_at, node_from, other_hex_of, reached_in, trains_of_tree};
 
+use crate::border_numbers::border_to;
 use crate::decider::{Decider, Decision};
-use crate::tally::{border, has_token, is_full, worth};
+use crate::tally::{has_token, is_full, worth};
 use crate::tree::Tree;
 use crate::used::Used;
 use map_tables::{End, Hex, Link, Stop};
@@ -359,7 +360,7 @@ fn cross<N: Network, D: Decider>(
     let End::Side(side) = head.end else {
         return true;
     };
-    let number = border(head.hex, side);
+    let number = border_to(head.hex, side, Some(beyond.hex));
     if used.has(number) {
         return true;
     }
