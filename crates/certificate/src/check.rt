@@ -11,7 +11,7 @@ use crate::tally::Tally;
 use crate::used::Used;
 use map_tables::{End, Run, RunRule};
 use reach::{Network, Spot};
-use tables::{Amount, Company, Kind, Money};
+use tables::{Company, Kind, Money};
 
 /// The first rule that a run breaks: one of those that ask what lies, R3 to R9.
 pub type RunFault = RunRule;
@@ -49,14 +49,7 @@ pub fn check_run<N: Network>(
         return Err(fault);
     }
     used.crossed = tally.crossed;
-    Ok(money(tally.value))
-}
-
-/// A sum of dollars.
-pub(crate) fn money(amount: Amount) -> Money
-    ensures { result ≡ pos amount }
-{
-    amount as Money
+    Ok(Money::from(tally.value))
 }
 
 /// Goes over the walk that the places of a run name; `None` where there is none.

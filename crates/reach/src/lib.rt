@@ -26,6 +26,7 @@ mod walk;
 pub use answer::{Reach, reached};
 pub use network::Network;
 pub use numbers::{SPOTS, STOPS, spot_number, stop_order};
+pub use search::twin;
 pub use stop_marks::StopMarks;
 pub use stops::{ReachedStops, reached_stops};
 pub use walk::{Spot, Step};

@@ -64,8 +64,8 @@ impl Marks {
     }
 }
 
-/// The other hex in which the stop of a hex lies, if there is one.
-fn twin(hex: Hex) -> Option<Hex>
+/// The other hex in which the stop of a hex lies that names it, if there is one.
+pub fn twin(hex: Hex) -> Option<Hex>
     ensures { result ≡ twin_of hex }
 {
     match hex {

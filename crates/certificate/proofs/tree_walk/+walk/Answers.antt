@@ -14,6 +14,7 @@ use Rattle.map_tables.specs.declared.track.Link.{Link}
 use Rattle.reach.proofs.Lists.{among_at}
 use Rattle.reach.specs.Position.{IsAmong, links_of}
 use Rattle.reach.specs.Reached.{stop_order}
+use Rattle.reach.specs.Search.{twin_of}
 use Rattle.reach.specs.Walk.{across, across_end, entered_at, left_at, spot_at, stop_of}
 use Rattle.reach.specs.declared.walk.Spot.{Spot}
 use Rattle.reach.specs.declared.walk.Step.{Step}
@@ -22,7 +23,7 @@ use Rattle.certificate.specs.Legal.{border_of, visited}
 use Rattle.certificate.specs.Set.{TrainRun}
 use Rattle.certificate.specs.Tree.{Node, children, for_each, from_stop, goes_over, is_free_end, is_last_stop, node_if, run_borders, setting_out, taken_borders, with_step, with_steps, ways_at, ways_by, ways_from}
 use Rattle.certificate.specs.Walked.{capped}
-use Rattle.certificate.specs.Walking.{AreCrossed, Continues, LeavesOver, Stands, WalksOver, earned_from, may_take, node_at, node_from, other_hex_of, reached_in, trains_of_tree}
+use Rattle.certificate.specs.Walking.{AreCrossed, Continues, LeavesOver, Stands, WalksOver, earned_from, may_take, node_at, node_from, reached_in, trains_of_tree}
 use Rattle.certificate.proofs.Going.{hexes_steps, no_way, none_ahead, one_cut, one_end, one_hex, one_split, one_way, other_named, over_none, thing_ends, thing_over, things_over, up_ends, up_over, up_whole, way_enters}
 use Rattle.certificate.proofs.Places.{none_is}
 use Rattle.certificate.proofs.Standing.{and_false, and_true, border_continues, children_at_border, children_at_stop, finished_crossed, finished_stands, finishing_is, is_free, is_last, named_at, no_beyond, node_out, not_free, out_continues, same_node, seen_false, stands_at_stop, stands_out, stands_over, stands_same, stop_continues, takes_no_stop, takes_over, takes_stop, two_stops, with_run}
@@ -189,7 +190,7 @@ leave-returns-in_default-clause-walks g t c = λ settled steps stops stands cont
     let at_own : (step : Step) → entered_at step ≡ spot_at stop.hex (AtStop stop.number) → Continues steps stops step =
     λ step at. continues step (ap stop_of at ∙ ap (λ (s : Stop). Some s) named) in
     let walk = c.follow.ensures.walks settled steps stops stands at_own in
-    subst (λ (l : List Step). WalksOver g.D.Decider.decides position tree c.args.decider.now (with_steps test node l) c.follow.result c.follow.new.decider) (sym (one_hex position stop (sym c.other_hex.ensures ∙ c.in_default.is))) walk
+    subst (λ (l : List Step). WalksOver g.D.Decider.decides position tree c.args.decider.now (with_steps test node l) c.follow.result c.follow.new.decider) (sym (one_hex position stop (sym c.twin.ensures ∙ c.in_default.is))) walk
 
 pub leave-returns-then-not-follow-clause-walks : goal.leave-returns-then-not-follow-clause-walks
 leave-returns-then-not-follow-clause-walks g t c = λ settled steps stops stands continues named.
@@ -201,7 +202,7 @@ leave-returns-then-not-follow-clause-walks g t c = λ settled steps stops stands
     let at_own : (step : Step) → entered_at step ≡ spot_at stop.hex (AtStop stop.number) → Continues steps stops step =
     λ step at. continues step (ap stop_of at ∙ ap (λ (s : Stop). Some s) named) in
     let other : Hex = c.in-Some.other in
-    let beside : other_hex_of stop.hex ≡ Some other = sym c.other_hex.ensures ∙ c.in-Some.is in
+    let beside : twin_of stop.hex ≡ Some other = sym c.twin.ensures ∙ c.in-Some.is in
     let first : List Node = with_steps test node (ways_at position other (AtStop stop.number)) in
     let second : List Node = with_steps test node (ways_at position stop.hex (AtStop stop.number)) in
     let at_other : (step : Step) → entered_at step ≡ spot_at other (AtStop stop.number) → Continues steps stops step =
@@ -221,7 +222,7 @@ leave-returns-clause-walks g t c = λ settled steps stops stands continues named
     let at_own : (step : Step) → entered_at step ≡ spot_at stop.hex (AtStop stop.number) → Continues steps stops step =
     λ step at. continues step (ap stop_of at ∙ ap (λ (s : Stop). Some s) named) in
     let other : Hex = c.in-Some.other in
-    let beside : other_hex_of stop.hex ≡ Some other = sym c.other_hex.ensures ∙ c.in-Some.is in
+    let beside : twin_of stop.hex ≡ Some other = sym c.twin.ensures ∙ c.in-Some.is in
     let first : List Node = with_steps test node (ways_at position other (AtStop stop.number)) in
     let second : List Node = with_steps test node (ways_at position stop.hex (AtStop stop.number)) in
     let at_other : (step : Step) → entered_at step ≡ spot_at other (AtStop stop.number) → Continues steps stops step =
