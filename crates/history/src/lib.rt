@@ -60,8 +60,8 @@ pub use laws::{
 };
 pub use list::History;
 pub use look_back::Past;
-pub use owners::Owners;
 pub use map_tables::{LayRule, RunRule, TokenRule};
+pub use owners::Owners;
 pub use ruling::{OpeningRule, PayRule, PrivateRule, Refusal, Ruling, StockRule, TrainRule};
 pub use shares::Tenths;
 pub use trains::{TrainCount, so_many};

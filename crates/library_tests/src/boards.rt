@@ -101,5 +101,8 @@ fn puts_a_swapped_tile(rt: HostRuntime) {
         .iter()
         .find(|link| link.b == End::Stop(StopNumber::First));
     assert!(rt; leaves.map(|link| link.a) == Some(End::Side(Side::NorthWest)));
-    assert_eq!(rt; board.try_lay(&erie, swapped), Err(LayFault::Rule(LayRule::WrongTile)));
+    assert_eq!(rt;
+        board.try_lay(&erie, swapped),
+        Err(LayFault::Rule(LayRule::WrongTile))
+    );
 }
