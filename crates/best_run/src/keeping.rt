@@ -3,7 +3,6 @@ ghost use Rattle.best_run.specs.Keeping.{KeepsBest, KeepsOne};
 ghost use Rattle.certificate.specs.Set.{IsGreatestMoney};
 
 use crate::revenue::best;
-use crate::runner::money;
 use certificate::{Group, Runner, RunnerFault};
 use reach::Network;
 use std::alloc::{AllocError, Global};
@@ -64,7 +63,7 @@ impl Keeping {
         ensures same { OnErr result (self.new ≡ self.old) }
     {
         let found = best(self.alloc, network, company, trains)?;
-        let earned = money(found.claim.revenue);
+        let earned = Money::from(found.claim.revenue);
         self.groups.push(Group {
             round,
             company,

@@ -1,11 +1,11 @@
-ghost use Rattle.std.specs.Prelude.{◌≡◌, IfOk, false, pos};
+ghost use Rattle.std.specs.Prelude.{◌≡◌, IfOk, false};
 ghost use Rattle.certificate.specs.Set.{IsGreatestMoney};
 
 use crate::revenue::greatest_revenue;
 use certificate::{Runner, RunnerFault};
 use reach::Network;
 use std::alloc::{AllocError, Global};
-use tables::{Amount, Company, Kind, Money, Round};
+use tables::{Company, Kind, Money, Round};
 
 /// What searches for the greatest revenue. It keeps nothing from one call to the next, and never
 /// refuses to answer.
@@ -51,12 +51,5 @@ fn greatest_money<N: Network>(
         IfOk result (IsGreatestMoney position company trains.now) }
 {
     let revenue = greatest_revenue(alloc, network, company, trains)?;
-    Ok(money(revenue))
-}
-
-/// A sum of dollars.
-pub(crate) fn money(amount: Amount) -> Money
-    ensures { result ≡ pos amount }
-{
-    amount as Money
+    Ok(Money::from(revenue))
 }

@@ -3,61 +3,21 @@ ghost use Rattle.std.specs.Prelude.{◌≡◌, ◌+◌, ◌<◌, ◌≤◌, ◌%
 ghost use Rattle.best_run.specs.Described.{AreLaid, AreNumbered, AreNumberedBefore, Describes, IsPieceOf, IsSideNode, IsStopNode, LaidBefore, TakesStep, most_of, most_of_all, number_before, number_or_none};
 ghost use Rattle.best_run.specs.Fit.{IsFit};
 ghost use Rattle.best_run.specs.Ways.{AreHomes, AreReady};
-ghost use Rattle.certificate.specs.Legal.{border_at, border_of};
-ghost use Rattle.map_tables.specs.Border.{neighbour_of};
+ghost use Rattle.certificate.specs.Legal.{border_at};
 ghost use Rattle.map_tables.specs.Hex.{index_of};
 ghost use Rattle.map_tables.specs.Place.{stop_index_of};
 ghost use Rattle.reach.specs.Lawful.{IsLawful};
-ghost use Rattle.reach.specs.Search.{spot_number};
 ghost use Rattle.reach.specs.Walk.{entered_at};
 ghost use Rattle.tables.specs.Train.{stops_of};
 
 use crate::pieces::Pieces;
 use crate::stretch::Stretch;
 use crate::task::{Node, Task};
-use map_tables::{End, HEXES, Hex, Side, Stop, StopNumber, joined_stop, neighbour};
-use reach::{Network, Spot, Step};
+use certificate::border_to;
+use map_tables::{End, HEXES, Hex, Stop, StopNumber, neighbour};
+use reach::{Network, SPOTS, Spot, Step, spot_number};
 use std::alloc::{AllocError, Global};
 use tables::{Company, Kind};
-
-/// How many numbers the spots of the map have.
-const SPOTS: usize = 744;
-
-/// The number of a spot: eight for each hex. A stop that lies in two hexes has one number.
-fn number_of(spot: Spot) -> usize
-    ensures value { result ≡ spot_number spot }
-    ensures bound { result < 744 }
-{
-    match spot.end {
-        End::Side(side) => 8 * spot.hex.index() + side.number(),
-        End::Stop(number) => {
-            let stop = joined_stop(Stop {
-                hex: spot.hex,
-                number,
-            });
-            8 * stop.hex.index() + 6 + stop.number.index()
-        }
-    }
-}
-
-/// How many of its borders a hex numbers: those at its sides 0, 1 and 2.
-const NUMBERED: usize = 3;
-
-/// The number of the border at a side of a hex, with the hex beyond it.
-#[tactic(auto, unfolding(certificate::specs::Legal::border_of))]
-fn border(hex: Hex, side: Side, beyond: Option<Hex>) -> usize
-    requires { beyond ≡ neighbour_of hex side }
-    ensures { result ≡ border_of hex side }
-{
-    let number = side.number();
-    if number < NUMBERED {
-        return NUMBERED * hex.index() + number;
-    }
-    match beyond {
-        Some(other) => NUMBERED * other.index() + (number - NUMBERED),
-        None => number - NUMBERED,
-    }
-}
 
 /// From where a step may be taken.
 #[derive(Clone, Copy)]
@@ -76,17 +36,17 @@ fn origin_of(spot: Spot) -> Origin
 {
     match spot.end {
         End::Stop(_) => Origin {
-            number: number_of(spot),
+            number: spot_number(spot),
             border: None,
         },
         End::Side(side) => {
             let beyond = neighbour(spot.hex, side);
-            let border = Some(border(spot.hex, side, beyond));
+            let border = Some(border_to(spot.hex, side, beyond));
             match beyond {
                 Some(hex) => {
                     let end = End::Side(side.facing());
                     Origin {
-                        number: number_of(Spot { hex, end }),
+                        number: spot_number(Spot { hex, end }),
                         border,
                     }
                 }
@@ -104,7 +64,7 @@ fn piece_of(step: Step, border: Option<usize>) -> Stretch
     requires { let entered = entered_at step in option_to_list border ≡ border_at entered.hex entered.end }
     ensures { IsPieceOf step result }
 {
-    Stretch::of(number_of(step.left()), step, border)
+    Stretch::of(spot_number(step.left()), step, border)
 }
 
 /// A side, which is nothing to a company.

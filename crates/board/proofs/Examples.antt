@@ -7,8 +7,8 @@ use Rattle.map_tables.specs.Lying.{tile_on}
 use Rattle.board.specs.LayRules.{IsConnected, cost_or, ground_rules, is_blocked, is_colour_closed, is_lay_used, is_none_left, is_wrong_colour, lay_cost_of, lay_rules, loses_track, lying_of}
 use Rattle.board.specs.Powers.{is_cs_lay, is_dh_lay, is_dh_token}
 use Rattle.board.specs.TokenRules.{IsReachedPlace, has_none_left, has_token_in, is_no_free_slot, is_token_used, kept_at, laid_by, token_cost_of, token_rules}
-use Rattle.board.specs.declared.fault.LayFault.TheVariants.{ColourClosed}
-use Rattle.board.specs.declared.fault.TokenFault.TheVariants.{CashTooSmall}
+use Rattle.map_tables.specs.declared.rules.LayRule.TheVariants.{ColourClosed}
+use Rattle.map_tables.specs.declared.rules.TokenRule.TheVariants.{CashTooSmall}
 use Rattle.board.proofs.LayAnswers.{broken_before}
 use Rattle.map_tables.specs.Border.{adjacent, neighbour_of}
 use Rattle.map_tables.specs.Hex.{hex_at, hexes, index_of, site_of}

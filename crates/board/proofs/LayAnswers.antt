@@ -3,16 +3,16 @@ use Rattle.std.proofs.Common.{◌≡◌, ◌∙◌, ap, sym, true, Some, None, E
 use Rattle.board.specs.Ground.{Ground}
 use Rattle.board.specs.LayRules.{IsLayAnswer, cost_or, ground_rules, lay_cost_of, reach_rules}
 use Rattle.board.specs.declared.asker.Asker.{Asker}
-use Rattle.board.specs.declared.fault.LayFault.{LayFault}
 use Rattle.board.proofs.RuleTables.{earlier}
 use Rattle.map_tables.specs.declared.lay.Lay.{Lay}
+use Rattle.map_tables.specs.declared.rules.LayRule.{LayRule}
 use Rattle.tables.specs.Rules.{first_broken}
 
 -- a rule that stands before what is reached
-pub broken_before : (laid : Ground) (asker : Asker) (lay : Lay) (fault : LayFault) → Some fault ≡ first_broken (ground_rules laid asker lay) → IsLayAnswer laid asker lay (Err fault)
-broken_before laid asker lay fault e =
+pub broken_before : (laid : Ground) (asker : Asker) (lay : Lay) (rule : LayRule) → Some rule ≡ first_broken (ground_rules laid asker lay) → IsLayAnswer laid asker lay (Err rule)
+broken_before laid asker lay rule e =
     record {
       reached = true;
-      exact = λ none. absurd (let wrong : Some fault ≡ None = e ∙ none in let no : ⊥ = cc in no);
-      given = sym (ap (cost_or (lay_cost_of laid.lays lay.hex)) (earlier (ground_rules laid asker lay) (reach_rules laid asker lay true) fault (sym e)));
+      exact = λ none. absurd (let wrong : Some rule ≡ None = e ∙ none in let no : ⊥ = cc in no);
+      given = sym (ap (cost_or (lay_cost_of laid.lays lay.hex)) (earlier (ground_rules laid asker lay) (reach_rules laid asker lay true) rule (sym e)));
     }

@@ -8,8 +8,8 @@ use Rattle.board.specs.LayRules.{IsLayAnswer}
 use Rattle.board.specs.TokenRules.{IsTokenAnswer}
 use Rattle.board.specs.declared.asker.Asker.{Asker}
 use Rattle.board.specs.declared.asker.TurnStep.TheVariants as step
-use Rattle.board.specs.declared.fault.LayFault.TheVariants.{ColourClosed}
-use Rattle.board.specs.declared.fault.TokenFault.TheVariants.{CashTooSmall}
+use Rattle.map_tables.specs.declared.rules.LayRule.TheVariants.{ColourClosed}
+use Rattle.map_tables.specs.declared.rules.TokenRule.TheVariants.{CashTooSmall}
 use Rattle.map_tables.specs.declared.hex.Hex.TheVariants.{E11, H10, H12}
 use Rattle.map_tables.specs.declared.lay.Lay.{Lay}
 use Rattle.map_tables.specs.declared.place.Place.{Place}

@@ -27,6 +27,8 @@ use Rattle.map_tables.specs.declared.hex.Hex.{Hex}
 use Rattle.map_tables.specs.declared.lay.Lay.{Lay}
 use Rattle.map_tables.specs.declared.place.Stop.{Stop}
 use Rattle.map_tables.specs.declared.place.StopNumber.{StopNumber}
+use Rattle.map_tables.specs.declared.rules.LayRule.{LayRule}
+use Rattle.map_tables.specs.declared.rules.LayRule.TheVariants as rule
 use Rattle.map_tables.specs.declared.tiles.Colour.{Colour}
 use Rattle.map_tables.specs.declared.tiles.Colour.TheVariants.{White, Yellow, Green, Brown}
 use Rattle.map_tables.specs.declared.tiles.TileNo.{TileNo}
@@ -110,27 +112,27 @@ abbrev pub HaveStopIn : Hex → List Stop → Type 0
 HaveStopIn hex stops = (number : StopNumber) × IsAmong (stop_at hex number) stops
 
 -- the rules that ask nothing of what is reached
-abbrev pub ground_rules : Ground → Asker → Lay → List (Rule LayFault)
+abbrev pub ground_rules : Ground → Asker → Lay → List (Rule LayRule)
 ground_rules laid asker lay =
-    record { code = fault.StepUsed; broken = is_lay_used laid.lays asker lay.hex }
-    ∷ record { code = fault.GreyOrRed; broken = not (is_open (print_of lay.hex).kind) }
-    ∷ record { code = fault.NoneLeft; broken = is_none_left laid.lays lay.tile }
-    ∷ record { code = fault.ColourClosed; broken = is_colour_closed laid.phase (entry_of lay.tile).colour }
-    ∷ record { code = fault.WrongTile; broken = is_wrong_colour laid.lays lay || is_wrong_kind lay }
-    ∷ record { code = fault.TrackLost; broken = loses_track laid.lays lay }
-    ∷ record { code = fault.BadSide; broken = has_bad_side lay }
-    ∷ record { code = fault.Blocked; broken = is_blocked asker lay.hex }
+    record { code = rule.StepUsed; broken = is_lay_used laid.lays asker lay.hex }
+    ∷ record { code = rule.GreyOrRed; broken = not (is_open (print_of lay.hex).kind) }
+    ∷ record { code = rule.NoneLeft; broken = is_none_left laid.lays lay.tile }
+    ∷ record { code = rule.ColourClosed; broken = is_colour_closed laid.phase (entry_of lay.tile).colour }
+    ∷ record { code = rule.WrongTile; broken = is_wrong_colour laid.lays lay || is_wrong_kind lay }
+    ∷ record { code = rule.TrackLost; broken = loses_track laid.lays lay }
+    ∷ record { code = rule.BadSide; broken = has_bad_side lay }
+    ∷ record { code = rule.Blocked; broken = is_blocked asker lay.hex }
     ∷ []
 
 -- the rules that are looked at once it is known whether some piece of the tile is reached
-abbrev pub reach_rules : Ground → Asker → Lay → Bool → List (Rule LayFault)
+abbrev pub reach_rules : Ground → Asker → Lay → Bool → List (Rule LayRule)
 reach_rules laid asker lay reached =
-    record { code = fault.NotReached; broken = not (needs_no_track laid.lays asker lay || reached) }
-    ∷ record { code = fault.CashTooSmall; broken = lt_z asker.cash (pos (lay_cost_of laid.lays lay.hex)) }
+    record { code = rule.NotReached; broken = not (needs_no_track laid.lays asker lay || reached) }
+    ∷ record { code = rule.CashTooSmall; broken = lt_z asker.cash (pos (lay_cost_of laid.lays lay.hex)) }
     ∷ []
 
 -- all rules of a lay
-abbrev pub lay_rules : Ground → Asker → Lay → Bool → List (Rule LayFault)
+abbrev pub lay_rules : Ground → Asker → Lay → Bool → List (Rule LayRule)
 lay_rules laid asker lay reached = ground_rules laid asker lay ++ reach_rules laid asker lay reached
 
 -- the cost, or the rule that is broken first
@@ -139,13 +141,19 @@ cost_or cost None = Ok (pos cost)
 cost_or cost (Some fault) = Err fault
 
 -- the cost of a lay, or the first rule that it breaks, where it is known whether some piece of the tile is reached
-abbrev pub lay_answer_of : Ground → Asker → Lay → Bool → Result ℤ LayFault
+abbrev pub lay_answer_of : Ground → Asker → Lay → Bool → Result ℤ LayRule
 lay_answer_of laid asker lay reached =
     cost_or (lay_cost_of laid.lays lay.hex) (first_broken (lay_rules laid asker lay reached))
 
 -- the answer to a lay: its cost, or the first rule that it breaks. Where the rules before it are kept, what
 -- is reached is looked at, in the position after the lay.
-pub record IsLayAnswer (laid : Ground) (asker : Asker) (lay : Lay) (answer : Result ℤ LayFault) : Type 0 where
+pub record IsLayAnswer (laid : Ground) (asker : Asker) (lay : Lay) (answer : Result ℤ LayRule) : Type 0 where
   pub reached : Bool
   pub exact : first_broken (ground_rules laid asker lay) ≡ None → IsTrue reached ↔ IsConnected (position_of (with_lay laid lay)) asker.company lay
   pub given : answer ≡ lay_answer_of laid asker lay reached
+
+-- the outcome of a call for a lay: that answer; or want of memory, where the rules before what is reached are kept
+abbrev pub IsLayOutcome : Ground → Asker → Lay → Result ℤ LayFault → Type 0
+IsLayOutcome laid asker lay (Ok cost) = IsLayAnswer laid asker lay (Ok cost)
+IsLayOutcome laid asker lay (Err (fault.Rule rule)) = IsLayAnswer laid asker lay (Err rule)
+IsLayOutcome laid asker lay (Err (fault.Memory error)) = first_broken (ground_rules laid asker lay) ≡ None

@@ -2,7 +2,7 @@
 -- placed; a free slot of a city, where a slot that is kept for a company counts as taken; a hex without a
 -- token of the company; a stop that is reached, which DH's token does not need; and its price, which goes by how
 -- many tokens of the company lie, and is nothing for DH's. One slot of each company's home is kept for it until its token lies there.
-use Rattle.std.specs.Prelude.{◌≡◌, ℕ, ◌+◌, ◌&&◌, ◌||◌, if◌then◌else◌, ◌↔◌, Bool, true, not, nat_lt, nat_le, IsTrue, List, [], ◌∷◌, ◌++◌, Option, Some, None, Result, ℤ, pos, count_by}
+use Rattle.std.specs.Prelude.{◌≡◌, ℕ, ◌+◌, ◌&&◌, ◌||◌, if◌then◌else◌, ◌↔◌, Bool, true, not, nat_lt, nat_le, IsTrue, List, [], ◌∷◌, ◌++◌, Option, Some, None, Result, Ok, Err, ℤ, pos, count_by}
 use Rattle.std.specs.Int.Signed.{lt_z}
 use Rattle.std.specs.List.{list_any}
 use Rattle.board.specs.Ground.{Ground, position_of}
@@ -20,6 +20,8 @@ use Rattle.map_tables.specs.Place.{joined_stop_of, stop_of}
 use Rattle.map_tables.specs.declared.hex.Hex.{Hex}
 use Rattle.map_tables.specs.declared.place.Place.{Place}
 use Rattle.map_tables.specs.declared.place.Stop.{Stop}
+use Rattle.map_tables.specs.declared.rules.TokenRule.{TokenRule}
+use Rattle.map_tables.specs.declared.rules.TokenRule.TheVariants as rule
 use Rattle.reach.specs.Position.{Position}
 use Rattle.reach.specs.Reached.{ReachesStop}
 use Rattle.tables.specs.Roster.{companies, same_company, token_price_of, tokens_of}
@@ -70,33 +72,39 @@ pub record IsReachedPlace (position : Position) (company : Company) (place : Pla
   pub reached : ReachesStop position company (joined_stop_of stop)
 
 -- the rules that ask nothing of what is reached
-abbrev pub slot_rules : Ground → Asker → Place → List (Rule TokenFault)
+abbrev pub slot_rules : Ground → Asker → Place → List (Rule TokenRule)
 slot_rules laid asker place =
-    record { code = fault.StepUsed; broken = is_token_used asker }
-    ∷ record { code = fault.NoTokenLeft; broken = has_none_left laid.tokens asker.company }
-    ∷ record { code = fault.NoFreeSlot; broken = is_no_free_slot laid place }
-    ∷ record { code = fault.InHexAlready; broken = has_token_in laid.tokens place.hex asker.company }
+    record { code = rule.StepUsed; broken = is_token_used asker }
+    ∷ record { code = rule.NoTokenLeft; broken = has_none_left laid.tokens asker.company }
+    ∷ record { code = rule.NoFreeSlot; broken = is_no_free_slot laid place }
+    ∷ record { code = rule.InHexAlready; broken = has_token_in laid.tokens place.hex asker.company }
     ∷ []
 
 -- the rules that are looked at once it is known whether the stop is reached
-abbrev pub reach_rules : Ground → Asker → Place → Bool → List (Rule TokenFault)
+abbrev pub reach_rules : Ground → Asker → Place → Bool → List (Rule TokenRule)
 reach_rules laid asker place reached =
-    record { code = fault.NotReached; broken = not (is_dh_token asker place.hex || reached) }
-    ∷ record { code = fault.CashTooSmall; broken = lt_z asker.cash (pos (token_cost_of laid.tokens asker place.hex)) }
+    record { code = rule.NotReached; broken = not (is_dh_token asker place.hex || reached) }
+    ∷ record { code = rule.CashTooSmall; broken = lt_z asker.cash (pos (token_cost_of laid.tokens asker place.hex)) }
     ∷ []
 
 -- all rules of a token
-abbrev pub token_rules : Ground → Asker → Place → Bool → List (Rule TokenFault)
+abbrev pub token_rules : Ground → Asker → Place → Bool → List (Rule TokenRule)
 token_rules laid asker place reached = slot_rules laid asker place ++ reach_rules laid asker place reached
 
 -- the cost of a token, or the first rule that it breaks, where it is known whether the stop is reached
-abbrev pub token_answer_of : Ground → Asker → Place → Bool → Result ℤ TokenFault
+abbrev pub token_answer_of : Ground → Asker → Place → Bool → Result ℤ TokenRule
 token_answer_of laid asker place reached =
     cost_or (token_cost_of laid.tokens asker place.hex) (first_broken (token_rules laid asker place reached))
 
 -- the answer to a token: its cost, or the first rule that it breaks. Where the rules before it are kept, what
 -- is reached is looked at.
-pub record IsTokenAnswer (laid : Ground) (asker : Asker) (place : Place) (answer : Result ℤ TokenFault) : Type 0 where
+pub record IsTokenAnswer (laid : Ground) (asker : Asker) (place : Place) (answer : Result ℤ TokenRule) : Type 0 where
   pub reached : Bool
   pub exact : first_broken (slot_rules laid asker place) ≡ None → IsTrue reached ↔ IsReachedPlace (position_of laid) asker.company place
   pub given : answer ≡ token_answer_of laid asker place reached
+
+-- the outcome of a call for a token: that answer; or want of memory, where the rules before what is reached are kept
+abbrev pub IsTokenOutcome : Ground → Asker → Place → Result ℤ TokenFault → Type 0
+IsTokenOutcome laid asker place (Ok cost) = IsTokenAnswer laid asker place (Ok cost)
+IsTokenOutcome laid asker place (Err (fault.Rule rule)) = IsTokenAnswer laid asker place (Err rule)
+IsTokenOutcome laid asker place (Err (fault.Memory error)) = first_broken (slot_rules laid asker place) ≡ None

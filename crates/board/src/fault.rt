@@ -1,8 +1,9 @@
 ghost use Rattle.std.specs.Prelude.{◌≡◌};
 ghost use Rattle.board.specs.declared.fault.BoardFault.TheVariants.{Memory as board_memory};
-ghost use Rattle.board.specs.declared.fault.LayFault.TheVariants.{Memory as lay_memory};
-ghost use Rattle.board.specs.declared.fault.TokenFault.TheVariants.{Memory as token_memory};
+ghost use Rattle.board.specs.declared.fault.LayFault.TheVariants as lay_fault;
+ghost use Rattle.board.specs.declared.fault.TokenFault.TheVariants as token_fault;
 
+use map_tables::{LayRule, TokenRule};
 use std::alloc::AllocError;
 use thiserror::Error;
 
@@ -26,69 +27,26 @@ pub enum BoardFault {
     Memory,
 }
 
-/// Why a tile may not be laid: the first of these that applies, or memory was refused.
+/// Why a lay has no cost: it breaks a rule, or memory was refused, which says nothing of it.
 #[derive(Clone, Copy, Debug, PartialEq, Eq, Drop, Error)]
 pub enum LayFault {
-    /// L1: the turn is past its lay, or the lay is used.
-    #[error("the turn is past its lay, or the lay is used")]
-    StepUsed,
-    /// L2: the hex is grey or red.
-    #[error("the hex is grey or red")]
-    GreyOrRed,
-    /// L3: the stock has no such tile left.
-    #[error("no such tile is left")]
-    NoneLeft,
-    /// L4: the tile's colour has not come yet.
-    #[error("the colour of the tile has not come yet")]
-    ColourClosed,
-    /// L5: the tile is of another kind than the hex, or not of its next colour, or its stops are to
-    /// be swapped where there are not two.
-    #[error("the tile is of another kind or colour than the hex takes")]
-    WrongTile,
-    /// L6: some track of the hex is not on the tile.
-    #[error("the tile does not keep all track of the hex")]
-    TrackLost,
-    /// L7: the track of the tile leads to a bad side.
-    #[error("the track of the tile leads to a bad side")]
-    BadSide,
-    /// L8: a player owns the private of the hex.
-    #[error("a player owns the private of the hex")]
-    Blocked,
-    /// L9: the company would reach no piece of the tile.
-    #[error("the company would reach no piece of the tile")]
-    NotReached,
-    /// L10: the terrain costs more than the company has.
-    #[error("the terrain costs more than the company has")]
-    CashTooSmall,
+    /// The first rule that the lay breaks.
+    #[error(transparent)]
+    Rule(LayRule),
     /// Memory was refused, after L8 and before L9.
-    #[error("memory was refused")]
-    Memory,
+    #[error(transparent)]
+    Memory(AllocError),
 }
 
-/// Why a token may not be placed: the first of these that applies, or memory was refused.
+/// Why a token has no cost: it breaks a rule, or memory was refused, which says nothing of it.
 #[derive(Clone, Copy, Debug, PartialEq, Eq, Drop, Error)]
 pub enum TokenFault {
-    /// K1: the turn is past its token.
-    #[error("the turn is past its token")]
-    StepUsed,
-    /// K2: the company has no token left.
-    #[error("the company has no token left")]
-    NoTokenLeft,
-    /// K3: the place is no city, or its slots are all taken or kept.
-    #[error("the place has no free slot")]
-    NoFreeSlot,
-    /// K4: the company has a token in the hex.
-    #[error("the company has a token in the hex")]
-    InHexAlready,
-    /// K5: the company does not reach the city.
-    #[error("the company does not reach the city")]
-    NotReached,
-    /// K6: the token costs more than the company has.
-    #[error("the token costs more than the company has")]
-    CashTooSmall,
+    /// The first rule that the token breaks.
+    #[error(transparent)]
+    Rule(TokenRule),
     /// Memory was refused, after K4 and before K5.
-    #[error("memory was refused")]
-    Memory,
+    #[error(transparent)]
+    Memory(AllocError),
 }
 
 impl From<AllocError> for BoardFault {
@@ -99,18 +57,34 @@ impl From<AllocError> for BoardFault {
     }
 }
 
-impl From<AllocError> for LayFault {
-    ghost from_gives = { λ _ fault. fault ≡ lay_memory };
+impl From<LayRule> for LayFault {
+    ghost from_gives = { λ rule fault. fault ≡ lay_fault.Rule rule };
 
-    fn from(_error: AllocError) -> LayFault {
-        LayFault::Memory
+    fn from(rule: LayRule) -> LayFault {
+        LayFault::Rule(rule)
+    }
+}
+
+impl From<AllocError> for LayFault {
+    ghost from_gives = { λ error fault. fault ≡ lay_fault.Memory error };
+
+    fn from(error: AllocError) -> LayFault {
+        LayFault::Memory(error)
+    }
+}
+
+impl From<TokenRule> for TokenFault {
+    ghost from_gives = { λ rule fault. fault ≡ token_fault.Rule rule };
+
+    fn from(rule: TokenRule) -> TokenFault {
+        TokenFault::Rule(rule)
     }
 }
 
 impl From<AllocError> for TokenFault {
-    ghost from_gives = { λ _ fault. fault ≡ token_memory };
+    ghost from_gives = { λ error fault. fault ≡ token_fault.Memory error };
 
-    fn from(_error: AllocError) -> TokenFault {
-        TokenFault::Memory
+    fn from(error: AllocError) -> TokenFault {
+        TokenFault::Memory(error)
     }
 }

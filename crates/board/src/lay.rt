@@ -2,7 +2,7 @@ ghost use Rattle.std.specs.Prelude.{◌≡◌, ◌⊎◌, ◌↔◌, ◌≤◌, 
 ghost use Rattle.std.specs.List.{list_any};
 ghost use Rattle.board.specs.Ground.{position_of, with_lay};
 ghost use Rattle.map_tables.specs.Lying.{colour_on, tile_on};
-ghost use Rattle.board.specs.LayRules.{HaveStopIn, IsConnected, IsLayAnswer, ShareLink, ground_rules, is_blocked, is_colour_closed, is_kept, is_lay_used, is_none_left, is_tile, is_wrong_colour, lay_answer_of, lay_cost_of, loses_track, lying_of, needs_no_track, place_of_colour};
+ghost use Rattle.board.specs.LayRules.{HaveStopIn, IsConnected, IsLayOutcome, ShareLink, ground_rules, is_blocked, is_colour_closed, is_kept, is_lay_used, is_none_left, is_tile, is_wrong_colour, lay_answer_of, lay_cost_of, loses_track, lying_of, needs_no_track, place_of_colour};
 ghost use Rattle.map_tables.specs.Hex.{same_hex};
 ghost use Rattle.map_tables.specs.Laws.{link_order};
 ghost use Rattle.map_tables.specs.Track.{end_order};
@@ -19,7 +19,7 @@ use crate::lying::Lying;
 use crate::powers::is_dh_lay;
 use crate::shown::same_hex;
 use map_tables::{
-    Colour, End, Hex, Lay, Link, Stop, TileNo, hex_kind, hexes_stand_once, laid_links,
+    Colour, End, Hex, Lay, LayRule, Link, Stop, TileNo, hex_kind, hexes_stand_once, laid_links,
     printed_colour, private_hexes, terrain_cost, tile,
 };
 use reach::{Reach, reached};
@@ -31,62 +31,60 @@ impl Board {
     /// reached, comes only where L1 to L8 are kept. The company has to reach some piece of the tile
     /// in the position after the lay; the board stays as it is.
     pub fn try_lay(&self, asker: &Asker, lay: Lay) -> Result<Money, LayFault>
-        ensures memory { result ≡ Err LayFault.Memory →
-            first_broken (ground_rules self.now asker.now lay) ≡ None }
-        ensures answer { (result ≡ Err LayFault.Memory)
-            ⊎ IsLayAnswer self.now asker.now lay result }
+        ensures { IsLayOutcome self.now asker.now lay result }
     {
-        if let Some(fault) = self.ground_fault(asker, lay) {
-            return Err(fault);
+        if let Some(rule) = self.ground_rule(asker, lay) {
+            return Err(LayFault::Rule(rule));
         }
         let reached = self.would_reach(asker.company, lay)?;
-        self.lay_answer(asker, lay, reached)
+        let cost = self.lay_answer(asker, lay, reached)?;
+        Ok(cost)
     }
 
     /// What a lay costs that keeps the rules before what is reached, or the first rule that it
     /// breaks, where it is known whether some piece of the tile is reached.
-    fn lay_answer(&self, asker: &Asker, lay: Lay, reached: bool) -> Result<Money, LayFault>
+    fn lay_answer(&self, asker: &Asker, lay: Lay, reached: bool) -> Result<Money, LayRule>
         requires { first_broken (ground_rules self.now asker.now lay) ≡ None }
         ensures { result ≡ lay_answer_of self.now asker.now lay reached }
     {
         if !(self.needs_no_track(asker, lay) || reached) {
-            return Err(LayFault::NotReached);
+            return Err(LayRule::NotReached);
         }
         let cost = Money::from(self.lay_cost(lay.hex));
         if asker.cash < cost {
-            return Err(LayFault::CashTooSmall);
+            return Err(LayRule::CashTooSmall);
         }
         Ok(cost)
     }
 
     /// The first rule that a lay breaks, of those that ask nothing of what is reached.
-    fn ground_fault(&self, asker: &Asker, lay: Lay) -> Option<LayFault>
+    fn ground_rule(&self, asker: &Asker, lay: Lay) -> Option<LayRule>
         ensures { result ≡ first_broken (ground_rules self.now asker.now lay) }
     {
         let entry = tile(lay.tile);
         if self.is_lay_used(asker, lay.hex) {
-            return Some(LayFault::StepUsed);
+            return Some(LayRule::StepUsed);
         }
         if !is_open(hex_kind(lay.hex)) {
-            return Some(LayFault::GreyOrRed);
+            return Some(LayRule::GreyOrRed);
         }
         if self.is_none_left(lay.tile) {
-            return Some(LayFault::NoneLeft);
+            return Some(LayRule::NoneLeft);
         }
         if is_colour_closed(self.phase(), entry.colour) {
-            return Some(LayFault::ColourClosed);
+            return Some(LayRule::ColourClosed);
         }
         if self.is_wrong_colour(lay) || is_wrong_kind(lay) {
-            return Some(LayFault::WrongTile);
+            return Some(LayRule::WrongTile);
         }
         if self.loses_track(lay) {
-            return Some(LayFault::TrackLost);
+            return Some(LayRule::TrackLost);
         }
         if has_bad_side(lay) {
-            return Some(LayFault::BadSide);
+            return Some(LayRule::BadSide);
         }
         if is_blocked(asker, lay.hex) {
-            return Some(LayFault::Blocked);
+            return Some(LayRule::Blocked);
         }
         None
     }

@@ -1,6 +1,6 @@
 ghost use Rattle.std.specs.Prelude.{◌≡◌, ◌⊎◌, ◌↔◌, Err, None, Some, IfOk, IsTrue};
 ghost use Rattle.board.specs.Ground.{position_of};
-ghost use Rattle.board.specs.TokenRules.{IsReachedPlace, IsTokenAnswer, has_none_left, has_token_in, is_full_at, is_kept_for, is_no_free_slot, is_token_used, kept_at, laid_by, slot_rules, token_answer_of, token_cost_of};
+ghost use Rattle.board.specs.TokenRules.{IsReachedPlace, IsTokenOutcome, has_none_left, has_token_in, is_full_at, is_kept_for, is_no_free_slot, is_token_used, kept_at, laid_by, slot_rules, token_answer_of, token_cost_of};
 ghost use Rattle.reach.specs.Position.{IsAmong};
 ghost use Rattle.tables.specs.Rules.{first_broken};
 
@@ -10,7 +10,7 @@ use crate::fault::TokenFault;
 use crate::lying::{Lying, slots};
 use crate::powers::is_dh_token;
 use crate::shown::{same_company, same_hex, same_stop};
-use map_tables::{Hex, Place, Stop, home, joined_stop};
+use map_tables::{Hex, Place, Stop, TokenRule, home, joined_stop};
 use std::alloc::AllocError;
 use tables::{Amount, Company, Money, token_price, tokens};
 
@@ -18,49 +18,47 @@ impl Board {
     /// What a token costs, in dollars, or the first rule that it breaks. `Memory`, for what is
     /// reached, comes only where K1 to K4 are kept. The board stays as it is.
     pub fn try_token(&self, asker: &Asker, place: Place) -> Result<Money, TokenFault>
-        ensures memory { result ≡ Err TokenFault.Memory →
-            first_broken (slot_rules self.now asker.now place) ≡ None }
-        ensures answer { (result ≡ Err TokenFault.Memory)
-            ⊎ IsTokenAnswer self.now asker.now place result }
+        ensures { IsTokenOutcome self.now asker.now place result }
     {
-        if let Some(fault) = self.slot_fault(asker, place) {
-            return Err(fault);
+        if let Some(rule) = self.slot_rule(asker, place) {
+            return Err(TokenFault::Rule(rule));
         }
         let reached = self.reaches(asker.company, place)?;
-        self.token_answer(asker, place, reached)
+        let cost = self.token_answer(asker, place, reached)?;
+        Ok(cost)
     }
 
     /// What a token costs that keeps the rules before what is reached, or the first rule that it
     /// breaks, where it is known whether the stop is reached.
-    fn token_answer(&self, asker: &Asker, place: Place, reached: bool) -> Result<Money, TokenFault>
+    fn token_answer(&self, asker: &Asker, place: Place, reached: bool) -> Result<Money, TokenRule>
         requires { first_broken (slot_rules self.now asker.now place) ≡ None }
         ensures { result ≡ token_answer_of self.now asker.now place reached }
     {
         if !(is_dh_token(asker, place.hex) || reached) {
-            return Err(TokenFault::NotReached);
+            return Err(TokenRule::NotReached);
         }
         let cost = Money::from(self.token_cost(asker, place.hex));
         if asker.cash < cost {
-            return Err(TokenFault::CashTooSmall);
+            return Err(TokenRule::CashTooSmall);
         }
         Ok(cost)
     }
 
     /// The first rule that a token breaks, of those that ask nothing of what is reached.
-    fn slot_fault(&self, asker: &Asker, place: Place) -> Option<TokenFault>
+    fn slot_rule(&self, asker: &Asker, place: Place) -> Option<TokenRule>
         ensures { result ≡ first_broken (slot_rules self.now asker.now place) }
     {
         if is_token_used(asker) {
-            return Some(TokenFault::StepUsed);
+            return Some(TokenRule::StepUsed);
         }
         if self.has_none_left(asker.company) {
-            return Some(TokenFault::NoTokenLeft);
+            return Some(TokenRule::NoTokenLeft);
         }
         if self.is_no_free_slot(place) {
-            return Some(TokenFault::NoFreeSlot);
+            return Some(TokenRule::NoFreeSlot);
         }
         if self.has_token_in(place.hex, asker.company) {
-            return Some(TokenFault::InHexAlready);
+            return Some(TokenRule::InHexAlready);
         }
         None
     }

@@ -22,7 +22,7 @@ use Rattle.certificate.specs.Fault.{named_steps, run_fault, steps_of}
 use Rattle.certificate.specs.Law.{AreItsPlaces, NameLegalRun}
 use Rattle.certificate.specs.Legal.{IsLegalRun, crossed}
 use Rattle.certificate.specs.Set.{AreApart, AreTakenFrom, IsLegalSet, RunsLegally, ShareNoBorder, TrainRun, in_number, trains_that_run}
-use Rattle.certificate.specs.declared.run_fault.RunFault.{RunFault}
+use Rattle.map_tables.specs.declared.rules.RunRule.{RunRule}
 use Rattle.certificate.proofs.Finite.{Decided, among_each_with, among_lists, decided_at_most, decided_both, each_with, lists_among, lists_of}
 use Rattle.certificate.proofs.Lawful.{legal_where_unbroken}
 use Rattle.certificate.proofs.Marks.{among_both}
@@ -169,7 +169,7 @@ module _ (position : Position) (company : Company) where
   abbrev run_by : Kind → List Place → TrainRun
   run_by kind list = record { kind = kind; steps = named_steps position list }
 
-  kept : Option RunFault → TrainRun → List TrainRun → List TrainRun
+  kept : Option RunRule → TrainRun → List TrainRun → List TrainRun
   kept None run runs = run ∷ runs
   kept (Some fault) run runs = runs
 
@@ -184,19 +184,19 @@ module _ (position : Position) (company : Company) where
       subst (λ (steps : List Step). IsLegalRun position company kind [] steps) (sym (ap steps_of run.1)) run.2
 
   among_kept :
-      (fault : Option RunFault) (run other : TrainRun) (runs : List TrainRun) → IsAmong other (kept fault run runs) →
+      (fault : Option RunRule) (run other : TrainRun) (runs : List TrainRun) → IsAmong other (kept fault run runs) →
       ((fault ≡ None) × (run ≡ other)) ⊎ IsAmong other runs
   unfolding kept
   among_kept None run other runs (inl is) = inl (refl, is)
   among_kept None run other runs (inr later) = inr later
   among_kept (Some fault) run other runs among = inr among
 
-  kept_later : (fault : Option RunFault) (run other : TrainRun) (runs : List TrainRun) → IsAmong other runs → IsAmong other (kept fault run runs)
+  kept_later : (fault : Option RunRule) (run other : TrainRun) (runs : List TrainRun) → IsAmong other runs → IsAmong other (kept fault run runs)
   unfolding kept
   kept_later None run other runs among = inr among
   kept_later (Some fault) run other runs among = among
 
-  kept_here : (fault : Option RunFault) (run : TrainRun) (runs : List TrainRun) → fault ≡ None → IsAmong run (kept fault run runs)
+  kept_here : (fault : Option RunRule) (run : TrainRun) (runs : List TrainRun) → fault ≡ None → IsAmong run (kept fault run runs)
   unfolding kept
   kept_here None run runs is = inl refl
   kept_here (Some fault) run runs is = absurd cc

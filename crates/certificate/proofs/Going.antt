@@ -19,7 +19,8 @@ use Rattle.certificate.specs.Legal.{listed}
 use Rattle.certificate.specs.Set.{TrainRun}
 use Rattle.certificate.specs.Tree.{Node, bound, children, choices_at, for_each, hexes_of, may_all_earn, may_come, node_if, node_of, setting_out, ways_at, ways_by, ways_from, with_step, with_steps}
 use Rattle.certificate.specs.Walked.{at_end, capped, cuts, ends, has_no_train, splits}
-use Rattle.certificate.specs.Walking.{LeavesOver, StandsBetween, WalksOver, earned_from, node_from, other_hex_of, reached_in, set_outs, trains_of_tree}
+use Rattle.reach.specs.Search.{twin_of}
+use Rattle.certificate.specs.Walking.{LeavesOver, StandsBetween, WalksOver, earned_from, node_from, reached_in, set_outs, trains_of_tree}
 use Rattle.certificate.specs.declared.decider.Decision.{Decision}
 use Rattle.certificate.specs.declared.decider.Decision.TheVariants.{Cut, Split, Stop as Ends}
 use Rattle.certificate.specs.declared.tree.Tree.{Tree}
@@ -56,33 +57,33 @@ way_enters position lawful at link found step among is ways =
     (way_is position lawful at.hex at.end step (among_for_each (ways_by at.end) (links_of position at.hex) link step among here)).enters
 
 -- a stop is left in its hexes
-pub one_hex : (position : Position) (stop : Stop) → other_hex_of stop.hex ≡ None → ways_from position stop ≡ ways_at position stop.hex (AtStop stop.number)
+pub one_hex : (position : Position) (stop : Stop) → twin_of stop.hex ≡ None → ways_from position stop ≡ ways_at position stop.hex (AtStop stop.number)
 one_hex position stop none =
     ap (for_each (λ (hex : Hex). ways_at position hex (AtStop stop.number))) (alone stop.hex none) ∙ append-nil (ways_at position stop.hex (AtStop stop.number))
   where
-    alone : (hex : Hex) → other_hex_of hex ≡ None → hexes_of hex ≡ hex ∷ []
+    alone : (hex : Hex) → twin_of hex ≡ None → hexes_of hex ≡ hex ∷ []
     alone J2 is = cc
     alone A11 is = cc
     alone hex is = refl
 
-pub two_hexes : (position : Position) (stop : Stop) (other : Hex) → other_hex_of stop.hex ≡ Some other → ways_from position stop ≡ ways_at position other (AtStop stop.number) ++ ways_at position stop.hex (AtStop stop.number)
+pub two_hexes : (position : Position) (stop : Stop) (other : Hex) → twin_of stop.hex ≡ Some other → ways_from position stop ≡ ways_at position other (AtStop stop.number) ++ ways_at position stop.hex (AtStop stop.number)
 two_hexes position stop other is =
     ap (for_each (λ (hex : Hex). ways_at position hex (AtStop stop.number))) (both stop.hex other is)
     ∙ ap (λ (l : List Step). ways_at position other (AtStop stop.number) ++ l) (append-nil (ways_at position stop.hex (AtStop stop.number)))
   where
-    both : (hex other : Hex) → other_hex_of hex ≡ Some other → hexes_of hex ≡ other ∷ hex ∷ []
+    both : (hex other : Hex) → twin_of hex ≡ Some other → hexes_of hex ≡ other ∷ hex ∷ []
     both J2 other so = let same : I1 ≡ other = cc in ap (λ (h : Hex). h ∷ J2 ∷ []) same
     both A11 other so = let same : A9 ≡ other = cc in ap (λ (h : Hex). h ∷ A11 ∷ []) same
     both hex other so = absurd cc
 
 pub hexes_steps :
-    (position : Position) (test : Step → Bool) (node : Node) (stop : Stop) (other : Hex) → other_hex_of stop.hex ≡ Some other →
+    (position : Position) (test : Step → Bool) (node : Node) (stop : Stop) (other : Hex) → twin_of stop.hex ≡ Some other →
     with_steps test node (ways_from position stop) ≡ with_steps test node (ways_at position other (AtStop stop.number)) ++ with_steps test node (ways_at position stop.hex (AtStop stop.number))
 hexes_steps position test node stop other is =
     ap (with_steps test node) (two_hexes position stop other is)
     ∙ steps_both test node (ways_at position other (AtStop stop.number)) (ways_at position stop.hex (AtStop stop.number))
 
-pub other_named : (hex other : Hex) → other_hex_of hex ≡ Some other → joined_hex other ≡ hex
+pub other_named : (hex other : Hex) → twin_of hex ≡ Some other → joined_hex other ≡ hex
 other_named J2 other is = let same : I1 ≡ other = cc in ap joined_hex (sym same)
 other_named A11 other is = let same : A9 ≡ other = cc in ap joined_hex (sym same)
 other_named hex other is = absurd cc

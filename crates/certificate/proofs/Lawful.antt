@@ -12,16 +12,16 @@ use Rattle.certificate.specs.Fault.{has_border_twice, has_stop_twice, has_token,
 use Rattle.certificate.specs.Law.{LegalWhereNoRuleIsBroken, NameLegalRun}
 use Rattle.certificate.specs.Legal.{IsLegalRun, crossed, visited}
 use Rattle.certificate.specs.Named.{walk_named}
-use Rattle.certificate.specs.declared.run_fault.RunFault.{RunFault}
-use Rattle.certificate.specs.declared.run_fault.RunFault.TheVariants.{NoTrack, WrongNumber, StopTwice, BorderTwice, PassesFull, NoToken, RedInside}
+use Rattle.map_tables.specs.declared.rules.RunRule.{RunRule}
+use Rattle.map_tables.specs.declared.rules.RunRule.TheVariants.{NoTrack, WrongNumber, StopTwice, BorderTwice, PassesFull, NoToken, RedInside}
 use Rattle.certificate.proofs.Joined.{stops_distinct, distinct_stops, borders_distinct, distinct_borders, passes_none, none_passes, has_such, such_has, number_is, is_number}
 use Rattle.certificate.proofs.Named.{IsWhole, named_is_whole}
 use Rattle.certificate.proofs.Tests.{has_token_is, is_full_is}
 
-abbrev ruling : RunFault → Bool → Rule RunFault
+abbrev ruling : RunRule → Bool → Rule RunRule
 ruling code broken = record { code = code; broken = broken }
 
-abbrev table : Bool → Bool → Bool → Bool → Bool → Bool → Option RunFault
+abbrev table : Bool → Bool → Bool → Bool → Bool → Bool → Option RunRule
 table number twice border full own red =
     first_broken (ruling WrongNumber number ∷ ruling StopTwice twice ∷ ruling BorderTwice border ∷ ruling PassesFull full ∷ ruling NoToken (not own) ∷ ruling RedInside red ∷ [])
 
@@ -104,7 +104,7 @@ legal_where_unbroken position company kind used places = (
 )
 
 -- what breaks a rule is no legal run
-pub none_where_broken : (position : Position) (company : Company) (kind : Kind) (used : List ℕ) (places : List Place) (fault : RunFault) → run_fault position company kind used places ≡ Some fault → NameLegalRun position company kind used places → false ≡ true
+pub none_where_broken : (position : Position) (company : Company) (kind : Kind) (used : List ℕ) (places : List Place) (fault : RunRule) → run_fault position company kind used places ≡ Some fault → NameLegalRun position company kind used places → false ≡ true
 none_where_broken position company kind used places fault broken run =
     let kept : run_fault position company kind used places ≡ None = (legal_where_unbroken position company kind used places).1 run in
     cc

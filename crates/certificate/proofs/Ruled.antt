@@ -11,16 +11,16 @@ use Rattle.certificate.specs.Legal.{crossed, earned}
 use Rattle.certificate.specs.Marks.{borders_used, marked}
 use Rattle.certificate.specs.Named.{made_along, taken, walk_named}
 use Rattle.certificate.specs.Tally.{counted, no_steps, tally_fault, tally_of}
-use Rattle.certificate.specs.declared.run_fault.RunFault.{RunFault}
-use Rattle.certificate.specs.declared.run_fault.RunFault.TheVariants.{NoTrack, WrongNumber, StopTwice, BorderTwice, PassesFull, NoToken, RedInside}
+use Rattle.map_tables.specs.declared.rules.RunRule.{RunRule}
+use Rattle.map_tables.specs.declared.rules.RunRule.TheVariants.{NoTrack, WrongNumber, StopTwice, BorderTwice, PassesFull, NoToken, RedInside}
 use Rattle.certificate.specs.declared.tally.Tally.{Tally}
 use Rattle.certificate.proofs.Along.{made_alike}
 use Rattle.certificate.proofs.Kept.{tally_keeps}
 
-abbrev ruling : RunFault → Bool → Rule RunFault
+abbrev ruling : RunRule → Bool → Rule RunRule
 ruling code broken = record { code = code; broken = broken }
 
-abbrev table : Kind → ℕ → Bool → Bool → Bool → Bool → Bool → Option RunFault
+abbrev table : Kind → ℕ → Bool → Bool → Bool → Bool → Bool → Option RunRule
 table kind stops twice border full own red =
     first_broken (ruling WrongNumber (is_wrong_number kind stops) ∷ ruling StopTwice twice ∷ ruling BorderTwice border ∷ ruling PassesFull full ∷ ruling NoToken (not own) ∷ ruling RedInside red ∷ [])
 

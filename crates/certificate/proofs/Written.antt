@@ -29,9 +29,9 @@ use Rattle.reach.specs.declared.walk.Step.{Step}
 use Rattle.reach.proofs.Lists.{found_among}
 use Rattle.tables.specs.declared.rolling_stock.Kind.{Kind}
 use Rattle.tables.specs.declared.roster.Company.{Company}
-use Rattle.certificate.specs.Legal.{IsLegalRun, border_at, crossed, listed}
+use Rattle.certificate.specs.Legal.{EndsAtStop, IsLegalRun, border_at, crossed, listed}
 use Rattle.certificate.specs.Named.{arrived, is_hex, leg_by_stop, leg_from, leg_over, leg_to, same_link, side_towards, step_between, step_over, taken, travelled, walk_named, with_leg}
-use Rattle.certificate.specs.Law.{AreItsPlaces, EachLegalRunIsNamed, WalksAreWritten}
+use Rattle.certificate.specs.Law.{AreItsPlaces, EachLegalRunIsNamed}
 use Rattle.certificate.specs.Written.{place_at, place_over, places_of, places_over}
 use Rattle.certificate.specs.declared.leg.Leg.{Leg}
 use Rattle.certificate.proofs.Counting.{no_more}
@@ -500,8 +500,18 @@ module _ (position : Position) (lawful : IsLawful position) where
     most = omega (arith, as_many (step ∷ before), few);
   }
 
--- a walk is named by its places
-pub walks_written : WalksAreWritten
+-- a walk that can be written out: it leads from a stop to a stop, passes no red stop and crosses at most 279 borders
+record CanBeWritten (position : Position) (steps : List Step) : Type 0 where
+  walk : IsWalk position steps
+  begins : BeginsAt (λ stop. Unit {0}) steps
+  ends : EndsAtStop steps
+  no_red_inside : PassesOnly (λ stop. ¬ (is_red position stop ≡ true)) steps
+  few_borders : length (crossed steps) ≤ 279
+
+-- the places of such a walk name it, and are from 2 to 280
+walks_written :
+    (position : Position) (steps : List Step) → IsLawful position → CanBeWritten position steps →
+    AreItsPlaces position steps (places_of steps)
 walks_written position [] lawful walk = absurd walk.begins
 walks_written position (step ∷ before) lawful walk =
     at_stop position lawful step before walk.walk.0 walk.few_borders (left_at step).end refl walk.ends.0 walk.ends.1

@@ -15,8 +15,8 @@ use Rattle.tables.specs.declared.rolling_stock.Kind.{Kind}
 use Rattle.tables.specs.declared.roster.Company.{Company}
 use Rattle.certificate.specs.Legal.{visited, crossed}
 use Rattle.certificate.specs.Named.{walk_named}
-use Rattle.certificate.specs.declared.run_fault.RunFault.{RunFault}
-use Rattle.certificate.specs.declared.run_fault.RunFault.TheVariants.{NoTrack, WrongNumber, StopTwice, BorderTwice, PassesFull, NoToken, RedInside}
+use Rattle.map_tables.specs.declared.rules.RunRule.{RunRule}
+use Rattle.map_tables.specs.declared.rules.RunRule.TheVariants.{NoTrack, WrongNumber, StopTwice, BorderTwice, PassesFull, NoToken, RedInside}
 
 -- whether a company has a token at a stop
 abbrev pub has_token : Position → Company → Stop → Bool
@@ -73,7 +73,7 @@ abbrev pub steps_of : Option (List Step) → List Step
 steps_of (Some steps) = steps
 steps_of None = []
 
-abbrev rule : RunFault → Bool → Rule RunFault
+abbrev rule : RunRule → Bool → Rule RunRule
 rule code broken = record { code = code; broken = broken }
 
 -- the steps of the walk that some places name
@@ -81,7 +81,7 @@ abbrev pub named_steps : Position → List Place → List Step
 named_steps position places = steps_of (walk_named position places)
 
 -- the rules of a walk
-abbrev pub rules_of_walk : Position → Company → Kind → List ℕ → List Step → List (Rule RunFault)
+abbrev pub rules_of_walk : Position → Company → Kind → List ℕ → List Step → List (Rule RunRule)
 rules_of_walk position company kind used steps =
     rule WrongNumber (is_wrong_number kind (length (visited steps))) ∷
     rule StopTwice (has_stop_twice (visited steps)) ∷
@@ -91,11 +91,11 @@ rules_of_walk position company kind used steps =
     rule RedInside (passes (is_red position) steps) ∷ []
 
 -- the rules of a run: that there is a walk, and those of the walk
-abbrev pub rules_of_run : Position → Company → Kind → List ℕ → List Place → List (Rule RunFault)
+abbrev pub rules_of_run : Position → Company → Kind → List ℕ → List Place → List (Rule RunRule)
 rules_of_run position company kind used places =
     let walk = walk_named position places in
     rule NoTrack (is_none walk) ∷ rules_of_walk position company kind used (steps_of walk)
 
 -- the first rule that a run breaks
-abbrev pub run_fault : Position → Company → Kind → List ℕ → List Place → Option RunFault
+abbrev pub run_fault : Position → Company → Kind → List ℕ → List Place → Option RunRule
 run_fault position company kind used places = first_broken (rules_of_run position company kind used places)

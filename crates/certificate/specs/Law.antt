@@ -1,5 +1,5 @@
 -- What joins the legal runs and the rules: what some places name is a legal run exactly where they break
--- no rule, a walk is named by its places, and so each legal run is named by some. And what the numbers of
+-- no rule, and each legal run is named by some. And what the numbers of
 -- borders and the marks of used ones are worth: a number is one border's; a run adds its borders to the
 -- marks and no others; what is legal by the marks is so by the borders; a run that is legal after another
 -- shares no border with it. A run earns no more than the borders allow that it uses.
@@ -11,17 +11,16 @@ use Rattle.map_tables.specs.declared.place.Place.{Place}
 use Rattle.map_tables.specs.declared.side.Side.{Side}
 use Rattle.map_tables.specs.declared.track.End.TheVariants.{Side as AtSide}
 use Rattle.reach.specs.Lawful.{IsLawful}
-use Rattle.reach.specs.Position.{Position, IsAmong, is_red}
-use Rattle.reach.specs.Walk.{BeginsAt, IsWalk, PassesOnly, across, spot_at}
+use Rattle.reach.specs.Position.{Position, IsAmong}
+use Rattle.reach.specs.Walk.{across, spot_at}
 use Rattle.reach.specs.declared.walk.Spot.{Spot}
 use Rattle.reach.specs.declared.walk.Step.{Step}
 use Rattle.tables.specs.declared.rolling_stock.Kind.{Kind}
 use Rattle.tables.specs.declared.roster.Company.{Company}
 use Rattle.certificate.specs.Fault.{named_steps, run_fault}
-use Rattle.certificate.specs.Legal.{EndsAtStop, IsLegalRun, border_of, crossed, earned}
+use Rattle.certificate.specs.Legal.{IsLegalRun, border_of, crossed, earned}
 use Rattle.certificate.specs.Marks.{MarksAre, borders_used, marked}
 use Rattle.certificate.specs.Named.{walk_named}
-use Rattle.certificate.specs.Written.{places_of}
 
 -- some places name a legal run
 abbrev pub NameLegalRun : Position → Company → Kind → List ℕ → List Place → Type 0
@@ -86,20 +85,6 @@ pub record AreItsPlaces (position : Position) (steps : List Step) (places : List
   pub name_it : walk_named position places ≡ Some steps
   pub least : 2 ≤ length places
   pub most : length places ≤ 280
-
--- a walk that can be written out: it leads from a stop to a stop, passes no red stop and crosses at most 279 borders
-pub record CanBeWritten (position : Position) (steps : List Step) : Type 0 where
-  pub walk : IsWalk position steps
-  pub begins : BeginsAt (λ stop. Unit {0}) steps
-  pub ends : EndsAtStop steps
-  pub no_red_inside : PassesOnly (λ stop. ¬ (is_red position stop ≡ true)) steps
-  pub few_borders : length (crossed steps) ≤ 279
-
--- the places of such a walk name it, and are from 2 to 280
-abbrev pub WalksAreWritten : Type 0
-WalksAreWritten =
-    (position : Position) (steps : List Step) → IsLawful position → CanBeWritten position steps →
-    AreItsPlaces position steps (places_of steps)
 
 -- each legal run can be written out: some places name it, from 2 to 280
 abbrev pub EachLegalRunIsNamed : Type 0

@@ -3,7 +3,6 @@ pub mod Marks
 pub mod Named
 pub mod Written
 pub mod Fault
-pub mod Code
 pub mod Set
 pub mod Greatest
 pub mod Claim

@@ -14,8 +14,8 @@ use Rattle.tables.specs.declared.rolling_stock.Kind.{Kind}
 use Rattle.tables.specs.declared.roster.Company.{Company}
 use Rattle.certificate.specs.Fault.{has_token, is_full, is_wrong_number}
 use Rattle.certificate.specs.Legal.{border_of}
-use Rattle.certificate.specs.declared.run_fault.RunFault.{RunFault}
-use Rattle.certificate.specs.declared.run_fault.RunFault.TheVariants.{WrongNumber, StopTwice, BorderTwice, PassesFull, NoToken, RedInside}
+use Rattle.map_tables.specs.declared.rules.RunRule.{RunRule}
+use Rattle.map_tables.specs.declared.rules.RunRule.TheVariants.{WrongNumber, StopTwice, BorderTwice, PassesFull, NoToken, RedInside}
 use Rattle.certificate.specs.declared.tally.Tally.{Tally}
 
 -- before the first step
@@ -91,11 +91,11 @@ tally_of position company used [] = no_steps used
 tally_of position company used (step ∷ before) =
     counted position company (tally_of position company used before) step
 
-abbrev rule : RunFault → Bool → Rule RunFault
+abbrev rule : RunRule → Bool → Rule RunRule
 rule code broken = record { code = code; broken = broken }
 
 -- the rules that a walk breaks, by what was kept of it
-abbrev pub rules_of_tally : Kind → Tally → List (Rule RunFault)
+abbrev pub rules_of_tally : Kind → Tally → List (Rule RunRule)
 rules_of_tally kind tally =
     rule WrongNumber (is_wrong_number kind tally.stops) ∷
     rule StopTwice tally.stop_twice ∷
@@ -104,5 +104,5 @@ rules_of_tally kind tally =
     rule NoToken (not tally.own_token) ∷
     rule RedInside tally.red_inside ∷ []
 
-abbrev pub tally_fault : Kind → Tally → Option RunFault
+abbrev pub tally_fault : Kind → Tally → Option RunRule
 tally_fault kind tally = first_broken (rules_of_tally kind tally)

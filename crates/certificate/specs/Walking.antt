@@ -4,8 +4,6 @@
 use Rattle.std.specs.Prelude.{◌≡◌, ℕ, zero, suc, ◌+◌, ◌-◌, ◌*◌, ◌≤◌, nat_lt, ◌==◌, Bool, false, if◌then◌else◌, Option, Some, None, option_map, List, [], ◌∷◌, ◌++◌, length, drop, get_or, replicate}
 use Rattle.std.specs.List.{list_any}
 use Rattle.map_tables.specs.Place.{joined_stop_of}
-use Rattle.map_tables.specs.declared.hex.Hex.{Hex}
-use Rattle.map_tables.specs.declared.hex.Hex.TheVariants.{A9, A11, I1, J2}
 use Rattle.map_tables.specs.declared.place.Stop.{Stop}
 use Rattle.map_tables.specs.declared.side.Side.{Side}
 use Rattle.map_tables.specs.declared.track.End.{End}
@@ -62,12 +60,6 @@ still_left most count = option_map (λ n. n - count) most
 abbrev pub is_none_left : Option ℕ → Bool
 is_none_left (Some left) = left == 0
 is_none_left None = false
-
--- the other hex in which a stop lies that is named by a hex
-abbrev pub other_hex_of : Hex → Option Hex
-other_hex_of J2 = Some I1
-other_hex_of A11 = Some A9
-other_hex_of hex = None
 
 -- the stops that are reached, and the trains in their order
 abbrev pub reached_in : Tree → List Stop

@@ -7,12 +7,14 @@ ghost use Rattle.certificate.specs.Named.{made_along};
 ghost use Rattle.certificate.specs.Tally.{counted, no_steps};
 
 use crate::leg::leg_to;
-use crate::run_fault::RunFault;
 use crate::tally::Tally;
 use crate::used::Used;
-use map_tables::{End, Run};
+use map_tables::{End, Run, RunRule};
 use reach::{Network, Spot};
-use tables::{Amount, Company, Kind, Money};
+use tables::{Company, Kind, Money};
+
+/// The first rule that a run breaks: one of those that ask what lies, R3 to R9.
+pub type RunFault = RunRule;
 
 /// Rules a run of a company's train of a kind, as it is written out place by place. It is `Ok`
 /// exactly where the run is legal over the borders that are used: the answer is what it earns, in
@@ -47,14 +49,7 @@ pub fn check_run<N: Network>(
         return Err(fault);
     }
     used.crossed = tally.crossed;
-    Ok(money(tally.value))
-}
-
-/// A sum of dollars.
-pub(crate) fn money(amount: Amount) -> Money
-    ensures { result ≡ pos amount }
-{
-    amount as Money
+    Ok(Money::from(tally.value))
 }
 
 /// Goes over the walk that the places of a run name; `None` where there is none.

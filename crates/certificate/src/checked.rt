@@ -1,5 +1,5 @@
 //! What answers by groups of certificates.
-ghost use Rattle.std.specs.Prelude.{◌≡◌, ◌↔◌, IsTrue, pos, true};
+ghost use Rattle.std.specs.Prelude.{◌≡◌, ◌↔◌, IsTrue, true};
 ghost use Rattle.certificate.specs.Checked.{AnswersByNext, Shows};
 
 use crate::accept::accepts_bits;
@@ -9,7 +9,7 @@ use crate::runner::{Runner, RunnerFault};
 use reach::Network;
 use std::marker::Model;
 use std::vec;
-use tables::{Amount, Company, Kind, Money, Round};
+use tables::{Company, Kind, Money, Round};
 
 /// A runner that searches for nothing: it uses one group of certificates for each call, in order,
 /// and answers what that claims where it is well formed, for that round and company, and accepted.
@@ -63,7 +63,7 @@ impl Runner for Checked {
             return Err(RunnerFault::Refused);
         };
         if shows(network, round, company, trains, &group) {
-            Ok(money(group.claim.revenue))
+            Ok(Money::from(group.claim.revenue))
         } else {
             Err(RunnerFault::Refused)
         }
@@ -85,11 +85,4 @@ fn shows<N: Network>(
         return false;
     }
     accepts_bits(network, company, trains, &group.claim, &group.bits)
-}
-
-/// A sum of dollars.
-fn money(amount: Amount) -> Money
-    ensures { result ≡ pos amount }
-{
-    amount as Money
 }

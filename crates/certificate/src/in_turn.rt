@@ -6,11 +6,11 @@ ghost use Rattle.certificate.specs.InTurn.{AreLegalInTurn, has_enough};
 ghost use Rattle.certificate.specs.TwoTrain.{none_used};
 ghost use Rattle.tables.specs.Train.{kinds, same_kind};
 
-use crate::check::{check_run, money};
+use crate::check::check_run;
 use crate::claim::{Claim, ClaimedRun};
 use crate::used::Used;
 use reach::Network;
-use tables::{Amount, Company, Kind};
+use tables::{Amount, Company, Kind, Money};
 
 /// Whether a claim for a company's trains holds: its places name the walks of a legal set of runs
 /// for them, which earns what is claimed. It takes no memory.
@@ -38,7 +38,7 @@ fn are_legal_in_turn<N: Network>(
         IsTrue result ↔ AreLegalInTurn position company none_used revenue claimed.now }
 {
     let mut used = Used::new();
-    let mut left = money(revenue);
+    let mut left = Money::from(revenue);
     for run in claimed {
         match check_run(network, company, run.kind, &run.run, &mut used) {
             Ok(earns) if earns <= left => left -= earns,

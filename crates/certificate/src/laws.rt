@@ -7,7 +7,6 @@ ghost use Rattle.certificate.specs.Law.{
   LegalWhereNoRuleIsBroken,
   RunsEarnByBorders,
   RunsShareNoBorder,
-  WalksAreWritten,
 };
 ghost use Rattle.certificate.specs.Digits.{
   PrintsInLowerCase,
@@ -74,12 +73,6 @@ pub fn runs_share_no_border()
 /// runs of a turn together earn at most 44,640 dollars.
 pub fn runs_earn_by_borders()
     ensures { RunsEarnByBorders }
-{}
-
-/// A walk from a stop to a stop is named by its places, from 2 to 280, where it passes no red stop
-/// and crosses at most 279 borders.
-pub fn walks_are_written()
-    ensures { WalksAreWritten }
 {}
 
 /// Each legal run can be written out: some places name it, from 2 to 280.

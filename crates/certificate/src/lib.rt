@@ -7,8 +7,8 @@
 //! The definitions, in `specs/`: `Legal` says which stops a walk visits, which borders it crosses
 //! and what a legal run is, and knows nothing of places; `Named` says which walk a list of places
 //! names, and `Written` the places of a walk; `Fault` is the table of the rules. `Law` joins them:
-//! what the places name is a legal run exactly where they break no rule, and a walk is named by its
-//! places. `Marks` is how the borders are told that earlier runs crossed. `Tally` is what the check
+//! what the places name is a legal run exactly where they break no rule, and each legal run is named
+//! by some. `Marks` is how the borders are told that earlier runs crossed. `Tally` is what the check
 //! keeps of the steps that it has gone over.
 //!
 //! `Set` says what a legal set of runs is, what it earns and what the greatest revenue is, and
@@ -20,8 +20,8 @@
 //! `Checked` is how calls of a runner are answered by groups, each a claim with its marks; `Filled` is
 //! marks that hold however the last digit of their text is filled up.
 //!
-//! Reading order: `check` (the public call), `run_fault`, `used`, `leg` (from place to place),
-//! `tally`, `laws`; `claim` (a revenue with runs that earn it), `write` (a run by its places, from
+//! Reading order: `check` (the public call), `border_numbers`, `used`, `leg` (from place to place), `tally`,
+//! `laws`; `claim` (a revenue with runs that earn it), `write` (a run by its places, from
 //! its walk), `runner` (what tells the greatest revenue), `two_train` (whether a company can run at
 //! all), `ranking` (what a run may still earn); `in_turn` (whether a claim holds), `hex` (marks in a
 //! text), `bits` (marks as they are kept).
@@ -34,6 +34,7 @@
 
 mod accept;
 mod bits;
+mod border_numbers;
 mod check;
 mod checked;
 mod claim;
@@ -45,7 +46,6 @@ mod laws;
 mod leg;
 mod ranking;
 mod reader;
-mod run_fault;
 mod runner;
 mod tally;
 mod tree;
@@ -57,7 +57,8 @@ mod writer;
 
 pub use accept::{accepts, accepts_bits, write_marks};
 pub use bits::{BitReader, Bits};
-pub use check::check_run;
+pub use border_numbers::border_to;
+pub use check::{RunFault, check_run};
 pub use checked::Checked;
 pub use claim::{Claim, ClaimedRun, ClaimedRuns};
 pub use group::Group;
@@ -70,10 +71,9 @@ pub use laws::{
     leaves_earn_their_bounds, legal_by_marks, legal_sets_are_leaves, legal_where_no_rule_is_broken,
     marks_are_read, marks_hold_where_read, more_trains_earn_no_less, no_leaf_earns_more,
     one_greatest, order_of_trains_changes_nothing, runs_earn_by_borders, runs_share_no_border,
-    walks_are_written, worked_marks, worked_tree, written_marks_hold,
+    worked_marks, worked_tree, written_marks_hold,
 };
 pub use ranking::Ranking;
-pub use run_fault::RunFault;
 pub use runner::{Runner, RunnerFault};
 pub use two_train::can_run;
 pub use used::Used;

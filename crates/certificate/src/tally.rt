@@ -1,23 +1,15 @@
 ghost use Rattle.std.specs.Prelude.{◌≡◌, ◌+◌, ◌*◌, ◌<◌, ◌≤◌};
 ghost use Rattle.certificate.specs.Fault.{has_token, is_full, is_wrong_number};
-ghost use Rattle.certificate.specs.Legal.{border_of};
 ghost use Rattle.certificate.specs.Named.{with_leg};
 ghost use Rattle.certificate.specs.Tally.{counted, crossing, entering, leaving, no_steps, passing, tally_fault, visiting};
 ghost use Rattle.reach.specs.Position.{value_of};
-ghost use Rattle.reach.specs.Reached.{stop_order};
 
+use crate::border_numbers::{BORDERS, border};
 use crate::leg::Leg;
-use crate::run_fault::RunFault;
-use crate::used::{BORDERS, Used};
-use map_tables::{End, HEXES, Hex, Side, Stop, neighbour};
-use reach::{Network, Spot, Step};
+use crate::used::Used;
+use map_tables::{End, RunRule, Stop};
+use reach::{Network, STOPS, Spot, Step, stop_order};
 use tables::{Amount, Company, Kind};
-
-/// How many stops the hexes of the map may have.
-pub(crate) const STOPS: usize = 2 * HEXES;
-
-/// How many of its borders a hex numbers: those at its sides 0, 1 and 2.
-const NUMBERED: usize = 3;
 
 /// What is kept of the steps that a train has gone over.
 #[derive(Clone, Copy)]
@@ -67,7 +59,7 @@ impl Tally {
         ensures few { self.new.stops ≡ self.old.stops + 1 }
         ensures low { self.new.value ≤ 80 * self.new.stops }
     {
-        let number = number_of(stop);
+        let number = stop_order(stop);
         self.stops += 1;
         self.value += worth(network, stop);
         self.stop_twice |= self.seen[number];
@@ -161,48 +153,24 @@ impl Tally {
     }
 
     /// The first rule that the run breaks, if it breaks one.
-    pub(crate) fn fault(&self, kind: Kind) -> Option<RunFault>
+    pub(crate) fn fault(&self, kind: Kind) -> Option<RunRule>
         ensures { result ≡ tally_fault kind self.now }
     {
         if is_wrong_number(kind, self.stops) {
-            Some(RunFault::WrongNumber)
+            Some(RunRule::WrongNumber)
         } else if self.stop_twice {
-            Some(RunFault::StopTwice)
+            Some(RunRule::StopTwice)
         } else if self.border_twice {
-            Some(RunFault::BorderTwice)
+            Some(RunRule::BorderTwice)
         } else if self.passes_full {
-            Some(RunFault::PassesFull)
+            Some(RunRule::PassesFull)
         } else if !self.own_token {
-            Some(RunFault::NoToken)
+            Some(RunRule::NoToken)
         } else if self.red_inside {
-            Some(RunFault::RedInside)
+            Some(RunRule::RedInside)
         } else {
             None
         }
-    }
-}
-
-/// The place of a stop in the order of the map.
-pub(crate) fn number_of(stop: Stop) -> usize
-    ensures value { result ≡ stop_order stop }
-    ensures bound { result < 186 }
-{
-    2 * stop.hex.index() + stop.number.index()
-}
-
-/// The number of the border at a side of a hex.
-#[tactic(auto, unfolding(crate::specs::Legal::border_of))]
-pub(crate) fn border(hex: Hex, side: Side) -> usize
-    ensures value { result ≡ border_of hex side }
-    ensures bound { result < 279 }
-{
-    let number = side.number();
-    if number < NUMBERED {
-        return NUMBERED * hex.index() + number;
-    }
-    match neighbour(hex, side) {
-        Some(other) => NUMBERED * other.index() + (number - NUMBERED),
-        None => number - NUMBERED,
     }
 }
 

@@ -12,14 +12,15 @@ ghost use Rattle.certificate.specs.Legal.{listed, visited};
 ghost use Rattle.certificate.specs.Set.{TrainRun, revenue_of};
 ghost use Rattle.certificate.specs.Tree.{bound, from_stop, goes_over, leads_on, node_if, run_borders, setting_out, taken_borders, with_step, with_steps, ways_at, ways_by, ways_from};
 ghost use Rattle.certificate.specs.Walked.{capped};
-ghost use Rattle.certificate.specs.Walking.{AreCrossed, AreVisited, Continues, Descends, IsTree, is_none_left, Stands, StandsBetween, WalksOver, may_take, node_at, node_from, other_hex_of, reached_in, trains_of_tree};
+ghost use Rattle.certificate.specs.Walking.{AreCrossed, AreVisited, Continues, Descends, IsTree, is_none_left, Stands, StandsBetween, WalksOver, may_take, node_at, node_from, reached_in, trains_of_tree};
 
+use crate::border_numbers::border_to;
 use crate::decider::{Decider, Decision};
-use crate::tally::{border, has_token, is_full, worth};
+use crate::tally::{has_token, is_full, worth};
 use crate::tree::Tree;
 use crate::used::Used;
 use map_tables::{End, Hex, Link, Stop};
-use reach::{Network, Spot, Step, StopMarks};
+use reach::{Network, Spot, Step, StopMarks, twin};
 use tables::{Company, Kind};
 
 /// A run that is begun, and the trains after it.
@@ -71,17 +72,6 @@ impl Begun {
             || is_none_left self.now.left)) }
     {
         network.red(stop) || is_full(network, company, stop) || self.left == Some(0)
-    }
-}
-
-/// The other hex in which a stop lies that is named by a hex.
-fn other_hex(hex: Hex) -> Option<Hex>
-    ensures { result ≡ other_hex_of hex }
-{
-    match hex {
-        Hex::J2 => Some(Hex::I1),
-        Hex::A11 => Some(Hex::A9),
-        _ => None,
     }
 }
 
@@ -242,7 +232,7 @@ fn leave<N: Network, D: Decider>(
 {
     let end = End::Stop(stop.number);
     let hex = stop.hex;
-    let Some(other) = other_hex(hex) else {
+    let Some(other) = twin(hex) else {
         return follow(network, tree, Spot { hex, end }, begun, used, seen, decider);
     };
     let hex_first = Spot { hex: other, end };
@@ -359,7 +349,7 @@ fn cross<N: Network, D: Decider>(
     let End::Side(side) = head.end else {
         return true;
     };
-    let number = border(head.hex, side);
+    let number = border_to(head.hex, side, Some(beyond.hex));
     if used.has(number) {
         return true;
     }

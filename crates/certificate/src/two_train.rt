@@ -8,10 +8,9 @@ ghost use Rattle.reach.specs.declared.walk.Step.{Step};
 ghost use Rattle.certificate.specs.TwoTrain.{CanRun, LeadsFrom, LeadsOn, LeavesToken, none_used};
 
 use crate::leg::order;
-use crate::tally::number_of;
 use crate::used::Used;
 use map_tables::{HEXES, Hex, Link, Stop};
-use reach::{Network, Spot, Step};
+use reach::{Network, Spot, Step, stop_order};
 use tables::Company;
 
 /// Whether some run of a company is legal for a 2-train, no border being used: track leads from a
@@ -135,7 +134,7 @@ fn leads_from<N: Network>(network: &N, start: Stop, step: Step, spot: Spot, used
 fn is_other(stop: Stop, start: Stop) -> bool
     ensures { IsTrue result ↔ (¬ (stop ≡ start)) }
 {
-    number_of(stop) != number_of(start)
+    stop_order(stop) != stop_order(start)
 }
 
 /// Whether a step is entered at a spot.

@@ -1,13 +1,10 @@
 ghost use Rattle.std.specs.Prelude.{◌≡◌, ◌<◌, true, false, get_or, replicate, set, IfSome, count_by, not};
 ghost use Rattle.certificate.specs.TwoTrain.{crossing};
 
-use crate::tally::border;
+use crate::border_numbers::{BORDERS, border};
 use map_tables::End;
 use reach::Spot;
 use std::marker::Model;
-
-/// How many borders the hexes of the map have: each hex numbers three of its six.
-pub(crate) const BORDERS: usize = 279;
 
 /// The borders that the trains of a company have crossed in its turn, by their numbers.
 #[derive(Clone, Copy, Debug)]

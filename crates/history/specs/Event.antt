@@ -29,8 +29,6 @@ use Rattle.history.specs.declared.event.TrainPlace.TheVariants as train_place
 use Rattle.history.specs.declared.event.TrainSeller.{TrainSeller}
 use Rattle.history.specs.declared.event.TrainSeller.TheVariants as seller
 use Rattle.history.specs.declared.event.Transfer.{Transfer}
-use Rattle.history.specs.declared.ruling.LayRule.{LayRule}
-use Rattle.history.specs.declared.ruling.LayRule.TheVariants as lay_rule
 use Rattle.history.specs.declared.ruling.OpeningRule.{OpeningRule}
 use Rattle.history.specs.declared.ruling.OpeningRule.TheVariants as opening
 use Rattle.history.specs.declared.ruling.PayRule.{PayRule}
@@ -41,14 +39,11 @@ use Rattle.history.specs.declared.ruling.Refusal.{Refusal}
 use Rattle.history.specs.declared.ruling.Refusal.TheVariants as refusal
 use Rattle.history.specs.declared.ruling.Ruling.{Ruling}
 use Rattle.history.specs.declared.ruling.Ruling.TheVariants.{Obeyed}
-use Rattle.history.specs.declared.ruling.RunRule.{RunRule}
-use Rattle.history.specs.declared.ruling.RunRule.TheVariants as run_rule
 use Rattle.history.specs.declared.ruling.StockRule.{StockRule}
 use Rattle.history.specs.declared.ruling.StockRule.TheVariants as stock
-use Rattle.history.specs.declared.ruling.TokenRule.{TokenRule}
-use Rattle.history.specs.declared.ruling.TokenRule.TheVariants as token_rule
 use Rattle.history.specs.declared.ruling.TrainRule.{TrainRule}
 use Rattle.history.specs.declared.ruling.TrainRule.TheVariants as train_rule
+use Rattle.map_tables.specs.RuleCodes.{code_of_lay_rule, code_of_run_rule, code_of_token_rule}
 use Rattle.map_tables.specs.declared.lay.Lay.{Lay}
 use Rattle.map_tables.specs.declared.place.Place.{Place}
 use Rattle.tables.specs.Chart.{par_square_of}
@@ -327,40 +322,6 @@ code_of_stock_rule stock.CertificateLimit = codes "S11"
 code_of_stock_rule stock.OverSixTenths = codes "S12"
 code_of_stock_rule stock.BoughtBefore = codes "S13"
 code_of_stock_rule stock.NoExchange = codes "S14"
-
--- the code of a rule of lays
-abbrev pub code_of_lay_rule : LayRule → List ℕ
-code_of_lay_rule lay_rule.StepUsed = codes "L1"
-code_of_lay_rule lay_rule.GreyOrRed = codes "L2"
-code_of_lay_rule lay_rule.NoneLeft = codes "L3"
-code_of_lay_rule lay_rule.ColourClosed = codes "L4"
-code_of_lay_rule lay_rule.WrongTile = codes "L5"
-code_of_lay_rule lay_rule.TrackLost = codes "L6"
-code_of_lay_rule lay_rule.BadSide = codes "L7"
-code_of_lay_rule lay_rule.Blocked = codes "L8"
-code_of_lay_rule lay_rule.NotReached = codes "L9"
-code_of_lay_rule lay_rule.CashTooSmall = codes "L10"
-
--- the code of a rule of tokens
-abbrev pub code_of_token_rule : TokenRule → List ℕ
-code_of_token_rule token_rule.StepUsed = codes "K1"
-code_of_token_rule token_rule.NoTokenLeft = codes "K2"
-code_of_token_rule token_rule.NoFreeSlot = codes "K3"
-code_of_token_rule token_rule.InHexAlready = codes "K4"
-code_of_token_rule token_rule.NotReached = codes "K5"
-code_of_token_rule token_rule.CashTooSmall = codes "K6"
-
--- the code of a rule of runs
-abbrev pub code_of_run_rule : RunRule → List ℕ
-code_of_run_rule run_rule.StepUsed = codes "R1"
-code_of_run_rule run_rule.NoTrain = codes "R2"
-code_of_run_rule run_rule.NoTrack = codes "R3"
-code_of_run_rule run_rule.WrongNumber = codes "R4"
-code_of_run_rule run_rule.StopTwice = codes "R5"
-code_of_run_rule run_rule.BorderTwice = codes "R6"
-code_of_run_rule run_rule.PassesFull = codes "R7"
-code_of_run_rule run_rule.NoToken = codes "R8"
-code_of_run_rule run_rule.RedInside = codes "R9"
 
 -- the code of a rule of dividends
 abbrev pub code_of_pay_rule : PayRule → List ℕ

@@ -60,10 +60,10 @@ pub use laws::{
 };
 pub use list::History;
 pub use look_back::Past;
+pub use map_tables::{LayRule, RunRule, TokenRule};
 pub use owners::Owners;
 pub use ruling::{
-    LayRule, OpeningRule, PayRule, PrivateRule, Refusal, Ruling, RunRule, StockRule, TokenRule,
-    TrainRule, Verdict,
+    OpeningRule, PayRule, PrivateRule, Refusal, Ruling, StockRule, TrainRule, Verdict,
 };
 pub use shares::Tenths;
 pub use trains::{TrainCount, so_many};

@@ -1,7 +1,9 @@
 //! Tiles and tokens on a board: worked examples, found by hand on the printed map.
 
 use board::{Asker, Board, BoardFault, LayFault, TokenFault, TurnStep};
-use map_tables::{End, Hex, Lay, Place, Rotation, Side, Stop, StopNumber, TileNo};
+use map_tables::{
+    End, Hex, Lay, LayRule, Place, Rotation, Side, Stop, StopNumber, TileNo, TokenRule,
+};
 use reach::{Network, reached};
 use std::alloc::Global;
 use tables::{Company, Kind, Money};
@@ -70,7 +72,7 @@ fn puts_a_token(rt: HostRuntime) {
     };
     let (place, stop) = (first(Hex::H10).place(), first(Hex::H10));
     let few = board.try_token(&asker(PRR, 39), place);
-    assert_eq!(rt; few, Err(TokenFault::CashTooSmall));
+    assert_eq!(rt; few, Err(TokenFault::Rule(TokenRule::CashTooSmall)));
     assert_eq!(rt; board.try_token(&asker(PRR, 40), place), Ok(40));
     assert_eq!(rt; board.put_token(place, PRR), Ok(()));
     assert!(rt; board.token(stop, PRR) && !board.full(stop, PRR));
@@ -99,5 +101,8 @@ fn puts_a_swapped_tile(rt: HostRuntime) {
         .iter()
         .find(|link| link.b == End::Stop(StopNumber::First));
     assert!(rt; leaves.map(|link| link.a) == Some(End::Side(Side::NorthWest)));
-    assert_eq!(rt; board.try_lay(&erie, swapped), Err(LayFault::WrongTile));
+    assert_eq!(rt;
+        board.try_lay(&erie, swapped),
+        Err(LayFault::Rule(LayRule::WrongTile))
+    );
 }

@@ -12,4 +12,5 @@ pub mod Text
 pub mod Home
 pub mod Lying
 pub mod Fit
+pub mod RuleCodes
 pub mod Laws

@@ -7,8 +7,8 @@
 //! are neighbours), `place` (stops), `track` (what joins sides and stops), `print` (what is printed
 //! on the map), `tiles`, `segments` (each piece of
 //! track by its ends), `lay` (a tile on a hex), `run` (the places of a run), `homes` (what the
-//! roster says of the map), `text` (the texts of hexes, places, tiles and rotations), `laws` (what
-//! holds of all these tables).
+//! roster says of the map), `rules` (of lays, tokens and runs: which one is broken), `text` (the
+//! texts of hexes, places, tiles and rotations), `laws` (what holds of all these tables).
 #![tactic(auto)]
 
 mod border;
@@ -18,6 +18,7 @@ mod laws;
 mod lay;
 mod place;
 mod print;
+mod rules;
 mod run;
 mod segments;
 mod side;
@@ -40,6 +41,7 @@ pub use print::{
     HexKind, PrintedValue, hex_kind, printed_colour, printed_links, printed_slots, printed_stops,
     printed_value, terrain_cost,
 };
+pub use rules::{LayRule, RunRule, TokenRule};
 pub use run::{RUN_LEAST, RUN_MOST, Run};
 pub use side::{Rotation, Side};
 pub use text::{PLACE_TEXT_MOST, PlaceText};

@@ -1,14 +1,10 @@
 -- From the answer of the rules of the board to where a line leads.
-use Rattle.std.proofs.Common.{◌≡◌, ℕ, ◌⊎◌, inl, inr, Some, None, Result, Ok, Err, ℤ, pos, ◌≤ℤ◌, refl, sym, ap, subst, ◌∙◌}
+use Rattle.std.proofs.Common.{◌≡◌, ℕ, None, Result, Ok, Err, ℤ, pos, ◌≤ℤ◌, refl, sym, ap, subst, ◌∙◌}
 use Rattle.std.specs.Int.RustNames.{unsigned_abs}
 use Rattle.board.specs.Ground.{Ground}
 use Rattle.board.specs.LayRules.{IsLayAnswer, ground_rules}
 use Rattle.board.specs.TokenRules.{IsTokenAnswer, slot_rules}
 use Rattle.board.specs.declared.asker.Asker.{Asker}
-use Rattle.board.specs.declared.fault.LayFault.{LayFault}
-use Rattle.board.specs.declared.fault.LayFault.TheVariants as lay_fault
-use Rattle.board.specs.declared.fault.TokenFault.{TokenFault}
-use Rattle.board.specs.declared.fault.TokenFault.TheVariants as token_fault
 use Rattle.history.proofs.EventAtEnd.{cash_of_before}
 use Rattle.history.proofs.Payments.{lay_sound, token_sound}
 use Rattle.history.specs.Event.{party_of_company}
@@ -16,19 +12,19 @@ use Rattle.history.specs.LookBack.{Game, cash_of, with_event}
 use Rattle.history.specs.Operating.{lays_of}
 use Rattle.history.specs.Sound.{IsSound}
 use Rattle.history.specs.declared.event.Event.TheVariants as event
-use Rattle.history.specs.declared.ruling.LayRule.{LayRule}
+use Rattle.map_tables.specs.declared.rules.LayRule.{LayRule}
 use Rattle.history.specs.declared.ruling.Refusal.TheVariants as refusal
 use Rattle.history.specs.declared.ruling.Ruling.{Ruling}
 use Rattle.history.specs.declared.ruling.Ruling.TheVariants.{Obeyed, Refused}
-use Rattle.history.specs.declared.ruling.TokenRule.{TokenRule}
+use Rattle.map_tables.specs.declared.rules.TokenRule.{TokenRule}
 use Rattle.map_tables.specs.declared.lay.Lay.{Lay}
 use Rattle.map_tables.specs.declared.place.Place.{Place}
 use Rattle.operating.proofs.Allowed.{lay_allowed, token_allowed}
 use Rattle.operating.proofs.Fitting.{lay_fits, same_ground, token_fits}
 use Rattle.operating.specs.Ground.{ground_now}
-use Rattle.operating.specs.Judgement.{asker_of, rule_of_lay, rule_of_token}
+use Rattle.operating.specs.Judgement.{asker_of}
 use Rattle.operating.specs.InTurn.{InTurn, in_turn, lay_done, token_done}
-use Rattle.operating.specs.Turn.{lay_answered, lay_refused, token_answered, token_refused}
+use Rattle.operating.specs.Turn.{lay_answered, token_answered}
 use Rattle.operating.specs.declared.operator.Operator.{Operator}
 use Rattle.operating.specs.declared.progress.Progress.{Progress}
 use Rattle.order_grammar.specs.declared.order.Order.{Order}
@@ -39,49 +35,18 @@ use Rattle.tables.specs.declared.roster.Company.{Company}
 use Rattle.tables.specs.declared.seat.Seat.{Seat}
 
 -- the answer to a lay, by what lies and by who asks
-pub lay_by : (board laid : Ground) (asker its : Asker) (lay : Lay) (answer : Result ℤ LayFault) → board ≡ laid → asker ≡ its → ¬ (answer ≡ Err lay_fault.Memory) → (answer ≡ Err lay_fault.Memory) ⊎ IsLayAnswer board asker lay answer → IsLayAnswer laid its lay answer
-lay_by board laid asker its lay answer is_board is_asker known (inl memory) = absurd (known memory)
-lay_by board laid asker its lay answer is_board is_asker known (inr answered) =
+pub lay_by :
+    (board laid : Ground) (asker its : Asker) (lay : Lay) (answer : Result ℤ LayRule) → board ≡ laid → asker ≡ its →
+    IsLayAnswer board asker lay answer → IsLayAnswer laid its lay answer
+lay_by board laid asker its lay answer is_board is_asker answered =
     subst (λ (g : Ground). IsLayAnswer g its lay answer) is_board (subst (λ (a : Asker). IsLayAnswer board a lay answer) is_asker answered)
 
 -- and to a token
-pub token_by : (board laid : Ground) (asker its : Asker) (place : Place) (answer : Result ℤ TokenFault) → board ≡ laid → asker ≡ its → ¬ (answer ≡ Err token_fault.Memory) → (answer ≡ Err token_fault.Memory) ⊎ IsTokenAnswer board asker place answer → IsTokenAnswer laid its place answer
-token_by board laid asker its place answer is_board is_asker known (inl memory) = absurd (known memory)
-token_by board laid asker its place answer is_board is_asker known (inr answered) =
+pub token_by :
+    (board laid : Ground) (asker its : Asker) (place : Place) (answer : Result ℤ TokenRule) → board ≡ laid → asker ≡ its →
+    IsTokenAnswer board asker place answer → IsTokenAnswer laid its place answer
+token_by board laid asker its place answer is_board is_asker answered =
     subst (λ (g : Ground). IsTokenAnswer g its place answer) is_board (subst (λ (a : Asker). IsTokenAnswer board a place answer) is_asker answered)
-
--- an answer that is a cost, or a fault
-abbrev cost_of_lay : ℤ → Result ℤ LayFault
-cost_of_lay cost = Ok cost
-
-abbrev fault_of_lay : LayFault → Result ℤ LayFault
-fault_of_lay fault = Err fault
-
-abbrev cost_of_token : ℤ → Result ℤ TokenFault
-cost_of_token cost = Ok cost
-
-abbrev fault_of_token : TokenFault → Result ℤ TokenFault
-fault_of_token fault = Err fault
-
--- a cost is no want of memory
-pub lay_costs : (cost : ℤ) (answer : Result ℤ LayFault) → answer ≡ Ok cost → ¬ (answer ≡ Err lay_fault.Memory)
-lay_costs cost answer is memory = let wrong : cost_of_lay cost ≡ Err lay_fault.Memory = sym is ∙ memory in let no : ⊥ = cc in no
-
-pub token_costs : (cost : ℤ) (answer : Result ℤ TokenFault) → answer ≡ Ok cost → ¬ (answer ≡ Err token_fault.Memory)
-token_costs cost answer is memory = let wrong : cost_of_token cost ≡ Err token_fault.Memory = sym is ∙ memory in let no : ⊥ = cc in no
-
--- nor is a fault that tells of a rule
-pub lay_breaks : (fault : LayFault) (rule : LayRule) → rule_of_lay fault ≡ Some rule → ¬ (fault_of_lay fault ≡ fault_of_lay lay_fault.Memory)
-lay_breaks fault rule is memory =
-    let same : fault ≡ lay_fault.Memory = cc in
-    let wrong : None ≡ Some rule = sym (ap rule_of_lay same) ∙ is in
-    let no : ⊥ = cc in no
-
-pub token_breaks : (fault : TokenFault) (rule : TokenRule) → rule_of_token fault ≡ Some rule → ¬ (fault_of_token fault ≡ fault_of_token token_fault.Memory)
-token_breaks fault rule is memory =
-    let same : fault ≡ token_fault.Memory = cc in
-    let wrong : None ≡ Some rule = sym (ap rule_of_token same) ∙ is in
-    let no : ⊥ = cc in no
 
 -- how far a turn has come once a tile is laid, by what lies and by who asks
 pub lay_done_by : (board laid : Ground) (asker its : Asker) (lay : Lay) (before after : Progress) → board ≡ laid → asker ≡ its →
@@ -106,16 +71,22 @@ placed_steps by turn line place cost ruled paid kept amount progress is_ruled is
     ∙ ap (λ (p : Progress). in_turn (with_event (with_event turn.game (event.Ruled by.president line.number (Obeyed line.condition (order.Token place)))) (event.Token by.company place (unsigned_abs cost))) p) is_progress
 
 -- a lay that was refused
-pub lay_refused_steps : (by : Operator) (turn : InTurn) (line : Numbered) (lay : Lay) (fault : LayFault) (rule : LayRule) (ruled : Game) (kept : Order) → ruled ≡ with_event turn.game (event.Ruled by.president line.number (Refused (refusal.Lay rule) line.condition kept)) → kept ≡ order.Lay lay → rule_of_lay fault ≡ Some rule → in_turn ruled turn.progress ≡ lay_answered by turn line lay (Err fault)
-lay_refused_steps by turn line lay fault rule ruled kept is_ruled is_kept is_rule =
-    ap (λ (g : Game). in_turn g turn.progress) (is_ruled ∙ ap (λ (o : Order). with_event turn.game (event.Ruled by.president line.number (Refused (refusal.Lay rule) line.condition o))) is_kept)
-    ∙ sym (ap (lay_refused by turn line lay) is_rule)
+pub lay_refused_steps :
+    (by : Operator) (turn : InTurn) (line : Numbered) (lay : Lay) (rule : LayRule) (ruled : Game) (kept : Order) →
+    ruled ≡ with_event turn.game (event.Ruled by.president line.number (Refused (refusal.Lay rule) line.condition kept)) →
+    kept ≡ order.Lay lay → in_turn ruled turn.progress ≡ lay_answered by turn line lay (Err rule)
+lay_refused_steps by turn line lay rule ruled kept is_ruled is_kept =
+    ap (λ (g : Game). in_turn g turn.progress)
+    (is_ruled ∙ ap (λ (o : Order). with_event turn.game (event.Ruled by.president line.number (Refused (refusal.Lay rule) line.condition o))) is_kept)
 
 -- a token that was refused
-pub token_refused_steps : (by : Operator) (turn : InTurn) (line : Numbered) (place : Place) (fault : TokenFault) (rule : TokenRule) (ruled : Game) (kept : Order) → ruled ≡ with_event turn.game (event.Ruled by.president line.number (Refused (refusal.Token rule) line.condition kept)) → kept ≡ order.Token place → rule_of_token fault ≡ Some rule → in_turn ruled turn.progress ≡ token_answered by turn line place (Err fault)
-token_refused_steps by turn line place fault rule ruled kept is_ruled is_kept is_rule =
-    ap (λ (g : Game). in_turn g turn.progress) (is_ruled ∙ ap (λ (o : Order). with_event turn.game (event.Ruled by.president line.number (Refused (refusal.Token rule) line.condition o))) is_kept)
-    ∙ sym (ap (token_refused by turn line place) is_rule)
+pub token_refused_steps :
+    (by : Operator) (turn : InTurn) (line : Numbered) (place : Place) (rule : TokenRule) (ruled : Game) (kept : Order) →
+    ruled ≡ with_event turn.game (event.Ruled by.president line.number (Refused (refusal.Token rule) line.condition kept)) →
+    kept ≡ order.Token place → in_turn ruled turn.progress ≡ token_answered by turn line place (Err rule)
+token_refused_steps by turn line place rule ruled kept is_ruled is_kept =
+    ap (λ (g : Game). in_turn g turn.progress)
+    (is_ruled ∙ ap (λ (o : Order). with_event turn.game (event.Ruled by.president line.number (Refused (refusal.Token rule) line.condition o))) is_kept)
 
 -- the same lies after a ruling, and the company has as much
 pub same_after_ruling : (game ruled : Game) (seat : Seat) (line : Numbered) (ruling : Ruling) → ruled ≡ with_event game (event.Ruled seat line.number ruling) → ground_now ruled.events ≡ ground_now game.events

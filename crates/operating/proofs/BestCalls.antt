@@ -4,7 +4,7 @@ use Rattle.certificate.specs.Set.{IsGreatest}
 use Rattle.certificate.specs.declared.runner.RunnerFault.{RunnerFault}
 use Rattle.certificate.specs.declared.runner.RunnerFault.TheVariants.{Memory}
 use Rattle.history.specs.declared.event.Event.{Event}
-use Rattle.history.specs.declared.ruling.RunRule.{RunRule}
+use Rattle.map_tables.specs.declared.rules.RunRule.{RunRule}
 use Rattle.operating.proofs.Calls.{broken_off, joined}
 use Rattle.operating.specs.Best.{best_judgement, trains_now}
 use Rattle.operating.specs.Calls.{Earns, Makes, Unasked}

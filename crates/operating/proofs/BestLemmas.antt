@@ -9,8 +9,8 @@ use Rattle.certificate.specs.Greatest.{AGreatestExists, OneGreatest}
 use Rattle.certificate.specs.Law.{unused}
 use Rattle.certificate.specs.Set.{IsGreatest, IsGreatestMoney}
 use Rattle.history.specs.Trains.{so_many}
-use Rattle.history.specs.declared.ruling.RunRule.{RunRule}
-use Rattle.history.specs.declared.ruling.RunRule.TheVariants as run_rule
+use Rattle.map_tables.specs.declared.rules.RunRule.{RunRule}
+use Rattle.map_tables.specs.declared.rules.RunRule.TheVariants as run_rule
 use Rattle.operating.specs.Runs.{rule}
 use Rattle.reach.specs.Lawful.{IsLawful}
 use Rattle.reach.specs.Position.{Position}

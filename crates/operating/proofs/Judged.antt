@@ -1,5 +1,5 @@
 -- What a run is that is obeyed: it breaks no rule of runs, so that it is legal, and a train may do it.
-use Rattle.std.proofs.Common.{◌≡◌, ℕ, ◌+◌, ◌*◌, ◌≤◌, Bool, true, false, ◌||◌, List, [], ◌∷◌, Option, Some, None, option_map, Ok, ℤ, pos, ◌≤ℤ◌, refl, sym, subst, ap, ◌∙◌, arith}
+use Rattle.std.proofs.Common.{◌≡◌, ℕ, ◌+◌, ◌*◌, ◌≤◌, Bool, true, false, ◌||◌, List, [], ◌∷◌, Option, Some, None, Ok, ℤ, pos, ◌≤ℤ◌, refl, sym, subst, ap, ◌∙◌, arith}
 use Rattle.std.proofs.lemmas.Int.{ints}
 use Rattle.std.specs.Int.RustNames.{unsigned_abs}
 use Rattle.std.specs.Int.Signed.{le_z}
@@ -13,12 +13,12 @@ use Rattle.certificate.specs.Law.{NameLegalRun, RunsEarnByBorders, unused}
 use Rattle.certificate.specs.Legal.{IsLegalRun, crossed, earned}
 use Rattle.certificate.specs.Marks.{borders_used, marked}
 use Rattle.history.specs.Trains.{trains_held}
-use Rattle.history.specs.declared.ruling.RunRule.{RunRule}
-use Rattle.history.specs.declared.ruling.RunRule.TheVariants as run_rule
+use Rattle.map_tables.specs.declared.rules.RunRule.{RunRule}
+use Rattle.map_tables.specs.declared.rules.RunRule.TheVariants as run_rule
 use Rattle.map_tables.specs.declared.place.Place.{Place}
 use Rattle.operating.specs.Done.{Done, IsBounded}
 use Rattle.operating.specs.InTurn.{InTurn}
-use Rattle.operating.specs.Runs.{IsCounted, broken_by, has_run, is_past_runs, judged_run, position_now, ran_by, ran_unless, rule, rule_of_run, rules_of_turn, run_judgement, runs_most, steps_now}
+use Rattle.operating.specs.Runs.{IsCounted, broken_by, has_run, is_past_runs, judged_run, position_now, ran_by, ran_unless, rule, rules_of_turn, run_judgement, runs_most, steps_now}
 use Rattle.operating.specs.declared.runs.Ran.{Ran}
 use Rattle.reach.specs.Lawful.{IsLawful}
 use Rattle.reach.specs.Position.{Position}
@@ -37,11 +37,6 @@ second_none : {A : Type 0} (first second : Option A) → option_or first second 
 second_none None second none = none
 second_none (Some thing) second none = absurd (cc)
 
--- nothing is made of nothing alone
-none_made : {A B : Type 0} (make : A → B) (found : Option A) → option_map make found ≡ None → found ≡ None
-none_made make None none = refl
-none_made make (Some thing) none = absurd (cc)
-
 -- a run that is done is legal by the marks of the used borders
 pub judged_legal : (turn : InTurn) (company : Company) (kind : Kind) (run : List Place) (ran : Ran) → judged_run turn company kind run ≡ Ok ran → IsLegalRun (position_now turn.game.events) company kind (borders_used turn.progress.runs.borders) (steps_now turn.game.events run)
 judged_legal turn company kind run ran is =
@@ -49,7 +44,7 @@ judged_legal turn company kind run ran is =
     let used = borders_used turn.progress.runs.borders in
     let fault = run_fault position company kind used run in
     let judged : run_judgement turn company kind run ≡ None = none_broken (ran_by position kind turn.progress.runs.borders run) ran (run_judgement turn company kind run) is in
-    let unbroken : fault ≡ None = none_made rule_of_run fault (second_none (first_broken (rules_of_turn turn.game company turn.progress kind)) (option_map rule_of_run fault) judged) in
+    let unbroken : fault ≡ None = second_none (first_broken (rules_of_turn turn.game company turn.progress kind)) fault judged in
     let legal : NameLegalRun position company kind used run = (legal_where_unbroken position company kind used run).0 unbroken in
     subst (λ (steps : List Step). IsLegalRun position company kind used steps) (sym (ap steps_of legal.1)) legal.2
 

@@ -5,7 +5,7 @@ use Rattle.certificate.proofs.Kept.{crossed_used}
 use Rattle.certificate.proofs.Sharing.{legal_by_marks}
 use Rattle.certificate.specs.Legal.{all_crossed, crossed}
 use Rattle.certificate.specs.Marks.{IsUsed, MarksAre}
-use Rattle.history.specs.declared.ruling.RunRule.{RunRule}
+use Rattle.map_tables.specs.declared.rules.RunRule.{RunRule}
 use Rattle.map_tables.specs.declared.place.Place.{Place}
 use Rattle.operating.proofs.Judged.{judged_borders, judged_legal}
 use Rattle.operating.proofs.OtherOrders.{after_other}

@@ -6,8 +6,8 @@ use Rattle.std.proofs.lemmas.Int.{ints}
 use Rattle.std.specs.Int.Signed.{lt_z}
 use Rattle.std.specs.List.{list_any}
 use Rattle.history.specs.LookBack.{Game}
-use Rattle.history.specs.declared.ruling.RunRule.{RunRule}
-use Rattle.history.specs.declared.ruling.RunRule.TheVariants as run_rule
+use Rattle.map_tables.specs.declared.rules.RunRule.{RunRule}
+use Rattle.map_tables.specs.declared.rules.RunRule.TheVariants as run_rule
 use Rattle.operating.proofs.ForcedBuying.{less_is}
 use Rattle.operating.proofs.OtherOrders.{after_other}
 use Rattle.operating.specs.Best.{BestRuled, best_judgement}

@@ -5,7 +5,7 @@ use Rattle.certificate.specs.declared.runner.RunnerFault.{RunnerFault}
 use Rattle.certificate.specs.declared.runner.RunnerFault.TheVariants.{Memory}
 use Rattle.history.specs.Shares.{president_of}
 use Rattle.history.specs.declared.ruling.Ruling.TheVariants.{Faulty}
-use Rattle.history.specs.declared.ruling.RunRule.{RunRule}
+use Rattle.map_tables.specs.declared.rules.RunRule.{RunRule}
 use Rattle.operating.proofs.OneCourse.{Agree, none_first, then_agree, unasked_agrees}
 use Rattle.operating.proofs.Outcome.{AllLawful, block_end_once, order_once}
 use Rattle.operating.specs.Best.{BestRuled, best_judgement, trains_now}

@@ -1,22 +1,19 @@
 -- An order that runs no train leaves what the trains of the company have done in the turn.
 use Rattle.std.proofs.Common.{◌≡◌, ℕ, Bool, true, false, if◌then◌else◌, Option, Some, None, Result, Ok, Err, ℤ, refl, ap, ◌∙◌}
-use Rattle.board.specs.declared.fault.LayFault.{LayFault}
-use Rattle.board.specs.declared.fault.TokenFault.{TokenFault}
 use Rattle.history.specs.LookBack.{Game}
-use Rattle.history.specs.declared.ruling.LayRule.{LayRule}
+use Rattle.map_tables.specs.declared.rules.LayRule.{LayRule}
 use Rattle.history.specs.declared.ruling.PayRule.{PayRule}
 use Rattle.history.specs.declared.ruling.PrivateRule.{PrivateRule}
-use Rattle.history.specs.declared.ruling.TokenRule.{TokenRule}
+use Rattle.map_tables.specs.declared.rules.TokenRule.{TokenRule}
 use Rattle.history.specs.declared.ruling.TrainRule.{TrainRule}
 use Rattle.map_tables.specs.declared.lay.Lay.{Lay}
 use Rattle.map_tables.specs.declared.place.Place.{Place}
 use Rattle.operating.specs.Act.{withheld}
 use Rattle.operating.specs.Dividend.{paid_out, pay_judgement, pay_ruled, withhold_judgement}
 use Rattle.operating.specs.InTurn.{InTurn, in_turn, is_unpaid, pay_done}
-use Rattle.operating.specs.Judgement.{rule_of_lay, rule_of_token}
 use Rattle.operating.specs.Privates.{private_judgement, private_ruled}
 use Rattle.operating.specs.Trains.{train_judgement}
-use Rattle.operating.specs.Turn.{OrderLeads, lay_answered, lay_refused, purchase_of, settled, token_answered, token_refused, train_ruled}
+use Rattle.operating.specs.Turn.{OrderLeads, lay_answered, purchase_of, settled, token_answered, train_ruled}
 use Rattle.operating.specs.declared.operator.Operator.{Operator}
 use Rattle.operating.specs.declared.purchase.Purchase.{Purchase}
 use Rattle.operating.specs.declared.runs.Runs.{Runs}
@@ -37,28 +34,18 @@ RunsNone order.RunBest = ⊥
 RunsNone other = Unit
 
 -- a LAY
-lay_refusal : (by : Operator) (turn : InTurn) (line : Numbered) (lay : Lay) (rule : Option LayRule) → did (lay_refused by turn line lay rule) ≡ did turn
-lay_refusal by turn line lay None = refl
-lay_refusal by turn line lay (Some rule) = refl
-
 after_lay :
-    (by : Operator) (turn : InTurn) (line : Numbered) (lay : Lay) (answer : Result ℤ LayFault) →
+    (by : Operator) (turn : InTurn) (line : Numbered) (lay : Lay) (answer : Result ℤ LayRule) →
     did (lay_answered by turn line lay answer) ≡ did turn
 after_lay by turn line lay (Ok cost) = refl
-after_lay by turn line lay (Err fault) = lay_refusal by turn line lay (rule_of_lay fault)
+after_lay by turn line lay (Err rule) = refl
 
 -- a TOKEN
-token_refusal :
-    (by : Operator) (turn : InTurn) (line : Numbered) (place : Place) (rule : Option TokenRule) →
-    did (token_refused by turn line place rule) ≡ did turn
-token_refusal by turn line place None = refl
-token_refusal by turn line place (Some rule) = refl
-
 after_token :
-    (by : Operator) (turn : InTurn) (line : Numbered) (place : Place) (answer : Result ℤ TokenFault) →
+    (by : Operator) (turn : InTurn) (line : Numbered) (place : Place) (answer : Result ℤ TokenRule) →
     did (token_answered by turn line place answer) ≡ did turn
 after_token by turn line place (Ok cost) = refl
-after_token by turn line place (Err fault) = token_refusal by turn line place (rule_of_token fault)
+after_token by turn line place (Err rule) = refl
 
 -- PAY or WITHHOLD, and what a company withholds by itself
 after_pay :

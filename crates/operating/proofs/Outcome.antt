@@ -10,7 +10,7 @@ use Rattle.certificate.proofs.Finite.{Decided}
 use Rattle.certificate.proofs.Greatest.{a_greatest_exists as greatest_there, one_greatest as one_revenue}
 use Rattle.certificate.proofs.RunDecided.{can_run_decided}
 use Rattle.history.specs.LookBack.{Game}
-use Rattle.history.specs.declared.ruling.RunRule.{RunRule}
+use Rattle.map_tables.specs.declared.rules.RunRule.{RunRule}
 use Rattle.history.specs.Shares.{president_of}
 use Rattle.map_tables.specs.declared.lay.Lay.{Lay}
 use Rattle.map_tables.specs.declared.place.Place.{Place}

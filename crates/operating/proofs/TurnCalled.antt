@@ -5,7 +5,7 @@ use Rattle.certificate.specs.declared.runner.RunnerFault.{RunnerFault}
 use Rattle.certificate.specs.declared.runner.RunnerFault.TheVariants.{Memory}
 use Rattle.history.specs.LookBack.{Game}
 use Rattle.history.specs.Shares.{president_of}
-use Rattle.history.specs.declared.ruling.RunRule.{RunRule}
+use Rattle.map_tables.specs.declared.rules.RunRule.{RunRule}
 use Rattle.operating.proofs.Calls.{broken_off, joined, silent}
 use Rattle.operating.specs.Act.{with_home}
 use Rattle.operating.specs.Best.{BestRuled, best_judgement}

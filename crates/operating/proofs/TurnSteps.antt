@@ -6,8 +6,6 @@ use Rattle.board.specs.Ground.{Ground}
 use Rattle.board.specs.LayRules.{IsLayAnswer, ground_rules}
 use Rattle.board.specs.TokenRules.{IsTokenAnswer, slot_rules}
 use Rattle.board.specs.declared.asker.Asker.{Asker}
-use Rattle.board.specs.declared.fault.LayFault.{LayFault}
-use Rattle.board.specs.declared.fault.TokenFault.{TokenFault}
 use Rattle.history.specs.Event.{phase_set, tile_laid, train_moved}
 use Rattle.history.specs.LookBack.{Game, owner_of, with_event}
 use Rattle.history.specs.Operating.{lays_of}
@@ -16,13 +14,13 @@ use Rattle.history.specs.declared.event.Event.{Event}
 use Rattle.history.specs.declared.event.Event.TheVariants as event
 use Rattle.history.specs.declared.event.Holder.{Holder}
 use Rattle.history.specs.declared.event.Holder.TheVariants as holder
-use Rattle.history.specs.declared.ruling.LayRule.{LayRule}
+use Rattle.map_tables.specs.declared.rules.LayRule.{LayRule}
 use Rattle.history.specs.declared.ruling.PayRule.{PayRule}
 use Rattle.history.specs.declared.ruling.PrivateRule.{PrivateRule}
 use Rattle.history.specs.declared.ruling.Ruling.{Ruling}
 use Rattle.history.specs.declared.ruling.Ruling.TheVariants.{Obeyed}
-use Rattle.history.specs.declared.ruling.RunRule.{RunRule}
-use Rattle.history.specs.declared.ruling.TokenRule.{TokenRule}
+use Rattle.map_tables.specs.declared.rules.RunRule.{RunRule}
+use Rattle.map_tables.specs.declared.rules.TokenRule.{TokenRule}
 use Rattle.history.specs.declared.ruling.TrainRule.{TrainRule}
 use Rattle.map_tables.specs.declared.lay.Lay.{Lay}
 use Rattle.map_tables.specs.declared.place.Place.{Place}
@@ -37,13 +35,13 @@ use Rattle.operating.specs.Best.{BestRuled, best_done, best_earned, best_judgeme
 use Rattle.operating.specs.Dividend.{paid_out, pay_judgement, pay_ruled, withhold_judgement}
 use Rattle.operating.specs.Ground.{ground_now}
 use Rattle.operating.specs.InTurn.{InTurn, in_turn, is_unpaid, lay_done, pay_done, token_done, told}
-use Rattle.operating.specs.Judgement.{asker_of, rule_of_lay, rule_of_token}
+use Rattle.operating.specs.Judgement.{asker_of}
 use Rattle.operating.specs.Phases.{after_train}
 use Rattle.operating.specs.Privates.{private_judgement, private_ruled, sold_by}
 use Rattle.operating.specs.Runs.{judged_run, run_done, run_ruled}
 use Rattle.operating.specs.Trains.{train_judgement}
-use Rattle.operating.specs.Turn.{AskedLeads, BlockLeads, IsCompanyTurn, LinesLead, OrderLeads, ReadingLeads, begun, is_held, lay_answered, lay_refused, purchase_of}
-use Rattle.operating.specs.Turn.{settled, token_answered, token_refused, train_ruled}
+use Rattle.operating.specs.Turn.{AskedLeads, BlockLeads, IsCompanyTurn, LinesLead, OrderLeads, ReadingLeads, begun, is_held, lay_answered, purchase_of}
+use Rattle.operating.specs.Turn.{settled, token_answered, train_ruled}
 use Rattle.operating.specs.declared.operator.Operator.{Operator}
 use Rattle.operating.specs.declared.progress.Progress.{Progress}
 use Rattle.operating.specs.declared.runs.Ran.{Ran}
@@ -102,13 +100,9 @@ module _ (by : Operator) (R : InTurn → InTurn → Type 0) (steps : OfSteps by.
       steps.both turn (told by turn line (Obeyed line.condition its)) new (of_ruling turn line (Obeyed line.condition its)) brings
 
   -- of LAY
-  of_refused_lay : (turn : InTurn) (line : Numbered) (lay : Lay) (rule : Option LayRule) → R turn (lay_refused by turn line lay rule)
-  of_refused_lay turn line lay None = steps.same turn
-  of_refused_lay turn line lay (Some rule) = of_ruling turn line _
-
-  of_lay : (turn : InTurn) (line : Numbered) (lay : Lay) (answer : Result ℤ LayFault) →
+  of_lay : (turn : InTurn) (line : Numbered) (lay : Lay) (answer : Result ℤ LayRule) →
       IsLayAnswer (ground_now turn.game.events) (asker_of turn.game by.company turn.progress) lay answer → R turn (lay_answered by turn line lay answer)
-  of_lay turn line lay (Err fault) answered = of_refused_lay turn line lay (rule_of_lay fault)
+  of_lay turn line lay (Err rule) answered = of_ruling turn line _
   of_lay turn line lay (Ok cost) answered =
       let asker : Asker = asker_of turn.game by.company turn.progress in
       let ruled = told by turn line (Obeyed line.condition (order.Lay lay)) in
@@ -119,13 +113,9 @@ module _ (by : Operator) (R : InTurn → InTurn → Type 0) (steps : OfSteps by.
       (lay_allowed (ground_now turn.game.events) asker lay cost answered).allowed))
 
   -- of TOKEN
-  of_refused_token : (turn : InTurn) (line : Numbered) (at : Place) (rule : Option TokenRule) → R turn (token_refused by turn line at rule)
-  of_refused_token turn line at None = steps.same turn
-  of_refused_token turn line at (Some rule) = of_ruling turn line _
-
-  of_token : (turn : InTurn) (line : Numbered) (at : Place) (answer : Result ℤ TokenFault) →
+  of_token : (turn : InTurn) (line : Numbered) (at : Place) (answer : Result ℤ TokenRule) →
       IsTokenAnswer (ground_now turn.game.events) (asker_of turn.game by.company turn.progress) at answer → R turn (token_answered by turn line at answer)
-  of_token turn line at (Err fault) answered = of_refused_token turn line at (rule_of_token fault)
+  of_token turn line at (Err rule) answered = of_ruling turn line _
   of_token turn line at (Ok cost) answered =
       let asker : Asker = asker_of turn.game by.company turn.progress in
       let ruled = told by turn line (Obeyed line.condition (order.Token at)) in

@@ -11,8 +11,8 @@ use Rattle.history.specs.declared.event.Event.{Event}
 use Rattle.history.specs.declared.event.Event.TheVariants as event
 use Rattle.history.specs.declared.ruling.Refusal.TheVariants as refusal
 use Rattle.history.specs.declared.ruling.Ruling.TheVariants.{Obeyed, Refused}
-use Rattle.history.specs.declared.ruling.RunRule.{RunRule}
-use Rattle.history.specs.declared.ruling.RunRule.TheVariants as run_rule
+use Rattle.map_tables.specs.declared.rules.RunRule.{RunRule}
+use Rattle.map_tables.specs.declared.rules.RunRule.TheVariants as run_rule
 use Rattle.operating.specs.Forced.{has_trains}
 use Rattle.operating.specs.InTurn.{InTurn, in_turn, told}
 use Rattle.operating.specs.Runs.{has_any_run, is_past_runs, position_now, rule}

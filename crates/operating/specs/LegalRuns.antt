@@ -3,7 +3,7 @@
 use Rattle.std.specs.Prelude.{◌≡◌, Bool, true, false, List, [], ◌∷◌, ◌++◌, Result, Ok, Err}
 use Rattle.certificate.specs.Legal.{IsLegalRun, all_crossed}
 use Rattle.history.specs.LookBack.{Game}
-use Rattle.history.specs.declared.ruling.RunRule.{RunRule}
+use Rattle.map_tables.specs.declared.rules.RunRule.{RunRule}
 use Rattle.map_tables.specs.declared.place.Place.{Place}
 use Rattle.operating.specs.InTurn.{InTurn}
 use Rattle.operating.specs.Runs.{judged_run, position_now, steps_now}

@@ -2,7 +2,7 @@
 -- in the turn, as all have once the best has been run, and a run that breaks no rule of runs, by what lies and by the
 -- borders that the runs before it have used. It then earns what its stops are worth; the train has run, its borders
 -- are used, and the turn is past its token. What all runs earn is the revenue of the turn.
-use Rattle.std.specs.Prelude.{◌≡◌, ◌+◌, ◌-◌, ◌*◌, ◌≤◌, ◌^◌, Bool, ◌||◌, nat_lt, List, [], ◌∷◌, length, Option, Some, None, option_map, Result, Ok, Err, ℤ, pos, ◌+ℤ◌, ◌≤ℤ◌, slice_index_or, slice_set}
+use Rattle.std.specs.Prelude.{◌≡◌, ◌+◌, ◌-◌, ◌*◌, ◌≤◌, ◌^◌, Bool, ◌||◌, nat_lt, List, [], ◌∷◌, length, Option, Some, None, Result, Ok, Err, ℤ, pos, ◌+ℤ◌, ◌≤ℤ◌, slice_index_or, slice_set}
 use Rattle.std.specs.List.{list_any}
 use Rattle.std.specs.Option.{option_or}
 use lib.Signed.{le_z, lt_z}
@@ -13,16 +13,14 @@ use Rattle.certificate.specs.Fault.{named_steps, run_fault}
 use Rattle.certificate.specs.Legal.{crossed, earned}
 use Rattle.certificate.specs.Law.{unused}
 use Rattle.certificate.specs.Marks.{borders_used, marked}
-use Rattle.certificate.specs.declared.run_fault.RunFault.{RunFault}
-use Rattle.certificate.specs.declared.run_fault.RunFault.TheVariants as fault
 use Rattle.history.specs.LookBack.{Game, with_event}
 use Rattle.history.specs.Trains.{trains_held}
 use Rattle.history.specs.declared.event.Event.{Event}
 use Rattle.history.specs.declared.event.Event.TheVariants as event
 use Rattle.history.specs.declared.ruling.Refusal.TheVariants as refusal
 use Rattle.history.specs.declared.ruling.Ruling.TheVariants.{Obeyed, Refused}
-use Rattle.history.specs.declared.ruling.RunRule.{RunRule}
-use Rattle.history.specs.declared.ruling.RunRule.TheVariants as run_rule
+use Rattle.map_tables.specs.declared.rules.RunRule.{RunRule}
+use Rattle.map_tables.specs.declared.rules.RunRule.TheVariants as run_rule
 use Rattle.map_tables.specs.declared.place.Place.{Place}
 use Rattle.operating.specs.Ground.{ground_now}
 use Rattle.operating.specs.InTurn.{InTurn, in_turn, told}
@@ -72,16 +70,6 @@ abbrev pub rules_of_turn : Game → Company → Progress → Kind → List (Rule
 rules_of_turn game company progress kind =
     rule run_rule.StepUsed (is_past_runs progress) ∷ rule run_rule.NoTrain (have_all_run game company progress kind) ∷ []
 
--- the rule that a refused run broke
-abbrev pub rule_of_run : RunFault → RunRule
-rule_of_run fault.NoTrack = run_rule.NoTrack
-rule_of_run fault.WrongNumber = run_rule.WrongNumber
-rule_of_run fault.StopTwice = run_rule.StopTwice
-rule_of_run fault.BorderTwice = run_rule.BorderTwice
-rule_of_run fault.PassesFull = run_rule.PassesFull
-rule_of_run fault.NoToken = run_rule.NoToken
-rule_of_run fault.RedInside = run_rule.RedInside
-
 -- what a run over a position does, where the borders are used that are marked so: what it earns, and the borders that are used
 -- once it is run
 abbrev pub ran_by : Position → Kind → List Bool → List Place → Ran
@@ -98,7 +86,7 @@ ran_unless ran (Some rule) = Err rule
 
 -- the first rule of runs that a run breaks
 abbrev pub broken_by : Position → Company → Kind → List Bool → List Place → Option RunRule
-broken_by position company kind used run = option_map rule_of_run (run_fault position company kind (borders_used used) run)
+broken_by position company kind used run = run_fault position company kind (borders_used used) run
 
 -- what a run does, or the first rule of runs that it breaks
 abbrev pub ran_unless_fault : Position → Company → Kind → List Bool → List Place → Result Ran RunRule

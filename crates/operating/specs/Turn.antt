@@ -12,18 +12,16 @@ use Rattle.std.specs.Prelude.{◌≡◌, ℕ, Bool, true, false, not, ◌&&◌, 
 use Rattle.std.specs.Int.RustNames.{unsigned_abs}
 use Rattle.board.specs.LayRules.{IsLayAnswer}
 use Rattle.board.specs.TokenRules.{IsTokenAnswer}
-use Rattle.board.specs.declared.fault.LayFault.{LayFault}
-use Rattle.board.specs.declared.fault.TokenFault.{TokenFault}
 use Rattle.history.specs.Conditions.{is_met}
 use Rattle.history.specs.LookBack.{Game}
 use Rattle.history.specs.Operating.{lays_of}
 use Rattle.history.specs.Shares.{president_of}
 use Rattle.history.specs.declared.event.Event.{Event}
 use Rattle.history.specs.declared.event.TrainSeller.TheVariants as seller
-use Rattle.history.specs.declared.ruling.LayRule.{LayRule}
+use Rattle.map_tables.specs.declared.rules.LayRule.{LayRule}
 use Rattle.history.specs.declared.ruling.Refusal.TheVariants as refusal
 use Rattle.history.specs.declared.ruling.Ruling.TheVariants.{Obeyed, Refused, Faulty}
-use Rattle.history.specs.declared.ruling.TokenRule.{TokenRule}
+use Rattle.map_tables.specs.declared.rules.TokenRule.{TokenRule}
 use Rattle.history.specs.declared.ruling.TrainRule.{TrainRule}
 use Rattle.map_tables.specs.declared.lay.Lay.{Lay}
 use Rattle.map_tables.specs.declared.place.Place.{Place}
@@ -33,7 +31,7 @@ use Rattle.operating.specs.Dividend.{after_pay, after_withhold}
 use Rattle.operating.specs.Forced.{EndLeads}
 use Rattle.operating.specs.Ground.{ground_now}
 use Rattle.operating.specs.InTurn.{InTurn, at_start, in_turn, is_unpaid, lay_done, pay_done, ruled, token_done, told}
-use Rattle.operating.specs.Judgement.{asker_of, rule_of_lay, rule_of_token}
+use Rattle.operating.specs.Judgement.{asker_of}
 use Rattle.operating.specs.Phases.{after_train}
 use Rattle.operating.specs.Privates.{after_private}
 use Rattle.operating.specs.Runs.{after_run}
@@ -54,37 +52,29 @@ use Rattle.tables.specs.declared.roster.Company.{Company}
 use Rattle.tables.specs.declared.round.Round.{Round}
 use Rattle.tables.specs.declared.seat.Seat.{Seat}
 
--- after a lay in this line was obeyed, or refused by this rule
-abbrev pub lay_refused : Operator → InTurn → Numbered → Lay → Option LayRule → InTurn
-lay_refused by turn line lay None = turn
-lay_refused by turn line lay (Some rule) = told by turn line (Refused (refusal.Lay rule) line.condition (order.Lay lay))
-
-abbrev pub lay_answered : Operator → InTurn → Numbered → Lay → Result ℤ LayFault → InTurn
+-- after a lay in this line was obeyed at this cost, or refused by this rule
+abbrev pub lay_answered : Operator → InTurn → Numbered → Lay → Result ℤ LayRule → InTurn
 lay_answered by turn line lay (Ok cost) =
     in_turn
     (after_lay (told by turn line (Obeyed line.condition (order.Lay lay))).game by.company lay (unsigned_abs cost)) (lay_done (lays_of turn.game.events) (asker_of turn.game by.company turn.progress) lay turn.progress)
-lay_answered by turn line lay (Err fault) = lay_refused by turn line lay (rule_of_lay fault)
+lay_answered by turn line lay (Err rule) = told by turn line (Refused (refusal.Lay rule) line.condition (order.Lay lay))
 
--- after a token in this line was obeyed, or refused by this rule
-abbrev pub token_refused : Operator → InTurn → Numbered → Place → Option TokenRule → InTurn
-token_refused by turn line place None = turn
-token_refused by turn line place (Some rule) = told by turn line (Refused (refusal.Token rule) line.condition (order.Token place))
-
-abbrev pub token_answered : Operator → InTurn → Numbered → Place → Result ℤ TokenFault → InTurn
+-- after a token in this line was obeyed at this cost, or refused by this rule
+abbrev pub token_answered : Operator → InTurn → Numbered → Place → Result ℤ TokenRule → InTurn
 token_answered by turn line place (Ok cost) =
     in_turn
     (after_token (told by turn line (Obeyed line.condition (order.Token place))).game by.company place (unsigned_abs cost)) (token_done turn.progress)
-token_answered by turn line place (Err fault) = token_refused by turn line place (rule_of_token fault)
+token_answered by turn line place (Err rule) = told by turn line (Refused (refusal.Token rule) line.condition (order.Token place))
 
 -- a LAY in this line leads to new: the rules of lays give an answer, by what lies
 pub record LayLeads (by : Operator) (turn : InTurn) (line : Numbered) (lay : Lay) (new : InTurn) : Type 0 where
-  pub answer : Result ℤ LayFault
+  pub answer : Result ℤ LayRule
   pub answered : IsLayAnswer (ground_now turn.game.events) (asker_of turn.game by.company turn.progress) lay answer
   pub after : new ≡ lay_answered by turn line lay answer
 
 -- a TOKEN in this line leads to new
 pub record TokenLeads (by : Operator) (turn : InTurn) (line : Numbered) (place : Place) (new : InTurn) : Type 0 where
-  pub answer : Result ℤ TokenFault
+  pub answer : Result ℤ TokenRule
   pub answered : IsTokenAnswer (ground_now turn.game.events) (asker_of turn.game by.company turn.progress) place answer
   pub after : new ≡ token_answered by turn line place answer
 

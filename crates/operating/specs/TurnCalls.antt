@@ -9,7 +9,7 @@ use Rattle.history.specs.LookBack.{Game}
 use Rattle.history.specs.Shares.{president_of}
 use Rattle.history.specs.declared.event.Event.{Event}
 use Rattle.history.specs.declared.ruling.Ruling.TheVariants.{Faulty}
-use Rattle.history.specs.declared.ruling.RunRule.{RunRule}
+use Rattle.map_tables.specs.declared.rules.RunRule.{RunRule}
 use Rattle.operating.specs.Best.{BestRuled, best_earned, best_judgement, trains_now}
 use Rattle.operating.specs.Calls.{Call, Course, IsFront, Then, Unasked}
 use Rattle.operating.specs.InTurn.{InTurn, told}

@@ -1,6 +1,5 @@
-ghost use Rattle.std.specs.Prelude.{◌≡◌, IfOk, IsErr, OnOk, Some};
+ghost use Rattle.std.specs.Prelude.{OnOk};
 ghost use Rattle.operating.specs.CompanyTurn.{GoesOn, IsInOrder, state};
-ghost use Rattle.operating.specs.Judgement.{rule_of_lay};
 ghost use Rattle.operating.specs.Turn.{LayLeads};
 ghost use Rattle.sheets.specs.Part.{line_read};
 
@@ -9,7 +8,7 @@ use crate::company_turn::CompanyTurn;
 use crate::cost::amount_of;
 use crate::ground::catch_up;
 use board::LayFault;
-use history::{Event, LayRule, Refusal};
+use history::{Event, Refusal};
 use map_tables::Lay;
 use order_grammar::Order;
 use sheets::NumberedLine;
@@ -37,32 +36,12 @@ impl CompanyTurn {
                 self.progress = self.progress.with_lay(&self.board, &asker, lay);
                 Ok(())
             }
-            Err(fault) => {
-                let refusal = Refusal::Lay(lay_rule(fault)?);
+            Err(LayFault::Rule(rule)) => {
+                let refusal = Refusal::Lay(rule);
                 record(&mut self.history, by.president, line, &order, Some(refusal))?;
                 Ok(())
             }
+            Err(LayFault::Memory(error)) => Err(error),
         }
-    }
-}
-
-/// The rule that a refused lay broke. The error is want of memory, which is none, and comes for it
-/// alone.
-fn lay_rule(fault: LayFault) -> Result<LayRule, AllocError>
-    ensures rule { IfOk result (λ rule. rule_of_lay fault ≡ Some rule) }
-    ensures memory { IsErr result → fault ≡ LayFault.Memory }
-{
-    match fault {
-        LayFault::StepUsed => Ok(LayRule::StepUsed),
-        LayFault::GreyOrRed => Ok(LayRule::GreyOrRed),
-        LayFault::NoneLeft => Ok(LayRule::NoneLeft),
-        LayFault::ColourClosed => Ok(LayRule::ColourClosed),
-        LayFault::WrongTile => Ok(LayRule::WrongTile),
-        LayFault::TrackLost => Ok(LayRule::TrackLost),
-        LayFault::BadSide => Ok(LayRule::BadSide),
-        LayFault::Blocked => Ok(LayRule::Blocked),
-        LayFault::NotReached => Ok(LayRule::NotReached),
-        LayFault::CashTooSmall => Ok(LayRule::CashTooSmall),
-        LayFault::Memory => Err(AllocError),
     }
 }

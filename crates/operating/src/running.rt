@@ -6,7 +6,7 @@ ghost use Rattle.history.specs.LookBack.{with_event};
 ghost use Rattle.history.specs.declared.event.Event.TheVariants as event;
 ghost use Rattle.history.specs.Sound.{IsSound};
 ghost use Rattle.operating.specs.CompanyTurn.{GoesOn, IsInOrder, state};
-ghost use Rattle.operating.specs.Runs.{IsCounted, after_run, has_run, judged_run, ran_unless_fault, rule_of_run};
+ghost use Rattle.operating.specs.Runs.{IsCounted, after_run, has_run, judged_run, ran_unless_fault};
 ghost use Rattle.operating.specs.Runs.{rules_of_turn, run_ruled, runs_most};
 ghost use Rattle.sheets.specs.Part.{line_read};
 ghost use Rattle.tables.specs.Rules.{first_broken};
@@ -16,7 +16,7 @@ use crate::ground::catch_up;
 use crate::progress::Progress;
 use crate::runs::{Ran, Runs};
 use board::Board;
-use certificate::{RunFault, check_run, runs_earn_by_borders};
+use certificate::{check_run, runs_earn_by_borders};
 use history::{Event, History, Refusal, RunRule};
 use map_tables::Run;
 use order_grammar::Order;
@@ -116,7 +116,7 @@ fn run_on(
             earned: money as Amount,
             borders,
         }),
-        Err(fault) => Err(run_rule(fault)),
+        Err(rule) => Err(rule),
     }
 }
 
@@ -145,21 +145,6 @@ fn has_run_all(history: &History, company: Company, kind: Kind, runs: &Runs) -> 
     ensures few { result ≡ false → has_run runs.now kind ≤ℤ runs_most }
 {
     history.now().trains(Some(company), kind) <= runs.of_kind(kind)
-}
-
-/// The rule that a refused run broke.
-fn run_rule(fault: RunFault) -> RunRule
-    ensures { result ≡ rule_of_run fault }
-{
-    match fault {
-        RunFault::NoTrack => RunRule::NoTrack,
-        RunFault::WrongNumber => RunRule::WrongNumber,
-        RunFault::StopTwice => RunRule::StopTwice,
-        RunFault::BorderTwice => RunRule::BorderTwice,
-        RunFault::PassesFull => RunRule::PassesFull,
-        RunFault::NoToken => RunRule::NoToken,
-        RunFault::RedInside => RunRule::RedInside,
-    }
 }
 
 /// Tells what a run of a company earned.

@@ -1,6 +1,5 @@
-ghost use Rattle.std.specs.Prelude.{◌≡◌, IfOk, IsErr, OnOk, Some};
+ghost use Rattle.std.specs.Prelude.{OnOk};
 ghost use Rattle.operating.specs.CompanyTurn.{GoesOn, IsInOrder, state};
-ghost use Rattle.operating.specs.Judgement.{rule_of_token};
 ghost use Rattle.operating.specs.Turn.{TokenLeads};
 ghost use Rattle.sheets.specs.Part.{line_read};
 
@@ -9,7 +8,7 @@ use crate::company_turn::CompanyTurn;
 use crate::cost::amount_of;
 use crate::ground::catch_up;
 use board::TokenFault;
-use history::{Event, Refusal, TokenRule};
+use history::{Event, Refusal};
 use map_tables::Place;
 use order_grammar::Order;
 use sheets::NumberedLine;
@@ -41,28 +40,12 @@ impl CompanyTurn {
                 self.progress = self.progress.with_token();
                 Ok(())
             }
-            Err(fault) => {
-                let refusal = Refusal::Token(token_rule(fault)?);
+            Err(TokenFault::Rule(rule)) => {
+                let refusal = Refusal::Token(rule);
                 record(&mut self.history, by.president, line, &order, Some(refusal))?;
                 Ok(())
             }
+            Err(TokenFault::Memory(error)) => Err(error),
         }
-    }
-}
-
-/// The rule that a refused token broke. The error is want of memory, which is none, and comes for
-/// it alone.
-fn token_rule(fault: TokenFault) -> Result<TokenRule, AllocError>
-    ensures rule { IfOk result (λ rule. rule_of_token fault ≡ Some rule) }
-    ensures memory { IsErr result → fault ≡ TokenFault.Memory }
-{
-    match fault {
-        TokenFault::StepUsed => Ok(TokenRule::StepUsed),
-        TokenFault::NoTokenLeft => Ok(TokenRule::NoTokenLeft),
-        TokenFault::NoFreeSlot => Ok(TokenRule::NoFreeSlot),
-        TokenFault::InHexAlready => Ok(TokenRule::InHexAlready),
-        TokenFault::NotReached => Ok(TokenRule::NotReached),
-        TokenFault::CashTooSmall => Ok(TokenRule::CashTooSmall),
-        TokenFault::Memory => Err(AllocError),
     }
 }

@@ -11,12 +11,13 @@
 //! keeps; `Stops` has stops as marks.
 //!
 //! Reading order: `network`, `walk`, `answer` and `stops` (the public calls), `search`,
-//! `keeper` (what it does with links), `stop_marks`.
+//! `keeper` (what it does with links), `numbers` (of stops and of spots), `stop_marks`.
 #![tactic(auto)]
 
 mod answer;
 mod keeper;
 mod network;
+mod numbers;
 mod search;
 mod stop_marks;
 mod stops;
@@ -24,6 +25,8 @@ mod walk;
 
 pub use answer::{Reach, reached};
 pub use network::Network;
+pub use numbers::{SPOTS, STOPS, spot_number, stop_order};
+pub use search::twin;
 pub use stop_marks::StopMarks;
 pub use stops::{ReachedStops, reached_stops};
 pub use walk::{Spot, Step};

@@ -2,19 +2,17 @@ ghost use Rattle.std.specs.Prelude.{◌≡◌, ◌<◌, ◌≤◌, ◌↔◌, Is
 ghost use Rattle.map_tables.specs.Hex.{index_of};
 ghost use Rattle.reach.specs.Lawful.{IsLawful};
 ghost use Rattle.reach.specs.Position.{IsAmong, links_of};
-ghost use Rattle.reach.specs.Search.{AllArrive, AllWait, AreTaken, CanEnter, GoesOnAt, HasAllTokens, IsClosed, IsEnteredAt, IsFollowed, IsKept, IsMarked, IsMarkedStop, IsMarking, IsTokenMarked, KeepsNone, LeadsTo, Spreads, marked, spot_number, twin_of};
+ghost use Rattle.reach.specs.Search.{AllArrive, AllWait, AreTaken, CanEnter, GoesOnAt, HasAllTokens, IsClosed, IsEnteredAt, IsFollowed, IsKept, IsMarked, IsMarkedStop, IsMarking, IsTokenMarked, KeepsNone, LeadsTo, Spreads, marked, twin_of};
 ghost use Rattle.reach.specs.Walk.{IsTrack, entered_at, left_at};
 ghost use Rattle.reach.specs.declared.walk.Step.{Step};
 
 use crate::keeper::Keeper;
 use crate::network::Network;
+use crate::numbers::{SPOTS, spot_number};
 use crate::walk::{Spot, Step};
 use arrayvec::ArrayVec;
 use map_tables::{End, HEXES, Hex, Link, Stop, StopNumber, joined_stop};
 use tables::Company;
-
-/// How many ends the hexes of the map have: six sides and two stops each.
-const SPOTS: usize = 8 * HEXES;
 
 /// The ends of the map's hexes at which some walk of the company has arrived, or may begin, and those
 /// of them that are still to be looked at. No more wait than are marked, so the table has room.
@@ -58,7 +56,7 @@ impl Marks {
         ensures { IsMarking spot
             self.old.marks self.old.waiting.items self.new.marks self.new.waiting.items }
     {
-        let number = number_of(spot);
+        let number = spot_number(spot);
         if !self.marks[number] {
             self.marks[number] = true;
             self.waiting.push(spot);
@@ -66,25 +64,8 @@ impl Marks {
     }
 }
 
-/// The number of a spot: eight for each hex.
-fn number_of(spot: Spot) -> usize
-    ensures value { result ≡ spot_number spot }
-    ensures bound { result < 744 }
-{
-    match spot.end {
-        End::Side(side) => 8 * spot.hex.index() + side.number(),
-        End::Stop(number) => {
-            let stop = joined_stop(Stop {
-                hex: spot.hex,
-                number,
-            });
-            8 * stop.hex.index() + 6 + stop.number.index()
-        }
-    }
-}
-
-/// The other hex in which the stop of a hex lies, if there is one.
-fn twin(hex: Hex) -> Option<Hex>
+/// The other hex in which the stop of a hex lies that names it, if there is one.
+pub fn twin(hex: Hex) -> Option<Hex>
     ensures { result ≡ twin_of hex }
 {
     match hex {

@@ -1,12 +1,10 @@
 //! Marks of the stops of the map.
-ghost use Rattle.std.specs.Prelude.{◌≡◌, ◌<◌, true, false, get_or, replicate, set};
+ghost use Rattle.std.specs.Prelude.{◌≡◌, true, false, get_or, replicate, set};
 ghost use Rattle.reach.specs.Reached.{stop_order};
 
-use map_tables::{HEXES, Stop};
+use crate::numbers::{STOPS, stop_order};
+use map_tables::Stop;
 use std::marker::Model;
-
-/// How many stops the hexes of the map may have.
-pub(crate) const STOPS: usize = 2 * HEXES;
 
 /// A mark for each stop of the map. To a contract it is the list of the marks, in the order of the
 /// map. It takes no memory.
@@ -41,28 +39,20 @@ impl StopMarks {
     pub fn has(&self, stop: Stop) -> bool
         ensures { result ≡ get_or self.now (stop_order stop) false }
     {
-        self.marks[number_of(stop)]
+        self.marks[stop_order(stop)]
     }
 
     /// Marks a stop.
     pub fn mark(&mut self, stop: Stop)
         ensures { self.new ≡ set self.old (stop_order stop) true }
     {
-        self.marks[number_of(stop)] = true;
+        self.marks[stop_order(stop)] = true;
     }
 
     /// Takes the mark of a stop away.
     pub fn unmark(&mut self, stop: Stop)
         ensures { self.new ≡ set self.old (stop_order stop) false }
     {
-        self.marks[number_of(stop)] = false;
+        self.marks[stop_order(stop)] = false;
     }
-}
-
-/// The place of a stop in the order of the map.
-fn number_of(stop: Stop) -> usize
-    ensures value { result ≡ stop_order stop }
-    ensures bound { result < 186 }
-{
-    2 * stop.hex.index() + stop.number.index()
 }

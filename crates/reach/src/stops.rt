@@ -7,8 +7,9 @@ ghost use Rattle.reach.specs.Stops.{AreReachedStops};
 
 use crate::keeper::Forgetful;
 use crate::network::Network;
+use crate::numbers::STOPS;
 use crate::search::{Marks, search};
-use crate::stop_marks::{STOPS, StopMarks};
+use crate::stop_marks::StopMarks;
 use map_tables::{HEXES, Hex, Stop, StopNumber};
 use std::marker::Model;
 use tables::Company;

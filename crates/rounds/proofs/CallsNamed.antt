@@ -6,7 +6,7 @@ use Rattle.certificate.specs.declared.runner.RunnerFault.TheVariants as runner
 use Rattle.history.specs.LookBack.{Game, broken_in}
 use Rattle.history.specs.Shares.{president_of}
 use Rattle.history.specs.declared.event.Event.{Event}
-use Rattle.history.specs.declared.ruling.RunRule.{RunRule}
+use Rattle.map_tables.specs.declared.rules.RunRule.{RunRule}
 use Rattle.operating.specs.Best.{best_judgement}
 use Rattle.operating.specs.Calls.{Call, Course, Then, TimesThen, Unasked}
 use Rattle.operating.specs.Turn.{is_held}

@@ -12,13 +12,11 @@ use Rattle.history.specs.declared.event.Event.TheVariants as event
 use Rattle.history.specs.declared.event.Holder.{Holder}
 use Rattle.history.specs.declared.event.Holder.TheVariants as holder
 use Rattle.history.specs.declared.event.Shareholder.TheVariants as place
-use Rattle.history.specs.declared.ruling.LayRule.{LayRule}
 use Rattle.history.specs.declared.ruling.Refusal.{Refusal}
 use Rattle.history.specs.declared.ruling.Refusal.TheVariants as refusal
 use Rattle.history.specs.declared.ruling.Ruling.{Ruling}
 use Rattle.history.specs.declared.ruling.Ruling.TheVariants.{Obeyed, Refused, Faulty}
-use Rattle.history.specs.declared.ruling.RunRule.{RunRule}
-use Rattle.history.specs.declared.ruling.TokenRule.{TokenRule}
+use Rattle.map_tables.specs.declared.rules.RunRule.{RunRule}
 use Rattle.map_tables.specs.Home.{home_of}
 use Rattle.map_tables.specs.Place.{place_of}
 use Rattle.map_tables.specs.declared.lay.Lay.{Lay}
@@ -33,12 +31,11 @@ use Rattle.operating.specs.Best.{BestRuled, best_earned, best_judgement}
 use Rattle.operating.specs.Dividend.{all_paid, paid_for, paid_out, paid_to, paid_to_seats, pay_judgement, withhold_judgement}
 use Rattle.operating.specs.Forced.{EndLeads, after_forced, after_raise_line, after_raises, cheapest, concluded, falls_short, lack_of, next_to_sell, one_tenth, raise_rule, raise_ruled, sold_further, sold_singly, with_aid, with_one_sold, with_ruling, with_sale}
 use Rattle.operating.specs.InTurn.{InTurn, in_turn, is_unpaid, pay_done, ruled, told}
-use Rattle.operating.specs.Judgement.{rule_of_lay, rule_of_token}
 use Rattle.operating.specs.Phases.{after_train, begins_phase, bought, with_phase, with_trade}
 use Rattle.operating.specs.Privates.{private_bought, private_judgement, sold_by}
 use Rattle.operating.specs.Runs.{after_run, judged_run, run_ruled}
 use Rattle.operating.specs.Trains.{cost_of, train_judgement}
-use Rattle.operating.specs.Turn.{AskedLeads, BlockEnds, BlockLeads, IsCompanyTurn, LayLeads, LinesLead, OrderLeads, ReadingLeads, TokenLeads, begun, is_held, lay_answered, lay_refused, purchase_of, settled, token_answered, token_refused}
+use Rattle.operating.specs.Turn.{AskedLeads, BlockEnds, BlockLeads, IsCompanyTurn, LayLeads, LinesLead, OrderLeads, ReadingLeads, TokenLeads, begun, is_held, lay_answered, purchase_of, settled, token_answered}
 use Rattle.order_grammar.specs.declared.condition.Condition.{Condition}
 use Rattle.order_grammar.specs.declared.fault.Fault.{Fault}
 use Rattle.order_grammar.specs.declared.fault.Fault.TheVariants.{OutOfPlace}
@@ -214,37 +211,26 @@ module _ (company : Company) (seat : Seat) (line : Numbered) (plain : IsPlain li
       by_obeyed turn its (act obeyed).game (acts obeyed)
 
   -- LAY
-  by_refused_lay : (turn : InTurn) (lay : Lay) (rule : Option LayRule) →
-      TurnAdds turn (lay_refused (operator company seat) turn line lay rule)
-  by_refused_lay turn lay None = on.same turn.game
-  by_refused_lay turn lay (Some rule) = by_ruling turn (Refused (refusal.Lay rule) line.condition (order.Lay lay)) plain
-
   by_lay : (turn : InTurn) (lay : Lay) (new : InTurn) → LayLeads (operator company seat) turn line lay new →
       TurnAdds turn new
   by_lay turn lay new leads =
       let obeyed : InTurn = told (operator company seat) turn line (Obeyed line.condition (order.Lay lay)) in
       subst (TurnAdds turn) (sym leads.after)
       (elim (leads.answer) as (λ answer. TurnAdds turn (lay_answered (operator company seat) turn line lay answer)) [
-        | Err fault ↦ by_refused_lay turn lay (rule_of_lay fault)
+        | Err rule ↦ by_ruling turn (Refused (refusal.Lay rule) line.condition (order.Lay lay)) plain
         | Ok cost ↦
             let laid : Event = event.Laid company lay (unsigned_abs cost) in
             by_obeyed turn (order.Lay lay) (with_event obeyed.game laid) (by_event obeyed.game laid refl)
       ])
 
   -- TOKEN
-  by_refused_token : (turn : InTurn) (at : Place) (rule : Option TokenRule) →
-      TurnAdds turn (token_refused (operator company seat) turn line at rule)
-  by_refused_token turn at None = on.same turn.game
-  by_refused_token turn at (Some rule) =
-      by_ruling turn (Refused (refusal.Token rule) line.condition (order.Token at)) plain
-
   by_token : (turn : InTurn) (at : Place) (new : InTurn) → TokenLeads (operator company seat) turn line at new →
       TurnAdds turn new
   by_token turn at new leads =
       let obeyed : InTurn = told (operator company seat) turn line (Obeyed line.condition (order.Token at)) in
       subst (TurnAdds turn) (sym leads.after)
       (elim (leads.answer) as (λ answer. TurnAdds turn (token_answered (operator company seat) turn line at answer)) [
-        | Err fault ↦ by_refused_token turn at (rule_of_token fault)
+        | Err rule ↦ by_ruling turn (Refused (refusal.Token rule) line.condition (order.Token at)) plain
         | Ok cost ↦
             let token : Event = event.Token company at (unsigned_abs cost) in
             by_obeyed turn (order.Token at) (with_event obeyed.game token) (by_event obeyed.game token refl)

@@ -170,7 +170,7 @@ pub fn tries_lay(rt: &HostRuntime) -> Result<Outcome, Fault> {
     made(rt)?;
     let is_before = board.tiles_laid() == 3;
     Ok(match answer {
-        Err(LayFault::Memory) => Outcome::of_refusal(is_before),
+        Err(LayFault::Memory(_)) => Outcome::of_refusal(is_before),
         other => Outcome::of_answer(other == Ok(0) && is_before),
     })
 }
@@ -183,7 +183,7 @@ pub fn tries_token(rt: &HostRuntime) -> Result<Outcome, Fault> {
     made(rt)?;
     let is_before = board.tokens_placed() == 1;
     Ok(match answer {
-        Err(TokenFault::Memory) => Outcome::of_refusal(is_before),
+        Err(TokenFault::Memory(_)) => Outcome::of_refusal(is_before),
         other => Outcome::of_answer(other == Ok(40) && is_before),
     })
 }

@@ -26,7 +26,7 @@ returns-clause-no_fault g c =
 
 pub returns-clause-earns : goal.returns-clause-earns
 returns-clause-earns g c =
-    to_z-of_z w128 c.money.result (record { sfits = c.money.type_inv }) ∙ c.money.ensures
+    to_z-of_z w128 c.from.result (record { sfits = c.from.type_inv }) ∙ c.from.ensures
     ∙ ap pos (value_kept (g.N.Network.position c.args.network.now) c.args.company c.args.used.now (omega (arith, c.used.invariant, ap length c.used.view_is)) c.args.run.now c.in-Some.tally (sym c.tally_of.ensures ∙ c.in-Some.is))
 
 pub returns-clause-crosses : goal.returns-clause-crosses

@@ -1,5 +1,7 @@
 -- The walk goes over the children of each node, in their order, and leaves the marks as they were.
-use Rattle.std.proofs.Common.{◌≡◌, ◌<◌, rules, ℕ, ◌+◌, ◌-◌, Bool, true, false, not, ◌&&◌, count_by, option_map, if◌then◌else◌, Some, None, List, [], ◌∷◌, ◌++◌, length, get_or, set, replicate, refl, ap, sym, ◌∙◌, subst, arith}
+use Rattle.std.proofs.Common.{◌≡◌, ◌<◌, rules, ℕ, ◌+◌, ◌-◌, Bool, true, false, not, ◌&&◌, count_by, option_map, if◌then◌else◌, Option, Some, None, List, [], ◌∷◌, ◌++◌, length, get_or, set, replicate, refl, ap, sym, ◌∙◌, subst, arith}
+use Rattle.map_tables.specs.Border.{neighbour_of}
+use Rattle.map_tables.specs.Side.{facing_of}
 use Rattle.map_tables.specs.declared.hex.Hex.{Hex}
 use Rattle.map_tables.specs.Place.{stop_at}
 use Rattle.map_tables.specs.declared.hex.Hex.TheVariants.{A9}
@@ -12,6 +14,7 @@ use Rattle.map_tables.specs.declared.track.Link.{Link}
 use Rattle.reach.proofs.Lists.{among_at}
 use Rattle.reach.specs.Position.{IsAmong, links_of}
 use Rattle.reach.specs.Reached.{stop_order}
+use Rattle.reach.specs.Search.{twin_of}
 use Rattle.reach.specs.Walk.{across, across_end, entered_at, left_at, spot_at, stop_of}
 use Rattle.reach.specs.declared.walk.Spot.{Spot}
 use Rattle.reach.specs.declared.walk.Step.{Step}
@@ -20,7 +23,7 @@ use Rattle.certificate.specs.Legal.{border_of, visited}
 use Rattle.certificate.specs.Set.{TrainRun}
 use Rattle.certificate.specs.Tree.{Node, children, for_each, from_stop, goes_over, is_free_end, is_last_stop, node_if, run_borders, setting_out, taken_borders, with_step, with_steps, ways_at, ways_by, ways_from}
 use Rattle.certificate.specs.Walked.{capped}
-use Rattle.certificate.specs.Walking.{AreCrossed, Continues, LeavesOver, Stands, WalksOver, earned_from, may_take, node_at, node_from, other_hex_of, reached_in, trains_of_tree}
+use Rattle.certificate.specs.Walking.{AreCrossed, Continues, LeavesOver, Stands, WalksOver, earned_from, may_take, node_at, node_from, reached_in, trains_of_tree}
 use Rattle.certificate.proofs.Going.{hexes_steps, no_way, none_ahead, one_cut, one_end, one_hex, one_split, one_way, other_named, over_none, thing_ends, thing_over, things_over, up_ends, up_over, up_whole, way_enters}
 use Rattle.certificate.proofs.Places.{none_is}
 use Rattle.certificate.proofs.Standing.{and_false, and_true, border_continues, children_at_border, children_at_stop, finished_crossed, finished_stands, finishing_is, is_free, is_last, named_at, no_beyond, node_out, not_free, out_continues, same_node, seen_false, stands_at_stop, stands_out, stands_over, stands_same, stop_continues, takes_no_stop, takes_over, takes_stop, two_stops, with_run}
@@ -187,7 +190,7 @@ leave-returns-in_default-clause-walks g t c = λ settled steps stops stands cont
     let at_own : (step : Step) → entered_at step ≡ spot_at stop.hex (AtStop stop.number) → Continues steps stops step =
     λ step at. continues step (ap stop_of at ∙ ap (λ (s : Stop). Some s) named) in
     let walk = c.follow.ensures.walks settled steps stops stands at_own in
-    subst (λ (l : List Step). WalksOver g.D.Decider.decides position tree c.args.decider.now (with_steps test node l) c.follow.result c.follow.new.decider) (sym (one_hex position stop (sym c.other_hex.ensures ∙ c.in_default.is))) walk
+    subst (λ (l : List Step). WalksOver g.D.Decider.decides position tree c.args.decider.now (with_steps test node l) c.follow.result c.follow.new.decider) (sym (one_hex position stop (sym c.twin.ensures ∙ c.in_default.is))) walk
 
 pub leave-returns-then-not-follow-clause-walks : goal.leave-returns-then-not-follow-clause-walks
 leave-returns-then-not-follow-clause-walks g t c = λ settled steps stops stands continues named.
@@ -199,7 +202,7 @@ leave-returns-then-not-follow-clause-walks g t c = λ settled steps stops stands
     let at_own : (step : Step) → entered_at step ≡ spot_at stop.hex (AtStop stop.number) → Continues steps stops step =
     λ step at. continues step (ap stop_of at ∙ ap (λ (s : Stop). Some s) named) in
     let other : Hex = c.in-Some.other in
-    let beside : other_hex_of stop.hex ≡ Some other = sym c.other_hex.ensures ∙ c.in-Some.is in
+    let beside : twin_of stop.hex ≡ Some other = sym c.twin.ensures ∙ c.in-Some.is in
     let first : List Node = with_steps test node (ways_at position other (AtStop stop.number)) in
     let second : List Node = with_steps test node (ways_at position stop.hex (AtStop stop.number)) in
     let at_other : (step : Step) → entered_at step ≡ spot_at other (AtStop stop.number) → Continues steps stops step =
@@ -219,7 +222,7 @@ leave-returns-clause-walks g t c = λ settled steps stops stands continues named
     let at_own : (step : Step) → entered_at step ≡ spot_at stop.hex (AtStop stop.number) → Continues steps stops step =
     λ step at. continues step (ap stop_of at ∙ ap (λ (s : Stop). Some s) named) in
     let other : Hex = c.in-Some.other in
-    let beside : other_hex_of stop.hex ≡ Some other = sym c.other_hex.ensures ∙ c.in-Some.is in
+    let beside : twin_of stop.hex ≡ Some other = sym c.twin.ensures ∙ c.in-Some.is in
     let first : List Node = with_steps test node (ways_at position other (AtStop stop.number)) in
     let second : List Node = with_steps test node (ways_at position stop.hex (AtStop stop.number)) in
     let at_other : (step : Step) → entered_at step ≡ spot_at other (AtStop stop.number) → Continues steps stops step =
@@ -434,6 +437,20 @@ pub take-returns-clause-seen : goal.take-returns-clause-seen
 take-returns-clause-seen g t c = let stop : Stop = c.in-Some-stop.stop in
     c.unmark.ensures ∙ (ap (λ (m : List Bool). set m (stop_order stop) false) (c.at_stop-whole.ensures.seen ∙ c.mark.ensures) ∙ mark_undone c.args.seen.now (stop_order stop) (sym c.has.ensures ∙ c.if-has.false))
 
+-- the hex beyond a border is the neighbour over it
+beyond_it : (side : Side) (beyond : Spot) (next : Option Hex) →
+    option_map (λ other. spot_at other (AtSide (facing_of side))) next ≡ Some beyond → Some beyond.hex ≡ next
+beyond_it side beyond None is = absurd cc
+beyond_it side beyond (Some other) is = let there : spot_at other (AtSide (facing_of side)) ≡ beyond = cc in ap (λ (s : Spot). Some s.hex) (sym there)
+
+pub cross-border_to-number-requires : goal.cross-border_to-number-requires
+cross-border_to-number-requires g t c =
+    let head = c.args.head in
+    let side : Side = c.in-Side.side in
+    let over : across_end head.hex (AtSide side) ≡ Some c.in-Some.beyond =
+    sym (ap (across_end head.hex) c.in-Side.is) ∙ (sym c.across.ensures ∙ c.in-Some.is) in
+    beyond_it side c.in-Some.beyond (neighbour_of head.hex side) over
+
 pub cross-returns-in_default-clause-walks : goal.cross-returns-in_default-clause-walks
 cross-returns-in_default-clause-walks g t c = λ settled steps stops step stands continues at none.
     let position = g.N.Network.position c.args.network.now in
@@ -465,7 +482,7 @@ cross-returns-then-has-clause-walks g t c = λ settled steps stops step stands c
     let taken : List ℕ = taken_borders node in
     let side : Side = c.in-Side.side in
     let marks : has_border (border_of head.hex side) taken ≡ c.has.result =
-    ap (λ (n : ℕ). has_border n taken) (sym c.border-number.ensures.value) ∙ (sym (stands.crossed.1 c.border-number.result) ∙ sym c.has.ensures) in
+    ap (λ (n : ℕ). has_border n taken) (sym c.border_to-number.ensures.value) ∙ (sym (stands.crossed.1 c.border_to-number.result) ∙ sym c.has.ensures) in
     over_none g.D.Decider.decides position tree c.args.decider.now (node_if (goes_over taken step) made) (ap (λ (b : Bool). node_if b made) (ap (λ (s : Spot). is_free_end taken s.hex s.end) at ∙ not_free taken head.hex head.end side c.in-Side.is (marks ∙ c.if-has.true)))
 
 pub cross-at_border-whole-requires : goal.cross-at_border-whole-requires
@@ -481,9 +498,9 @@ cross-returns-clause-walks g t c = λ settled steps stops step stands continues 
     let taken : List ℕ = taken_borders node in
     let side : Side = c.in-Side.side in
     let marks : has_border (border_of head.hex side) taken ≡ c.has.result =
-    ap (λ (n : ℕ). has_border n taken) (sym c.border-number.ensures.value) ∙ (sym (stands.crossed.1 c.border-number.result) ∙ sym c.has.ensures) in
-    let number : border_of (left_at step).hex side ≡ c.border-number.result = ap (λ (s : Spot). border_of s.hex side) at ∙ sym c.border-number.ensures.value in
-    let low : border_of (left_at step).hex side < length c.args.used.now = omega (arith, number, c.border-number.ensures.bound, stands.crossed.0) in
+    ap (λ (n : ℕ). has_border n taken) (sym c.border_to-number.ensures.value) ∙ (sym (stands.crossed.1 c.border_to-number.result) ∙ sym c.has.ensures) in
+    let number : border_of (left_at step).hex side ≡ c.border_to-number.result = ap (λ (s : Spot). border_of s.hex side) at ∙ sym c.border_to-number.ensures.value in
+    let low : border_of (left_at step).hex side < length c.args.used.now = omega (arith, number, c.border_to-number.ensures.bound, stands.crossed.0) in
     let at_side : (left_at step).end ≡ AtSide side = ap (λ (s : Spot). s.end) at ∙ c.in-Side.is in
     let over : across (left_at step) ≡ Some c.in-Some.beyond = ap across at ∙ (sym c.across.ensures ∙ c.in-Some.is) in
     let left : stop_of (left_at step) ≡ None = ap stop_of at ∙ none in
@@ -496,7 +513,7 @@ cross-returns-clause-walks g t c = λ settled steps stops step stands continues 
     subst (λ (b : Bool). WalksOver g.D.Decider.decides position tree c.args.decider.now (node_if b made) c.at_border-whole.result c.at_border-whole.new.decider) (sym passes) walk
 
 pub cross-returns-clause-used : goal.cross-returns-clause-used
-cross-returns-clause-used g t c = c.remove.ensures ∙ (ap (λ (m : List Bool). set m c.border-number.result false) (c.at_border-whole.ensures.used ∙ c.add.ensures.marked) ∙ mark_undone c.args.used.now c.border-number.result (sym c.has.ensures ∙ c.if-has.false))
+cross-returns-clause-used g t c = c.remove.ensures ∙ (ap (λ (m : List Bool). set m c.border_to-number.result false) (c.at_border-whole.ensures.used ∙ c.add.ensures.marked) ∙ mark_undone c.args.used.now c.border_to-number.result (sym c.has.ensures ∙ c.if-has.false))
 
 pub at_border-returns-in-Cut-clause-walks : goal.at_border-returns-in-Cut-clause-walks
 at_border-returns-in-Cut-clause-walks g t c = λ settled before step stands none over.

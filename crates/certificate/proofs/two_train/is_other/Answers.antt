@@ -7,8 +7,8 @@ use Rattle.certificate.proofs.two_train.is_other.Goals as goal
 
 pub returns : goal.returns
 returns c =
-    let one = c.number_of.ensures.value in
-    let other = c.number_of-2.ensures.value in (
-      λ differ is. let same : c.number_of.result ≡ c.number_of-2.result = one ∙ ap stop_order is ∙ sym other in grind (arith, nat_tests, differ, same),
-      λ differ. let apart : c.number_of.result ≡ c.number_of-2.result → ⊥ = λ same. differ (same_order c.args.stop c.args.start (sym one ∙ same ∙ other)) in grind (arith, nat_tests, apart),
+    let one = c.stop_order.ensures.value in
+    let other = c.stop_order-2.ensures.value in (
+      λ differ is. let same : c.stop_order.result ≡ c.stop_order-2.result = one ∙ ap stop_order is ∙ sym other in grind (arith, nat_tests, differ, same),
+      λ differ. let apart : c.stop_order.result ≡ c.stop_order-2.result → ⊥ = λ same. differ (same_order c.args.stop c.args.start (sym one ∙ same ∙ other)) in grind (arith, nat_tests, apart),
     )

@@ -1,7 +1,7 @@
 use Rattle.std.proofs.Common.{Ok, Err, ap, refl, ◌∙◌}
 use Rattle.std.specs.Int.RustNames.{unsigned_abs}
 use Rattle.operating.proofs.Allowed.{amount_small, cost_kept, lay_allowed}
-use Rattle.operating.proofs.Answered.{lay_breaks, lay_by, lay_costs, lay_done_by, lay_refused_steps, laid_sound, laid_steps}
+use Rattle.operating.proofs.Answered.{lay_by, lay_done_by, lay_refused_steps, laid_sound, laid_steps}
 use Rattle.operating.specs.Ground.{ground_now}
 use Rattle.operating.specs.Judgement.{asker_of}
 use Rattle.operating.specs.InTurn.{in_turn}
@@ -12,7 +12,7 @@ pub amount_of-cost-requires : goal.amount_of-cost-requires
 amount_of-cost-requires c =
     let game = c.args.self.now.history in
     let cost = c.in-Ok.cost in
-    let answered = lay_by _ (ground_now game.events) _ (asker_of game c.args.self.now.by.company c.args.self.now.progress) c.args.lay (Ok cost) c.in_ok-catch_up.ensures.ground c.asker-asker.ensures (lay_costs cost (Ok cost) refl) c.in-Ok.ensures.answer in
+    let answered = lay_by _ (ground_now game.events) _ (asker_of game c.args.self.now.by.company c.args.self.now.progress) c.args.lay (Ok cost) c.in_ok-catch_up.ensures.ground c.asker-asker.ensures c.in-Ok.ensures in
     let kept = cost_kept _ cost _ _ (lay_allowed (ground_now game.events) (asker_of game c.args.self.now.by.company c.args.self.now.progress) c.args.lay cost answered) in
     record { whole = kept.whole; small = kept.small }
 
@@ -20,7 +20,7 @@ pub append-requires : goal.append-requires
 append-requires c =
     let game = c.args.self.now.history in
     let cost = c.in-Ok.cost in
-    let answered = lay_by _ (ground_now game.events) _ (asker_of game c.args.self.now.by.company c.args.self.now.progress) c.args.lay (Ok cost) c.in_ok-catch_up.ensures.ground c.asker-asker.ensures (lay_costs cost (Ok cost) refl) c.in-Ok.ensures.answer in
+    let answered = lay_by _ (ground_now game.events) _ (asker_of game c.args.self.now.by.company c.args.self.now.progress) c.args.lay (Ok cost) c.in_ok-catch_up.ensures.ground c.asker-asker.ensures c.in-Ok.ensures in
     let may = lay_allowed (ground_now game.events) (asker_of game c.args.self.now.by.company c.args.self.now.progress) c.args.lay cost answered in
     amount_small cost c.amount_of-cost.result (c.amount_of-cost.ensures ∙ ap unsigned_abs may.kept) may.small
 
@@ -28,7 +28,7 @@ pub returns-in_ok-append-in-Ok-clause-turn : goal.returns-in_ok-append-in-Ok-cla
 returns-in_ok-append-in-Ok-clause-turn c =
     let game = c.args.self.now.history in
     let cost = c.in-Ok.cost in
-    let answered = lay_by _ (ground_now game.events) _ (asker_of game c.args.self.now.by.company c.args.self.now.progress) c.args.lay (Ok cost) c.in_ok-catch_up.ensures.ground c.asker-asker.ensures (lay_costs cost (Ok cost) refl) c.in-Ok.ensures.answer in
+    let answered = lay_by _ (ground_now game.events) _ (asker_of game c.args.self.now.by.company c.args.self.now.progress) c.args.lay (Ok cost) c.in_ok-catch_up.ensures.ground c.asker-asker.ensures c.in-Ok.ensures in
     let may = lay_allowed (ground_now game.events) (asker_of game c.args.self.now.by.company c.args.self.now.progress) c.args.lay cost answered in
     record {
       answer = Ok cost;
@@ -41,7 +41,7 @@ pub returns-in_ok-append-in-Ok-clause-order : goal.returns-in_ok-append-in-Ok-cl
 returns-in_ok-append-in-Ok-clause-order c =
     let game = c.args.self.now.history in
     let cost = c.in-Ok.cost in
-    let answered = lay_by _ (ground_now game.events) _ (asker_of game c.args.self.now.by.company c.args.self.now.progress) c.args.lay (Ok cost) c.in_ok-catch_up.ensures.ground c.asker-asker.ensures (lay_costs cost (Ok cost) refl) c.in-Ok.ensures.answer in
+    let answered = lay_by _ (ground_now game.events) _ (asker_of game c.args.self.now.by.company c.args.self.now.progress) c.args.lay (Ok cost) c.in_ok-catch_up.ensures.ground c.asker-asker.ensures c.in-Ok.ensures in
     let may = lay_allowed (ground_now game.events) (asker_of game c.args.self.now.by.company c.args.self.now.progress) c.args.lay cost answered in
     record {
       by = refl;
@@ -50,13 +50,13 @@ returns-in_ok-append-in-Ok-clause-order c =
       front = c.in_ok-catch_up.ensures.front;
     }
 
-pub returns-in_ok-record-in-Err-clause-turn : goal.returns-in_ok-record-in-Err-clause-turn
-returns-in_ok-record-in-Err-clause-turn c =
+pub returns-in_ok-record-in-Err-Rule-clause-turn : goal.returns-in_ok-record-in-Err-Rule-clause-turn
+returns-in_ok-record-in-Err-Rule-clause-turn c =
     let game = c.args.self.now.history in
-    let fault = c.in-Err.fault in
-    let rule = c.in_ok-lay_rule-in-Err.field-0 in
+    let rule = c.in-Err-Rule.rule in
+    let answered = rw c.in-Err-Rule.field-0-is at c.in-Err-Rule.ensures in
     record {
-      answer = Err fault;
-      answered = lay_by _ _ _ _ c.args.lay (Err fault) c.in_ok-catch_up.ensures.ground c.asker-asker.ensures (lay_breaks fault rule c.in_ok-lay_rule-in-Err.ensures.rule) c.in-Err.ensures.answer;
-      after = lay_refused_steps c.args.self.now.by (in_turn game c.args.self.now.progress) (line_read c.args.line.now) c.args.lay fault rule c.record-in-Err.new.history _ c.in_ok-record-in-Err.ensures.ruling refl c.in_ok-lay_rule-in-Err.ensures.rule;
+      answer = Err rule;
+      answered = lay_by _ _ _ _ c.args.lay (Err rule) c.in_ok-catch_up.ensures.ground c.asker-asker.ensures answered;
+      after = lay_refused_steps c.args.self.now.by (in_turn game c.args.self.now.progress) (line_read c.args.line.now) c.args.lay rule c.record-in-Err-Rule.new.history _ c.in_ok-record-in-Err-Rule.ensures.ruling refl;
     }

@@ -13,7 +13,7 @@ not_all marks n low off =
 pub push-requires : goal.push-requires
 push-requires c =
     let marks = c.args.self.now.marks in
-    let off : get_or marks c.number_of-number.result false ≡ false = c.if-not-self-number.true in
-    let room : marked marks < length marks = not_all marks c.number_of-number.result (omega arith) off in
+    let off : get_or marks c.spot_number-number.result false ≡ false = c.if-not-self-number.true in
+    let room : marked marks < length marks = not_all marks c.spot_number-number.result (omega arith) off in
     let low : length c.args.self.now.waiting.items < 744 = omega (arith, c.args.self.now.few) in
     (lit< tt, low)

@@ -1,0 +1,38 @@
+//! The numbers of the stops and of the spots of the map.
+ghost use Rattle.std.specs.Prelude.{◌≡◌, ◌<◌};
+ghost use Rattle.reach.specs.Reached.{stop_order};
+ghost use Rattle.reach.specs.Search.{spot_number};
+
+use crate::walk::Spot;
+use map_tables::{End, HEXES, Stop, joined_stop};
+
+/// How many stops the hexes of the map may have.
+pub const STOPS: usize = 2 * HEXES;
+
+/// How many spots the hexes of the map have: six sides and two stops each.
+pub const SPOTS: usize = 8 * HEXES;
+
+/// The place of a stop in the order of the map, by the hex that is named.
+pub fn stop_order(stop: Stop) -> usize
+    ensures value { result ≡ stop_order stop }
+    ensures bound { result < 186 }
+{
+    2 * stop.hex.index() + stop.number.index()
+}
+
+/// The number of a spot: eight for each hex. A stop that lies in two hexes has one number.
+pub fn spot_number(spot: Spot) -> usize
+    ensures value { result ≡ spot_number spot }
+    ensures bound { result < 744 }
+{
+    match spot.end {
+        End::Side(side) => 8 * spot.hex.index() + side.number(),
+        End::Stop(number) => {
+            let stop = joined_stop(Stop {
+                hex: spot.hex,
+                number,
+            });
+            8 * stop.hex.index() + 6 + stop.number.index()
+        }
+    }
+}
