@@ -130,8 +130,8 @@ number_there adds played last stopped =
     ∙ number_by_next last.next last.game.events
     ∙ sym (keeps_number adds played.file stopped.plays.rounds last stopped.plays.reached)
 
-pub is_number_played : (played : Played) (number : ℕ) → RoundsOnlyAdd → IsTheGame played →
-    number ≡ number_in_set played.end played.game.events → IsNumberPlayed played number
-is_number_played played number adds game is =
+pub is_number_played : (played : Played) (count : ℕ) → RoundsOnlyAdd → IsTheGame played →
+    count ≡ number_in_set played.end played.game.events → IsNumberPlayed played count
+is_number_played played count adds game is =
     let stopped : StoppedAt played game.last = record { plays = game.plays; game = game.game; end = game.end } in
     record { last = game.last; stopped = stopped; number = is ∙ number_there adds played game.last stopped }

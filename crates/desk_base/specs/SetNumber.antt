@@ -43,7 +43,7 @@ number_in_set Bank events = (set_of events).rounds
 number_in_set Bankrupt events = (set_of events).rounds
 
 -- the number is that by which the game was played as far as it came, and by which it goes on
-pub record IsNumberPlayed (played : Played) (number : ℕ) : Type 0 where
+pub record IsNumberPlayed (played : Played) (count : ℕ) : Type 0 where
   pub last : Between
   pub stopped : StoppedAt played last
-  pub number : number ≡ last.in_set
+  pub number : count ≡ last.in_set

@@ -86,9 +86,10 @@ impl<'a> Heads<'a> {
         ensures seats { self.new.seats ≡ self.old.seats }
         ensures last { self.new.last ≡ self.old.last }
     {
-        if !self.first.contains_key(&sent) {
-            self.first.insert(sent, line)?;
+        if self.first.contains_key(&sent) {
+            return Ok(());
         }
+        self.first.insert(sent, line)?;
         Ok(())
     }
 
