@@ -4,8 +4,8 @@
 use certs::{Holdings, market_price, tenth_price};
 use desk_base::{push_company, push_words};
 use history::{
-    Holder, LayRule, OpeningRule, Party, Past, PrivateRule, Refusal, RunRule, Shareholder, StockRule,
-    TokenRule, TrainRule,
+    Holder, LayRule, OpeningRule, Party, Past, PrivateRule, Refusal, RunRule, Shareholder,
+    StockRule, TokenRule, TrainRule,
 };
 use map_tables::{End, Lay, laid_links, neighbour};
 use order_grammar::{Condition, Order, print_number};

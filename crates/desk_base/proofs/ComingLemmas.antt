@@ -104,7 +104,7 @@ in_time set true its stays =
     let same : its ≡ set = stays refl in
     ap (λ b. b || false) (le-leb its set (omega (arith, same)))
 in_time set false its stays =
-    elim (nat_le its set) as (λ (b : Bool). (b || true) ≡ true) [ | true ↦ refl | false ↦ refl ]
+    elim (nat_le its set) as (λ (b : Bool). (b || true) ≡ true) [ true ↦ refl | false ↦ refl ]
 
 within_most : (set count its in_set number : ℕ) → (its ≡ set → in_set ≡ count) → number ≤ in_set → in_set ≤ operating_most →
     nat_le number (most_in_set set count its) ≡ true
