@@ -1,5 +1,5 @@
 -- What is kept of the good SHEET lines that have come.
-use Rattle.std.specs.Prelude.{◌≡◌, ℕ, List, [], ◌∷◌, ◌++◌, map}
+use Rattle.std.specs.Prelude.{◌≡◌, ◌≤◌, ℕ, List, [], ◌∷◌, ◌++◌, map}
 use Rattle.std.specs.HashMap.{get}
 use Rattle.desk_check.specs.SheetLines.{HeadAt, ReplaceTheLast, first_line, head_at, last_line, post_of, same_sent}
 use Rattle.desk_check.specs.declared.check_lines.FileLine.{FileLine}
@@ -19,8 +19,10 @@ abbrev pub NotesFirst : Heads → Sent → ℕ → Heads → Type 0
 NotesFirst old sent line new =
     (heads : List HeadAt) → FirstsAre old heads → FirstsAre new (heads ++ record { line = line; post = post_of sent } ∷ [])
 
--- what is kept of them: the lines of the first and of the last that begin a sheet, and the sheet that each replaces
+-- what is kept of them, in a game of at most six: the lines of the first and of the last that begin a sheet, and the sheet
+-- that each replaces
 pub record AreKept (heads : Heads) : Type 0 where
+  pub few : heads.seats ≤ 6
   pub firsts : FirstsAre heads (came heads)
   pub lasts : (sent : Sent) → get same_sent heads.last sent ≡ last_line (post_of sent) (came heads)
   pub replaced : ReplaceTheLast [] heads.heads.items

@@ -1,5 +1,5 @@
 //! Sheets that replace others: whether the round was played, and how the game has changed since.
-ghost use Rattle.std.specs.Prelude.{◌≡◌, ℕ, ◌++◌, IfOk, List, OnOk, max, option_map, unwrap_or};
+ghost use Rattle.std.specs.Prelude.{◌≡◌, ℕ, ◌++◌, IfOk, List, OnOk, max, unwrap_or};
 ghost use Rattle.desk_check.specs.Heads.{AreKept};
 ghost use Rattle.desk_check.specs.Replaced.{IsTurn, TellsReplaced, TurnsAt, TurnsBefore, before, is_fresh_at, is_late, lateness_of, line_in_turn, standing_of, told_of, turned, turning_of, turning_then};
 ghost use Rattle.desk_check.specs.RoundsPlayed.{AreRoundsOf, NotesEvent, is_kept, line_kept};
@@ -124,21 +124,20 @@ pub(crate) fn find_replaced<'a>(
         found.old.findings.items found.new.findings.items) }
 {
     let turn = turn_before(alloc, file, heads, turning_head(heads, rounds))?;
-    tell_replaced(heads, rounds, turn.as_ref(), standing_of(game), found)
+    tell_replaced(heads, rounds, &turn, standing_of(game), found)
 }
 
 /// Tells of each sheet that replaces another.
 fn tell_replaced<'a>(
     heads: &Heads<'a>,
     rounds: &Rounds,
-    turn: Option<&Turn>,
+    turn: &Option<Turn>,
     now: Standing,
     found: &mut Found<'a>,
 ) -> Result<(), AllocError>
     requires { AreKept heads.now }
-    ensures { let its = option_map (λ turn. turn.now) turn in
-        OnOk result (found.new.findings.items ≡ found.old.findings.items
-        ++ flat_map (told_of heads.now rounds.now its now) heads.now.heads.items) }
+    ensures { OnOk result (found.new.findings.items ≡ found.old.findings.items
+        ++ flat_map (told_of heads.now rounds.now turn.now now) heads.now.heads.items) }
 {
     for head in &heads.heads {
         tell_head(heads, rounds, turn, now, head, found)?;
@@ -150,15 +149,14 @@ fn tell_replaced<'a>(
 fn tell_head<'a>(
     heads: &Heads<'a>,
     rounds: &Rounds,
-    turn: Option<&Turn>,
+    turn: &Option<Turn>,
     now: Standing,
     head: &Head<'a>,
     found: &mut Found<'a>,
 ) -> Result<(), AllocError>
     requires { AreKept heads.now }
-    ensures { let its = option_map (λ turn. turn.now) turn in
-        OnOk result (found.new.findings.items ≡ found.old.findings.items
-        ++ told_of heads.now rounds.now its now head.now) }
+    ensures { OnOk result (found.new.findings.items ≡ found.old.findings.items
+        ++ told_of heads.now rounds.now turn.now now head.now) }
 {
     let Some(line) = head.replaces else {
         return Ok(());
@@ -173,9 +171,9 @@ fn tell_head<'a>(
 }
 
 /// What was there of a round when a line replaced a sheet for it.
-fn lateness_of(head: &Head, heads: &Heads, rounds: &Rounds, turn: Option<&Turn>) -> Lateness
+fn lateness_of(head: &Head, heads: &Heads, rounds: &Rounds, turn: &Option<Turn>) -> Lateness
     requires { AreKept heads.now }
-    ensures { result ≡ lateness_of heads.now rounds.now (option_map (λ turn. turn.now) turn)
+    ensures { result ≡ lateness_of heads.now rounds.now turn.now
         head.now.sent.round head.now.line.number }
 {
     let round = head.sent.round;
@@ -190,8 +188,8 @@ fn lateness_of(head: &Head, heads: &Heads, rounds: &Rounds, turn: Option<&Turn>)
 }
 
 /// The line that was kept of a round of the game before the line at which the game turns, if it turns.
-fn line_in_turn(turn: Option<&Turn>, round: Round) -> Option<usize>
-    ensures { result ≡ line_in_turn (option_map (λ turn. turn.now) turn) round }
+fn line_in_turn(turn: &Option<Turn>, round: Round) -> Option<usize>
+    ensures { result ≡ line_in_turn turn.now round }
 {
     match turn {
         Some(turn) => turn.rounds.line(round),
@@ -200,8 +198,8 @@ fn line_in_turn(turn: Option<&Turn>, round: Round) -> Option<usize>
 }
 
 /// How far the game had come before a line and how far it comes now, if it turns at that line.
-fn turned(turn: Option<&Turn>, line: usize, now: Standing) -> Option<(Standing, Standing)>
-    ensures { result ≡ turned (option_map (λ turn. turn.now) turn) line now }
+fn turned(turn: &Option<Turn>, line: usize, now: Standing) -> Option<(Standing, Standing)>
+    ensures { result ≡ turned turn.now line now }
 {
     match turn {
         Some(turn) if turn.line == line => Some((turn.standing, now)),

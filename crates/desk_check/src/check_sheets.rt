@@ -43,7 +43,6 @@ pub(crate) struct Heads<'a> {
     first: HashMap<Sent, usize>,
     /// The number of the last that does.
     last: HashMap<Sent, usize>,
-    ghost few: { seats ≤ 6 },
 }
 
 impl<'a> Heads<'a> {

@@ -1,10 +1,9 @@
-use Rattle.std.specs.Prelude.{option_map}
 use Rattle.desk_check.proofs.Telling.{told_step}
 use Rattle.desk_check.specs.Replaced.{told_of}
 use Rattle.desk_check.proofs.check_late.tell_replaced.Goals as goal
 
 pub loop-head-preserved : goal.loop-head-preserved
 loop-head-preserved c =
-    told_step (told_of c.args.heads.now c.args.rounds.now (option_map (λ turn. turn.now) c.args.turn) c.args.now)
+    told_step (told_of c.args.heads.now c.args.rounds.now c.args.turn.now c.args.now)
     c.args.heads.now.heads.items c.loop-head.head-index _ _ _ _
     c.loop-head-test.true c.loop-head.invariant c.in_ok-tell_head.ensures

@@ -12,7 +12,7 @@ loop-number-preserved c =
     let number = c.loop-number.number in
     let first : c.first_of.result ≡ first_line (post_at number c.args.round) heads =
     c.first_of.ensures ∙ ap (λ (seat : Seat). first_line (record { seat = seat; round = c.args.round }) heads) c.at.ensures in
-    c.later_of.ensures
+    c.later_of-by.ensures
     ∙ ap (λ by. later_of by c.first_of.result) c.loop-number.invariant
     ∙ ap (later_of (complete_by number c.args.round heads)) first
     ∙ complete_next number c.args.round heads

@@ -16,6 +16,7 @@ returns-clause-kept c =
     let items = rw c.note_first.ensures.heads at c.in_ok-push.ensures.items in
     let all = ap (map head_at) items ∙ came_with_one old.heads.items _ in
     record {
+      few = rw c.note_first.ensures.seats c.requires.few;
       firsts = λ sent.
           c.in_ok-note_first.ensures.first (map head_at old.heads.items) c.requires.firsts sent
           ∙ sym (ap (first_line (post_of sent)) all);
