@@ -5,5 +5,5 @@ use Rattle.desk_check.proofs.check_late.tell_replaced.Goals as goal
 pub loop-head-preserved : goal.loop-head-preserved
 loop-head-preserved c =
     told_step (told_of c.args.heads.now c.args.rounds.now c.args.turn.now c.args.now)
-    c.args.heads.now.heads.items c.loop-head.head-index _ _ _ _
+    c.args.heads.now.heads.items c.deref-head-items.result.now c.loop-head.head-index _ _ _ _ c.deref-head-items.ensures.value
     c.loop-head-test.true c.loop-head.invariant c.in_ok-tell_head.ensures
